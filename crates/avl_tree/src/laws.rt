@@ -10,7 +10,8 @@ pub fn trees_are_low()
 
 /// A node more of a rank of its own, and a node less, leave the ranks in order.
 pub fn order_is_kept()
-    ensures inserted { (low a s up : ℕ) (t : Tree) → low ≤ s → s < up → tally (ranked s) t ≡ 0 →
+    ensures inserted { (low a s up : ℕ) (t : Tree) → low ≤ s → s < up →
+        tally (ranked s) t ≡ 0 →
         IsOrdered low t up → IsOrdered low (inserted a s t) up }
     ensures removed { (low s up : ℕ) (t : Tree) → IsOrdered low t up →
         IsOrdered low (removed s t) up }

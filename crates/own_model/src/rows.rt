@@ -29,7 +29,8 @@ pub fn lines_end_and_overflow()
 pub fn longest_line_is_read()
     ensures longest { told_by_a (codes "alice alloc " ++ replicate 8180 48)
         ≡ codes "alice: Invalid_size\n" }
-    ensures longer { told_by_a (codes "alice alloc " ++ replicate 8181 48) ≡ codes "?: Bad_line\n" }
+    ensures longer { told_by_a (codes "alice alloc " ++ replicate 8181 48)
+        ≡ codes "?: Bad_line\n" }
 {}
 
 /// Addresses and hex are read in either case, and the arguments of a form are parted by exactly one space.

@@ -28,6 +28,7 @@ pub fn services_are_routed()
         ≡ Some Service.Log }
     ensures files { provider (levels_within most_lists machine_a alice) (codes "File_system")
         (codes "main") ≡ Some Service.Files }
-    ensures others { provider (levels_within most_lists machine_a alice) (codes "Nic") (codes "main")
+    ensures others { provider (levels_within most_lists machine_a alice) (codes "Nic")
+        (codes "main")
         ≡ None }
 {}

@@ -100,7 +100,8 @@ impl Block {
 
     /// Gives the room back to the host.
     pub(crate) fn free<A: Allocator>(self, lease: Lease<A>, alloc: &A)
-        requires { (lease.alloc ≡ alloc.now) × (lease.ptr ≡ self.ptr) × (lease.size ≡ self.size) }
+        requires { (lease.alloc ≡ alloc.now) × (lease.ptr ≡ self.ptr)
+            × (lease.size ≡ self.size) }
     {
         let Block { ptr, size } = self;
         let Lease { marker: _ } = lease;

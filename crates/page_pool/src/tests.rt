@@ -24,7 +24,8 @@ fn take_and_fill(rt: &impl Abort, pool: &mut Pool) -> PageNo
 /// Sixteen pages of ones.
 fn take_sixteen(rt: &impl Abort, pool: &mut Pool) -> [u16; 16]
     ensures taken { (k : ℕ) → k < 16 → IsTrue (is_taken pool.new (slice_index result k)) }
-    ensures apart { (j k : ℕ) → j < k → k < 16 → slice_index result j ≢ slice_index result k }
+    ensures apart { (j k : ℕ) → j < k → k < 16 →
+        slice_index result j ≢ slice_index result k }
 {
     let mut pages = [0; 16];
     for k in 0..16 {

@@ -319,8 +319,8 @@ pub record Admits (store : Store) (component : Component) (client ram caps : ℕ
   pub place : donation_refusal (account_in store client) ram caps ≡ None → HasPlace component.role
   pub room : donation_refusal (account_in store client) ram caps ≡ None → 0 < room_in store
 
--- what a script's call that is none of a session and no exit keeps: the component is sound after it; its entry, service, account and
--- reserve, its limit of capabilities and its places for them, what sessions and buffers its selectors name and what it serves, the root's key, who is whose
+-- what a script's call that is none of a session, none of the reserve and no exit keeps: the component is sound after it; its entry,
+-- service, account and reserve, its limit of capabilities and its places for them, what sessions and buffers its selectors name and what it serves, the root's key, who is whose
 -- parent, the places for accounts and the sum of all limits of RAM stay, and so do the parts of all other accounts, but for what a
 -- session lends and the call writes into
 pub record Keeps (old : Store) (before : Component) (new : Store) (after : Component) : Type 0 where

@@ -36,7 +36,7 @@ DoesTold call reply old before new after =
     (sessions : Sessions) → HasSessions sessions before.caps.caps →
     told reply (own_at sessions new after) ≡ told_of (script_step call (own_at sessions old before))
 
--- a script can be asked for this call, which is none of a session and no exit
+-- a script can be asked for this call, which is none of a session, none of the reserve and no exit
 pub record CanDo (call : Called) (store : Store) (script : Script) : Type 0 where
   pub sound : IsSoundScript store script
   pub well_formed : IsWellFormed call

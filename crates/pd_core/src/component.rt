@@ -293,8 +293,8 @@ impl Component {
         }
     }
 
-    /// Carries a call of the component out that is none of a session and no exit, and writes what it is answered in place
-    /// of what the reply was.
+    /// Carries a call of the component out that is none of a session, none of the reserve and no exit, and writes what it is
+    /// answered in place of what the reply was.
     pub(crate) fn step(&mut self, memory: &mut Memory, call: Call<'_>, reply: &mut Reply)
         requires sound { IsSound memory.old self.old }
         requires call { IsWellFormed call }

@@ -85,7 +85,8 @@ impl Packed {
     fn with_next(self, row: Row) -> Packed
         requires order { self.count ≤ self.until }
         requires short { self.until + 1 < 2 ^ 64 }
-        ensures { (low : ℕ) (rows : List AnyRow) → row.start ≡ self.end → AreKnown low self rows
+        ensures { (low : ℕ) (rows : List AnyRow) → row.start ≡ self.end →
+            AreKnown low self rows
             → AreKnown low result (insert rows self.count row) }
     {
         Packed {

@@ -40,7 +40,8 @@ fn attach_block(map: &mut RegionMap, ds: DsId, pages: u64, tag: u64) -> u64
     ensures most { map.new.heap_most ≡ map.old.heap_most }
     ensures pages { map.new.pages ≡ map.old.pages }
     ensures there { IsSome (get map.new.heap result) }
-    ensures kept { (start : ℕ) → IsSome (get map.old.heap start) → IsSome (get map.new.heap start) }
+    ensures kept { (start : ℕ) → IsSome (get map.old.heap start) →
+        IsSome (get map.new.heap start) }
 {
     map.attach_block(ds, pages, tag)
 }

@@ -101,7 +101,8 @@ fn target_flaw(rule: &Value) -> Option<(Option<&'static str>, Expected)>
 
 // The same of a member that is to be a name.
 fn name_flaw(value: &Value, member: &'static str) -> Option<(Option<&'static str>, Expected)>
-    ensures { option_map (λ flaw. option_copied flaw.0) result ≡ name_fault member.now (view value.now) }
+    ensures { option_map (λ flaw. option_copied flaw.0) result
+        ≡ name_fault member.now (view value.now) }
 {
     match value.as_str() {
         Some(text) if Name::read(text).is_some() => None,
@@ -111,7 +112,8 @@ fn name_flaw(value: &Value, member: &'static str) -> Option<(Option<&'static str
 
 // The same of a member that is to be `true`.
 fn true_flaw(value: &Value, member: &'static str) -> Option<(Option<&'static str>, Expected)>
-    ensures { option_map (λ flaw. option_copied flaw.0) result ≡ true_fault member.now (view value.now) }
+    ensures { option_map (λ flaw. option_copied flaw.0) result
+        ≡ true_fault member.now (view value.now) }
 {
     if value.as_bool() == Some(true) {
         None
@@ -122,7 +124,8 @@ fn true_flaw(value: &Value, member: &'static str) -> Option<(Option<&'static str
 
 // The same of a member that is to be a text where it is there.
 fn text_flaw(rule: &Value, member: &'static str) -> Option<(Option<&'static str>, Expected)>
-    ensures { option_map (λ flaw. option_copied flaw.0) result ≡ text_fault member.now (view rule.now) }
+    ensures { option_map (λ flaw. option_copied flaw.0) result
+        ≡ text_fault member.now (view rule.now) }
 {
     match rule.get(member) {
         Some(value) if !value.is_string() => Some((Some(member), Expected::Text)),

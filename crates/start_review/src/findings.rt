@@ -221,7 +221,8 @@ fn tell_rule(
     earlier: &[Rule],
     rule: &Rule,
 ) -> Result<(), AllocError>
-    ensures { OnOk result (found.new.items ≡ found.old.items ++ rule_findings list.now.entries init
+    ensures { OnOk result (found.new.items
+        ≡ found.old.items ++ rule_findings list.now.entries init
         (part_of list.now.entries about) earlier.now rule.now) }
 {
     tell(found, alloc, list, about, hidden(earlier, rule))?;
@@ -281,7 +282,8 @@ fn tell_strays(
     earlier: &[Rule],
     rule: &Rule,
 ) -> Result<(), AllocError>
-    ensures { OnOk result (found.new.items ≡ found.old.items ++ stray_findings list.now.entries init
+    ensures { OnOk result (found.new.items
+        ≡ found.old.items ++ stray_findings list.now.entries init
         (part_of list.now.entries about) earlier.now rule.now rule.now.service) }
 {
     match rule.service() {
@@ -303,7 +305,8 @@ fn tell_all_strays(
     earlier: &[Rule],
     rule: &Rule,
 ) -> Result<(), AllocError>
-    ensures { OnOk result (found.new.items ≡ found.old.items ++ stray_findings list.now.entries init
+    ensures { OnOk result (found.new.items
+        ≡ found.old.items ++ stray_findings list.now.entries init
         (part_of list.now.entries about) earlier.now rule.now None) }
 {
     let logs = strays_if_provided(list, init, earlier, rule, "LOG");

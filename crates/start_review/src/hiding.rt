@@ -62,7 +62,8 @@ fn covers_suffix(earlier: &Rule, later: &Rule) -> bool
 
 // Whether there is a text, and it begins so.
 fn begins(text: Option<&str>, asked: &str) -> bool
-    ensures { result ≡ has (λ text. starts_with nat_eq text asked.now) (option_copied text.entry) }
+    ensures { result
+        ≡ has (λ text. starts_with nat_eq text asked.now) (option_copied text.entry) }
 {
     match text {
         Some(text) => text.as_bytes().starts_with(asked.as_bytes()),

@@ -92,7 +92,8 @@ impl Table {
 
 // Whether a word is one of these.
 fn is_among(words: &[&str], word: &str) -> bool
-    ensures { result ≡ list_any (λ known. bytes_eq known word.now) (map (λ known. known.now) words.now) }
+    ensures { result
+        ≡ list_any (λ known. bytes_eq known word.now) (map (λ known. known.now) words.now) }
 {
     for known in words {
         if known.as_bytes() == word.as_bytes() {

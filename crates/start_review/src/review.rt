@@ -95,7 +95,8 @@ impl Review {
 // The value that a text is.
 fn read_json(alloc: Global, text: &[u8]) -> Result<Value, Fault>
     ensures ok { IfOk result (λ value. json_in text.now ≡ Some (view value)) }
-    ensures refused { IfErr result (λ fault. fault.fault ≢ NoMemory → fault.fault ≡ BadJson) }
+    ensures refused { IfErr result (λ fault.
+        fault.fault ≢ NoMemory → fault.fault ≡ BadJson) }
     ensures none { IfErr result (λ fault. fault.fault ≢ NoMemory → json_in text.now ≡ None) }
     ensures place { IfErr result (λ fault. fault.fault ≢ NoMemory
         → IsPlaced (json_in text.now) fault.fault fault.place) }

@@ -7,7 +7,7 @@ ghost use Rattle.trade_base.specs.Refusal.{refusal_name};
 pub enum Refusal {
     /// The line isn't a call.
     BadLine,
-    /// No entry of the start list has this name.
+    /// No component of the start list has this path: no entry has it, or an init does.
     UnknownComponent,
     /// The component is a server.
     NotAScript,
@@ -19,9 +19,9 @@ pub enum Refusal {
     InvalidSize,
     /// The selector isn't in use, or names another kind.
     InvalidCap,
-    /// The account's RAM doesn't cover it.
+    /// The account's RAM doesn't cover it, or the reserve's what is requested of it.
     OutOfRam,
-    /// The account's capabilities don't cover it.
+    /// The account's capabilities don't cover it, or the reserve's what is requested of it.
     OutOfCaps,
     /// The place is taken, unaligned or outside, or no gap fits.
     RegionConflict,
