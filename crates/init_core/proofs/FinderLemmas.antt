@@ -1,13 +1,15 @@
 -- The first place at which a test passes, by what is known of the places before.
-use Rattle.std.proofs.Common.{◌≡◌, ℕ, zero, suc, ◌+◌, ◌<◌, ◌≤◌, Bool, true, false, not, List, [], ◌∷◌, length, get_or, slice_index_or, slice_set, inl, inr, Some, None, ap, subst, refl, sym, ◌∙◌, arith}
+use Rattle.std.proofs.Common.{◌≡◌, ℕ, zero, suc, ◌+◌, ◌<◌, ◌≤◌, Bool, true, false, not, ◌⊎◌, List, [], ◌∷◌, length, get_or, replicate, slice_index_or, slice_set, inl, inr, Some, None, ap, subst, refl, sym, ◌∙◌, arith}
 use Rattle.std.specs.List.{position, prefix_len, slice_get}
 use Rattle.std.specs.Str.{bytes_eq}
 use Rattle.std.proofs.lemmas.Bool.{false_from_ne_true, cases_eq, cases_lt}
 use Rattle.std.proofs.lemmas.Grind.{elements}
+use Rattle.std.proofs.lemmas.List.{get_or-replicate, get_or-set_other, get_or-set_same, get_or_past, length-replicate}
+use Rattle.std.specs.Option.{option_map}
 use Rattle.std.proofs.lemmas.Option.{same_Some}
 use Rattle.std.proofs.lemmas.Slice.Eq.{bytes_eq-Decides}
 use Rattle.own_model.specs.Listed.{ListedEntry}
-use Rattle.init_core.specs.Finder.{AreFirst, kind_of}
+use Rattle.init_core.specs.Finder.{AreFirst, StandThere, kind_of}
 
 -- no place before one passes
 abbrev pub NoneBefore : {X : Type 0} → (X → Bool) → List X → ℕ → Type 0
@@ -49,7 +51,7 @@ pub none_of_kind : (firsts : List ℕ) (entries : List ListedEntry) (path : List
     NoneBefore (λ entry. bytes_eq entry.path path) entries (get_or firsts (kind_of path) 0)
 none_of_kind firsts entries path first k entry less there =
     false_from_ne_true _ (λ same. let is : entry.path ≡ path = (bytes_eq-Decides entry.path path).0 same in
-    let behind : get_or firsts (kind_of entry.path) 0 ≤ k = first k entry there in
+    let behind : get_or firsts (kind_of entry.path) 0 ≤ k = first.sooner k entry there in
     let same_kind : kind_of entry.path ≡ kind_of path = ap kind_of is in
     absurd (omega (arith, less, subst (λ kind. get_or firsts kind 0 ≤ k) same_kind behind)))
 
@@ -85,6 +87,36 @@ first_next firsts entries n entry least there within kept now before place other
                 let one : Some other ≡ Some entry = sym at ∙ ap (slice_get entries) is ∙ there in
                 absurd (apart (ap (λ e. kind_of e.path) (same_Some _ _ one)))
           ]
+    ]
+
+-- before the first entry no place is one
+pub none_there : (entries : List ListedEntry) → StandThere (replicate 1024 32) entries
+none_there entries kind small = elim (cases_lt kind 1024) [
+  | inl below ↦ absurd (omega (arith, small, get_or-replicate {A = ℕ} 1024 kind 32 32 below))
+  | inr past ↦ absurd (omega (arith, small, get_or_past {X = ℕ} (replicate 1024 32) kind 32 (omega (arith, past, length-replicate {A = ℕ} 1024 32))))
+]
+
+-- an entry of its kind stands at each place that is one
+pub there_next : (firsts : List ℕ) (entries : List ListedEntry) (n : ℕ) (entry : ListedEntry) (least : ℕ) →
+    slice_get entries n ≡ Some entry → kind_of entry.path < length firsts →
+    (least ≡ get_or firsts (kind_of entry.path) 32) ⊎ (least ≡ n) →
+    StandThere firsts entries → StandThere (slice_set firsts (kind_of entry.path) least) entries
+there_next firsts entries n entry least there within is before kind small =
+    let set = slice_set firsts (kind_of entry.path) least in
+    elim (cases_eq kind (kind_of entry.path)) [
+      | inl same ↦
+          let here : get_or set kind 32 ≡ least = subst (λ k. get_or set k 32 ≡ least) (sym same) (get_or-set_same firsts (kind_of entry.path) least 32 within) in
+          let stands : option_map (λ e. kind_of e.path) (slice_get entries least) ≡ Some kind = elim is [
+            | inl kept ↦
+                let old : get_or firsts kind 32 ≡ least = ap (λ k. get_or firsts k 32) same ∙ sym kept in
+                subst (λ at. option_map (λ e. kind_of e.path) (slice_get entries at) ≡ Some kind) old
+                (before kind (subst (λ at. at < 32) (here ∙ sym old) small))
+            | inr now ↦ ap (λ at. option_map (λ e. kind_of e.path) (slice_get entries at)) now ∙ ap (option_map (λ e. kind_of e.path)) there ∙ ap Some (sym same)
+          ] in
+          ap (λ at. option_map (λ e. kind_of e.path) (slice_get entries at)) here ∙ stands
+      | inr apart ↦
+          let kept : get_or set kind 32 ≡ get_or firsts kind 32 = get_or-set_other firsts (kind_of entry.path) kind least 32 apart in
+          ap (λ at. option_map (λ e. kind_of e.path) (slice_get entries at)) kept ∙ before kind (subst (λ at. at < 32) kept small)
     ]
 
 -- with one place more, which doesn't pass

@@ -10,4 +10,9 @@ pub mod FinderLemmas
 pub mod DepthLemmas
 pub mod RouteLemmas
 pub mod ReadLemmas
+pub mod HeadLemmas
+pub mod NestLemmas
+pub mod ListedLemmas
+pub mod QuotaLemmas
+pub mod GivenLemmas
 mod MachineLemmas

@@ -95,7 +95,7 @@ pub record HasStarted (list : Listed) (store : Store) (components : List Compone
   pub all_caps : caps_limits_in store ≡ list.caps
 
 -- a component is what an entry says, is charged on the account, has this account for its reserve, if it is a script, and new
--- tables for the machine of the list
+-- tables for the machine of the list, with as many places as that has capabilities
 pub record IsMade (list : Listed) (entry : ListedEntry) (account : ℕ) (reserve : Option ℕ) (component : Component) : Type 0 where
   pub entry_is : (place : Place) → entry_of place component
       ≡ record { name = place.name; label = entry.label; kind = kind_of entry.binary; home = place.home; routes = place.routes }
@@ -105,6 +105,7 @@ pub record IsMade (list : Listed) (entry : ListedEntry) (account : ℕ) (reserve
   pub service : service_in component ≡ service_of entry.binary
   pub tables : (store : Store) (most : ℕ) → ram_limits_in store ≡ list.pages * 4096 → most ≤ list.caps →
       IfSome (tables_of component) (λ tables. AreEmpty store most tables.0 tables.1)
+  pub places : IfSome (tables_of component) (λ tables. tables.0.places ≡ list.caps)
   pub heap : HasNewHeap component.role
   pub server : (store : Store) → ram_limits_in store ≡ list.pages * 4096 → caps_limits_in store ≡ list.caps →
       IsNewServer store component.role

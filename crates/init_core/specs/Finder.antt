@@ -1,6 +1,7 @@
 -- From which places on paths are looked for.
-use Rattle.std.specs.Prelude.{◌≡◌, ℕ, ◌+◌, ◌-◌, ◌*◌, ◌/◌, ◌%◌, ◌≤◌, List, length, get_or, nat_lt, if◌then◌else◌, Some}
+use Rattle.std.specs.Prelude.{◌≡◌, ℕ, ◌+◌, ◌-◌, ◌*◌, ◌/◌, ◌%◌, ◌<◌, ◌≤◌, List, length, get_or, nat_lt, if◌then◌else◌, Some}
 use Rattle.std.specs.List.{slice_get}
+use Rattle.std.specs.Option.{option_map}
 use Rattle.own_model.specs.Listed.{ListedEntry}
 
 -- four bytes from a place on, as one number
@@ -19,6 +20,16 @@ abbrev pub kind_of : List ℕ → ℕ
 kind_of path = parts_of path * 165902235 / 16777216 % 1024
 
 -- of each kind of path none stands before this place
-abbrev pub AreFirst : List ℕ → List ListedEntry → Type 0
-AreFirst firsts entries = (place : ℕ) (entry : ListedEntry) → slice_get entries place ≡ Some entry →
+abbrev pub NoneSooner : List ℕ → List ListedEntry → Type 0
+NoneSooner firsts entries = (place : ℕ) (entry : ListedEntry) → slice_get entries place ≡ Some entry →
     get_or firsts (kind_of entry.path) 0 ≤ place
+
+-- and one stands there, if that is a place: there are at most 32
+abbrev pub StandThere : List ℕ → List ListedEntry → Type 0
+StandThere firsts entries = (kind : ℕ) → get_or firsts kind 32 < 32 →
+    option_map (λ entry. kind_of entry.path) (slice_get entries (get_or firsts kind 32)) ≡ Some kind
+
+-- so it is the place of the first
+pub record AreFirst (firsts : List ℕ) (entries : List ListedEntry) : Type 0 where
+  pub sooner : NoneSooner firsts entries
+  pub there : StandThere firsts entries

@@ -8,3 +8,4 @@ pub mod View
 pub mod Range
 pub mod Boot
 pub mod Misread
+pub mod ListLaws

@@ -35,7 +35,8 @@ pub(crate) fn read_config<'v>(
     requires { met ≤ 32 }
     ensures ok { IfOk result (λ own. own_told (model_binary binary) deeper met
         (option_map (λ value. view value.now) member.entry) ≡ Ok (model_own own)) }
-    ensures err { IfErr result (λ fault. fault ≢ NoMemory → own_told (model_binary binary) deeper met
+    ensures err { IfErr result
+        (λ fault. fault ≢ NoMemory → own_told (model_binary binary) deeper met
         (option_map (λ value. view value.now) member.entry) ≡ Err fault) }
     ensures few { IfOk result (λ own. met + length own.starts.now ≤ 32) }
     ensures some { IfOk result (λ own. 0 < length own.starts.now
@@ -57,7 +58,8 @@ pub(crate) fn read_config<'v>(
 pub(crate) fn read_own(alloc: Global, met: usize, object: &Value) -> Result<Own<'_>, BootFault>
     requires { met ≤ 32 }
     ensures ok { IfOk result (λ own. own_of met (view object.now) ≡ Ok (model_own own)) }
-    ensures err { IfErr result (λ fault. fault ≢ NoMemory → own_of met (view object.now) ≡ Err fault) }
+    ensures err { IfErr result
+        (λ fault. fault ≢ NoMemory → own_of met (view object.now) ≡ Err fault) }
     ensures few { IfOk result (λ own. met + length own.starts.now ≤ 32) }
 {
     let route = read_default_route(alloc, object.get("default-route"))?;

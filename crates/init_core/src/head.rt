@@ -48,7 +48,8 @@ impl<'v> Head<'v> {
             (view value.now) ≡ Err fault) }
         ensures home { IfOk result (λ head. head.entry.home ≡ place.now.init) }
         ensures few { IfOk result (λ head. met + length head.starts.now ≤ 32) }
-        ensures some { IfOk result (λ head. 0 < length head.starts.now → Starts deeper head.entry) }
+        ensures some { IfOk result
+            (λ head. 0 < length head.starts.now → Starts deeper head.entry) }
     {
         if !value.is_object() {
             return Err(BootFault::BadConfig(Field::Start));
@@ -156,9 +157,11 @@ fn is_service_of(binary: Binary, value: &Value) -> bool
 
 /// An entry's own route, if it has one.
 fn read_route(alloc: Global, member: Option<&Value>) -> Result<Option<Vec<Rule>>, BootFault>
-    ensures ok { IfOk result (λ route. own_route (option_map (λ value. view value.now) member.entry)
+    ensures ok { IfOk result
+        (λ route. own_route (option_map (λ value. view value.now) member.entry)
         ≡ Some (option_map (λ rules. rules.items) route)) }
-    ensures refused { IfErr result (λ fault. fault ≢ NoMemory → fault ≡ BadConfig Field.Route) }
+    ensures refused { IfErr result
+        (λ fault. fault ≢ NoMemory → fault ≡ BadConfig Field.Route) }
     ensures none { IfErr result (λ fault. fault ≢ NoMemory
         → own_route (option_map (λ value. view value.now) member.entry) ≡ None) }
 {

@@ -74,7 +74,8 @@ impl StartList {
     /// The start list that a text is, or why it is none. Wherever the host has no room, that is told instead.
     pub fn read(alloc: Global, text: &[u8]) -> Result<StartList, BootFault>
         ensures ok { IfOk result (λ list. list_in text.now ≡ Ok list) }
-        ensures err { IfErr result (λ fault. fault ≢ NoMemory → list_in text.now ≡ Err fault) }
+        ensures err { IfErr result
+            (λ fault. fault ≢ NoMemory → list_in text.now ≡ Err fault) }
     {
         if text.len() > LONGEST_TEXT {
             return Err(BootFault::BadConfig(Field::Size));
@@ -172,7 +173,8 @@ impl StartList {
         requires { component < length self.now.entries }
         ensures value { option_map (λ entry. entry.home) (slice_get self.now.entries component)
             ≡ Some result }
-        ensures listed { result ≡ (entry_at (entries_of (start_list_of self.now)) component).home }
+        ensures listed { result
+            ≡ (entry_at (entries_of (start_list_of self.now)) component).home }
         ensures home { IsHome self.now.entries component result }
     {
         self.entries[component].home()
@@ -189,7 +191,8 @@ impl StartList {
     /// Whether the list gives a component by its number one of the two members of a reserve.
     pub fn gives_reserve(&self, component: usize) -> bool
         requires { component < length self.now.entries }
-        ensures { option_map (λ entry. is_some entry.reserve) (slice_get self.now.entries component)
+        ensures { option_map (λ entry. is_some entry.reserve)
+            (slice_get self.now.entries component)
             ≡ Some result }
     {
         self.entries[component].reserve().is_some()
@@ -197,7 +200,8 @@ impl StartList {
 
     /// The number of the component of a name, as lines have it, if there is one.
     pub fn find(&self, name: &[u8]) -> Option<usize>
-        ensures value { result ≡ position (λ entry. bytes_eq entry.path name.now) self.now.entries }
+        ensures value { result
+            ≡ position (λ entry. bytes_eq entry.path name.now) self.now.entries }
         ensures listed { result
             ≡ position (λ entry. bytes_eq entry.name name.now)
             (entries_of (start_list_of self.now)) }
@@ -228,7 +232,8 @@ impl StartList {
     /// The rules for a client by its number: its own route, or else the default route of its list.
     pub fn rules_for(&self, client: usize) -> &[Rule]
         requires { client < length self.now.entries }
-        ensures { option_map (rules_for self.now) (slice_get self.now.entries client) ≡ Some result.now }
+        ensures { option_map (rules_for self.now) (slice_get self.now.entries client)
+            ≡ Some result.now }
     {
         let entry = &self.entries[client];
         match entry.route() {
@@ -270,7 +275,8 @@ pub fn entry_at_fault(alloc: Global, value: &Value) -> Result<Option<usize>, Boo
 /// The same by the values of the machine's list.
 fn place_of_fault(alloc: Global, starts: &[Value]) -> Result<Option<usize>, BootFault>
     requires { length starts.now ≤ 32 }
-    ensures place { IfOk result (λ place. place ≡ place_of_fault (entries_read (map view starts.now))) }
+    ensures place { IfOk result
+        (λ place. place ≡ place_of_fault (entries_read (map view starts.now))) }
     ensures memory { IfErr result (λ fault. fault ≡ NoMemory) }
 {
     let mut reading = Reading::new(alloc, starts.len());

@@ -200,7 +200,8 @@ impl Label {
 fn behind<const CAP: usize>(above: ArrayString<CAP>, parts: &str, name: &Name) -> ArrayString<CAP>
     requires { array_string_len above + length parts.now + 32 ≤ CAP }
     ensures first { array_string_len above.entry ≡ 0 → array_string_len result ≤ 32 }
-    ensures longer { array_string_len result ≤ array_string_len above.entry + length parts.now + 32 }
+    ensures longer { array_string_len result
+        ≤ array_string_len above.entry + length parts.now + 32 }
     ensures text { result.bytes ≡ behind parts.now above.entry.bytes name.now }
 {
     let mut text = above;

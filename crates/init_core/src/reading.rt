@@ -92,8 +92,10 @@ impl Reading {
             → read_within deeper place.now (so_far self.old) (view value.now)
             ≡ Err (record { fault = fault; entry = length self.new.entries.items })) }
         ensures grow { Grow self.old.entries.items self.new.entries.items }
-        ensures count { OnOk result (length self.new.entries.items ≡ length self.old.entries.items + 1) }
-        ensures met { IfOk result (λ below. self.new.met ≡ self.old.met + length below.starts.now) }
+        ensures count { OnOk result
+            (length self.new.entries.items ≡ length self.old.entries.items + 1) }
+        ensures met { IfOk result
+            (λ below. self.new.met ≡ self.old.met + length below.starts.now) }
         ensures most { self.new.met ≤ 32 }
         ensures some { IfOk result (λ below. 0 < length below.starts.now
             → IsBelow deeper self.new.entries.items below.place) }

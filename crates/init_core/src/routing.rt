@@ -47,7 +47,8 @@ fn route_within(
 ) -> Option<usize>
     requires client { client < length list.now.entries }
     requires label { length label.now + lists * 36 ≤ 208 }
-    ensures { result ≡ option_and_then (λ entry. route_within lists list.now entry service.now label.now)
+    ensures { result
+        ≡ option_and_then (λ entry. route_within lists list.now entry service.now label.now)
         (slice_get list.now.entries client) }
 {
     if lists == 0 {
@@ -94,7 +95,8 @@ fn way_by(entries: &[Entry], init: usize, rules: &[Rule], service: &[u8], label:
 
 /// The number of the child of an init's that a target leads to for a service, if it leads to one.
 pub fn target_child(list: &StartList, init: usize, target: &Target, service: &[u8]) -> Option<usize>
-    ensures { result ≡ end_of (way_to list.now.entries init (model_target target.now) service.now) None }
+    ensures { result
+        ≡ end_of (way_to list.now.entries init (model_target target.now) service.now) None }
 {
     match way_to(list.entries(), init, target, service) {
         Way::Inside(child) => child,

@@ -149,7 +149,8 @@ fn is_text(asked: &Option<String>, label: &[u8]) -> bool
 
 /// Whether a label begins as asked.
 fn begins_with(asked: &Option<String>, label: &[u8]) -> bool
-    ensures { result ≡ as_asked (starts_with nat_eq label.now) (option_map string_bytes asked.now) }
+    ensures { result
+        ≡ as_asked (starts_with nat_eq label.now) (option_map string_bytes asked.now) }
 {
     match asked {
         Some(asked) => label.starts_with(asked.as_str().as_bytes()),

@@ -35,7 +35,8 @@ pub fn boot(alloc: Global, list: &StartList) -> Result<Core<RouteTable<'_>>, Boo
     ensures started { IfOk result (λ core. core ≡ start_world (start_list_of list.now)) }
     ensures covered { OnOk result (Boots (start_list_of list.now)) }
     ensures balanced { IfOk result (λ core. IsBalancedFor (start_list_of list.now) core) }
-    ensures fault { IfErr result (λ fault. fault ≢ NoMemory → quota_fault list.now ≡ Some fault) }
+    ensures fault { IfErr result
+        (λ fault. fault ≢ NoMemory → quota_fault list.now ≡ Some fault) }
 {
     let mut memory = Memory::boot(
         alloc,
@@ -63,6 +64,7 @@ pub fn boot(alloc: Global, list: &StartList) -> Result<Core<RouteTable<'_>>, Boo
 /// The most sessions: half as many as the machine has capabilities, of which each takes two.
 fn sessions_of(list: &StartList) -> usize
     ensures half { list.now.caps ≤ result * 2 + 1 }
+    ensures no_more { result * 2 ≤ list.now.caps }
     ensures few { result ≤ 2048 }
 {
     list.caps() as usize / 2
@@ -84,7 +86,8 @@ fn start(
     requires so_far { HasStarted list.now memory.old components.old.items accounts.old.items place }
     ensures started { OnOk result
         (HasStarted list.now memory.new components.new.items accounts.new.items (place + 1)) }
-    ensures fault { IfErr result (λ fault. fault ≢ NoMemory → quota_fault list.now ≡ Some fault) }
+    ensures fault { IfErr result
+        (λ fault. fault ≢ NoMemory → quota_fault list.now ≡ Some fault) }
 {
     let entry = &list.entries()[place];
     let init = accounts[list.home(place)];
@@ -122,7 +125,8 @@ fn open_for(
 ) -> Result<AccountId, BootFault>
     requires init { IsOpenIn memory.old init.0 }
     requires room { 0 < room_in memory.old }
-    ensures covered { is_ok result ≡ is_none (shortage (account_in memory.old init.0) ram.0 caps.0) }
+    ensures covered { is_ok result
+        ≡ is_none (shortage (account_in memory.old init.0) ram.0 caps.0) }
     ensures opened { IfOk result
         (λ account. Opens memory.old init.0 account.0 ram.0 caps.0 memory.new) }
     ensures fault { IfErr result (λ fault. fault ≡ QuotaExceeded entry.now.path) }

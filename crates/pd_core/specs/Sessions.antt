@@ -48,9 +48,9 @@ files_buffer session = buffer_key session.buffer
 abbrev pub IsFilesKept : FileSession → Share → Type 0
 IsFilesKept session share = IsFileSession session share
 
--- a session of a server as its client sees it
-abbrev pub row_session : Row Labelled → AnOpenSession
-row_session row = session_with row.account row.value
+-- a session of the server at a place as its client sees it
+abbrev pub row_session : ℕ → Row Labelled → AnOpenSession
+row_session server row = session_with server row.account row.value
 
 -- all but one session are the same
 abbrev pub AgreeBut : Sessions → Sessions → ℕ → ℕ → Type 0

@@ -34,7 +34,8 @@ impl Component {
         requires label { length label.now ≤ LONGEST_LABEL }
         ensures refusal { result_err result
             ≡ donation_refusal (account_in memory.old client.0) ram.0 caps.0 }
-        ensures opens { (kind : Service) → service_of self.old ≡ Some kind → IfOk result (λ id.
+        ensures opens { (kind : Service) → service_of self.old
+            ≡ Some kind → IfOk result (λ id.
             OpensSession client.0 ram.0 caps.0 id.0 (record {
               label = label.now;
               state = state_at_first kind;
@@ -125,7 +126,8 @@ impl Component {
         requires { Serves memory.old self.old id.0 }
         ensures closes { AtRow (rows_of memory.old self.old) id.0 (λ row.
             ClosesPart row.key row.client memory.old memory.new) }
-        ensures sessions { rows_of memory.new self.new ≡ remove (rows_of memory.old self.old) id.0 }
+        ensures sessions { rows_of memory.new self.new
+            ≡ remove (rows_of memory.old self.old) id.0 }
         ensures stays { StaysServer memory.old self.old memory.new self.new }
     {
         match &mut self.role {

@@ -7,14 +7,15 @@ use Rattle.std.specs.Str.{bytes_eq}
 use Rattle.std.proofs.lemmas.Slice.Eq.{bytes_eq-Decides}
 use Rattle.serde_json.specs.Data.{Data, Items}
 use Rattle.serde_json.specs.Find.{as_array, as_str, get}
-use Rattle.own_model.specs.Listed.{Binary, ListedEntry, ListedRule}
+use Rattle.own_model.specs.Listed.{Binary, ListedRule}
 use Rattle.own_model.specs.Listed.Binary.{Script, LogServer, FileServer, Init}
 use Rattle.init_core.specs.declared.fault.BootFault.{BootFault}
-use Rattle.init_core.specs.declared.fault.BootFault.TheVariants.{BadConfig, DuplicateName}
+use Rattle.init_core.specs.declared.fault.BootFault.TheVariants.{BadConfig}
 use Rattle.init_core.specs.declared.fault.Field.TheVariants as field
 use Rattle.init_core.specs.Depth.{runs_init}
-use Rattle.init_core.specs.Entries.{◌>>=◌, Head, Own, Place, SoFar, binary_of, binary_told, config_of, default_route, head_of, is_taken, new_name, no_binary, nothing_own, object_of, own_of, own_route, own_told, provided, reserve_told, value_or}
+use Rattle.init_core.specs.Entries.{◌>>=◌, Head, Own, Place, SoFar, binary_of, binary_told, config_of, default_route, head_of, new_name, no_binary, nothing_own, object_of, own_of, own_route, own_told, provided, reserve_told, value_or}
 use Rattle.init_core.specs.Entries as engine
+use Rattle.init_core.proofs.HeadLemmas.{Gives, gave, new_is, value_ok}
 use Rattle.init_core.specs.Members.{amount_at, at_most_32, elements, is_object, name_at, name_in, name_of, whole_at}
 use Rattle.own_model.specs.Text.{is_name}
 use Rattle.start_review.specs.Hiding.{has}
@@ -22,29 +23,11 @@ use Rattle.start_review.specs.Values.{elements_in, runs, starts_in}
 
 -- ---- what a step gives
 
--- what is given is so
-record Gives {A : Type 0} (P : A → Type 0) (r : Result A BootFault) : Type 0 where
-  given : IfOk r P
-
-gave : {A B : Type 0} {P : B → Type 0} {f : A → Result B BootFault} (r : Result A BootFault) → ((x : A) → r ≡ Ok x → Gives P (f x)) → Gives P (r >>= f)
-gave (Ok x) more = more x refl
-gave (Err fault) more = record { given = tt }
-
-value_ok : {A : Type 0} (fault : BootFault) (o : Option A) (x : A) → value_or fault o ≡ Ok x → o ≡ Some x
-value_ok fault None x is = cc
-value_ok fault (Some y) x is = let same : y ≡ x = cc in ap Some same
-
 object_is : (d entry : Data) → object_of d ≡ Ok entry → entry ≡ d
 object_is d entry is = by_object (is_object d) is where
   by_object : (b : Bool) → let r : Result Data BootFault = if b then Ok d else Err (BadConfig field.Start) in r ≡ Ok entry → entry ≡ d
   by_object true given = let same : d ≡ entry = cc in sym same
   by_object false given = cc
-
-new_is : (before : List ListedEntry) (init : ℕ) (told name : List ℕ) → new_name before init told ≡ Ok name → told ≡ name
-new_is before init told name is = by_taken (is_taken before init told) is where
-  by_taken : (b : Bool) → let r : Result (List ℕ) BootFault = if b then Err (DuplicateName told) else Ok told in r ≡ Ok name → told ≡ name
-  by_taken true given = cc
-  by_taken false given = cc
 
 -- ---- which binary it is
 
@@ -147,7 +130,7 @@ head_gives place deeper so_far d =
           told_starts binary deeper so_far.met (get (codes "config") entry) own own_is
           ∙ ap (λ init. own_values init (get (codes "config") entry))
           (sym (runs_by (get (codes "binary") entry) (get (codes "name") entry) name binary
-          (value_ok (BadConfig field.Name) (name_at (codes "name") entry) told_name told ∙ ap Some (new_is so_far.entries place.init told_name name new)) is))
+          (value_ok (BadConfig field.Name) (name_at (codes "name") entry) told_name told ∙ ap Some (new_is so_far.entries place.init told_name name new).0) is))
           ∙ ap (λ e. own_values (runs (codes "init") e) (get (codes "config") e)) (object_is d entry object);
     }))))))))))
 

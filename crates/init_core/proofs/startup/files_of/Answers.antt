@@ -1,5 +1,5 @@
 -- A file server is what its entry says, without sessions.
-use Rattle.std.proofs.Common.{length, subst, sym, ◌∙◌, ap, arith}
+use Rattle.std.proofs.Common.{◌≡◌, length, subst, sym, ◌∙◌, ap, arith}
 use Rattle.std.specs.Prelude.{IfSome}
 use Rattle.own_model.specs.Listed.{kind_of, service_of}
 use Rattle.own_model.specs.StartList.{Entry}
@@ -18,6 +18,7 @@ returns-clause-made c =
       reserve_is = c.files.ensures.reserve;
       service = c.files.ensures.service ∙ ap service_of (sym c.requires);
       tables = λ store most machine covered. subst (λ tables. IfSome tables (λ t. AreEmpty store most t.0 t.1)) (sym c.files.ensures.tables) tt;
+      places = subst (λ tables. IfSome tables (λ t. t.0.places ≡ c.args.list.now.caps)) (sym c.files.ensures.tables) tt;
       heap = c.files.ensures.heap;
       server = λ store machine all_caps. c.files.ensures.server store
           (server_empty store c.pages.result c.args.list.now.caps c.sessions_of.result c.in_ok-server.server.sessions c.in_ok-server.server.map

@@ -1,5 +1,5 @@
 -- An init is what its entry says.
-use Rattle.std.proofs.Common.{length, subst, sym, ◌∙◌, ap, arith}
+use Rattle.std.proofs.Common.{◌≡◌, length, subst, sym, ◌∙◌, ap, arith}
 use Rattle.std.specs.Prelude.{IfSome}
 use Rattle.own_model.specs.Listed.{kind_of, service_of}
 use Rattle.own_model.specs.StartList.{Entry}
@@ -15,6 +15,7 @@ returns c = λ list. record {
   reserve_is = c.init.ensures.reserve;
   service = c.init.ensures.service ∙ ap service_of (sym c.requires);
   tables = λ store most machine covered. subst (λ tables. IfSome tables (λ t. AreEmpty store most t.0 t.1)) (sym c.init.ensures.tables) tt;
+  places = subst (λ tables. IfSome tables (λ t. t.0.places ≡ list.caps)) (sym c.init.ensures.tables) tt;
   heap = c.init.ensures.heap;
   server = λ store machine all_caps. c.init.ensures.server store;
 }
