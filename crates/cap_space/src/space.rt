@@ -142,7 +142,8 @@ impl CapSpace {
             (λ s. (other : ℕ) → other < s.0
             → IsFalse (is_buffer space.0 (get self.old.caps other))) }
         ensures gone { IfSome result (λ s. self.new ≡ without_cap self.old s.0) }
-        ensures none { IfNone result ((s : ℕ) → IsFalse (is_buffer space.0 (get self.old.caps s))) }
+        ensures none { IfNone result
+            ((s : ℕ) → IsFalse (is_buffer space.0 (get self.old.caps s))) }
         ensures same { IfNone result (self.new ≡ self.old) }
     {
         let selector = self.buffer(space)?;
@@ -155,7 +156,8 @@ impl CapSpace {
         ensures found { IfSome result (λ s. IsTrue (is_buffer space.0 (get self.now.caps s))) }
         ensures first { IfSome result
             (λ s. (other : ℕ) → other < s → IsFalse (is_buffer space.0 (get self.now.caps other))) }
-        ensures none { IfNone result ((s : ℕ) → IsFalse (is_buffer space.0 (get self.now.caps s))) }
+        ensures none { IfNone result
+            ((s : ℕ) → IsFalse (is_buffer space.0 (get self.now.caps s))) }
     {
         let places = self.slots.len();
         let mut selector = 0;
@@ -186,7 +188,8 @@ impl CapSpace {
     pub fn places(&self) -> usize
         ensures count { result ≡ self.now.places }
         ensures most { result ≤ 4096 }
-        ensures within { (selector : ℕ) → IsSome (get self.now.caps selector) → (1 ≤ selector)
+        ensures within { (selector : ℕ) → IsSome (get self.now.caps selector)
+            → (1 ≤ selector)
             × (selector ≤ self.now.places) }
     {
         self.slots.len()

@@ -94,7 +94,8 @@ impl Memory {
     /// RAM of the account's limit is free, and else with `OutOfCaps` where no capability is. Nothing else refuses it.
     pub fn alloc(&mut self, account: AccountId, bytes: u64) -> Result<DsId, Refusal>
         requires { IsOpenIn self.old account.0 }
-        ensures refusal { result_err result ≡ alloc_refusal bytes (account_in self.old account.0) }
+        ensures refusal { result_err result
+            ≡ alloc_refusal bytes (account_in self.old account.0) }
         ensures ok { IfOk result (λ ds. self.new ≡ with_space self.old ds.0 account.0 bytes) }
         ensures fresh { IfOk result (λ ds. get self.old.spaces ds.0 ≡ None) }
         ensures part { IfOk result (λ ds.
@@ -258,7 +259,8 @@ impl Memory {
     pub fn open(&mut self, parent: AccountId, ram: Ram, caps: Caps) -> Result<AccountId, Refusal>
         requires parent { IsOpenIn self.old parent.0 }
         requires room { 0 < room_in self.old }
-        ensures refusal { result_err result ≡ shortage (account_in self.old parent.0) ram.0 caps.0 }
+        ensures refusal { result_err result
+            ≡ shortage (account_in self.old parent.0) ram.0 caps.0 }
         ensures ok { IfOk result
             (λ child. self.new ≡ with_child_in self.old parent.0 child.0 ram.0 caps.0) }
         ensures fresh { IfOk result (λ child. get (accounts_in self.old) child.0 ≡ None) }
@@ -284,8 +286,10 @@ impl Memory {
         caps: Caps,
     ) -> Result<(), Refusal>
         requires { IsChildIn self.old child.0 parent.0 }
-        ensures refusal { result_err result ≡ shortage (account_in self.old parent.0) ram.0 caps.0 }
-        ensures ok { OnOk result (self.new ≡ with_moved_in self.old parent.0 child.0 ram.0 caps.0) }
+        ensures refusal { result_err result
+            ≡ shortage (account_in self.old parent.0) ram.0 caps.0 }
+        ensures ok { OnOk result
+            (self.new ≡ with_moved_in self.old parent.0 child.0 ram.0 caps.0) }
         ensures part { OnOk result (RaisesPart parent.0 child.0 ram.0 caps.0 self.old self.new) }
         ensures err { OnErr result (self.new ≡ self.old) }
         ensures ram_moved { ram_limits_in self.new ≡ ram_limits_in self.old }

@@ -78,7 +78,8 @@ impl Books {
     pub fn open(&mut self, parent: AccountId, ram: Ram, caps: Caps) -> Result<AccountId, Refusal>
         requires parent { IsOpen self.old parent.0 }
         requires room { 0 < self.old.room }
-        ensures refusal { result_err result ≡ shortage (account_at self.old parent.0) ram.0 caps.0 }
+        ensures refusal { result_err result
+            ≡ shortage (account_at self.old parent.0) ram.0 caps.0 }
         ensures ok { IfOk result
             (λ child. self.new ≡ with_child self.old parent.0 child.0 ram.0 caps.0) }
         ensures fresh { IfOk result (λ child. get self.old.accounts child.0 ≡ None) }
@@ -102,7 +103,8 @@ impl Books {
         caps: Caps,
     ) -> Result<(), Refusal>
         requires { IsChildOf self.old child.0 parent.0 }
-        ensures refusal { result_err result ≡ shortage (account_at self.old parent.0) ram.0 caps.0 }
+        ensures refusal { result_err result
+            ≡ shortage (account_at self.old parent.0) ram.0 caps.0 }
         ensures ok { OnOk result (self.new ≡ with_moved self.old parent.0 child.0 ram.0 caps.0) }
         ensures err { OnErr result (self.new ≡ self.old) }
         ensures limits { KeepsLimits self.old self.new }

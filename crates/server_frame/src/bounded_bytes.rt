@@ -88,7 +88,8 @@ impl BoundedBytes {
     /// Appends bytes in hexadecimal digits.
     pub(crate) fn add_hex(&mut self, bytes: &[u8])
         requires { length self.old.text + 2 * length bytes.now ≤ self.old.size }
-        ensures added { self.new ≡ record self.old { text = self.old.text ++ hex_text bytes.now } }
+        ensures added { self.new
+            ≡ record self.old { text = self.old.text ++ hex_text bytes.now } }
     {
         let end = self.len + 2 * bytes.len();
         encode_hex(bytes, &mut self.bytes[self.len..end]);

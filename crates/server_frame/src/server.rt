@@ -77,7 +77,8 @@ impl<S: Service + Drop> Server<S> {
     /// The account of a session.
     pub fn account(&self, id: SessionId) -> AccountId
         requires { ContainsKey self.now.sessions id.0 }
-        ensures { IfSome (slab.get self.now.sessions id.0) (λ session. result ≡ session.account) }
+        ensures { IfSome (slab.get self.now.sessions id.0)
+            (λ session. result ≡ session.account) }
     {
         self.sessions[id.0].account
     }
