@@ -1,5 +1,4 @@
--- How a session's heap of nodes begins: an account that has nothing but sliced blocks has no chunk, and a map that lies apart
--- makes both heaps sound.
+-- How a session's heap of nodes begins: an account that has nothing but sliced blocks has no chunk.
 use Rattle.std.proofs.Common.{◌≡◌, ◌≢◌, ℕ, ◌+◌, ◌-◌, ◌≤◌, cond, List, length, Some, is_some, IsSome, refl, sym, ap, subst, ◌∙◌, arith, inl, inr}
 use Rattle.std.proofs.lemmas.Bool.{cases_eq, cases_lt}
 use Rattle.std.proofs.lemmas.Bool.Decides.{nat_tests}
@@ -38,29 +37,6 @@ session_share sliced store regions session = record {
   paid = λ s r there. (in_share (part (payer_of sliced) store) regions.heap regions.tags s r there).1;
   once = λ s t r q one two e. session.sound.maps.once s t r q (in_share (part (payer_of sliced) store) regions.heap regions.tags s r one).0 (in_share (part (payer_of sliced) store) regions.heap regions.tags t q two).0 e;
 }
-
--- both heaps are sound then
-pub furnishes : {heap later : Heap} {sliced : SlicedHeap} {store : Store} {regions : Regions} (account : ℕ) → IsSessionHeap sliced store regions → KeepsNodes heap (holding_of sliced store regions) → AreSound regions →
-    account ≡ payer_of sliced → heap_payer later ≡ account → ((share : Share) → IsLaid heap share → IsLaid later share) → ((share : Share) → heap_in later share ≡ heap_in heap share) → IsFurnished later sliced store regions
-furnishes {heap} {later} {sliced} {store} {regions} account session kept apart is payer laid value =
-    let share = holding_of sliced store regions in
-    let nodes = kept (session_share sliced store regions session) in
-    let now = laid share nodes.laid in
-    let same = payer ∙ is in
-    record {
-      session = session;
-      payer = same;
-      sound = record {
-        opens = subst (IsOpenIn store) (sym same) session.sound.opens;
-        window = map_of session.sound.maps apart.pages apart.heap;
-        laid = subst (λ x. IsLaid later (share_at x store regions)) (sym same) (laid_back later (share_at (payer_of sliced) store regions) now);
-      };
-      nodes = record {
-        laid = now;
-        no_large = ap (λ (h : OwnHeap). h.large) (value share) ∙ nodes.no_large;
-        all = nodes.all ∙ ap (λ (h : OwnHeap). length h.shape.chunks + len (sliced_of share) + len (lent_regions share)) (sym (value share));
-      };
-    }
 
 -- ---- a heap without a chunk
 

@@ -15,14 +15,14 @@ use Rattle.own_model.specs.FileText.FileError.{Gap}
 use Rattle.own_model.specs.FileText.FileReply.{Count, Refused}
 use Rattle.region_map.specs.Regions.{Regions}
 use Rattle.dataspace_core.specs.Store.{Store, space_at}
-use Rattle.sliced_heap.specs.declared.heap.SlicedHeap.{SlicedHeap}
 use Rattle.server_frame.specs.Lent.{bytes_lent}
 use Rattle.server_frame.specs.Session.{holding_of}
 use Rattle.server_frame.specs.Told.{Told, nothing_told}
 use Rattle.server_frame.specs.declared.effect.Effect.TheVariants.{Nothing}
 use Rattle.session_proto.specs.File.{model_request}
 use Rattle.session_proto.specs.declared.file.FileRequest.{FileRequest}
-use Rattle.file_service.specs.Furnished.{Stock, stock, KeepsSession, StaysFurnished}
+use Rattle.file_service.specs.Furnished.{Stock}
+use Rattle.file_service.specs.Rooms.{stock_of, StayFurnished, KeepsRooms}
 use Rattle.file_service.specs.Lent.{FillsBuffer, HasBuffer, buffer_key}
 use Rattle.file_service.specs.Session.{files_in, served_in, session_served, Answers, HasFiles, IsAnswered, IsReady, Leaves, LeavesSession, Serves}
 use Rattle.file_service.specs.declared.session.FileSession.{FileSession}
@@ -71,15 +71,15 @@ read_as text read request same is = sym is ∙ ap (λ r. Some (model_request r))
 
 -- ---- what they leave
 
-module _ {session : FileSession} {sliced : SlicedHeap} {store : Store} {regions : Regions} (ready : IsReady session sliced store regions) where
+module _ {session : FileSession} {store : Store} {regions : Regions} (ready : IsReady session store regions) where
   abbrev has : Stock
-  has = stock session.heap sliced store regions
+  has = stock_of session.rooms store regions
 
   abbrev lends : Option (List ℕ)
   lends = bytes_lent store (buffer_key session.buffer)
 
   -- a reply that leaves all
-  pub told_all : (reply : model.FileReply) (served : BufferServed) → served ≡ beside lends (told reply (files_in session has) has.account) → Answers served reply session session sliced store regions
+  pub told_all : (reply : model.FileReply) (served : BufferServed) → served ≡ beside lends (told reply (files_in session has) has.account) → Answers served reply session session store regions
   told_all reply served is = record {
     reply_is = ap (λ (o : BufferServed). o.reply) (sym is);
     leaves = record {
@@ -92,13 +92,13 @@ module _ {session : FileSession} {sliced : SlicedHeap} {store : Store} {regions 
   }
 
   -- a request of files leaves the buffer
-  pub files_leave : {later : FileSession} {now : SlicedHeap} {new : Store} {after : Regions} (served : FileServed) → KeepsSession sliced later.heap now store new regions after →
-      Leaves served session later (stock later.heap now new after) → LeavesSession (beside lends served) session later now new after
-  files_leave {later} {now} {new} {after} served keeps leaves = record {
+  pub files_leave : {later : FileSession} {new : Store} {after : Regions} (served : FileServed) → KeepsRooms session.rooms later.rooms store new regions after →
+      Leaves served session later (stock_of later.rooms new after) → LeavesSession (beside lends served) session later new after
+  files_leave {later} {new} {after} served keeps leaves = record {
     ready = record {
       furnished = keeps.stays.furnished;
       files = leaves.kept;
-      lent = subst (λ b. HasBuffer b (holding_of now new after)) (sym leaves.own.buffer) (buffer_kept ready.furnished keeps session.buffer ready.lent);
+      lent = subst (λ b. HasBuffer b (holding_of later.rooms.contents new after)) (sym leaves.own.buffer) (buffer_kept ready.furnished keeps session.buffer ready.lent);
     };
     account = leaves.account;
     files = leaves.files;
@@ -108,17 +108,17 @@ module _ {session : FileSession} {sliced : SlicedHeap} {store : Store} {regions 
 
   -- a get fills the buffer
   pub got_filled : (lent : Lent) (place n : ℕ) (bytes part : List ℕ) (served : BufferServed) {new : Store} → session.buffer ≡ Some lent →
-      FillsBuffer lent place bytes (stock session.heap sliced store regions) (stock session.heap sliced new regions) (holding_of sliced new regions) store new →
-      StaysFurnished sliced session.heap sliced store new regions regions → bytes ≡ part → length part ≡ n →
+      FillsBuffer lent place bytes (stock_of session.rooms store regions) (stock_of session.rooms new regions) (holding_of session.rooms.contents new regions) store new →
+      StayFurnished session.rooms session.rooms store new regions regions → bytes ≡ part → length part ≡ n →
       served ≡ beside (option_map (λ b. with_bytes b place part) lends) (told (Count (length part)) (files_in session has) has.account) →
-      Answers served (Count n) session session sliced new regions
+      Answers served (Count n) session session new regions
   got_filled lent place n bytes part served {new} lent_is filled stays same long is = record {
     reply_is = ap (λ k. file_reply (Count k)) (sym long) ∙ ap (λ (o : BufferServed). o.reply) (sym is);
     leaves = record {
       ready = record {
         furnished = stays.furnished;
         files = subst (HasFiles session) (sym filled.stock) ready.files;
-        lent = subst (λ b. HasBuffer b (holding_of sliced new regions)) (sym lent_is) filled.stands;
+        lent = subst (λ b. HasBuffer b (holding_of session.rooms.contents new regions)) (sym lent_is) filled.stands;
       };
       account = ap (λ (s : Stock). s.account) filled.stock ∙ ap (λ (o : BufferServed). o.account) (sym is);
       files = ap (files_in session) filled.stock ∙ ap (λ (o : BufferServed). o.files) (sym is);
@@ -134,13 +134,13 @@ module _ {session : FileSession} {sliced : SlicedHeap} {store : Store} {regions 
   -- ---- what is told
 
   -- a request of files is answered as it is served, and does nothing to the buffer
-  pub files_answered : {later : FileSession} {now : SlicedHeap} {new : Store} {after : Regions} (text : List ℕ) (request : model.FileRequest) (reply : model.FileReply) (told_now told_then : Told) →
-      session_request text ≡ Some (OfFiles request) → KeepsSession sliced later.heap now store new regions after →
-      Serves (served_in request session has) reply session later (stock later.heap now new after) →
+  pub files_answered : {later : FileSession} {new : Store} {after : Regions} (text : List ℕ) (request : model.FileRequest) (reply : model.FileReply) (told_now told_then : Told) →
+      session_request text ≡ Some (OfFiles request) → KeepsRooms session.rooms later.rooms store new regions after →
+      Serves (served_in request session has) reply session later (stock_of later.rooms new after) →
       told_then ≡ record told_now { text = told_now.text ++ file_reply reply } → told_now ≡ nothing_told →
-      IsAnswered (session_served (session_request text) session sliced store regions) Nothing told_then session later sliced now store new regions after
-  files_answered {later} {now} {new} {after} text request reply told_now told_then reads keeps serves tells none =
-      subst (λ r. IsAnswered (session_served r session sliced store regions) Nothing told_then session later sliced now store new regions after) (sym reads) (record {
+      IsAnswered (session_served (session_request text) session store regions) Nothing told_then session later store new regions after
+  files_answered {later} {new} {after} text request reply told_now told_then reads keeps serves tells none =
+      subst (λ r. IsAnswered (session_served r session store regions) Nothing told_then session later store new regions after) (sym reads) (record {
         text = told_text told_then told_now reply _ tells none serves.reply_is;
         leaves = files_leave (served_in request session has) keeps serves.leaves;
         effect_is = ap buffer_key serves.leaves.own.buffer;

@@ -45,5 +45,6 @@ pub mod NodeFreeLemmas
 pub mod EndLemmas
 pub mod BufferLemmas
 pub mod SourceLemmas
+pub mod ReadyLemmas
 pub mod RequestLemmas
 pub mod BufferRequestLemmas

@@ -18,9 +18,8 @@ use Rattle.own_model.proofs.LogLemmas.{bytes_of_digits}
 use Rattle.own_model.proofs.NatMapLemmas.{some_of}
 use Rattle.region_map.specs.Regions.{Regions}
 use Rattle.dataspace_core.specs.Store.{Store}
-use Rattle.sliced_heap.specs.declared.heap.SlicedHeap.{SlicedHeap}
 use Rattle.server_frame.specs.Told.{Told, nothing_told}
-use Rattle.file_service.specs.Furnished.{stock}
+use Rattle.file_service.specs.Rooms.{stock_of}
 use Rattle.file_service.specs.Session.{files_in, served_in, HasFiles, Serves}
 use Rattle.file_service.proofs.ServeLemmas.{serves_same}
 use Rattle.file_service.specs.declared.session.FileSession.{FileSession}
@@ -60,13 +59,13 @@ named_by None files account = refl
 named_by (Some file) files account = refl
 
 -- the files stay, and it is told
-pub named_served : (place : ℕ) (name : Option (List ℕ)) (session : FileSession) (sliced : SlicedHeap) (old new : Store) (regions : Regions) →
-    HasFiles session (stock session.heap sliced old regions) → new ≡ old →
-    name ≡ option_map (λ (file : File). file.name) (slice_get (files_in session (stock session.heap sliced old regions)).files place) →
-    let has = stock session.heap sliced old regions in
-    Serves (served_in (Name place) session has) (name_reply name) session session (stock session.heap sliced new regions)
-named_served place name session sliced old new regions files same name_is =
-    let has = stock session.heap sliced old regions in
-    serves_same (served_in (Name place) session has) (name_reply name) session sliced old new regions files same
+pub named_served : (place : ℕ) (name : Option (List ℕ)) (session : FileSession) (old new : Store) (regions : Regions) →
+    HasFiles session (stock_of session.rooms old regions) → new ≡ old →
+    name ≡ option_map (λ (file : File). file.name) (slice_get (files_in session (stock_of session.rooms old regions)).files place) →
+    let has = stock_of session.rooms old regions in
+    Serves (served_in (Name place) session has) (name_reply name) session session (stock_of session.rooms new regions)
+named_served place name session old new regions files same name_is =
+    let has = stock_of session.rooms old regions in
+    serves_same (served_in (Name place) session has) (name_reply name) session old new regions files same
     (named_by (slice_get (files_in session has).files place) (files_in session has) has.account
     ∙ ap (λ o. told (name_reply o) (files_in session has) has.account) (sym name_is))

@@ -23,7 +23,9 @@ use Rattle.std.specs.FinMap.{get}
 use Rattle.own_model.specs.NatMap.{NatMap}
 use Rattle.own_model.specs.Region.{Region}
 use Rattle.file_service.specs.Files.{file_at}
-use Rattle.file_service.specs.Furnished.{Stock, stock, IsFurnished, KeepsLent, StaysFurnished, KeepsSession}
+use Rattle.file_service.specs.Furnished.{Stock, IsFurnished, KeepsLent, StaysFurnished, KeepsSession}
+use Rattle.file_service.specs.Rooms.{stock_of}
+use Rattle.file_service.specs.declared.rooms.Rooms.{Rooms}
 use Rattle.file_service.specs.Node.{FileNode}
 use Rattle.file_service.specs.Session.{files_in, HasFiles, KeepsOwn, Serves, IsTold, IsFound, served_in}
 use Rattle.file_service.specs.declared.session.FileSession.{FileSession}
@@ -62,18 +64,20 @@ pub serves_told : (served : FileServed) (reply : model.FileReply) (session : Fil
 serves_told served reply session has files is = search rules
 
 -- also where the memory is told to be the same
-pub serves_same : (served : FileServed) (reply : model.FileReply) (session : FileSession) (sliced : SlicedHeap) (old new : Store) (regions : Regions) →
-    HasFiles session (stock session.heap sliced old regions) → new ≡ old →
-    served ≡ told reply (files_in session (stock session.heap sliced old regions)) (stock session.heap sliced old regions).account →
-    Serves served reply session session (stock session.heap sliced new regions)
-serves_same served reply session sliced old new regions files e is = search (rules, serves_told)
+pub serves_same : (served : FileServed) (reply : model.FileReply) (session : FileSession) (old new : Store) (regions : Regions) →
+    HasFiles session (stock_of session.rooms old regions) → new ≡ old →
+    served ≡ told reply (files_in session (stock_of session.rooms old regions)) (stock_of session.rooms old regions).account →
+    Serves served reply session session (stock_of session.rooms new regions)
+serves_same served reply session old new regions files e is = search (rules, serves_told)
 
 -- also where all is told to be the same
-pub serves_refused : (served : FileServed) (reply : model.FileReply) (session : FileSession) (sliced now : SlicedHeap) (old new : Store) (regions after : Regions) →
-    HasFiles session (stock session.heap sliced old regions) → now ≡ sliced → new ≡ old → after ≡ regions →
-    served ≡ told reply (files_in session (stock session.heap sliced old regions)) (stock session.heap sliced old regions).account →
-    Serves served reply session session (stock session.heap now new after)
-serves_refused served reply session sliced now old new regions after files s e r is = search (rules, serves_same)
+pub serves_refused : (served : FileServed) (reply : model.FileReply) (session : FileSession) (rooms : Rooms) (old new : Store) (regions after : Regions) →
+    HasFiles session (stock_of session.rooms old regions) → rooms ≡ session.rooms → new ≡ old → after ≡ regions →
+    served ≡ told reply (files_in session (stock_of session.rooms old regions)) (stock_of session.rooms old regions).account →
+    Serves served reply session (record session { rooms = rooms }) (stock_of rooms new after)
+serves_refused served reply session rooms old new regions after files s e r is =
+    subst (λ x. Serves served reply session (record session { rooms = x }) (stock_of x new after)) (sym s)
+    (subst (λ m. Serves served reply session session (stock_of session.rooms new m)) (sym r) (serves_same served reply session old new regions files e is))
 
 -- what is done is served so
 pub serves_done : (served : FileServed) (reply : model.FileReply) (files : Files) (account : Account) (old later : FileSession) (new : Stock) →

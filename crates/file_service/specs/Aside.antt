@@ -18,6 +18,7 @@ use Rattle.dataspace_core.specs.Share.{Share}
 use Rattle.heap_core.specs.Heap.{heap_in}
 use Rattle.heap_core.proofs.StayLemmas.{laid_same, value_same}
 use Rattle.sliced_heap.specs.Window.{block_region}
+use Rattle.sliced_heap.proofs.LinkedLemmas.{alike_linked}
 use Rattle.sliced_heap.proofs.ShareLemmas.{in_numbered, told_region}
 use Rattle.sliced_heap.specs.Heap.{IsNoBlock}
 use Rattle.sliced_heap.specs.Sliced.{sliced_of, sliced_tag, is_sliced_tag, block_regions, payload_of}
@@ -41,15 +42,15 @@ sliced_is : (o : Option ℕ) → is_sliced_tag o ≡ true → o ≡ Some sliced_
 sliced_is None e = absurd (true≢false (sym e))
 sliced_is (Some k) e = ap Some (eqb-true k sliced_tag e)
 
-module _ (session : FileSession) (lent : Lent) (share : Share) (is : IsSession session share) (stands : StandsLent lent share) (same : session.buffer ≡ Some lent) where
+module _ (session : FileSession) (lent : Lent) (account : ℕ) (share : Share) (is : IsSession session account share) (stands : StandsLent lent share) (same : session.buffer ≡ Some lent) where
   abbrev region : Region
   region = record { of = lent.space.0; pages = stands.pages }
 
   in_lent : (is_lent_tag (get share.tags lent.start) ≡ true) × (get share.heap lent.start ≡ Some region)
   in_lent = in_numbered is_lent_tag share.heap share.tags lent.start region (ap (λ (m : NatMap Region). get m lent.start) stands.region ∙ get-insert_same empty lent.start region lent.start refl)
 
-  holds : HoldsNodes session.heap share
-  holds = is.nodes stands.possible
+  holds : HoldsNodes session.rooms.nodes share
+  holds = is.rooms.nodes stands.possible
 
   there : (bytes : List ℕ) × (get share.part.spaces lent.space.0 ≡ Some bytes)
   there = some_of (get share.part.spaces lent.space.0) (stands.possible.paid lent.start region in_lent.1)
@@ -78,8 +79,8 @@ module _ (session : FileSession) (lent : Lent) (share : Share) (is : IsSession s
         let low = at.few in
         get-insert_other share.part.spaces lent.space.0 bytes r.of (apart s k r at.there at.tag (grind (arith, nat_tests)))
 
-    nodes_same : heap_in session.heap T ≡ heap_in session.heap share
-    nodes_same = value_same session.heap share T holds.laid stands_still chunks_same
+    nodes_same : heap_in session.rooms.nodes T ≡ heap_in session.rooms.nodes share
+    nodes_same = value_same session.rooms.nodes share T holds.laid stands_still chunks_same
 
     contents_same : sliced_of T ≡ sliced_of share
     unfolding sliced_of
@@ -104,22 +105,27 @@ module _ (session : FileSession) (lent : Lent) (share : Share) (is : IsSession s
     buffer_still : StandsLent lent T
     buffer_still = record { possible = possible; pages = stands.pages; region = stands.region }
 
-    kept_still : IsSession session T
+    kept_still : IsSession session account T
     kept_still = record {
-      nodes = λ _. record {
-        laid = laid_same session.heap share T holds.laid stands_still chunks_same;
-        no_large = ap (λ (h : OwnHeap). h.large) nodes_same ∙ holds.no_large;
-        all = let few = len-insert_at share.part.spaces lent.space.0 bytes there.0 there.1 in
-            let chunks = ap (λ (h : OwnHeap). length h.shape.chunks) nodes_same in
-            let contents = ap len contents_same in
-            let all = holds.all in
-            omega (arith, few, chunks, contents, all);
+      rooms = record {
+        payer = is.rooms.payer;
+        same_payer = is.rooms.same_payer;
+        linked = alike_linked share T session.rooms.contents.first is.rooms.linked refl (λ s r block. get-insert_other share.part.spaces lent.space.0 bytes r.of (no_block s r block));
+        nodes = λ _. record {
+          laid = laid_same session.rooms.nodes share T holds.laid stands_still chunks_same;
+          no_large = ap (λ (h : OwnHeap). h.large) nodes_same ∙ holds.no_large;
+          all = let few = len-insert_at share.part.spaces lent.space.0 bytes there.0 there.1 in
+              let chunks = ap (λ (h : OwnHeap). length h.shape.chunks) nodes_same in
+              let contents = ap len contents_same in
+              let all = holds.all in
+              omega (arith, few, chunks, contents, all);
+        };
       };
-      files = subst (λ (h : OwnHeap). AreFiles session.first session.last session.root h (sliced_of T)) (sym nodes_same) (subst (λ m. AreFiles session.first session.last session.root (heap_in session.heap share) m) (sym contents_same) is.files);
+      files = subst (λ (h : OwnHeap). AreFiles session.first session.last session.root h (sliced_of T)) (sym nodes_same) (subst (λ m. AreFiles session.first session.last session.root (heap_in session.rooms.nodes share) m) (sym contents_same) is.files);
       buffer = subst (λ b. KeepsBuffer b T) (sym same) buffer_still;
     }
 
-  aside : LendsAside IsSession value_of session share lent.space.0
+  aside : LendsAside IsSession value_of session account share lent.space.0
   aside = record {
     paid = ap is_some there.1;
     no_block = no_block;
@@ -127,11 +133,11 @@ module _ (session : FileSession) (lent : Lent) (share : Share) (is : IsSession s
     value_same = λ bytes long. value_still bytes;
   }
 
-by_buffer : (session : FileSession) (share : Share) (ds : ℕ) (b : Option Lent) → session.buffer ≡ b → IsSession session share → buffer_key b ≡ Some ds → LendsAside IsSession value_of session share ds
-by_buffer session share ds None same is lends = absurd (none-some ds lends)
-by_buffer session share ds (Some lent) same is lends =
-    subst (LendsAside IsSession value_of session share) (same_Some lent.space.0 ds lends) (aside session lent share is (subst (λ b. KeepsBuffer b share) same is.buffer) same)
+by_buffer : (session : FileSession) (account : ℕ) (share : Share) (ds : ℕ) (b : Option Lent) → session.buffer ≡ b → IsSession session account share → buffer_key b ≡ Some ds → LendsAside IsSession value_of session account share ds
+by_buffer session account share ds None same is lends = absurd (none-some ds lends)
+by_buffer session account share ds (Some lent) same is lends =
+    subst (LendsAside IsSession value_of session account share) (same_Some lent.space.0 ds lends) (aside session lent account share is (subst (λ b. KeepsBuffer b share) same is.buffer) same)
 
 -- all that the file service lends does
 pub lends_aside : AllLendAside IsSession value_of (λ (session : FileSession). buffer_key session.buffer)
-lends_aside session share ds is lends = by_buffer session share ds session.buffer refl is lends
+lends_aside session account share ds is lends = by_buffer session account share ds session.buffer refl is lends

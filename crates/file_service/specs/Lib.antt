@@ -1,5 +1,6 @@
 pub mod Links
 pub mod Furnished
+pub mod Rooms
 pub mod Lent
 pub mod Source
 pub mod Node

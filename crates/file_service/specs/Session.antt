@@ -21,13 +21,13 @@ use Rattle.file_service.specs.Links.{last_of}
 use Rattle.file_service.specs.Node.{FileNode}
 use Rattle.file_service.specs.Node.{value_of as node_value}
 use Rattle.file_service.specs.declared.session.Found.{Found}
-use Rattle.file_service.specs.Furnished.{Stock, stock, KeepsNodes, IsFurnished, StaysFurnished}
+use Rattle.file_service.specs.Furnished.{Stock}
+use Rattle.file_service.specs.Rooms.{stock_of, AreFurnished, AreKept, StayFurnished}
 use Rattle.file_service.specs.Lent.{KeepsBuffer, HasBuffer, buffer_key}
 use Rattle.own_model.specs.BufferService.{SessionRequest, BufferServed, session_request_served}
 use Rattle.trade_base.specs.declared.id.DsId.{DsId}
 use Rattle.region_map.specs.Regions.{Regions}
 use Rattle.dataspace_core.specs.Store.{Store}
-use Rattle.sliced_heap.specs.declared.heap.SlicedHeap.{SlicedHeap}
 use Rattle.server_frame.specs.Lent.{IsEffect, bytes_lent}
 use Rattle.server_frame.specs.Session.{holding_of}
 use Rattle.server_frame.specs.Told.{Told, nothing_told}
@@ -38,13 +38,13 @@ use Rattle.file_service.specs.declared.session.FileSession.{FileSession}
 abbrev pub value_of : FileSession → Share → Labelled
 value_of session share = record {
   label = session.label.items;
-  state = Filing (files_of session.first (heap_in session.heap share) (sliced_of share));
+  state = Filing (files_of session.first (heap_in session.rooms.nodes share) (sliced_of share));
 }
 
 -- what is true of a session between its requests
-pub record IsSession (session : FileSession) (share : Share) : Type 0 where
-  pub nodes : KeepsNodes session.heap share
-  pub files : AreFiles session.first session.last session.root (heap_in session.heap share) (sliced_of share)
+pub record IsSession (session : FileSession) (account : ℕ) (share : Share) : Type 0 where
+  pub rooms : AreKept session.rooms account share
+  pub files : AreFiles session.first session.last session.root (heap_in session.rooms.nodes share) (sliced_of share)
   pub buffer : KeepsBuffer session.buffer share
 
 -- ---- while a request is served
@@ -76,37 +76,37 @@ pub record Serves (served : FileServed) (reply : model.FileReply) (old later : F
 
 -- ---- requests of files and of the buffer
 
--- a session is ready for a request: both heaps are furnished, the links hold files, and what it lends stands
-pub record IsReady (session : FileSession) (sliced : SlicedHeap) (store : Store) (regions : Regions) : Type 0 where
-  pub furnished : IsFurnished session.heap sliced store regions
-  pub files : HasFiles session (stock session.heap sliced store regions)
-  pub lent : HasBuffer session.buffer (holding_of sliced store regions)
+-- a session is ready for a request: its rooms are furnished, the links hold files, and what it lends stands
+pub record IsReady (session : FileSession) (store : Store) (regions : Regions) : Type 0 where
+  pub furnished : AreFurnished session.rooms store regions
+  pub files : HasFiles session (stock_of session.rooms store regions)
+  pub lent : HasBuffer session.buffer (holding_of session.rooms.contents store regions)
 
 -- what a request does to it
-abbrev pub session_served : Option SessionRequest → FileSession → SlicedHeap → Store → Regions → BufferServed
-session_served request session sliced store regions =
-    let has = stock session.heap sliced store regions in
+abbrev pub session_served : Option SessionRequest → FileSession → Store → Regions → BufferServed
+session_served request session store regions =
+    let has = stock_of session.rooms store regions in
     session_request_served request (bytes_lent store (buffer_key session.buffer)) (files_in session has) has.account
 
 -- after a request it is ready for another, and account, files and buffer are as it is served
-pub record LeavesSession (served : BufferServed) (old later : FileSession) (now : SlicedHeap) (new : Store) (after : Regions) : Type 0 where
-  pub ready : IsReady later now new after
-  pub account : (stock later.heap now new after).account ≡ served.account
-  pub files : files_in later (stock later.heap now new after) ≡ served.files
+pub record LeavesSession (served : BufferServed) (old later : FileSession) (new : Store) (after : Regions) : Type 0 where
+  pub ready : IsReady later new after
+  pub account : (stock_of later.rooms new after).account ≡ served.account
+  pub files : files_in later (stock_of later.rooms new after) ≡ served.files
   pub buffer : bytes_lent new (buffer_key later.buffer) ≡ served.buffer
   pub label : later.label ≡ old.label
 
 -- and it is answered so
-pub record Answers (served : BufferServed) (reply : model.FileReply) (old later : FileSession) (now : SlicedHeap) (new : Store) (after : Regions) : Type 0 where
+pub record Answers (served : BufferServed) (reply : model.FileReply) (old later : FileSession) (new : Store) (after : Regions) : Type 0 where
   pub reply_is : model.file_reply reply ≡ served.reply
-  pub leaves : LeavesSession served old later now new after
+  pub leaves : LeavesSession served old later new after
 
 -- the reply is told, with what the request did to the buffer, and other accounts keep what they have
-pub record IsAnswered (served : BufferServed) (effect : Effect) (told : Told) (old later : FileSession) (sliced now : SlicedHeap) (store new : Store) (regions after : Regions) : Type 0 where
+pub record IsAnswered (served : BufferServed) (effect : Effect) (told : Told) (old later : FileSession) (store new : Store) (regions after : Regions) : Type 0 where
   pub text : told ≡ record nothing_told { text = served.reply }
-  pub leaves : LeavesSession served old later now new after
+  pub leaves : LeavesSession served old later new after
   pub effect_is : IsEffect effect (buffer_key old.buffer) (buffer_key later.buffer)
-  pub stays : StaysFurnished sliced later.heap now store new regions after
+  pub stays : StayFurnished old.rooms later.rooms store new regions after
 
 -- the node of a name is found, with what is before it: none of the files before it has the name
 pub record IsFound (first last : ℕ) (nodes : OwnHeap) (contents : NatMap (List ℕ)) (name : List ℕ) (previous address : ℕ) (node : FileNode) : Type 0 where

@@ -14,20 +14,17 @@ ghost use Rattle.file_service.specs.Files.{file_at, node_at, nodes_from, HasCont
 ghost use Rattle.file_service.specs.Index.{ChangesTails, IsIndexed, LinksBack, previous_at};
 ghost use Rattle.file_service.specs.Node.{value_of as node_value, rank_of};
 ghost use Rattle.file_service.specs.Source.{bytes_from, HasSource};
-ghost use Rattle.file_service.specs.Furnished.{stock, IsFurnished, KeepsSession};
+ghost use Rattle.file_service.specs.Rooms.{stock_of, AreFurnished, KeepsRooms};
 ghost use Rattle.file_service.specs.Session.{files_in, HasFiles, Finds, LinksTo, IsListed, Unlists, IsFresh, IsOwn, KeepsOwn, Serves, done_reply, counted_reply, served_in};
 
-use crate::contents::{copy_content, give_content, take_content};
-use crate::names::{PREVIOUS, enter, leave};
+use crate::names::PREVIOUS;
 use crate::node::{Node, copied};
-use crate::nodes::{give_node, load_node, load_word, put_bytes, store_new, store_node, take_node};
+use crate::rooms::Rooms;
 use crate::session::{FileSession, Found};
-use crate::source::{Source, put_content};
+use crate::source::Source;
 use dataspace_core::Memory;
-use heap_core::Heap;
 use region_map::RegionMap;
 use session_proto::FileError;
-use sliced_heap::SlicedHeap;
 use std::marker::Brand;
 use std::sync::ledger::Blank;
 use text_codec::is_name;
@@ -40,28 +37,27 @@ impl FileSession {
     /// refuses a block for its node.
     pub(crate) fn create(
         &mut self,
-        sliced: &SlicedHeap,
         memory: &mut Memory,
         map: &mut RegionMap,
         name: &[u8],
     ) -> Result<(), FileError>
-        requires furnished { IsFurnished self.old.heap sliced.now memory.old map.old }
-        requires files { HasFiles self.old (stock self.old.heap sliced.now memory.old map.old) }
+        requires furnished { AreFurnished self.old.rooms memory.old map.old }
+        requires files { HasFiles self.old (stock_of self.old.rooms memory.old map.old) }
         ensures serves { Serves
             (served_in (Create name.now) self.old
-            (stock self.old.heap sliced.now memory.old map.old)) (done_reply result)
-            self.old self.new (stock self.new.heap sliced.now memory.new map.new) }
-        ensures keeps { KeepsSession sliced.now self.new.heap sliced.now
+            (stock_of self.old.rooms memory.old map.old)) (done_reply result)
+            self.old self.new (stock_of self.new.rooms memory.new map.new) }
+        ensures keeps { KeepsRooms self.old.rooms self.new.rooms
             memory.old memory.new map.old map.new }
     {
         if !is_name(name) {
             return Err(FileError::BadName);
         }
-        if self.find(sliced, memory, map, name).is_some() {
+        if self.find(memory, map, name).is_some() {
             return Err(FileError::Exists);
         }
-        let address = take_node(&mut self.heap, sliced, memory, map).map_err(error_of)?;
-        self.append(sliced, memory, map, address, name);
+        let address = self.rooms.take_node(memory, map).map_err(error_of)?;
+        self.append(memory, map, address, name);
         Ok(())
     }
 
@@ -72,61 +68,58 @@ impl FileSession {
     /// where the account doesn't cover the new content.
     pub(crate) fn write(
         &mut self,
-        sliced: &mut SlicedHeap,
         memory: &mut Memory,
         map: &mut RegionMap,
         name: &[u8],
         offset: u64,
         bytes: &[u8],
     ) -> Result<u64, FileError>
-        requires furnished { IsFurnished self.old.heap sliced.old memory.old map.old }
-        requires files { HasFiles self.old (stock self.old.heap sliced.old memory.old map.old) }
+        requires furnished { AreFurnished self.old.rooms memory.old map.old }
+        requires files { HasFiles self.old (stock_of self.old.rooms memory.old map.old) }
         ensures serves { Serves
             (served_in (Write name.now offset bytes.now) self.old
-            (stock self.old.heap sliced.old memory.old map.old)) (counted_reply result)
-            self.old self.new (stock self.new.heap sliced.new memory.new map.new) }
-        ensures keeps { KeepsSession sliced.old self.new.heap sliced.new
+            (stock_of self.old.rooms memory.old map.old)) (counted_reply result)
+            self.old self.new (stock_of self.new.rooms memory.new map.new) }
+        ensures keeps { KeepsRooms self.old.rooms self.new.rooms
             memory.old memory.new map.old map.new }
     {
-        let found = self
-            .find(sliced, memory, map, name)
-            .ok_or(FileError::NotFound)?;
+        let found = self.find(memory, map, name).ok_or(FileError::NotFound)?;
         if offset > found.node.size {
             return Err(FileError::Gap);
         }
-        self.overwrite(sliced, memory, map, found, offset, Source::Bytes(bytes))
+        self.overwrite(memory, map, found, offset, Source::Bytes(bytes))
     }
 
     /// The same of a file that is found, from an offset on that isn't above its size, by the bytes of a source.
     pub(crate) fn overwrite(
         &mut self,
-        sliced: &mut SlicedHeap,
         memory: &mut Memory,
         map: &mut RegionMap,
         found: Found,
         offset: u64,
         source: Source<'_>,
     ) -> Result<u64, FileError>
-        requires furnished { IsFurnished self.old.heap sliced.old memory.old map.old }
-        requires files { HasFiles self.old (stock self.old.heap sliced.old memory.old map.old) }
+        requires furnished { AreFurnished self.old.rooms memory.old map.old }
+        requires files { HasFiles self.old (stock_of self.old.rooms memory.old map.old) }
         requires found { Finds self.old
-            (stock self.old.heap sliced.old memory.old map.old) found.node.name.items found }
+            (stock_of self.old.rooms memory.old map.old) found.node.name.items found }
         requires low { offset ≤ found.node.size }
-        requires source { HasSource source sliced.old memory.old map.old }
+        requires source { HasSource source self.old.rooms.contents memory.old map.old }
         ensures serves { Serves
-            (served_in (Write found.node.name.items offset (bytes_from source.entry memory.old)) self.old
-            (stock self.old.heap sliced.old memory.old map.old)) (counted_reply result)
-            self.old self.new (stock self.new.heap sliced.new memory.new map.new) }
-        ensures keeps { KeepsSession sliced.old self.new.heap sliced.new
+            (served_in
+            (Write found.node.name.items offset (bytes_from source.entry memory.old)) self.old
+            (stock_of self.old.rooms memory.old map.old)) (counted_reply result)
+            self.old self.new (stock_of self.new.rooms memory.new map.new) }
+        ensures keeps { KeepsRooms self.old.rooms self.new.rooms
             memory.old memory.new map.old map.new }
     {
         let count = source.count();
         if count > found.node.size - offset {
-            return self.lengthen(sliced, memory, map, found, offset, source);
+            return self.lengthen(memory, map, found, offset, source);
         }
         if count > 0 {
             let content = found.node.content;
-            put_content(&self.heap, sliced, memory, map, content, offset, source);
+            self.rooms.put_content(memory, map, content, offset, source);
         }
         Ok(count)
     }
@@ -134,79 +127,66 @@ impl FileSession {
     /// Takes all bytes out of a file, or answers `NotFound` where there is none of the name.
     pub(crate) fn clear(
         &mut self,
-        sliced: &mut SlicedHeap,
         memory: &mut Memory,
         map: &mut RegionMap,
         name: &[u8],
     ) -> Result<(), FileError>
-        requires furnished { IsFurnished self.old.heap sliced.old memory.old map.old }
-        requires files { HasFiles self.old (stock self.old.heap sliced.old memory.old map.old) }
+        requires furnished { AreFurnished self.old.rooms memory.old map.old }
+        requires files { HasFiles self.old (stock_of self.old.rooms memory.old map.old) }
         ensures serves { Serves
             (served_in (Clear name.now) self.old
-            (stock self.old.heap sliced.old memory.old map.old)) (done_reply result)
-            self.old self.new (stock self.new.heap sliced.new memory.new map.new) }
-        ensures keeps { KeepsSession sliced.old self.new.heap sliced.new
+            (stock_of self.old.rooms memory.old map.old)) (done_reply result)
+            self.old self.new (stock_of self.new.rooms memory.new map.new) }
+        ensures keeps { KeepsRooms self.old.rooms self.new.rooms
             memory.old memory.new map.old map.new }
     {
-        let found = self
-            .find(sliced, memory, map, name)
-            .ok_or(FileError::NotFound)?;
-        self.replace(sliced, memory, map, found, 0, 0);
+        let found = self.find(memory, map, name).ok_or(FileError::NotFound)?;
+        self.replace(memory, map, found, 0, 0);
         Ok(())
     }
 
     /// Takes a file out, or answers `NotFound` where there is none of the name.
     pub(crate) fn remove(
         &mut self,
-        sliced: &mut SlicedHeap,
         memory: &mut Memory,
         map: &mut RegionMap,
         name: &[u8],
     ) -> Result<(), FileError>
-        requires furnished { IsFurnished self.old.heap sliced.old memory.old map.old }
-        requires files { HasFiles self.old (stock self.old.heap sliced.old memory.old map.old) }
+        requires furnished { AreFurnished self.old.rooms memory.old map.old }
+        requires files { HasFiles self.old (stock_of self.old.rooms memory.old map.old) }
         ensures serves { Serves
-            (served_in (Drop name.now) self.old (stock self.old.heap sliced.old memory.old map.old))
+            (served_in (Drop name.now) self.old (stock_of self.old.rooms memory.old map.old))
             (done_reply result)
-            self.old self.new (stock self.new.heap sliced.new memory.new map.new) }
-        ensures keeps { KeepsSession sliced.old self.new.heap sliced.new
+            self.old self.new (stock_of self.new.rooms memory.new map.new) }
+        ensures keeps { KeepsRooms self.old.rooms self.new.rooms
             memory.old memory.new map.old map.new }
     {
-        let found = self
-            .find(sliced, memory, map, name)
-            .ok_or(FileError::NotFound)?;
+        let found = self.find(memory, map, name).ok_or(FileError::NotFound)?;
         let Found { address, node } = found;
-        let previous = self.unlist(sliced, memory, map, address, &node);
-        self.link(sliced, memory, map, previous, node.next);
+        let previous = self.unlist(memory, map, address, &node);
+        self.link(memory, map, previous, node.next);
         self.last = last_without(self.last, address, previous);
-        give_node(&mut self.heap, sliced, memory, map, address);
+        self.rooms.give_node(memory, map, address);
         if node.size > 0 {
-            give_content(&self.heap, sliced, memory, map, node.content);
+            self.rooms.give_content(memory, map, node.content);
         }
         Ok(())
     }
 
     // Puts a taken block behind the last file's node, as that of an empty file.
-    fn append(
-        &mut self,
-        sliced: &SlicedHeap,
-        memory: &mut Memory,
-        map: &RegionMap,
-        address: u64,
-        name: &[u8],
-    )
-        requires furnished { IsFurnished self.old.heap sliced.now memory.old map.now }
-        requires files { HasFiles self.old (stock self.old.heap sliced.now memory.old map.now) }
+    fn append(&mut self, memory: &mut Memory, map: &RegionMap, address: u64, name: &[u8])
+        requires furnished { AreFurnished self.old.rooms memory.old map.now }
+        requires files { HasFiles self.old (stock_of self.old.rooms memory.old map.now) }
         requires fresh { IsFresh self.old.first
-            (stock self.old.heap sliced.now memory.old map.now).nodes address }
+            (stock_of self.old.rooms memory.old map.now).nodes address }
         requires name { length name.now ≤ 32 }
         requires new { (b : ℕ)
             → is_listed (nodes_from self.old.first
-            (stock self.old.heap sliced.now memory.old map.now).nodes) b ≡ true →
-            rank_of (node_at (stock self.old.heap sliced.now memory.old map.now).nodes b).name
+            (stock_of self.old.rooms memory.old map.now).nodes) b ≡ true →
+            rank_of (node_at (stock_of self.old.rooms memory.old map.now).nodes b).name
             ≢ rank_of name.now }
-        ensures files { let old = stock self.old.heap sliced.now memory.old map.now in
-            files_in self.new (stock self.new.heap sliced.now memory.new map.now)
+        ensures files { let old = stock_of self.old.rooms memory.old map.now in
+            files_in self.new (stock_of self.new.rooms memory.new map.now)
             ≡ record (files_in self.old old) {
               files = (files_in self.old old).files ++ record {
                 name = name.now;
@@ -215,11 +195,11 @@ impl FileSession {
                 offset = offset_of old.nodes (address - header);
               } ∷ [];
             } }
-        ensures kept { HasFiles self.new (stock self.new.heap sliced.now memory.new map.now) }
-        ensures account { (stock self.new.heap sliced.now memory.new map.now).account
-            ≡ (stock self.old.heap sliced.now memory.old map.now).account }
+        ensures kept { HasFiles self.new (stock_of self.new.rooms memory.new map.now) }
+        ensures account { (stock_of self.new.rooms memory.new map.now).account
+            ≡ (stock_of self.old.rooms memory.old map.now).account }
         ensures own { KeepsOwn self.old self.new }
-        ensures keeps { KeepsSession sliced.now self.new.heap sliced.now
+        ensures keeps { KeepsRooms self.old.rooms self.new.rooms
             memory.old memory.new map.now map.now }
     {
         let node = Node {
@@ -229,160 +209,135 @@ impl FileSession {
             name: copied(name),
         };
         let last = self.last;
-        store_new(&self.heap, sliced, memory, map, address, &node, last);
-        self.link(sliced, memory, map, last, address);
+        self.rooms.store_new(memory, map, address, &node, last);
+        self.link(memory, map, last, address);
         self.last = address;
-        self.root = enter::<Brand>(
-            &self.heap,
-            sliced,
-            memory,
-            map,
-            self.root,
-            name,
-            address,
-            Blank::new(1),
-        );
+        self.root = self
+            .rooms
+            .enter::<Brand>(memory, map, self.root, name, address, Blank::new(1));
     }
 
     // Takes a file's node out of the tree, links the node behind it back to the one before it, and tells that one.
-    fn unlist(
-        &mut self,
-        sliced: &SlicedHeap,
-        memory: &mut Memory,
-        map: &RegionMap,
-        address: u64,
-        node: &Node,
-    ) -> u64
-        requires furnished { IsFurnished self.old.heap sliced.now memory.old map.now }
-        requires files { HasFiles self.old (stock self.old.heap sliced.now memory.old map.now) }
+    fn unlist(&mut self, memory: &mut Memory, map: &RegionMap, address: u64, node: &Node) -> u64
+        requires furnished { AreFurnished self.old.rooms memory.old map.now }
+        requires files { HasFiles self.old (stock_of self.old.rooms memory.old map.now) }
         requires listed { IsListed self.old
-            (stock self.old.heap sliced.now memory.old map.now) address (node_value node.now) }
+            (stock_of self.old.rooms memory.old map.now) address (node_value node.now) }
         ensures previous { result ≡ previous_at
-            (stock self.old.heap sliced.now memory.old map.now).nodes address }
-        ensures tails { ChangesTails (stock self.old.heap sliced.now memory.old map.now)
-            (stock self.new.heap sliced.now memory.new map.now) }
+            (stock_of self.old.rooms memory.old map.now).nodes address }
+        ensures tails { ChangesTails (stock_of self.old.rooms memory.old map.now)
+            (stock_of self.new.rooms memory.new map.now) }
         ensures unlists { Unlists self.old self.new address
-            (stock self.old.heap sliced.now memory.old map.now)
-            (stock self.new.heap sliced.now memory.new map.now) }
+            (stock_of self.old.rooms memory.old map.now)
+            (stock_of self.new.rooms memory.new map.now) }
         ensures same { self.new ≡ record self.old { root = self.new.root } }
-        ensures keeps { KeepsSession sliced.now self.new.heap sliced.now
+        ensures keeps { KeepsRooms self.old.rooms self.new.rooms
             memory.old memory.new map.now map.now }
     {
-        let previous = load_word(&self.heap, sliced, memory, map, address, PREVIOUS);
+        let previous = self.rooms.load_word(memory, map, address, PREVIOUS);
         let root = self.root;
-        self.root = leave::<Brand>(
-            &self.heap,
-            sliced,
-            memory,
-            map,
-            root,
-            &node.name,
-            Blank::new(1),
-        );
-        link_back(&self.heap, sliced, memory, map, node.next, previous);
+        self.root = self
+            .rooms
+            .leave::<Brand>(memory, map, root, &node.name, Blank::new(1));
+        self.rooms.link_back(memory, map, node.next, previous);
         previous
     }
 
     // Links a file's node, or the session itself where its address is 0, to another one.
-    fn link(
-        &mut self,
-        sliced: &SlicedHeap,
-        memory: &mut Memory,
-        map: &RegionMap,
-        holder: u64,
-        address: u64,
-    )
-        requires furnished { IsFurnished self.old.heap sliced.now memory.old map.now }
+    fn link(&mut self, memory: &mut Memory, map: &RegionMap, holder: u64, address: u64)
+        requires furnished { AreFurnished self.old.rooms memory.old map.now }
         requires there { holder ≢ 0
             → HasBytes
-            (stock self.old.heap sliced.now memory.old map.now).nodes.payloads holder 0 96 }
+            (stock_of self.old.rooms memory.old map.now).nodes.payloads holder 0 96 }
         ensures links { LinksTo self.old.first holder address self.new.first
-            (stock self.old.heap sliced.now memory.old map.now).nodes
-            (stock self.new.heap sliced.now memory.new map.now).nodes }
-        ensures rest { let new = stock self.new.heap sliced.now memory.new map.now in
-            new ≡ record (stock self.old.heap sliced.now memory.old map.now) { nodes = new.nodes } }
+            (stock_of self.old.rooms memory.old map.now).nodes
+            (stock_of self.new.rooms memory.new map.now).nodes }
+        ensures rest { let new = stock_of self.new.rooms memory.new map.now in
+            new ≡ record (stock_of self.old.rooms memory.old map.now) { nodes = new.nodes } }
         ensures same { self.new ≡ record self.old { first = self.new.first } }
-        ensures keeps { KeepsSession sliced.now self.new.heap sliced.now
+        ensures keeps { KeepsRooms self.old.rooms self.new.rooms
             memory.old memory.new map.now map.now }
     {
         if holder == 0 {
             self.first = address;
             return;
         }
-        let mut node = load_node(&self.heap, sliced, memory, map, holder);
+        let mut node = self.rooms.load_node(memory, map, holder);
         node.next = address;
-        store_node(&self.heap, sliced, memory, map, holder, &node);
+        self.rooms.store_node(memory, map, holder, &node);
     }
 
     // Writes a file's bytes up to an offset, and a source's behind them, as a new content.
     fn lengthen(
         &mut self,
-        sliced: &mut SlicedHeap,
         memory: &mut Memory,
         map: &mut RegionMap,
         found: Found,
         offset: u64,
         source: Source<'_>,
     ) -> Result<u64, FileError>
-        requires furnished { IsFurnished self.old.heap sliced.old memory.old map.old }
-        requires files { HasFiles self.old (stock self.old.heap sliced.old memory.old map.old) }
+        requires furnished { AreFurnished self.old.rooms memory.old map.old }
+        requires files { HasFiles self.old (stock_of self.old.rooms memory.old map.old) }
         requires found { Finds self.old
-            (stock self.old.heap sliced.old memory.old map.old) found.node.name.items found }
+            (stock_of self.old.rooms memory.old map.old) found.node.name.items found }
         requires low { offset ≤ found.node.size }
         requires longer { found.node.size < offset + length (bytes_from source memory.old) }
-        requires source { HasSource source sliced.old memory.old map.old }
+        requires source { HasSource source self.old.rooms.contents memory.old map.old }
         ensures serves { Serves
-            (served_in (Write found.node.name.items offset (bytes_from source.entry memory.old)) self.old
-            (stock self.old.heap sliced.old memory.old map.old))
+            (served_in
+            (Write found.node.name.items offset (bytes_from source.entry memory.old)) self.old
+            (stock_of self.old.rooms memory.old map.old))
             (counted_reply result) self.old self.new
-            (stock self.new.heap sliced.new memory.new map.new) }
-        ensures keeps { KeepsSession sliced.old self.new.heap sliced.new
+            (stock_of self.new.rooms memory.new map.new) }
+        ensures keeps { KeepsRooms self.old.rooms self.new.rooms
             memory.old memory.new map.old map.new }
     {
-        ram_fits(sliced, memory);
+        self.rooms.ram_fits(memory);
         let count = source.count();
         let size = offset.checked_add(count).ok_or(FileError::OutOfRam)?;
-        let content = take_content(&self.heap, sliced, memory, map, size).map_err(error_of)?;
+        let content = self
+            .rooms
+            .take_content(memory, map, size)
+            .map_err(error_of)?;
         let old = found.node.content;
-        copy_content(&self.heap, sliced, memory, map, old, content, offset);
-        put_content(&self.heap, sliced, memory, map, content, offset, source);
-        self.replace(sliced, memory, map, found, content, size);
+        self.rooms.copy_content(memory, map, old, content, offset);
+        self.rooms.put_content(memory, map, content, offset, source);
+        self.replace(memory, map, found, content, size);
         Ok(count)
     }
 
     // Gives a file another content, and then the old one back.
     fn replace(
         &mut self,
-        sliced: &mut SlicedHeap,
         memory: &mut Memory,
         map: &mut RegionMap,
         found: Found,
         content: u64,
         size: u64,
     )
-        requires furnished { IsFurnished self.old.heap sliced.old memory.old map.old }
+        requires furnished { AreFurnished self.old.rooms memory.old map.old }
         requires found { Finds self.old
-            (stock self.old.heap sliced.old memory.old map.old) found.node.name.items found }
+            (stock_of self.old.rooms memory.old map.old) found.node.name.items found }
         requires indexed { IsIndexed self.old.first self.old.root
-            (stock self.old.heap sliced.old memory.old map.old).nodes }
+            (stock_of self.old.rooms memory.old map.old).nodes }
         requires content { 0 < size
-            → HasContent (stock self.old.heap sliced.old memory.old map.old).contents
+            → HasContent (stock_of self.old.rooms memory.old map.old).contents
             (record (node_value found.node) { content = content; size = size }) }
         requires own { 0 < size
             → IsOwn self.old.first
-            (stock self.old.heap sliced.old memory.old map.old).nodes content }
-        ensures files { let old = stock self.old.heap sliced.old memory.old map.old in
-            files_in self.new (stock self.new.heap sliced.new memory.new map.new)
+            (stock_of self.old.rooms memory.old map.old).nodes content }
+        ensures files { let old = stock_of self.old.rooms memory.old map.old in
+            files_in self.new (stock_of self.new.rooms memory.new map.new)
             ≡ record (files_in self.old old) {
               files = rewritten found.node.name.items (take size (payload_in old.contents content))
                   (files_in self.old old).files;
             } }
-        ensures kept { HasFiles self.new (stock self.new.heap sliced.new memory.new map.new) }
-        ensures account { let old = stock self.old.heap sliced.old memory.old map.old in
-            (stock self.new.heap sliced.new memory.new map.new).account
+        ensures kept { HasFiles self.new (stock_of self.new.rooms memory.new map.new) }
+        ensures account { let old = stock_of self.old.rooms memory.old map.old in
+            (stock_of self.new.rooms memory.new map.new).account
             ≡ content_credited (file_at old.nodes old.contents found.address) old.account }
         ensures own { KeepsOwn self.old self.new }
-        ensures keeps { KeepsSession sliced.old self.new.heap sliced.new
+        ensures keeps { KeepsRooms self.old.rooms self.new.rooms
             memory.old memory.new map.old map.new }
     {
         let Found { address, node } = found;
@@ -391,34 +346,37 @@ impl FileSession {
         let was = node.size;
         node.content = content;
         node.size = size;
-        store_node(&self.heap, sliced, memory, map, address, &node);
+        self.rooms.store_node(memory, map, address, &node);
         if was > 0 {
-            give_content(&self.heap, sliced, memory, map, old);
+            self.rooms.give_content(memory, map, old);
         }
     }
 }
 
-/// Links a node, if there is one, back to another one.
-fn link_back(
-    heap: &Heap,
-    sliced: &SlicedHeap,
-    memory: &mut Memory,
-    map: &RegionMap,
-    address: u64,
-    previous: u64,
-)
-    requires furnished { IsFurnished heap.now sliced.now memory.old map.now }
-    requires there { address ≢ 0 → HasBytes
-        (stock heap.now sliced.now memory.old map.now).nodes.payloads address 0 96 }
-    ensures links { LinksBack address previous
-        (stock heap.now sliced.now memory.old map.now)
-        (stock heap.now sliced.now memory.new map.now) }
-    ensures keeps { KeepsSession sliced.now heap.now sliced.now
-        memory.old memory.new map.now map.now }
-{
-    if address != 0 {
-        let word = previous.to_le_bytes();
-        put_bytes(heap, sliced, memory, map, address, PREVIOUS, &word);
+impl Rooms {
+    /// Links a node, if there is one, back to another one.
+    fn link_back(&self, memory: &mut Memory, map: &RegionMap, address: u64, previous: u64)
+        requires furnished { AreFurnished self.now memory.old map.now }
+        requires there { address ≢ 0 → HasBytes
+            (stock_of self.now memory.old map.now).nodes.payloads address 0 96 }
+        ensures links { LinksBack address previous
+            (stock_of self.now memory.old map.now)
+            (stock_of self.now memory.new map.now) }
+        ensures keeps { KeepsRooms self.now self.now
+            memory.old memory.new map.now map.now }
+    {
+        if address != 0 {
+            let word = previous.to_le_bytes();
+            self.put_bytes(memory, map, address, PREVIOUS, &word);
+        }
+    }
+
+    /// The RAM of an account is counted in 64 bits, so a content whose size is above them is out of RAM.
+    fn ram_fits(&self, memory: &Memory)
+        requires { IsOpenIn memory.now (payer_of self.now.contents) }
+        ensures { (account_in memory.now (payer_of self.now.contents)).ram_limit < 2 ^ 64 }
+    {
+        let _ = memory.limits(self.contents.account());
     }
 }
 
@@ -427,14 +385,6 @@ fn last_without(last: u64, address: u64, previous: u64) -> u64
     ensures { result ≡ (if last == address then previous else last) }
 {
     if last == address { previous } else { last }
-}
-
-/// The RAM of an account is counted in 64 bits, so a content whose size is above them is out of RAM.
-fn ram_fits(sliced: &SlicedHeap, memory: &Memory)
-    requires { IsOpenIn memory.now (payer_of sliced.now) }
-    ensures { (account_in memory.now (payer_of sliced.now)).ram_limit < 2 ^ 64 }
-{
-    let _ = memory.limits(sliced.account());
 }
 
 /// What a reply names a refusal of a heap.

@@ -6,204 +6,175 @@ ghost use Rattle.own_model.specs.Sliced.{sliced_refusal};
 ghost use Rattle.file_service.specs.Calls.{payload_in, content_taken, content_given, content_written, content_copied, HasBytes};
 ghost use Rattle.dataspace_core.specs.Store.{space_at};
 ghost use Rattle.file_service.specs.Found.{FindsContent, IsElsewhere, IsThere};
-ghost use Rattle.file_service.specs.Furnished.{stock, IsFurnished, KeepsSession};
+ghost use Rattle.file_service.specs.Rooms.{stock_of, AreFurnished, KeepsRooms};
 
+use crate::rooms::Rooms;
 use dataspace_core::Memory;
-use heap_core::Heap;
 use region_map::RegionMap;
-use sliced_heap::SlicedHeap;
 use trade_base::{DsId, Refusal};
 
-/// Takes a content of so many bytes, all zero, and tells its address. The account pays for it in whole pages, with its header,
-/// and one capability.
-///
-/// It is refused with `InvalidSize` where that is no bytes or too many for 64 bits, else with `OutOfRam` or `OutOfCaps` where
-/// the account doesn't cover it. A refused call changes nothing.
-pub(crate) fn take_content(
-    heap: &Heap,
-    sliced: &mut SlicedHeap,
-    memory: &mut Memory,
-    map: &mut RegionMap,
-    bytes: u64,
-) -> Result<u64, Refusal>
-    requires furnished { IsFurnished heap.now sliced.old memory.old map.old }
-    ensures refusal { result_err result
-        ≡ sliced_refusal bytes (stock heap.now sliced.old memory.old map.old).account }
-    ensures taken { IfOk result (λ address.
-        stock heap.now sliced.new memory.new map.new
-        ≡ content_taken bytes address (stock heap.now sliced.old memory.old map.old)) }
-    ensures free { IfOk result
-        (λ address. get (stock heap.now sliced.old memory.old map.old).contents address ≡ None) }
-    ensures keeps { KeepsSession sliced.old heap.now sliced.new
-        memory.old memory.new map.old map.new }
-    ensures memory_err { OnErr result (memory.new ≡ memory.old) }
-    ensures map_err { OnErr result (map.new ≡ map.old) }
-    ensures err { OnErr result (sliced.new ≡ sliced.old) }
-{
-    let _ = heap;
-    sliced.alloc(memory, map, bytes)
-}
-
-/// Gives back the content at an address, and credits the account with all that it was charged for it.
-pub(crate) fn give_content(
-    heap: &Heap,
-    sliced: &mut SlicedHeap,
-    memory: &mut Memory,
-    map: &mut RegionMap,
-    address: u64,
-)
-    requires furnished { IsFurnished heap.now sliced.old memory.old map.old }
-    requires there { IsSome (get (stock heap.now sliced.old memory.old map.old).contents address) }
-    ensures given { stock heap.now sliced.new memory.new map.new
-        ≡ content_given address (stock heap.now sliced.old memory.old map.old) }
-    ensures keeps { KeepsSession sliced.old heap.now sliced.new
-        memory.old memory.new map.old map.new }
-{
-    let _ = heap;
-    let _ = sliced.free(memory, map, address);
-}
-
-/// Fills a buffer with a content's bytes from an offset on.
-pub(crate) fn read_content(
-    heap: &Heap,
-    sliced: &SlicedHeap,
-    memory: &Memory,
-    map: &RegionMap,
-    address: u64,
-    offset: u64,
-    buffer: &mut [u8],
-)
-    requires furnished { IsFurnished heap.now sliced.now memory.now map.now }
-    requires there { HasBytes (stock heap.now sliced.now memory.now map.now).contents address offset
-        (length buffer.old) }
-    ensures { let content = payload_in
-        (stock heap.now sliced.now memory.now map.now).contents address in
-        buffer.new ≡ slice_range content offset (offset + length buffer.old) }
-{
-    if buffer.is_empty() {
-        return;
+impl Rooms {
+    /// Takes a content of so many bytes, all zero, and tells its address. The account pays for it in whole pages, with its header,
+    /// and one capability.
+    ///
+    /// It is refused with `InvalidSize` where that is no bytes or too many for 64 bits, else with `OutOfRam` or `OutOfCaps` where
+    /// the account doesn't cover it. A refused call changes nothing.
+    pub(crate) fn take_content(
+        &mut self,
+        memory: &mut Memory,
+        map: &mut RegionMap,
+        bytes: u64,
+    ) -> Result<u64, Refusal>
+        requires furnished { AreFurnished self.old memory.old map.old }
+        ensures refusal { result_err result
+            ≡ sliced_refusal bytes (stock_of self.old memory.old map.old).account }
+        ensures taken { IfOk result (λ address.
+            stock_of self.new memory.new map.new
+            ≡ content_taken bytes address (stock_of self.old memory.old map.old)) }
+        ensures free { IfOk result
+            (λ address. get (stock_of self.old memory.old map.old).contents address ≡ None) }
+        ensures keeps { KeepsRooms self.old self.new
+            memory.old memory.new map.old map.new }
+        ensures memory_err { OnErr result (memory.new ≡ memory.old) }
+        ensures map_err { OnErr result (map.new ≡ map.old) }
+        ensures err { OnErr result (self.new ≡ self.old) }
+    {
+        self.contents.alloc(memory, map, bytes)
     }
-    let (ds, at) = find_content(
-        heap,
-        sliced,
-        memory,
-        map,
-        address,
-        offset,
-        buffer.len() as u64,
-    );
-    memory.read(ds, at, buffer);
-}
 
-/// Puts bytes over a content's from an offset on.
-pub(crate) fn write_content(
-    heap: &Heap,
-    sliced: &SlicedHeap,
-    memory: &mut Memory,
-    map: &RegionMap,
-    address: u64,
-    offset: u64,
-    bytes: &[u8],
-)
-    requires furnished { IsFurnished heap.now sliced.now memory.old map.now }
-    requires there { HasBytes (stock heap.now sliced.now memory.old map.now).contents address offset
-        (length bytes.now) }
-    ensures written { stock heap.now sliced.now memory.new map.now
-        ≡ content_written address offset bytes.now (stock heap.now sliced.now memory.old map.now) }
-    ensures keeps { KeepsSession sliced.now heap.now sliced.now
-        memory.old memory.new map.now map.now }
-{
-    if bytes.is_empty() {
-        return;
+    /// Gives back the content at an address, and credits the account with all that it was charged for it.
+    pub(crate) fn give_content(&mut self, memory: &mut Memory, map: &mut RegionMap, address: u64)
+        requires furnished { AreFurnished self.old memory.old map.old }
+        requires there { IsSome (get (stock_of self.old memory.old map.old).contents address) }
+        ensures given { stock_of self.new memory.new map.new
+            ≡ content_given address (stock_of self.old memory.old map.old) }
+        ensures keeps { KeepsRooms self.old self.new
+            memory.old memory.new map.old map.new }
+    {
+        let _ = self.contents.free(memory, map, address);
     }
-    let (ds, at) = find_content(
-        heap,
-        sliced,
-        memory,
-        map,
-        address,
-        offset,
-        bytes.len() as u64,
-    );
-    memory.write(ds, at, bytes);
-}
 
-/// Copies so many bytes of a content's front to another's, if any.
-pub(crate) fn copy_content(
-    heap: &Heap,
-    sliced: &SlicedHeap,
-    memory: &mut Memory,
-    map: &RegionMap,
-    from: u64,
-    to: u64,
-    count: u64,
-)
-    requires furnished { IsFurnished heap.now sliced.now memory.old map.now }
-    requires source { 0 < count
-        → HasBytes (stock heap.now sliced.now memory.old map.now).contents from 0 count }
-    requires target { HasBytes (stock heap.now sliced.now memory.old map.now).contents to 0 count }
-    requires apart { 0 < count → from ≢ to }
-    ensures copied { stock heap.now sliced.now memory.new map.now
-        ≡ content_copied from to count (stock heap.now sliced.now memory.old map.now) }
-    ensures keeps { KeepsSession sliced.now heap.now sliced.now
-        memory.old memory.new map.now map.now }
-{
-    if count == 0 {
-        return;
+    /// Fills a buffer with a content's bytes from an offset on.
+    pub(crate) fn read_content(
+        &self,
+        memory: &Memory,
+        map: &RegionMap,
+        address: u64,
+        offset: u64,
+        buffer: &mut [u8],
+    )
+        requires furnished { AreFurnished self.now memory.now map.now }
+        requires there { HasBytes (stock_of self.now memory.now map.now).contents address offset
+            (length buffer.old) }
+        ensures { let content = payload_in
+            (stock_of self.now memory.now map.now).contents address in
+            buffer.new ≡ slice_range content offset (offset + length buffer.old) }
+    {
+        if buffer.is_empty() {
+            return;
+        }
+        let (ds, at) = self.find_content(memory, map, address, offset, buffer.len() as u64);
+        memory.read(ds, at, buffer);
     }
-    let (source, place) = find_content(heap, sliced, memory, map, from, 0, count);
-    fill_content(heap, sliced, memory, map, to, 0, source, place, count);
-}
 
-/// Puts bytes of a dataspace that isn't this content's, `count` of them from `place` on, over the content's from an offset on.
-pub(crate) fn fill_content(
-    heap: &Heap,
-    sliced: &SlicedHeap,
-    memory: &mut Memory,
-    map: &RegionMap,
-    address: u64,
-    offset: u64,
-    source: DsId,
-    place: u64,
-    count: u64,
-)
-    requires furnished { IsFurnished heap.now sliced.now memory.old map.now }
-    requires there { HasBytes
-        (stock heap.now sliced.now memory.old map.now).contents address offset count }
-    requires source { IsThere memory.old source.0 place count }
-    requires apart { IsElsewhere sliced.now memory.old map.now source.0 address }
-    ensures written { let bytes = (space_at memory.old source.0).bytes in
-        stock heap.now sliced.now memory.new map.now
-        ≡ content_written address offset (slice_range bytes place (place + count))
-        (stock heap.now sliced.now memory.old map.now) }
-    ensures keeps { KeepsSession sliced.now heap.now sliced.now
-        memory.old memory.new map.now map.now }
-{
-    if count == 0 {
-        return;
+    /// Puts bytes over a content's from an offset on.
+    pub(crate) fn write_content(
+        &self,
+        memory: &mut Memory,
+        map: &RegionMap,
+        address: u64,
+        offset: u64,
+        bytes: &[u8],
+    )
+        requires furnished { AreFurnished self.now memory.old map.now }
+        requires there { HasBytes (stock_of self.now memory.old map.now).contents address offset
+            (length bytes.now) }
+        ensures written { stock_of self.now memory.new map.now
+            ≡ content_written address offset bytes.now (stock_of self.now memory.old map.now) }
+        ensures keeps { KeepsRooms self.now self.now
+            memory.old memory.new map.now map.now }
+    {
+        if bytes.is_empty() {
+            return;
+        }
+        let (ds, at) = self.find_content(memory, map, address, offset, bytes.len() as u64);
+        memory.write(ds, at, bytes);
     }
-    let (ds, at) = find_content(heap, sliced, memory, map, address, offset, count);
-    memory.copy(source, place, ds, at, count);
-}
 
-/// The dataspace of some bytes of a content, and the offset in it.
-pub(crate) fn find_content(
-    heap: &Heap,
-    sliced: &SlicedHeap,
-    memory: &Memory,
-    map: &RegionMap,
-    address: u64,
-    offset: u64,
-    count: u64,
-) -> (DsId, u64)
-    requires furnished { IsFurnished heap.now sliced.now memory.now map.now }
-    requires there { HasBytes
-        (stock heap.now sliced.now memory.now map.now).contents address offset count }
-    requires some { 1 ≤ count }
-    ensures { FindsContent sliced.now memory.now map.now result.0.0 result.1 address offset count }
-{
-    let _ = heap;
-    sliced
-        .block_of(memory, map, address + offset, count)
-        .unwrap()
+    /// Copies so many bytes of a content's front to another's, if any.
+    pub(crate) fn copy_content(
+        &self,
+        memory: &mut Memory,
+        map: &RegionMap,
+        from: u64,
+        to: u64,
+        count: u64,
+    )
+        requires furnished { AreFurnished self.now memory.old map.now }
+        requires source { 0 < count
+            → HasBytes (stock_of self.now memory.old map.now).contents from 0 count }
+        requires target { HasBytes (stock_of self.now memory.old map.now).contents to 0 count }
+        requires apart { 0 < count → from ≢ to }
+        ensures copied { stock_of self.now memory.new map.now
+            ≡ content_copied from to count (stock_of self.now memory.old map.now) }
+        ensures keeps { KeepsRooms self.now self.now
+            memory.old memory.new map.now map.now }
+    {
+        if count == 0 {
+            return;
+        }
+        let (source, place) = self.find_content(memory, map, from, 0, count);
+        self.fill_content(memory, map, to, 0, source, place, count);
+    }
+
+    /// Puts bytes of a dataspace that isn't this content's, `count` of them from `place` on, over the content's from an offset on.
+    pub(crate) fn fill_content(
+        &self,
+        memory: &mut Memory,
+        map: &RegionMap,
+        address: u64,
+        offset: u64,
+        source: DsId,
+        place: u64,
+        count: u64,
+    )
+        requires furnished { AreFurnished self.now memory.old map.now }
+        requires there { HasBytes
+            (stock_of self.now memory.old map.now).contents address offset count }
+        requires source { IsThere memory.old source.0 place count }
+        requires apart { IsElsewhere self.now.contents memory.old map.now source.0 address }
+        ensures written { let bytes = (space_at memory.old source.0).bytes in
+            stock_of self.now memory.new map.now
+            ≡ content_written address offset (slice_range bytes place (place + count))
+            (stock_of self.now memory.old map.now) }
+        ensures keeps { KeepsRooms self.now self.now
+            memory.old memory.new map.now map.now }
+    {
+        if count == 0 {
+            return;
+        }
+        let (ds, at) = self.find_content(memory, map, address, offset, count);
+        memory.copy(source, place, ds, at, count);
+    }
+
+    /// The dataspace of some bytes of a content, and the offset in it.
+    pub(crate) fn find_content(
+        &self,
+        memory: &Memory,
+        map: &RegionMap,
+        address: u64,
+        offset: u64,
+        count: u64,
+    ) -> (DsId, u64)
+        requires furnished { AreFurnished self.now memory.now map.now }
+        requires there { HasBytes
+            (stock_of self.now memory.now map.now).contents address offset count }
+        requires some { 1 ≤ count }
+        ensures { FindsContent self.now.contents memory.now map.now
+            result.0.0 result.1 address offset count }
+    {
+        self.contents
+            .block_of(memory, map, address + offset, count)
+            .unwrap()
+    }
 }

@@ -9,18 +9,16 @@ ghost use Rattle.own_model.specs.BufferService.SessionRequest.{OfBuffer};
 ghost use Rattle.dataspace_core.specs.Store.{Exists};
 ghost use Rattle.server_frame.specs.Lent.{IsEffect, bytes_lent};
 ghost use Rattle.session_proto.specs.FileReply.{model_error};
-ghost use Rattle.file_service.specs.Furnished.{StaysFurnished};
+ghost use Rattle.file_service.specs.Rooms.{StayFurnished};
 ghost use Rattle.file_service.specs.Lent.{buffer_key};
 ghost use Rattle.file_service.specs.Session.{Answers, IsReady, session_served, counted_reply, done_reply, lent_reply, lent_effect, gone_effect};
 
 use crate::change::error_of;
-use crate::lent::{fill_buffer, give_buffer, take_buffer};
 use crate::session::{FileSession, Lent};
 use crate::source::Source;
 use dataspace_core::Memory;
 use region_map::RegionMap;
 use session_proto::FileError;
-use sliced_heap::SlicedHeap;
 use trade_base::{DsId, page_round};
 
 impl FileSession {
@@ -30,18 +28,17 @@ impl FileSession {
     /// one, and else with `OutOfRam` or `OutOfCaps` where the account doesn't cover it.
     pub(crate) fn lend(
         &mut self,
-        sliced: &SlicedHeap,
         memory: &mut Memory,
         map: &mut RegionMap,
         bytes: u64,
     ) -> Result<DsId, FileError>
-        requires ready { IsReady self.old sliced.now memory.old map.old }
+        requires ready { IsReady self.old memory.old map.old }
         ensures answers { Answers
-            (session_served (Some (OfBuffer (Make bytes))) self.old sliced.now memory.old map.old)
-            (lent_reply result) self.old self.new sliced.now memory.new map.new }
+            (session_served (Some (OfBuffer (Make bytes))) self.old memory.old map.old)
+            (lent_reply result) self.old self.new memory.new map.new }
         ensures effect { IsEffect (lent_effect result)
             (buffer_key self.old.buffer) (buffer_key self.new.buffer) }
-        ensures stays { StaysFurnished sliced.now self.new.heap sliced.now
+        ensures stays { StayFurnished self.old.rooms self.new.rooms
             memory.old memory.new map.old map.new }
     {
         if !is_size(bytes) {
@@ -50,7 +47,10 @@ impl FileSession {
         if self.buffer.is_some() {
             return Err(FileError::Exists);
         }
-        let lent = take_buffer(&self.heap, sliced, memory, map, bytes).map_err(error_of)?;
+        let lent = self
+            .rooms
+            .take_buffer(memory, map, bytes)
+            .map_err(error_of)?;
         self.buffer = Some(lent);
         Ok(lent.space)
     }
@@ -58,21 +58,20 @@ impl FileSession {
     /// Takes the buffer back, and tells which dataspace it was, or answers `NoBuffer`.
     pub(crate) fn take_back(
         &mut self,
-        sliced: &SlicedHeap,
         memory: &mut Memory,
         map: &mut RegionMap,
     ) -> Result<DsId, FileError>
-        requires ready { IsReady self.old sliced.now memory.old map.old }
+        requires ready { IsReady self.old memory.old map.old }
         ensures answers { Answers
-            (session_served (Some (OfBuffer GiveBack)) self.old sliced.now memory.old map.old)
-            (done_reply result) self.old self.new sliced.now memory.new map.new }
+            (session_served (Some (OfBuffer GiveBack)) self.old memory.old map.old)
+            (done_reply result) self.old self.new memory.new map.new }
         ensures effect { IsEffect (gone_effect result)
             (buffer_key self.old.buffer) (buffer_key self.new.buffer) }
-        ensures stays { StaysFurnished sliced.now self.new.heap sliced.now
+        ensures stays { StayFurnished self.old.rooms self.new.rooms
             memory.old memory.new map.old map.new }
     {
         let lent = self.buffer.ok_or(FileError::NoBuffer)?;
-        give_buffer(&self.heap, sliced, memory, map, lent);
+        self.rooms.give_buffer(memory, map, lent);
         self.buffer = None;
         Ok(lent.space)
     }
@@ -83,7 +82,6 @@ impl FileSession {
     /// else where the account doesn't cover a longer content.
     pub(crate) fn put(
         &mut self,
-        sliced: &mut SlicedHeap,
         memory: &mut Memory,
         map: &mut RegionMap,
         name: &[u8],
@@ -91,24 +89,22 @@ impl FileSession {
         place: u64,
         count: u64,
     ) -> Result<u64, FileError>
-        requires ready { IsReady self.old sliced.old memory.old map.old }
+        requires ready { IsReady self.old memory.old map.old }
         ensures answers { Answers
             (session_served (Some (OfBuffer (Put name.now offset place count)))
-            self.old sliced.old memory.old map.old)
-            (counted_reply result) self.old self.new sliced.new memory.new map.new }
+            self.old memory.old map.old)
+            (counted_reply result) self.old self.new memory.new map.new }
         ensures same { buffer_key self.new.buffer ≡ buffer_key self.old.buffer }
-        ensures stays { StaysFurnished sliced.old self.new.heap sliced.new
+        ensures stays { StayFurnished self.old.rooms self.new.rooms
             memory.old memory.new map.old map.new }
     {
-        let found = self
-            .find(sliced, memory, map, name)
-            .ok_or(FileError::NotFound)?;
+        let found = self.find(memory, map, name).ok_or(FileError::NotFound)?;
         if offset > found.node.size {
             return Err(FileError::Gap);
         }
         let lent = self.range(memory, place, count)?;
         let source = Source::Buffer { lent, place, count };
-        self.overwrite(sliced, memory, map, found, offset, source)
+        self.overwrite(memory, map, found, offset, source)
     }
 
     /// Puts at most so many bytes of a file, from an offset on, over the buffer's from a place on, and tells how many.
@@ -116,7 +112,6 @@ impl FileSession {
     /// It is refused with `NotFound`, with `Gap`, with `NoBuffer`, and with `BadRange` where the buffer hasn't room for so many.
     pub(crate) fn get(
         &self,
-        sliced: &SlicedHeap,
         memory: &mut Memory,
         map: &RegionMap,
         name: &[u8],
@@ -124,17 +119,15 @@ impl FileSession {
         place: u64,
         count: u64,
     ) -> Result<u64, FileError>
-        requires ready { IsReady self.now sliced.now memory.old map.now }
+        requires ready { IsReady self.now memory.old map.now }
         ensures answers { Answers
             (session_served (Some (OfBuffer (Get name.now offset place count)))
-            self.now sliced.now memory.old map.now)
-            (counted_reply result) self.now self.now sliced.now memory.new map.now }
-        ensures stays { StaysFurnished sliced.now self.now.heap sliced.now
+            self.now memory.old map.now)
+            (counted_reply result) self.now self.now memory.new map.now }
+        ensures stays { StayFurnished self.now.rooms self.now.rooms
             memory.old memory.new map.now map.now }
     {
-        let found = self
-            .find(sliced, memory, map, name)
-            .ok_or(FileError::NotFound)?;
+        let found = self.find(memory, map, name).ok_or(FileError::NotFound)?;
         let size = found.node.size;
         if offset > size {
             return Err(FileError::Gap);
@@ -143,9 +136,8 @@ impl FileSession {
         let part = count.min(size - offset);
         if part > 0 {
             let content = found.node.content;
-            fill_buffer(
-                &self.heap, sliced, memory, map, lent, place, content, offset, part,
-            );
+            self.rooms
+                .fill_buffer(memory, map, lent, place, content, offset, part);
         }
         Ok(part)
     }

@@ -4,13 +4,13 @@
 mod change;
 mod contents;
 mod find;
-mod furnished;
 mod lend;
 mod lent;
 mod look;
 mod names;
 mod node;
 mod nodes;
+mod rooms;
 mod service;
 mod session;
 mod source;

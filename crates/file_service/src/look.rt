@@ -1,15 +1,13 @@
 //! What requests read of files.
 ghost use Rattle.std.specs.Prelude.{◌≡◌, ◌≤◌, IfOk};
 ghost use Rattle.own_model.specs.FileText.FileRequest.{Read, Size};
-ghost use Rattle.file_service.specs.Furnished.{stock, IsFurnished};
+ghost use Rattle.file_service.specs.Rooms.{stock_of, AreFurnished};
 ghost use Rattle.file_service.specs.Session.{HasFiles, counted_reply, bytes_reply, IsTold};
 
-use crate::contents::read_content;
 use crate::session::FileSession;
 use dataspace_core::Memory;
 use region_map::RegionMap;
 use session_proto::FileError;
-use sliced_heap::SlicedHeap;
 
 /// The most bytes that are read at once.
 const MOST_READ: u64 = 1024;
@@ -18,20 +16,17 @@ impl FileSession {
     /// The size of a file, or `NotFound`.
     pub(crate) fn size(
         &self,
-        sliced: &SlicedHeap,
         memory: &mut Memory,
         map: &RegionMap,
         name: &[u8],
     ) -> Result<u64, FileError>
-        requires furnished { IsFurnished self.now.heap sliced.now memory.old map.now }
-        requires files { HasFiles self.now (stock self.now.heap sliced.now memory.old map.now) }
+        requires furnished { AreFurnished self.now.rooms memory.old map.now }
+        requires files { HasFiles self.now (stock_of self.now.rooms memory.old map.now) }
         ensures told { IsTold (Size name.now) (counted_reply result) self.now
-            (stock self.now.heap sliced.now memory.old map.now) }
+            (stock_of self.now.rooms memory.old map.now) }
         ensures memory { memory.new ≡ memory.old }
     {
-        let found = self
-            .find(sliced, memory, map, name)
-            .ok_or(FileError::NotFound)?;
+        let found = self.find(memory, map, name).ok_or(FileError::NotFound)?;
         Ok(found.node.size)
     }
 
@@ -41,7 +36,6 @@ impl FileSession {
     /// `TooLong` where that are more than 1024.
     pub(crate) fn read(
         &self,
-        sliced: &SlicedHeap,
         memory: &mut Memory,
         map: &RegionMap,
         name: &[u8],
@@ -49,16 +43,14 @@ impl FileSession {
         len: u64,
         buffer: &mut [u8; 1024],
     ) -> Result<usize, FileError>
-        requires furnished { IsFurnished self.now.heap sliced.now memory.old map.now }
-        requires files { HasFiles self.now (stock self.now.heap sliced.now memory.old map.now) }
+        requires furnished { AreFurnished self.now.rooms memory.old map.now }
+        requires files { HasFiles self.now (stock_of self.now.rooms memory.old map.now) }
         ensures told { IsTold (Read name.now offset len) (bytes_reply buffer.new result) self.now
-            (stock self.now.heap sliced.now memory.old map.now) }
+            (stock_of self.now.rooms memory.old map.now) }
         ensures count { IfOk result (λ count. count ≤ 1024) }
         ensures memory { memory.new ≡ memory.old }
     {
-        let found = self
-            .find(sliced, memory, map, name)
-            .ok_or(FileError::NotFound)?;
+        let found = self.find(memory, map, name).ok_or(FileError::NotFound)?;
         let size = found.node.size;
         if offset > size {
             return Err(FileError::Gap);
@@ -70,7 +62,7 @@ impl FileSession {
         if count > 0 {
             let content = found.node.content;
             let part = &mut buffer[..count];
-            read_content(&self.heap, sliced, memory, map, content, offset, part);
+            self.rooms.read_content(memory, map, content, offset, part);
         }
         Ok(count)
     }

@@ -3,18 +3,18 @@ ghost use Rattle.std.specs.Prelude.{◌≡◌, ℕ, ◌+◌, ◌*◌, ◌%◌, �
 ghost use Rattle.std.specs.Ordering.{nat_cmp};
 ghost use Rattle.trade_base.specs.Word.{word_of, word_bytes};
 ghost use Rattle.dataspace_core.specs.Store.{Exists, space_at};
-ghost use Rattle.file_service.specs.Furnished.{stock, IsFurnished, KeepsSession};
+ghost use Rattle.file_service.specs.Rooms.{stock_of, AreFurnished, KeepsRooms};
+ghost use Rattle.heap_core.specs.Blocks.{IsBlankOf};
 ghost use Rattle.file_service.specs.Index.{IsNamed, CanEnter, ChangesTree, Enters, Leaves, Seeks, LoadsFew, KeepsNames};
 ghost use Rattle.file_service.specs.Node.{rank_by, rank_of, word_from};
 
 use crate::node::{NAME_LENGTH, NODE_SIZE, NameKey, append_word};
-use crate::nodes::{find_node, put_bytes};
+use crate::rooms::Rooms;
 use arrayvec::ArrayVec;
 use avl_tree::{Links, Nodes, Step, find, insert, remove};
 use dataspace_core::Memory;
-use heap_core::{Heap, Loads};
+use heap_core::Loads;
 use region_map::RegionMap;
-use sliced_heap::SlicedHeap;
 use std::cmp::Ordering;
 use std::marker::PhantomData;
 use std::sync::ledger::{Blank, Ledger};
@@ -34,6 +34,33 @@ pub(crate) const PREVIOUS: u64 = 88;
 pub(crate) struct Counted<'a, L: Ledger> {
     pub(crate) memory: &'a mut Memory,
     pub(crate) loads: Loads<L>,
+}
+
+impl<'a, L: Ledger> Counted<'a, L> {
+    // Of which none is loaded yet.
+    fn over(memory: &'a mut Memory, blank: Blank) -> Counted<'a, L>
+        requires { IsBlankOf blank.name blank.parts L.name L.parts }
+        ensures memory { result.memory.now ≡ memory.old }
+        ensures same_reference { result.memory.ghost_name ≡ memory.entry.ghost_name }
+        ensures loads { result.loads ≡ 0 }
+    {
+        Counted {
+            memory,
+            loads: Loads::new(blank),
+        }
+    }
+}
+
+impl<L: Ledger> Drop for Counted<'_, L> {
+    // The memory goes back as it is.
+    fn drop(self)
+        ensures { self.exit.0.now ≡ self.entry.memory.now }
+    {
+        let Counted {
+            memory: _memory,
+            loads: _loads,
+        } = self;
+    }
 }
 
 impl<L: Ledger> Counted<'_, L> {
@@ -81,8 +108,7 @@ impl<L: Ledger> Counted<'_, L> {
 /// The nodes of a session's files.
 #[derive(Drop)]
 pub(crate) struct FileNodes<'a, M> {
-    pub(crate) heap: &'a Heap,
-    pub(crate) sliced: &'a SlicedHeap,
+    pub(crate) rooms: &'a Rooms,
     pub(crate) map: &'a RegionMap,
     pub(crate) memory: PhantomData<M>,
 }
@@ -116,16 +142,17 @@ impl<'m, L: Ledger> Nodes for FileNodes<'_, Counted<'m, L>> {
     ghost Rest = { Store };
 
     ghost IsNode = { λ nodes memory. IsNameNode
-        nodes.heap.now nodes.sliced.now memory.memory.now nodes.map.now };
+        nodes.rooms.now.nodes nodes.rooms.now.contents memory.memory.now nodes.map.now };
 
     ghost Keeps = { λ nodes old new.
         (new.memory.ghost_name ≡ old.memory.ghost_name)
-        × KeepsNames nodes.heap.now nodes.sliced.now nodes.map.now old.memory.now new.memory.now };
+        × KeepsNames nodes.rooms.now.nodes nodes.rooms.now.contents nodes.map.now
+        old.memory.now new.memory.now };
 
     ghost rank = { λ key. rank_by (slice_index key.words) };
 
     ghost view = { λ nodes memory. names_in memory.memory.now
-        (stock nodes.heap.now nodes.sliced.now memory.memory.now nodes.map.now).nodes };
+        (stock_of nodes.rooms.now memory.memory.now nodes.map.now).nodes };
 
     ghost plan = { name_plan };
 
@@ -134,7 +161,7 @@ impl<'m, L: Ledger> Nodes for FileNodes<'_, Counted<'m, L>> {
     ghost cost = { 6 };
 
     fn step(&self, memory: &mut Counted<'m, L>, key: NameKey, node: u64) -> Step {
-        let (ds, at) = find_node(self.heap, self.sliced, memory.memory, self.map, node);
+        let (ds, at) = self.rooms.find_node(memory.memory, self.map, node);
         match memory.order(&key.words, ds, at + NAME_LENGTH as u64) {
             Ordering::Less => Step::Left(memory.load(ds, at + LEFT)),
             Ordering::Equal => Step::Here,
@@ -143,7 +170,7 @@ impl<'m, L: Ledger> Nodes for FileNodes<'_, Counted<'m, L>> {
     }
 
     fn links(&self, memory: &mut Counted<'m, L>, node: u64) -> Links {
-        let (ds, at) = find_node(self.heap, self.sliced, memory.memory, self.map, node);
+        let (ds, at) = self.rooms.find_node(memory.memory, self.map, node);
         let left = memory.load(ds, at + LEFT);
         let right = memory.load(ds, at + RIGHT);
         let high = memory.load(ds, at + HIGH);
@@ -151,21 +178,14 @@ impl<'m, L: Ledger> Nodes for FileNodes<'_, Counted<'m, L>> {
     }
 
     fn high(&self, memory: &mut Counted<'m, L>, node: u64) -> u64 {
-        let (ds, at) = find_node(self.heap, self.sliced, memory.memory, self.map, node);
+        let (ds, at) = self.rooms.find_node(memory.memory, self.map, node);
         memory.load(ds, at + HIGH)
     }
 
     fn set_links(&self, memory: &mut Counted<'m, L>, node: u64, links: Links) {
         let bytes = link_bytes(links);
-        put_bytes(
-            self.heap,
-            self.sliced,
-            memory.memory,
-            self.map,
-            node,
-            LEFT,
-            &bytes,
-        );
+        self.rooms
+            .put_bytes(memory.memory, self.map, node, LEFT, &bytes);
     }
 
     ghost keeps_same = { λ nodes memory. (refl, names_same _ _ _ _) };
@@ -179,17 +199,17 @@ impl<'m, L: Ledger> Nodes for FileNodes<'_, Counted<'m, L>> {
 impl<'m, L: Ledger> FileNodes<'_, Counted<'m, L>> {
     // The node of a key, where there is one.
     fn seek(&self, memory: &mut Counted<'m, L>, root: u64, key: NameKey) -> u64
-        requires furnished { IsFurnished self.now.heap.now self.now.sliced.now
+        requires furnished { AreFurnished self.now.rooms.now
             memory.old.memory.now self.now.map.now }
         requires named { (blocks : List ℕ) × IsNamed root
-            (stock self.now.heap.now self.now.sliced.now
+            (stock_of self.now.rooms.now
             memory.old.memory.now self.now.map.now).nodes blocks }
         ensures found { Seeks root (rank_by (slice_index key.words))
-            (stock self.now.heap.now self.now.sliced.now
+            (stock_of self.now.rooms.now
             memory.old.memory.now self.now.map.now).nodes result }
         ensures memory { memory.new.memory.now ≡ memory.old.memory.now }
         ensures same_reference { memory.new.memory.ghost_name ≡ memory.old.memory.ghost_name }
-        ensures loads { LoadsFew root (stock self.now.heap.now self.now.sliced.now
+        ensures loads { LoadsFew root (stock_of self.now.rooms.now
             memory.old.memory.now self.now.map.now).nodes 6 memory.old.loads memory.new.loads }
     {
         find(self, memory, root, key)
@@ -197,21 +217,21 @@ impl<'m, L: Ledger> FileNodes<'_, Counted<'m, L>> {
 
     // Enters the node of a new file in the tree, and tells the tree's root.
     fn enter(&self, memory: &mut Counted<'m, L>, root: u64, key: NameKey, address: u64) -> u64
-        requires furnished { IsFurnished self.now.heap.now self.now.sliced.now
+        requires furnished { AreFurnished self.now.rooms.now
             memory.old.memory.now self.now.map.now }
         requires unnamed { (blocks : List ℕ) × CanEnter root blocks address
-            (rank_by (slice_index key.words)) (stock self.now.heap.now self.now.sliced.now
+            (rank_by (slice_index key.words)) (stock_of self.now.rooms.now
             memory.old.memory.now self.now.map.now).nodes }
         ensures enters { Enters root address (rank_by (slice_index key.words)) result
-            (stock self.now.heap.now self.now.sliced.now
+            (stock_of self.now.rooms.now
             memory.old.memory.now self.now.map.now).nodes
-            (stock self.now.heap.now self.now.sliced.now
+            (stock_of self.now.rooms.now
             memory.new.memory.now self.now.map.now).nodes }
-        ensures keeps { KeepsNames self.now.heap.now self.now.sliced.now self.now.map.now
-            memory.old.memory.now memory.new.memory.now }
+        ensures keeps { KeepsNames self.now.rooms.now.nodes self.now.rooms.now.contents
+            self.now.map.now memory.old.memory.now memory.new.memory.now }
         ensures same_reference { memory.new.memory.ghost_name ≡ memory.old.memory.ghost_name }
         ensures loads { (blocks : List ℕ) → CanEnter root blocks address
-            (rank_by (slice_index key.words)) (stock self.now.heap.now self.now.sliced.now
+            (rank_by (slice_index key.words)) (stock_of self.now.rooms.now
             memory.old.memory.now self.now.map.now).nodes →
             (n : ℕ) → length blocks < 2 ^ n →
             memory.new.loads ≤ memory.old.loads + 60 * (2 * n + 1) }
@@ -221,151 +241,114 @@ impl<'m, L: Ledger> FileNodes<'_, Counted<'m, L>> {
 
     // Takes the node of a key out of the tree, and tells the tree's root.
     fn leave(&self, memory: &mut Counted<'m, L>, root: u64, key: NameKey) -> u64
-        requires furnished { IsFurnished self.now.heap.now self.now.sliced.now
+        requires furnished { AreFurnished self.now.rooms.now
             memory.old.memory.now self.now.map.now }
         requires named { (blocks : List ℕ) × IsNamed root
-            (stock self.now.heap.now self.now.sliced.now
+            (stock_of self.now.rooms.now
             memory.old.memory.now self.now.map.now).nodes blocks }
         ensures gone { Leaves root (rank_by (slice_index key.words)) result
-            (stock self.now.heap.now self.now.sliced.now
+            (stock_of self.now.rooms.now
             memory.old.memory.now self.now.map.now).nodes
-            (stock self.now.heap.now self.now.sliced.now
+            (stock_of self.now.rooms.now
             memory.new.memory.now self.now.map.now).nodes }
-        ensures keeps { KeepsNames self.now.heap.now self.now.sliced.now self.now.map.now
-            memory.old.memory.now memory.new.memory.now }
+        ensures keeps { KeepsNames self.now.rooms.now.nodes self.now.rooms.now.contents
+            self.now.map.now memory.old.memory.now memory.new.memory.now }
         ensures same_reference { memory.new.memory.ghost_name ≡ memory.old.memory.ghost_name }
-        ensures loads { LoadsFew root (stock self.now.heap.now self.now.sliced.now
+        ensures loads { LoadsFew root (stock_of self.now.rooms.now
             memory.old.memory.now self.now.map.now).nodes 60 memory.old.loads memory.new.loads }
     {
         remove(self, memory, root, key)
     }
 }
 
-/// The address of the node that has a name where any has it, by the root of the tree. The memory is as it was.
-pub(crate) fn seek<L: Ledger>(
-    heap: &Heap,
-    sliced: &SlicedHeap,
-    memory: &mut Memory,
-    map: &RegionMap,
-    root: u64,
-    name: &[u8],
-    blank: Blank,
-) -> u64
-    requires name { blank.name ≡ L.name }
-    requires parts { blank.parts ≡ L.parts }
-    requires some { 0 < blank.parts }
-    requires few { length name.now ≤ 32 }
-    requires furnished { IsFurnished heap.now sliced.now memory.old map.now }
-    requires named { (blocks : List ℕ) × IsNamed root
-        (stock heap.now sliced.now memory.old map.now).nodes blocks }
-    ensures found { Seeks root (rank_of name.now)
-        (stock heap.now sliced.now memory.old map.now).nodes result }
-    ensures memory { memory.new ≡ memory.old }
-{
-    let mut counted = Counted {
-        memory,
-        loads: Loads::<L>::new(blank),
-    };
-    let nodes = FileNodes {
-        heap,
-        sliced,
-        map,
-        memory: PhantomData,
-    };
-    let found = nodes.seek(&mut counted, root, NameKey::of(name));
-    let Counted {
-        memory: lent,
-        loads: _loads,
-    } = counted;
-    let _ = lent;
-    found
-}
+impl Rooms {
+    /// The address of the node that has a name where any has it, by the root of the tree. The memory is as it was.
+    pub(crate) fn seek<L: Ledger>(
+        &self,
+        memory: &mut Memory,
+        map: &RegionMap,
+        root: u64,
+        name: &[u8],
+        blank: Blank,
+    ) -> u64
+        requires blank { IsBlankOf blank.name blank.parts L.name L.parts }
+        requires few { length name.now ≤ 32 }
+        requires furnished { AreFurnished self.now memory.old map.now }
+        requires named { (blocks : List ℕ) × IsNamed root
+            (stock_of self.now memory.old map.now).nodes blocks }
+        ensures found { Seeks root (rank_of name.now)
+            (stock_of self.now memory.old map.now).nodes result }
+        ensures memory { memory.new ≡ memory.old }
+    {
+        let mut counted = Counted::<L>::over(memory, blank);
+        let nodes = FileNodes {
+            rooms: self,
+            map,
+            memory: PhantomData,
+        };
+        nodes.seek(&mut counted, root, NameKey::of(name))
+    }
 
-/// Enters a new file's node in the tree by its name, and tells the tree's root.
-pub(crate) fn enter<L: Ledger>(
-    heap: &Heap,
-    sliced: &SlicedHeap,
-    memory: &mut Memory,
-    map: &RegionMap,
-    root: u64,
-    name: &[u8],
-    address: u64,
-    blank: Blank,
-) -> u64
-    requires name { blank.name ≡ L.name }
-    requires parts { blank.parts ≡ L.parts }
-    requires some { 0 < blank.parts }
-    requires few { length name.now ≤ 32 }
-    requires furnished { IsFurnished heap.now sliced.now memory.old map.now }
-    requires unnamed { (blocks : List ℕ) × CanEnter root blocks address (rank_of name.now)
-        (stock heap.now sliced.now memory.old map.now).nodes }
-    ensures enters { Enters root address (rank_of name.now) result
-        (stock heap.now sliced.now memory.old map.now).nodes
-        (stock heap.now sliced.now memory.new map.now).nodes }
-    ensures tree { ChangesTree (stock heap.now sliced.now memory.old map.now)
-        (stock heap.now sliced.now memory.new map.now) }
-    ensures keeps { KeepsSession sliced.now heap.now sliced.now
-        memory.old memory.new map.now map.now }
-{
-    let mut counted = Counted {
-        memory,
-        loads: Loads::<L>::new(blank),
-    };
-    let nodes = FileNodes {
-        heap,
-        sliced,
-        map,
-        memory: PhantomData,
-    };
-    let root = nodes.enter(&mut counted, root, NameKey::of(name), address);
-    let Counted {
-        memory: lent,
-        loads: _loads,
-    } = counted;
-    let _ = lent;
-    root
-}
+    /// Enters a new file's node in the tree by its name, and tells the tree's root.
+    pub(crate) fn enter<L: Ledger>(
+        &self,
+        memory: &mut Memory,
+        map: &RegionMap,
+        root: u64,
+        name: &[u8],
+        address: u64,
+        blank: Blank,
+    ) -> u64
+        requires blank { IsBlankOf blank.name blank.parts L.name L.parts }
+        requires few { length name.now ≤ 32 }
+        requires furnished { AreFurnished self.now memory.old map.now }
+        requires unnamed { (blocks : List ℕ) × CanEnter root blocks address (rank_of name.now)
+            (stock_of self.now memory.old map.now).nodes }
+        ensures enters { Enters root address (rank_of name.now) result
+            (stock_of self.now memory.old map.now).nodes
+            (stock_of self.now memory.new map.now).nodes }
+        ensures tree { ChangesTree (stock_of self.now memory.old map.now)
+            (stock_of self.now memory.new map.now) }
+        ensures keeps { KeepsRooms self.now self.now
+            memory.old memory.new map.now map.now }
+    {
+        let mut counted = Counted::<L>::over(memory, blank);
+        let nodes = FileNodes {
+            rooms: self,
+            map,
+            memory: PhantomData,
+        };
+        nodes.enter(&mut counted, root, NameKey::of(name), address)
+    }
 
-/// Takes the node of a name out of the tree, and tells the tree's root.
-pub(crate) fn leave<L: Ledger>(
-    heap: &Heap,
-    sliced: &SlicedHeap,
-    memory: &mut Memory,
-    map: &RegionMap,
-    root: u64,
-    name: &[u8],
-    blank: Blank,
-) -> u64
-    requires name { blank.name ≡ L.name }
-    requires parts { blank.parts ≡ L.parts }
-    requires some { 0 < blank.parts }
-    requires few { length name.now ≤ 32 }
-    requires furnished { IsFurnished heap.now sliced.now memory.old map.now }
-    requires named { (blocks : List ℕ) × IsNamed root
-        (stock heap.now sliced.now memory.old map.now).nodes blocks }
-    ensures gone { Leaves root (rank_of name.now) result
-        (stock heap.now sliced.now memory.old map.now).nodes
-        (stock heap.now sliced.now memory.new map.now).nodes }
-    ensures tree { ChangesTree (stock heap.now sliced.now memory.old map.now)
-        (stock heap.now sliced.now memory.new map.now) }
-    ensures keeps { KeepsSession sliced.now heap.now sliced.now
-        memory.old memory.new map.now map.now }
-{
-    let mut counted = Counted {
-        memory,
-        loads: Loads::<L>::new(blank),
-    };
-    let nodes = FileNodes {
-        heap,
-        sliced,
-        map,
-        memory: PhantomData,
-    };
-    let root = nodes.leave(&mut counted, root, NameKey::of(name));
-    let Counted {
-        memory: lent,
-        loads: _loads,
-    } = counted;
-    let _ = lent;
-    root
+    /// Takes the node of a name out of the tree, and tells the tree's root.
+    pub(crate) fn leave<L: Ledger>(
+        &self,
+        memory: &mut Memory,
+        map: &RegionMap,
+        root: u64,
+        name: &[u8],
+        blank: Blank,
+    ) -> u64
+        requires blank { IsBlankOf blank.name blank.parts L.name L.parts }
+        requires few { length name.now ≤ 32 }
+        requires furnished { AreFurnished self.now memory.old map.now }
+        requires named { (blocks : List ℕ) × IsNamed root
+            (stock_of self.now memory.old map.now).nodes blocks }
+        ensures gone { Leaves root (rank_of name.now) result
+            (stock_of self.now memory.old map.now).nodes
+            (stock_of self.now memory.new map.now).nodes }
+        ensures tree { ChangesTree (stock_of self.now memory.old map.now)
+            (stock_of self.now memory.new map.now) }
+        ensures keeps { KeepsRooms self.now self.now
+            memory.old memory.new map.now map.now }
+    {
+        let mut counted = Counted::<L>::over(memory, blank);
+        let nodes = FileNodes {
+            rooms: self,
+            map,
+            memory: PhantomData,
+        };
+        nodes.leave(&mut counted, root, NameKey::of(name))
+    }
 }

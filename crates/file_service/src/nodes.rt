@@ -8,218 +8,180 @@ ghost use Rattle.file_service.specs.Calls.{payload_in, node_stored, TakesNode, G
 ghost use Rattle.file_service.specs.Found.{FindsNode};
 ghost use Rattle.heap_core.specs.Words.{are_bytes};
 ghost use Rattle.file_service.specs.Files.{node_at};
-ghost use Rattle.file_service.specs.Furnished.{stock, IsFurnished, KeepsSession};
+ghost use Rattle.file_service.specs.Rooms.{stock_of, AreFurnished, KeepsRooms};
 ghost use Rattle.file_service.specs.Index.{IsPadded, KeepsPlace, previous_at};
 ghost use Rattle.own_model.specs.OwnState.{zeros};
 ghost use Rattle.trade_base.specs.Word.{word_bytes};
 ghost use Rattle.file_service.specs.Node.{value_of, node_of, bytes_of, word_from, IsNode};
 
 use crate::node::{NODE_BYTES, NODE_SIZE, Node};
+use crate::rooms::Rooms;
 use dataspace_core::Memory;
-use heap_core::Heap;
 use region_map::RegionMap;
-use sliced_heap::SlicedHeap;
 use trade_base::{DsId, Refusal};
 
-/// Takes a block for a node, all zero, and tells its address. Where no hole is large enough the heap grows by a chunk, which
-/// the account pays.
-///
-/// It is refused with `TooManyChunks`, or else with `OutOfRam` or `OutOfCaps`, where the heap has to grow and can't. A refused
-/// call changes nothing.
-pub(crate) fn take_node(
-    heap: &mut Heap,
-    sliced: &SlicedHeap,
-    memory: &mut Memory,
-    map: &mut RegionMap,
-) -> Result<u64, Refusal>
-    requires furnished { IsFurnished heap.old sliced.now memory.old map.old }
-    ensures refusal { let old = stock heap.old sliced.now memory.old map.old in
-        result_err result ≡ heap_refusal node_size old.nodes.shape old.account }
-    ensures taken { IfOk result (λ address.
-        TakesNode address (stock heap.old sliced.now memory.old map.old)
-        (stock heap.new sliced.now memory.new map.new)) }
-    ensures keeps { KeepsSession sliced.now heap.new sliced.now
-        memory.old memory.new map.old map.new }
-    ensures memory_err { OnErr result (memory.new ≡ memory.old) }
-    ensures map_err { OnErr result (map.new ≡ map.old) }
-    ensures err { OnErr result (heap.new ≡ heap.old) }
-{
-    let _ = sliced;
-    heap.alloc(memory, map, NODE_SIZE as u64)
-}
+impl Rooms {
+    /// Takes a block for a node, all zero, and tells its address. Where no hole is large enough the heap grows by a chunk, which
+    /// the account pays.
+    ///
+    /// It is refused with `TooManyChunks`, or else with `OutOfRam` or `OutOfCaps`, where the heap has to grow and can't. A refused
+    /// call changes nothing.
+    pub(crate) fn take_node(
+        &mut self,
+        memory: &mut Memory,
+        map: &mut RegionMap,
+    ) -> Result<u64, Refusal>
+        requires furnished { AreFurnished self.old memory.old map.old }
+        ensures refusal { let old = stock_of self.old memory.old map.old in
+            result_err result ≡ heap_refusal node_size old.nodes.shape old.account }
+        ensures taken { IfOk result (λ address.
+            TakesNode address (stock_of self.old memory.old map.old)
+            (stock_of self.new memory.new map.new)) }
+        ensures keeps { KeepsRooms self.old self.new
+            memory.old memory.new map.old map.new }
+        ensures memory_err { OnErr result (memory.new ≡ memory.old) }
+        ensures map_err { OnErr result (map.new ≡ map.old) }
+        ensures err { OnErr result (self.new ≡ self.old) }
+    {
+        self.nodes.alloc(memory, map, NODE_SIZE as u64)
+    }
 
-/// Gives back the block of a node.
-pub(crate) fn give_node(
-    heap: &mut Heap,
-    sliced: &SlicedHeap,
-    memory: &mut Memory,
-    map: &mut RegionMap,
-    address: u64,
-)
-    requires furnished { IsFurnished heap.old sliced.now memory.old map.old }
-    requires there { IsSome
-        (get (stock heap.old sliced.now memory.old map.old).nodes.payloads address) }
-    ensures given { GivesNode address (stock heap.old sliced.now memory.old map.old)
-        (stock heap.new sliced.now memory.new map.new) }
-    ensures keeps { KeepsSession sliced.now heap.new sliced.now
-        memory.old memory.new map.old map.new }
-{
-    let _ = sliced;
-    let _ = heap.free(memory, map, address);
-}
+    /// Gives back the block of a node.
+    pub(crate) fn give_node(&mut self, memory: &mut Memory, map: &mut RegionMap, address: u64)
+        requires furnished { AreFurnished self.old memory.old map.old }
+        requires there { IsSome
+            (get (stock_of self.old memory.old map.old).nodes.payloads address) }
+        ensures given { GivesNode address (stock_of self.old memory.old map.old)
+            (stock_of self.new memory.new map.new) }
+        ensures keeps { KeepsRooms self.old self.new
+            memory.old memory.new map.old map.new }
+    {
+        let _ = self.nodes.free(memory, map, address);
+    }
 
-/// The node at an address. The memory is as it was.
-pub(crate) fn load_node(
-    heap: &Heap,
-    sliced: &SlicedHeap,
-    memory: &mut Memory,
-    map: &RegionMap,
-    address: u64,
-) -> Node
-    requires furnished { IsFurnished heap.now sliced.now memory.old map.now }
-    requires there { HasBytes
-        (stock heap.now sliced.now memory.old map.now).nodes.payloads address 0 96 }
-    ensures value { value_of result
-        ≡ node_of
-        (payload_in (stock heap.now sliced.now memory.old map.now).nodes.payloads address) }
-    ensures node { IsNode (value_of result) }
-    ensures memory { memory.new ≡ memory.old }
-{
-    let (ds, offset) = find_node(heap, sliced, memory, map, address);
-    let mut bytes = [0; NODE_BYTES];
-    memory.read(ds, offset, &mut bytes);
-    Node::from_bytes(&bytes)
-}
+    /// The node at an address. The memory is as it was.
+    pub(crate) fn load_node(&self, memory: &mut Memory, map: &RegionMap, address: u64) -> Node
+        requires furnished { AreFurnished self.now memory.old map.now }
+        requires there { HasBytes
+            (stock_of self.now memory.old map.now).nodes.payloads address 0 96 }
+        ensures value { value_of result
+            ≡ node_of
+            (payload_in (stock_of self.now memory.old map.now).nodes.payloads address) }
+        ensures node { IsNode (value_of result) }
+        ensures memory { memory.new ≡ memory.old }
+    {
+        let (ds, offset) = self.find_node(memory, map, address);
+        let mut bytes = [0; NODE_BYTES];
+        memory.read(ds, offset, &mut bytes);
+        Node::from_bytes(&bytes)
+    }
 
-/// A word of a node's block. The memory is as it was.
-pub(crate) fn load_word(
-    heap: &Heap,
-    sliced: &SlicedHeap,
-    memory: &Memory,
-    map: &RegionMap,
-    address: u64,
-    offset: u64,
-) -> u64
-    requires furnished { IsFurnished heap.now sliced.now memory.now map.now }
-    requires there { HasBytes
-        (stock heap.now sliced.now memory.now map.now).nodes.payloads address 0 96 }
-    requires aligned { offset % 8 ≡ 0 }
-    requires within { offset + 8 ≤ 96 }
-    ensures { result ≡ word_from (payload_in
-        (stock heap.now sliced.now memory.now map.now).nodes.payloads address) offset }
-{
-    let (ds, at) = find_node(heap, sliced, memory, map, address);
-    memory.load_word(ds, at + offset)
-}
+    /// A word of a node's block. The memory is as it was.
+    pub(crate) fn load_word(
+        &self,
+        memory: &Memory,
+        map: &RegionMap,
+        address: u64,
+        offset: u64,
+    ) -> u64
+        requires furnished { AreFurnished self.now memory.now map.now }
+        requires there { HasBytes
+            (stock_of self.now memory.now map.now).nodes.payloads address 0 96 }
+        requires aligned { offset % 8 ≡ 0 }
+        requires within { offset + 8 ≤ 96 }
+        ensures { result ≡ word_from (payload_in
+            (stock_of self.now memory.now map.now).nodes.payloads address) offset }
+    {
+        let (ds, at) = self.find_node(memory, map, address);
+        memory.load_word(ds, at + offset)
+    }
 
-/// Puts a node at an address. What stands behind the bytes that stand for it stays.
-pub(crate) fn store_node(
-    heap: &Heap,
-    sliced: &SlicedHeap,
-    memory: &mut Memory,
-    map: &RegionMap,
-    address: u64,
-    node: &Node,
-)
-    requires furnished { IsFurnished heap.now sliced.now memory.old map.now }
-    requires there { HasBytes
-        (stock heap.now sliced.now memory.old map.now).nodes.payloads address 0 96 }
-    ensures stored { stock heap.now sliced.now memory.new map.now
-        ≡ node_stored address 0 (bytes_of (value_of node.now))
-        (stock heap.now sliced.now memory.old map.now) }
-    ensures back { node_at (stock heap.now sliced.now memory.new map.now).nodes address
-        ≡ value_of node.now }
-    ensures place { node.now.name.items
-        ≡ (node_at (stock heap.now sliced.now memory.old map.now).nodes address).name →
-        KeepsPlace (stock heap.now sliced.now memory.old map.now).nodes
-        (stock heap.now sliced.now memory.new map.now).nodes address }
-    ensures there { HasBytes
-        (stock heap.now sliced.now memory.new map.now).nodes.payloads address 0 96 }
-    ensures keeps { KeepsSession sliced.now heap.now sliced.now
-        memory.old memory.new map.now map.now }
-{
-    put_bytes(heap, sliced, memory, map, address, 0, &node.to_bytes());
-}
+    /// Puts a node at an address. What stands behind the bytes that stand for it stays.
+    pub(crate) fn store_node(&self, memory: &mut Memory, map: &RegionMap, address: u64, node: &Node)
+        requires furnished { AreFurnished self.now memory.old map.now }
+        requires there { HasBytes
+            (stock_of self.now memory.old map.now).nodes.payloads address 0 96 }
+        ensures stored { stock_of self.now memory.new map.now
+            ≡ node_stored address 0 (bytes_of (value_of node.now))
+            (stock_of self.now memory.old map.now) }
+        ensures back { node_at (stock_of self.now memory.new map.now).nodes address
+            ≡ value_of node.now }
+        ensures place { node.now.name.items
+            ≡ (node_at (stock_of self.now memory.old map.now).nodes address).name →
+            KeepsPlace (stock_of self.now memory.old map.now).nodes
+            (stock_of self.now memory.new map.now).nodes address }
+        ensures there { HasBytes
+            (stock_of self.now memory.new map.now).nodes.payloads address 0 96 }
+        ensures keeps { KeepsRooms self.now self.now
+            memory.old memory.new map.now map.now }
+    {
+        self.put_bytes(memory, map, address, 0, &node.to_bytes());
+    }
 
-/// Puts a new node at an address, linked back to another one.
-pub(crate) fn store_new(
-    heap: &Heap,
-    sliced: &SlicedHeap,
-    memory: &mut Memory,
-    map: &RegionMap,
-    address: u64,
-    node: &Node,
-    previous: u64,
-)
-    requires furnished { IsFurnished heap.now sliced.now memory.old map.now }
-    requires there { HasBytes
-        (stock heap.now sliced.now memory.old map.now).nodes.payloads address 0 96 }
-    ensures stored { stock heap.now sliced.now memory.new map.now
-        ≡ node_stored address 0
-        (bytes_of (value_of node.now) ++ (zeros 24 ++ word_bytes previous))
-        (stock heap.now sliced.now memory.old map.now) }
-    ensures back { node_at (stock heap.now sliced.now memory.new map.now).nodes address
-        ≡ value_of node.now }
-    ensures padded { are_bytes node.now.name.items ≡ true →
-        IsPadded (stock heap.now sliced.now memory.new map.now).nodes address }
-    ensures previous { previous_at (stock heap.now sliced.now memory.new map.now).nodes address
-        ≡ previous }
-    ensures keeps { KeepsSession sliced.now heap.now sliced.now
-        memory.old memory.new map.now map.now }
-{
-    put_bytes(
-        heap,
-        sliced,
-        memory,
-        map,
-        address,
-        0,
-        &node.to_block(previous),
-    );
-}
+    /// Puts a new node at an address, linked back to another one.
+    pub(crate) fn store_new(
+        &self,
+        memory: &mut Memory,
+        map: &RegionMap,
+        address: u64,
+        node: &Node,
+        previous: u64,
+    )
+        requires furnished { AreFurnished self.now memory.old map.now }
+        requires there { HasBytes
+            (stock_of self.now memory.old map.now).nodes.payloads address 0 96 }
+        ensures stored { stock_of self.now memory.new map.now
+            ≡ node_stored address 0
+            (bytes_of (value_of node.now) ++ (zeros 24 ++ word_bytes previous))
+            (stock_of self.now memory.old map.now) }
+        ensures back { node_at (stock_of self.now memory.new map.now).nodes address
+            ≡ value_of node.now }
+        ensures padded { are_bytes node.now.name.items ≡ true →
+            IsPadded (stock_of self.now memory.new map.now).nodes address }
+        ensures previous { previous_at (stock_of self.now memory.new map.now).nodes address
+            ≡ previous }
+        ensures keeps { KeepsRooms self.now self.now
+            memory.old memory.new map.now map.now }
+    {
+        self.put_bytes(memory, map, address, 0, &node.to_block(previous));
+    }
 
-/// Puts bytes over a node's payload from an offset on.
-pub(crate) fn put_bytes(
-    heap: &Heap,
-    sliced: &SlicedHeap,
-    memory: &mut Memory,
-    map: &RegionMap,
-    address: u64,
-    offset: u64,
-    bytes: &[u8],
-)
-    requires furnished { IsFurnished heap.now sliced.now memory.old map.now }
-    requires there { HasBytes
-        (stock heap.now sliced.now memory.old map.now).nodes.payloads address 0 96 }
-    requires some { 1 ≤ length bytes.now }
-    requires few { offset + length bytes.now ≤ 96 }
-    ensures stored { stock heap.now sliced.now memory.new map.now
-        ≡ node_stored address offset bytes.now (stock heap.now sliced.now memory.old map.now) }
-    ensures there { HasBytes
-        (stock heap.now sliced.now memory.new map.now).nodes.payloads address 0 96 }
-    ensures keeps { KeepsSession sliced.now heap.now sliced.now
-        memory.old memory.new map.now map.now }
-{
-    let (ds, at) = find_node(heap, sliced, memory, map, address);
-    memory.write(ds, at + offset, bytes);
-}
+    /// Puts bytes over a node's payload from an offset on.
+    pub(crate) fn put_bytes(
+        &self,
+        memory: &mut Memory,
+        map: &RegionMap,
+        address: u64,
+        offset: u64,
+        bytes: &[u8],
+    )
+        requires furnished { AreFurnished self.now memory.old map.now }
+        requires there { HasBytes
+            (stock_of self.now memory.old map.now).nodes.payloads address 0 96 }
+        requires some { 1 ≤ length bytes.now }
+        requires few { offset + length bytes.now ≤ 96 }
+        ensures stored { stock_of self.now memory.new map.now
+            ≡ node_stored address offset bytes.now (stock_of self.now memory.old map.now) }
+        ensures there { HasBytes
+            (stock_of self.now memory.new map.now).nodes.payloads address 0 96 }
+        ensures keeps { KeepsRooms self.now self.now
+            memory.old memory.new map.now map.now }
+    {
+        let (ds, at) = self.find_node(memory, map, address);
+        memory.write(ds, at + offset, bytes);
+    }
 
-/// The dataspace in which a node's block stands, and the offset of its payload.
-pub(crate) fn find_node(
-    heap: &Heap,
-    sliced: &SlicedHeap,
-    memory: &Memory,
-    map: &RegionMap,
-    address: u64,
-) -> (DsId, u64)
-    requires furnished { IsFurnished heap.now sliced.now memory.now map.now }
-    requires there { HasBytes
-        (stock heap.now sliced.now memory.now map.now).nodes.payloads address 0 96 }
-    ensures found { (into count : ℕ) → 1 ≤ count → into + count ≤ 96 →
-        FindsNode heap.now memory.now map.now result.0.0 (result.1 + into) address into count }
-    ensures even { result.1 % 16 ≡ 0 }
-    ensures low { result.1 + 96 < 2 ^ 64 }
-{
-    let _ = sliced;
-    heap.payload_at(memory, map, address)
+    /// The dataspace in which a node's block stands, and the offset of its payload.
+    pub(crate) fn find_node(&self, memory: &Memory, map: &RegionMap, address: u64) -> (DsId, u64)
+        requires furnished { AreFurnished self.now memory.now map.now }
+        requires there { HasBytes
+            (stock_of self.now memory.now map.now).nodes.payloads address 0 96 }
+        ensures found { (into count : ℕ) → 1 ≤ count → into + count ≤ 96 →
+            FindsNode self.now.nodes memory.now map.now
+            result.0.0 (result.1 + into) address into count }
+        ensures even { result.1 % 16 ≡ 0 }
+        ensures low { result.1 + 96 < 2 ^ 64 }
+    {
+        self.nodes.payload_at(memory, map, address)
+    }
 }

@@ -13,12 +13,11 @@ ghost use Rattle.file_service.specs.Aside.{lends_aside};
 ghost use Rattle.server_frame.specs.Session.{service_step};
 ghost use Rattle.server_frame.specs.Told.{nothing_told};
 ghost use Rattle.session_proto.specs.FileReply.{model_reply, account_of};
-ghost use Rattle.file_service.specs.Furnished.{stock, IsFurnished, KeepsSession};
+ghost use Rattle.file_service.specs.Rooms.{stock_of, AreFurnished, KeepsRooms};
 ghost use Rattle.file_service.specs.Lent.{buffer_key};
 ghost use Rattle.file_service.specs.Session.{HasFiles, IsReady, IsAnswered, IsTold, Serves, done_reply, counted_reply, lent_reply, lent_effect, gone_effect, served_in, session_served};
 
-use crate::furnished::{end_nodes, furnish};
-use crate::lent::give_any;
+use crate::rooms::Rooms;
 use crate::session::FileSession;
 use dataspace_core::Memory;
 use region_map::RegionMap;
@@ -26,7 +25,7 @@ use server_frame::{Effect, Reply, Service};
 use session_proto::{FileError, FileReply, FileRequest, Shares};
 use sliced_heap::SlicedHeap;
 use text_codec::decode_hex;
-use trade_base::{AccountId, DsId};
+use trade_base::DsId;
 
 /// The most bytes that a request writes.
 const MOST_WRITTEN: usize = 4096;
@@ -52,14 +51,16 @@ impl Service for FileService {
 
     ghost buffer = { λ session. buffer_key session.buffer };
 
+    ghost payer = { λ session. payer_of session.rooms.contents };
+
     ghost IsKept = { IsSession };
 
     ghost first = { λ label. record { label = label; state = state_at_first Files } };
 
     ghost step = { service_step };
 
-    fn open(&self, account: AccountId, label: &[u8]) -> FileSession {
-        FileSession::open(account, label)
+    fn open(&self, heap: SlicedHeap, label: &[u8]) -> FileSession {
+        FileSession::open(heap, label)
     }
 
     fn buffer(&self, session: &FileSession) -> Option<DsId> {
@@ -70,29 +71,23 @@ impl Service for FileService {
     fn serve(
         &self,
         session: &mut FileSession,
-        heap: &mut SlicedHeap,
         memory: &mut Memory,
         map: &mut RegionMap,
         request: &[u8],
         reply: &mut Reply,
     ) -> Effect {
-        furnish(&mut session.heap, heap, memory, map);
-        answer(session, heap, memory, map, request, reply)
+        map.lies_apart();
+        answer(session, memory, map, request, reply)
     }
 
-    fn end(
-        &self,
-        session: FileSession,
-        heap: &mut SlicedHeap,
-        memory: &mut Memory,
-        map: &mut RegionMap,
-    ) {
-        let buffer = session.buffer;
-        let mut nodes = session.heap;
-        furnish(&mut nodes, heap, memory, map);
-        give_any(&nodes, heap, memory, map, buffer);
-        end_nodes(&mut nodes, heap, memory, map);
+    fn end(&self, session: FileSession, memory: &mut Memory, map: &mut RegionMap) -> SlicedHeap {
+        map.lies_apart();
+        let FileSession { rooms, buffer, .. } = session;
+        rooms.give_any(memory, map, buffer);
+        rooms.end(memory, map)
     }
+
+    ghost pays = { λ session account share kept. kept.rooms.payer };
 
     ghost lends_aside = { lends_aside };
 }
@@ -100,51 +95,42 @@ impl Service for FileService {
 /// Answers a request of a session, and tells what it did to the buffer.
 fn answer(
     session: &mut FileSession,
-    heap: &mut SlicedHeap,
     memory: &mut Memory,
     map: &mut RegionMap,
     request: &[u8],
     reply: &mut Reply,
 ) -> Effect
-    requires ready { IsReady session.old heap.old memory.old map.old }
+    requires ready { IsReady session.old memory.old map.old }
     requires reply { reply.old ≡ nothing_told }
     ensures answered { IsAnswered
-        (session_served (session_request request.now) session.old heap.old memory.old map.old)
-        result reply.new session.old session.new heap.old heap.new
+        (session_served (session_request request.now) session.old memory.old map.old)
+        result reply.new session.old session.new
         memory.old memory.new map.old map.new }
 {
     match FileRequest::read(request) {
         None => FileReply::Refused(FileError::BadRequest).write(reply),
-        Some(FileRequest::Create(name)) => {
-            done(session.create(heap, memory, map, name)).write(reply)
-        }
+        Some(FileRequest::Create(name)) => { done(session.create(memory, map, name)).write(reply) }
         Some(FileRequest::Write { file, offset, hex }) => {
-            counted(write(session, heap, memory, map, file, offset, hex)).write(reply)
+            counted(write(session, memory, map, file, offset, hex)).write(reply)
         }
         Some(FileRequest::Read { file, offset, len }) => {
-            tell_read(session, heap, memory, map, file, offset, len, reply);
+            tell_read(session, memory, map, file, offset, len, reply);
         }
-        Some(FileRequest::Size(name)) => {
-            counted(session.size(heap, memory, map, name)).write(reply)
-        }
-        Some(FileRequest::Clear(name)) => {
-            done(session.clear(heap, memory, map, name)).write(reply)
-        }
-        Some(FileRequest::Drop(name)) => {
-            done(session.remove(heap, memory, map, name)).write(reply)
-        }
-        Some(FileRequest::Name(place)) => match session.file_at(heap, memory, map, place) {
+        Some(FileRequest::Size(name)) => { counted(session.size(memory, map, name)).write(reply) }
+        Some(FileRequest::Clear(name)) => { done(session.clear(memory, map, name)).write(reply) }
+        Some(FileRequest::Drop(name)) => { done(session.remove(memory, map, name)).write(reply) }
+        Some(FileRequest::Name(place)) => match session.file_at(memory, map, place) {
             Some(node) => FileReply::Named(&node.name).write(reply),
             None => FileReply::Refused(FileError::End).write(reply),
         },
-        Some(FileRequest::Stat) => FileReply::Quotas(shares(heap, memory)).write(reply),
+        Some(FileRequest::Stat) => FileReply::Quotas(session.rooms.shares(memory)).write(reply),
         Some(FileRequest::Buffer(bytes)) => {
-            let lent = session.lend(heap, memory, map, bytes);
+            let lent = session.lend(memory, map, bytes);
             lending(lent).write(reply);
             return lends(lent);
         }
         Some(FileRequest::Unbuffer) => {
-            let gone = session.take_back(heap, memory, map);
+            let gone = session.take_back(memory, map);
             taking(gone).write(reply);
             return goes(gone);
         }
@@ -155,7 +141,7 @@ fn answer(
                 place,
                 len,
             },
-        ) => { counted(session.put(heap, memory, map, file, offset, place, len)).write(reply) }
+        ) => { counted(session.put(memory, map, file, offset, place, len)).write(reply) }
         Some(
             FileRequest::Get {
                 file,
@@ -163,7 +149,7 @@ fn answer(
                 place,
                 len,
             },
-        ) => { counted(session.get(heap, memory, map, file, offset, place, len)).write(reply) }
+        ) => { counted(session.get(memory, map, file, offset, place, len)).write(reply) }
     }
     Effect::Nothing
 }
@@ -173,7 +159,6 @@ fn answer(
 #[inline(never)]
 fn tell_read(
     session: &FileSession,
-    heap: &SlicedHeap,
     memory: &mut Memory,
     map: &RegionMap,
     file: &[u8],
@@ -181,17 +166,17 @@ fn tell_read(
     len: u64,
     reply: &mut Reply,
 )
-    requires furnished { IsFurnished session.now.heap heap.now memory.old map.now }
-    requires files { HasFiles session.now (stock session.now.heap heap.now memory.old map.now) }
+    requires furnished { AreFurnished session.now.rooms memory.old map.now }
+    requires files { HasFiles session.now (stock_of session.now.rooms memory.old map.now) }
     requires room { length reply.old.text ≤ 49 }
     ensures told { (answer : Answered)
         × ((IsTold (Read file.now offset len) answer session.now
-        (stock session.now.heap heap.now memory.old map.now))
+        (stock_of session.now.rooms memory.old map.now))
         × (reply.new ≡ record reply.old { text = reply.old.text ++ file_reply answer })) }
     ensures memory { memory.new ≡ memory.old }
 {
     let mut buffer = [0; MOST_READ];
-    match session.read(heap, memory, map, file, offset, len, &mut buffer) {
+    match session.read(memory, map, file, offset, len, &mut buffer) {
         Ok(count) => FileReply::Bytes(&buffer[..count]).write(reply),
         Err(error) => FileReply::Refused(error).write(reply),
     }
@@ -200,7 +185,6 @@ fn tell_read(
 /// Puts the bytes that a text of hexadecimal digits stands for over a file's from an offset on, and tells how many they are.
 fn write(
     session: &mut FileSession,
-    heap: &mut SlicedHeap,
     memory: &mut Memory,
     map: &mut RegionMap,
     file: &[u8],
@@ -209,20 +193,20 @@ fn write(
 ) -> Result<u64, FileError>
     requires hex { bytes_of_hex hex.now ≡ Some (hex_bytes hex.now) }
     requires few { length hex.now ≤ 2 * MOST_WRITTEN }
-    requires furnished { IsFurnished session.old.heap heap.old memory.old map.old }
-    requires files { HasFiles session.old (stock session.old.heap heap.old memory.old map.old) }
+    requires furnished { AreFurnished session.old.rooms memory.old map.old }
+    requires files { HasFiles session.old (stock_of session.old.rooms memory.old map.old) }
     ensures serves { Serves
         (served_in (Write file.now offset (hex_bytes hex.now)) session.old
-        (stock session.old.heap heap.old memory.old map.old))
+        (stock_of session.old.rooms memory.old map.old))
         (counted_reply result) session.old session.new
-        (stock session.new.heap heap.new memory.new map.new) }
-    ensures keeps { KeepsSession heap.old session.new.heap heap.new
+        (stock_of session.new.rooms memory.new map.new) }
+    ensures keeps { KeepsRooms session.old.rooms session.new.rooms
         memory.old memory.new map.old map.new }
 {
     if hex.len() <= 2 * FEW_WRITTEN {
-        write_by::<FEW_WRITTEN>(session, heap, memory, map, file, offset, hex)
+        write_by::<FEW_WRITTEN>(session, memory, map, file, offset, hex)
     } else {
-        write_by::<MOST_WRITTEN>(session, heap, memory, map, file, offset, hex)
+        write_by::<MOST_WRITTEN>(session, memory, map, file, offset, hex)
     }
 }
 
@@ -230,7 +214,6 @@ fn write(
 #[inline(never)]
 fn write_by<const N: usize>(
     session: &mut FileSession,
-    heap: &mut SlicedHeap,
     memory: &mut Memory,
     map: &mut RegionMap,
     file: &[u8],
@@ -240,35 +223,37 @@ fn write_by<const N: usize>(
     requires hex { bytes_of_hex hex.now ≡ Some (hex_bytes hex.now) }
     requires few { length hex.now ≤ 2 * N }
     requires small { N ≤ MOST_WRITTEN }
-    requires furnished { IsFurnished session.old.heap heap.old memory.old map.old }
-    requires files { HasFiles session.old (stock session.old.heap heap.old memory.old map.old) }
+    requires furnished { AreFurnished session.old.rooms memory.old map.old }
+    requires files { HasFiles session.old (stock_of session.old.rooms memory.old map.old) }
     ensures serves { Serves
         (served_in (Write file.now offset (hex_bytes hex.now)) session.old
-        (stock session.old.heap heap.old memory.old map.old))
+        (stock_of session.old.rooms memory.old map.old))
         (counted_reply result) session.old session.new
-        (stock session.new.heap heap.new memory.new map.new) }
-    ensures keeps { KeepsSession heap.old session.new.heap heap.new
+        (stock_of session.new.rooms memory.new map.new) }
+    ensures keeps { KeepsRooms session.old.rooms session.new.rooms
         memory.old memory.new map.old map.new }
 {
     let mut buffer = [0; N];
     let bytes = &mut buffer[..hex.len() / 2];
     decode_hex(hex, bytes);
-    session.write(heap, memory, map, file, offset, bytes)
+    session.write(memory, map, file, offset, bytes)
 }
 
-/// Use and limits of the account of a heap.
-fn shares(heap: &SlicedHeap, memory: &Memory) -> Shares
-    requires { IsOpenIn memory.now (payer_of heap.now) }
-    ensures { account_of result ≡ account_in memory.now (payer_of heap.now) }
-{
-    let account = heap.account();
-    let (ram_used, caps_used) = memory.used(account);
-    let (ram_limit, caps_limit) = memory.limits(account);
-    Shares {
-        ram_used,
-        ram_limit,
-        caps_used,
-        caps_limit,
+impl Rooms {
+    /// Use and limits of the account.
+    fn shares(&self, memory: &Memory) -> Shares
+        requires { IsOpenIn memory.now (payer_of self.now.contents) }
+        ensures { account_of result ≡ account_in memory.now (payer_of self.now.contents) }
+    {
+        let account = self.contents.account();
+        let (ram_used, caps_used) = memory.used(account);
+        let (ram_limit, caps_limit) = memory.limits(account);
+        Shares {
+            ram_used,
+            ram_limit,
+            caps_used,
+            caps_limit,
+        }
     }
 }
 

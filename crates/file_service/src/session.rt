@@ -1,19 +1,18 @@
 //! A session of the file service.
 
-use crate::furnished::new_nodes;
 use crate::node::Node;
+use crate::rooms::Rooms;
 use arrayvec::ArrayVec;
-use heap_core::Heap;
 use server_frame::LONGEST_LABEL;
-use trade_base::{AccountId, DsId};
+use sliced_heap::SlicedHeap;
+use trade_base::DsId;
 
 /// What the file service keeps for a session. Each file has a node, a block of the heap. The nodes are linked both ways in
 /// the order of creation, and have links of a tree by name.
 #[derive(Drop)]
 pub struct FileSession {
     pub(crate) label: ArrayVec<u8, LONGEST_LABEL>,
-    /// The heap of nodes.
-    pub(crate) heap: Heap,
+    pub(crate) rooms: Rooms,
     /// The address of the first file's node, or 0.
     pub(crate) first: u64,
     /// The address of the last file's node, or 0.
@@ -45,22 +44,25 @@ impl FileSession {
     ghost use Rattle.dataspace_core.specs.Share.{Share};
     ghost use Rattle.own_model.specs.Routes.Service.{Files};
     ghost use Rattle.own_model.specs.Session.{state_at_first};
+    ghost use Rattle.sliced_heap.specs.Heap.{payer_of};
+    ghost use Rattle.sliced_heap.specs.Sliced.{IsLinked};
     ghost use Rattle.server_frame.specs.Session.{HasBlocksAlone};
     ghost use Rattle.file_service.specs.Session.{value_of, IsSession};
 
     /// A session without files, which lends nothing.
-    pub(crate) fn open(account: AccountId, label: &[u8]) -> FileSession
+    pub(crate) fn open(heap: SlicedHeap, label: &[u8]) -> FileSession
         requires { length label.now ≤ LONGEST_LABEL }
         ensures first { (share : Share) → HasBlocksAlone share
             → value_of result share ≡ record { label = label.now; state = state_at_first Files } }
-        ensures kept { (share : Share) → HasBlocksAlone share → IsSession result share }
+        ensures kept { (share : Share) → HasBlocksAlone share → IsLinked share heap.first
+            → IsSession result (payer_of heap) share }
         ensures lends { result.buffer ≡ None }
     {
         let mut copy = ArrayVec::new();
         let _ = copy.try_extend_from_slice(label);
         FileSession {
             label: copy,
-            heap: new_nodes(account),
+            rooms: Rooms::new(heap),
             first: 0,
             last: 0,
             root: 0,

@@ -7,76 +7,10 @@ ghost use Rattle.avl_alloc.specs.Layout.{heap_of, sizes_of};
 ghost use Rattle.heap_core.specs.Blocks.{StandAt, KeepsAround, IsChunkSize, IsBlankOf, Takes, Adds, Gives};
 ghost use Rattle.heap_core.specs.Words.{keys_of, around, bytes_around, words_of};
 
-use crate::loads::Loads;
 use crate::words::{Chunk, Words};
 use avl_alloc::{BestFit, BlockAddr, UsedBlock};
 use dataspace_core::Memory;
 use std::sync::ledger::{Blank, Ledger};
-
-impl<L: Ledger> Words<'_, L> {
-    // One chunk more, the last one.
-    fn add(&mut self, fit: &mut BestFit, bytes: u64)
-        requires stand { StandAt fit.old (keys_of self.old.chunks.now) self.old.memory.now }
-        requires last { length (sizes_of fit.old) + 1 ≡ length self.old.chunks.now }
-        requires few { length self.old.chunks.now ≤ 64 }
-        requires size { IsChunkSize bytes }
-        requires there { bytes
-            ≤ bytes_around (around (keys_of self.old.chunks.now) self.old.memory.now)
-            (length self.old.chunks.now - 1) }
-        ensures same_reference { self.new.memory.ghost_name ≡ self.old.memory.ghost_name }
-        ensures adds { Adds bytes fit.old fit.new
-            (words_of (keys_of self.old.chunks.now) self.old.memory.now)
-            (words_of (keys_of self.old.chunks.now) self.new.memory.now) }
-        ensures around { KeepsAround
-            (keys_of self.old.chunks.now) self.old.memory.now self.new.memory.now }
-    {
-        let chunks = self.chunks;
-        fit.add_chunk(self, chunks.len() - 1, bytes);
-    }
-
-    // Takes the best hole for so many bytes.
-    fn take(&mut self, fit: &mut BestFit, bytes: u64) -> Option<BlockAddr>
-        requires stand { StandAt fit.old (keys_of self.old.chunks.now) self.old.memory.now }
-        requires few { bytes < 65536 }
-        ensures same_reference { self.new.memory.ghost_name ≡ self.old.memory.ghost_name }
-        ensures takes { Takes bytes result fit.old fit.new
-            (words_of (keys_of self.old.chunks.now) self.old.memory.now)
-            (words_of (keys_of self.old.chunks.now) self.new.memory.now) }
-        ensures around { KeepsAround
-            (keys_of self.old.chunks.now) self.old.memory.now self.new.memory.now }
-    {
-        fit.alloc(self, bytes)
-    }
-
-    // Gives a block back.
-    fn give(&mut self, fit: &mut BestFit, block: BlockAddr) -> Option<u64>
-        requires stand { StandAt fit.old (keys_of self.old.chunks.now) self.old.memory.now }
-        ensures same_reference { self.new.memory.ghost_name ≡ self.old.memory.ghost_name }
-        ensures gives { Gives block result fit.old fit.new
-            (words_of (keys_of self.old.chunks.now) self.old.memory.now)
-            (words_of (keys_of self.old.chunks.now) self.new.memory.now) }
-        ensures around { KeepsAround
-            (keys_of self.old.chunks.now) self.old.memory.now self.new.memory.now }
-    {
-        fit.free(self, block)
-    }
-
-    // The used block whose payload holds an address.
-    fn look(&mut self, fit: &BestFit, addr: BlockAddr) -> Option<UsedBlock>
-        requires stand { StandAt fit.now (keys_of self.old.chunks.now) self.old.memory.now }
-        ensures same_reference { self.new.memory.ghost_name ≡ self.old.memory.ghost_name }
-        ensures block { let blocks = chunk_of
-            (heap_of fit.now
-            (words_of (keys_of self.old.chunks.now) self.old.memory.now)) addr.chunk in
-            result ≡ option_map (used_block addr.chunk) (payload_at 0 addr.offset blocks) }
-        ensures words { words_of (keys_of self.old.chunks.now) self.new.memory.now
-            ≡ words_of (keys_of self.old.chunks.now) self.old.memory.now }
-        ensures around { KeepsAround
-            (keys_of self.old.chunks.now) self.old.memory.now self.new.memory.now }
-    {
-        fit.block_at(self, addr)
-    }
-}
 
 /// One chunk more, the last of `chunks`, which is one hole.
 pub fn add<L: Ledger>(
@@ -97,18 +31,8 @@ pub fn add<L: Ledger>(
         (words_of (keys_of chunks.now) memory.new) }
     ensures around { KeepsAround (keys_of chunks.now) memory.old memory.new }
 {
-    let mut words = Words {
-        memory,
-        chunks,
-        loads: Loads::<L>::new(blank),
-    };
-    words.add(fit, bytes);
-    let Words {
-        memory: lent,
-        chunks: _chunks,
-        loads: _loads,
-    } = words;
-    let _ = lent;
+    let mut words = Words::<L>::over(memory, chunks, blank);
+    fit.add_chunk(&mut words, chunks.len() - 1, bytes);
 }
 
 /// Takes the best hole for so many bytes, or answers `None` where no hole is large enough.
@@ -126,19 +50,8 @@ pub fn take<L: Ledger>(
         (words_of (keys_of chunks.now) memory.new) }
     ensures around { KeepsAround (keys_of chunks.now) memory.old memory.new }
 {
-    let mut words = Words {
-        memory,
-        chunks,
-        loads: Loads::<L>::new(blank),
-    };
-    let answer = words.take(fit, bytes);
-    let Words {
-        memory: lent,
-        chunks: _chunks,
-        loads: _loads,
-    } = words;
-    let _ = lent;
-    answer
+    let mut words = Words::<L>::over(memory, chunks, blank);
+    fit.alloc(&mut words, bytes)
 }
 
 /// Gives back the used block that starts at an address and tells its size, or answers `None` where none does.
@@ -155,19 +68,8 @@ pub fn give<L: Ledger>(
         (words_of (keys_of chunks.now) memory.new) }
     ensures around { KeepsAround (keys_of chunks.now) memory.old memory.new }
 {
-    let mut words = Words {
-        memory,
-        chunks,
-        loads: Loads::<L>::new(blank),
-    };
-    let answer = words.give(fit, block);
-    let Words {
-        memory: lent,
-        chunks: _chunks,
-        loads: _loads,
-    } = words;
-    let _ = lent;
-    answer
+    let mut words = Words::<L>::over(memory, chunks, blank);
+    fit.free(&mut words, block)
 }
 
 /// The used block whose payload holds an address, or `None` where no payload does.
@@ -187,17 +89,6 @@ pub fn look<L: Ledger>(
         ≡ words_of (keys_of chunks.now) memory.old }
     ensures around { KeepsAround (keys_of chunks.now) memory.old memory.new }
 {
-    let mut words = Words {
-        memory,
-        chunks,
-        loads: Loads::<L>::new(blank),
-    };
-    let answer = words.look(fit, addr);
-    let Words {
-        memory: lent,
-        chunks: _chunks,
-        loads: _loads,
-    } = words;
-    let _ = lent;
-    answer
+    let mut words = Words::<L>::over(memory, chunks, blank);
+    fit.block_at(&mut words, addr)
 }

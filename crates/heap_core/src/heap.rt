@@ -205,6 +205,7 @@ impl Heap {
         ensures around { around (keys_in self.now) memory.new
             ≡ around (keys_in self.now) memory.old }
     {
+        // The contract speaks of the map; the chunk knows where its region starts.
         let _ = map;
         let chunk = self.chunks[block.chunk];
         let size = memory.load_word(chunk.ds, block.offset);
@@ -228,6 +229,7 @@ impl Heap {
         ensures none { Unchanged (IfNone result)
             self.old self.new memory.old memory.new map.now map.now }
     {
+        // The contract speaks of the map, which stays as it is: a hole is taken in the chunks' words.
         let _ = map;
         take::<Brand>(&mut self.fit, memory, &self.chunks, bytes, Blank::new(1))
     }

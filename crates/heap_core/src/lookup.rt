@@ -63,6 +63,7 @@ impl Heap {
             (address + into) count }
         ensures even { result.1 % 16 ≡ 0 }
     {
+        // The contract speaks of the memory; the map alone is asked.
         let _ = memory;
         let (start, ds, _) = map.heap_region(address).unwrap();
         (ds, address - start)
@@ -114,6 +115,7 @@ impl Heap {
         ensures finds { FindsRange self.now memory.old map.now address count result }
         ensures memory { memory.new ≡ memory.old }
     {
+        // The contract speaks of the map and of the address; the allocator knows the block by its place in the chunk.
         let _ = map;
         let _ = address;
         let block = look::<Brand>(&self.fit, memory, &self.chunks, at, Blank::new(1))?;
@@ -139,6 +141,7 @@ impl Heap {
             (share_at (payer_of self.now) memory.now map.now) address start ds.0 }
         ensures { FindsRange self.now memory.now map.now address count result }
     {
+        // The contract speaks of the map; the block's start is told.
         let _ = map;
         let offset = address - start;
         if count > memory.size(ds) - offset {

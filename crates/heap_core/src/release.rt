@@ -3,6 +3,7 @@ ghost use Rattle.std.specs.Prelude.{◌≡◌, ℕ, ◌<◌, ◌≤◌, [], leng
 ghost use Rattle.std.specs.FinMap.{get};
 ghost use Rattle.std.specs.Result.{result_err};
 ghost use Rattle.dataspace_core.specs.Share.{KeepsShares};
+ghost use Rattle.dataspace_core.specs.Store.{Store};
 ghost use Rattle.heap_core.specs.Calls.{GivesAll, GivesSmall, GivesLarge, LosesLarge, Keeps, Unchanged, free_refusal};
 ghost use Rattle.heap_core.specs.End.{EndsChunks, EndsLarge};
 ghost use Rattle.heap_core.specs.Heap.{payer_of, share_at, heap_at, times_in, IsSound};
@@ -78,19 +79,18 @@ impl Heap {
     {
         while !self.large.is_empty() {
             let index = self.large.len() - 1;
-            let ds = self.large_ds(memory, map, self.large[index]);
+            let ds = self.large_ds(map, self.large[index]);
             self.give_large(memory, map, index, ds);
         }
     }
 
     // The dataspace of the large block that starts at an address.
-    fn large_ds(&self, memory: &Memory, map: &RegionMap, start: u64) -> DsId
-        requires sound { IsSound self.now memory.now map.now }
+    fn large_ds(&self, map: &RegionMap, start: u64) -> DsId
+        requires sound { (store : Store) × IsSound self.now store map.now }
         requires there { 1 ≤ times_in self.now.large.items start }
-        ensures { LiesInLarge
-            (share_at (payer_of self.now) memory.now map.now) start start result.0 }
+        ensures { (store : Store) → IsSound self.now store map.now →
+            LiesInLarge (share_at (payer_of self.now) store map.now) start start result.0 }
     {
-        let _ = memory;
         let (_, ds, _) = map.heap_region(start).unwrap();
         ds
     }
@@ -129,6 +129,7 @@ impl Heap {
         ensures err { Unchanged (OnErr result)
             self.old self.new memory.old memory.new map.now map.now }
     {
+        // Contracts speak of the map and of the address; the allocator knows the block by its place in the chunk.
         let _ = map;
         let _ = address;
         if at.offset < HEADER {

@@ -1,11 +1,12 @@
 //! The words of a heap's chunks, as a tree inside their holes uses them.
 ghost use Rattle.std.specs.Prelude.{◌≡◌, ℕ, ◌+◌, ◌<◌};
 ghost use Rattle.avl_alloc.specs.Words.{IsWord, place_at, with_word};
+ghost use Rattle.heap_core.specs.Blocks.{IsBlankOf};
 
 use crate::loads::Loads;
 use avl_alloc::WordMemory;
 use dataspace_core::Memory;
-use std::sync::ledger::Ledger;
+use std::sync::ledger::{Blank, Ledger};
 use trade_base::DsId;
 
 /// A chunk: its dataspace, and the address at which its region starts.
@@ -31,6 +32,36 @@ pub struct Words<'a, L: Ledger> {
     pub memory: &'a mut Memory,
     pub chunks: &'a [Chunk],
     pub loads: Loads<L>,
+}
+
+impl<'a, L: Ledger> Words<'a, L> {
+    /// None of them is loaded yet.
+    pub fn over(memory: &'a mut Memory, chunks: &'a [Chunk], blank: Blank) -> Words<'a, L>
+        requires { IsBlankOf blank.name blank.parts L.name L.parts }
+        ensures memory { result.memory.now ≡ memory.old }
+        ensures same_reference { result.memory.ghost_name ≡ memory.entry.ghost_name }
+        ensures chunks { result.chunks.now ≡ chunks.now }
+        ensures loads { result.loads ≡ 0 }
+    {
+        Words {
+            memory,
+            chunks,
+            loads: Loads::new(blank),
+        }
+    }
+}
+
+impl<L: Ledger> Drop for Words<'_, L> {
+    // The memory goes back as it is.
+    fn drop(self)
+        ensures { self.exit.0.now ≡ self.entry.memory.now }
+    {
+        let Words {
+            memory: _memory,
+            chunks: _chunks,
+            loads: _loads,
+        } = self;
+    }
 }
 
 impl<L: Ledger> WordMemory for Words<'_, L> {

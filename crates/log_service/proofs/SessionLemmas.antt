@@ -10,6 +10,7 @@ use Rattle.std.specs.List.{All, position, position_or_len}
 use Rattle.own_model.specs.LogService.{labelled, written, Logged, IsPartial, IsUnbroken, is_newline}
 use Rattle.own_model.proofs.LogLemmas.{written-none, written_newline, writes_add, writes_lines}
 use Rattle.own_model.specs.Reply.{log_text}
+use Rattle.sliced_heap.specs.declared.heap.SlicedHeap.{SlicedHeap}
 use Rattle.server_frame.specs.Told.{Told}
 use Rattle.log_service.specs.Session.{LabelledLine, lines_text, Writes}
 
@@ -72,7 +73,7 @@ writes_then a b c t u v xs ys is first more =
     (append_assoc t.lines (lines_text a.label l.lines) (lines_text a.label (written l.partial ys).lines)) in
     let partial : c.partial ≡ (written a.partial (xs ++ ys)).partial = ap (λ s. s.partial) more.session ∙ rw (all, left) refl in
     record {
-      session = λ i. record { label = (ap (λ s. s.label) more.session ∙ label) i; partial = partial i };
+      session = λ i. record { label = (ap (λ s. s.label) more.session ∙ label) i; partial = partial i; heap = (ap (λ s. s.heap) more.session ∙ ap (λ s. s.heap) first.session) i };
       reply = λ i. record { lines = lines i; text = (ap (λ r. r.text) more.reply ∙ ap (λ r. r.text) first.reply) i };
       added = omega (arith, first.added, more.added, length-append xs ys);
     }
@@ -109,21 +110,21 @@ broken run end found =
 -- ---- a call that writes a run
 
 -- a run that is put to the line
-pub adds : (label partial run bytes line : List ℕ) (told : Told) → written partial bytes ≡ record { lines = []; partial = partial ++ run } →
+pub adds : (heap : SlicedHeap) (label partial run bytes line : List ℕ) (told : Told) → written partial bytes ≡ record { lines = []; partial = partial ++ run } →
     line ≡ partial ++ run → length run ≤ length bytes →
-    Writes (record { label = label; partial = partial }) told bytes (record { label = label; partial = line }) told
-adds label partial run bytes line told is e few = record {
+    Writes (record { label = label; partial = partial; heap = heap }) told bytes (record { label = label; partial = line; heap = heap }) told
+adds heap label partial run bytes line told is e few = record {
   session = rw (is, e) refl;
   reply = rw (is, append-nil told.lines) refl;
   added = omega (arith, ap length e, length-append partial run, few);
 }
 
 -- a run that finishes the line
-pub finishes : (label partial run bytes line : List ℕ) (told next : Told) → written partial bytes ≡ record { lines = (partial ++ run) ∷ []; partial = [] } →
+pub finishes : (heap : SlicedHeap) (label partial run bytes line : List ℕ) (told next : Told) → written partial bytes ≡ record { lines = (partial ++ run) ∷ []; partial = [] } →
     line ≡ partial ++ run → next ≡ record told { lines = told.lines ++ log_text (record { label = label; text = line }) } →
     length next.lines ≡ length told.lines + (length label + length line + 4) → length label ≤ 208 → length run ≤ length bytes → 0 < length bytes →
-    Writes (record { label = label; partial = partial }) told bytes (record { label = label; partial = [] }) next
-finishes label partial run bytes line told next is e told_so size short few some = record {
+    Writes (record { label = label; partial = partial; heap = heap }) told bytes (record { label = label; partial = []; heap = heap }) next
+finishes heap label partial run bytes line told next is e told_so size short few some = record {
   session = rw is refl;
   reply = told_so ∙ rw (is, e, lines_text-one label (partial ++ run) told.lines) refl;
   added = omega (arith, size, ap length e, length-append partial run, short, few, some);

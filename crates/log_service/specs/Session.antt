@@ -5,12 +5,24 @@ use Rattle.own_model.specs.LogService.{labelled, written}
 use Rattle.own_model.specs.Reply.{log_text}
 use Rattle.own_model.specs.Session.{Labelled}
 use Rattle.own_model.specs.Session.ServiceState.{Logging}
+use Rattle.dataspace_core.specs.Share.{Share}
+use Rattle.sliced_heap.specs.Heap.{payer_of}
+use Rattle.sliced_heap.specs.Sliced.{IsLinked}
+use Rattle.sliced_heap.specs.declared.heap.SlicedHeap.{SlicedHeap}
+use Rattle.server_frame.specs.Session.{HasBlocksAlone}
 use Rattle.server_frame.specs.Told.{Told}
 
--- its label, and its line that isn't finished yet
+-- its label, its line that isn't finished yet, and the sliced heap of its account, as it came
 pub record LabelledLine : Type 0 where
   pub label : List ℕ
   pub partial : List ℕ
+  pub heap : SlicedHeap
+
+-- what is true of it between requests: the heap is the account's, and all that the account has is the heap's blocks
+pub record IsSession (line : LabelledLine) (account : ℕ) (share : Share) : Type 0 where
+  pub payer : payer_of line.heap ≡ account
+  pub linked : IsLinked share line.heap.first
+  pub alone : HasBlocksAlone share
 
 -- the text of finished lines of a session with this label
 abbrev pub lines_text : List ℕ → List (List ℕ) → List ℕ

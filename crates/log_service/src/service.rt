@@ -3,9 +3,10 @@ ghost use Rattle.std.specs.Prelude.{◌≡◌, [], None};
 ghost use Rattle.own_model.specs.LogService.{log_served};
 ghost use Rattle.own_model.specs.Session.{Labelled};
 ghost use Rattle.own_model.specs.Session.ServiceState.{Logging};
-ghost use Rattle.log_service.specs.Session.{lines_text, as_kept};
+ghost use Rattle.log_service.specs.Session.{lines_text, as_kept, IsSession};
 ghost use Rattle.server_frame.proofs.LentLaws.{lends_nothing};
-ghost use Rattle.server_frame.specs.Session.{HasBlocksAlone, service_step};
+ghost use Rattle.server_frame.specs.Session.{service_step};
+ghost use Rattle.sliced_heap.specs.Heap.{payer_of};
 ghost use Rattle.server_frame.specs.Told.{nothing_told};
 
 use crate::session::LogSession;
@@ -14,7 +15,7 @@ use region_map::RegionMap;
 use server_frame::{Effect, Reply, Service};
 use session_proto::{LogReply, LogRequest};
 use sliced_heap::SlicedHeap;
-use trade_base::{AccountId, DsId};
+use trade_base::DsId;
 
 /// The log service. It keeps nothing but its sessions.
 #[derive(Clone, Copy)]
@@ -53,14 +54,16 @@ impl Service for LogService {
 
     ghost buffer = { λ session. None };
 
-    ghost IsKept = { λ session share. HasBlocksAlone share };
+    ghost payer = { λ session. payer_of session.heap };
+
+    ghost IsKept = { IsSession };
 
     ghost first = { λ label. record { label = label; state = Logging [] } };
 
     ghost step = { service_step };
 
-    fn open(&self, _account: AccountId, label: &[u8]) -> LogSession {
-        LogSession::open(label)
+    fn open(&self, heap: SlicedHeap, label: &[u8]) -> LogSession {
+        LogSession::open(heap, label)
     }
 
     fn buffer(&self, _session: &LogSession) -> Option<DsId> {
@@ -70,7 +73,6 @@ impl Service for LogService {
     fn serve(
         &self,
         session: &mut LogSession,
-        _heap: &mut SlicedHeap,
         _memory: &mut Memory,
         _map: &mut RegionMap,
         request: &[u8],
@@ -80,13 +82,11 @@ impl Service for LogService {
         Effect::Nothing
     }
 
-    fn end(
-        &self,
-        _session: LogSession,
-        _heap: &mut SlicedHeap,
-        _memory: &mut Memory,
-        _map: &mut RegionMap,
-    ) {}
+    fn end(&self, session: LogSession, _memory: &mut Memory, _map: &mut RegionMap) -> SlicedHeap {
+        session.into_heap()
+    }
+
+    ghost pays = { λ session account share kept. kept.payer };
 
     ghost lends_aside = { lends_nothing };
 }

@@ -7,6 +7,7 @@ ghost use Rattle.log_service.specs.Session.{Writes};
 
 use arrayvec::ArrayVec;
 use server_frame::{LONGEST_LABEL, MOST_LINES, Reply};
+use sliced_heap::SlicedHeap;
 use std::marker::Model;
 use text_codec::{decode_hex_from, find_byte};
 
@@ -20,11 +21,13 @@ const PIECE: usize = 256;
 /// what stands around a line.
 const MOST_ADDED: usize = LONGEST_LABEL + 5;
 
-/// What the log service keeps for a session. Contracts see it as its label and its line.
+/// What the log service keeps for a session. Contracts see it as its label, its line, and the sliced heap of its account,
+/// which it keeps as it came.
 #[derive(Drop)]
 pub struct LogSession {
     label: ArrayVec<u8, LONGEST_LABEL>,
     line: ArrayVec<u8, LONGEST_LINE>,
+    heap: SlicedHeap,
 }
 
 impl Model for LogSession {
@@ -33,23 +36,32 @@ impl Model for LogSession {
 
     ghost Value = { LabelledLine };
 
-    ghost view = { λ s. record { label = s.label.items; partial = s.line.items } };
+    ghost view = { λ s.
+        record { label = s.label.items; partial = s.line.items; heap = s.heap } };
 
     ghost invariant = { λ s. IsPartial s.line.items };
 }
 
 impl LogSession {
     /// A session with an empty line.
-    pub(crate) fn open(label: &[u8]) -> LogSession
+    pub(crate) fn open(heap: SlicedHeap, label: &[u8]) -> LogSession
         requires { length label.now ≤ LONGEST_LABEL }
-        ensures { result ≡ record { label = label.now; partial = [] } }
+        ensures { result ≡ record { label = label.now; partial = []; heap = heap } }
     {
         let mut copy = ArrayVec::new();
         let _ = copy.try_extend_from_slice(label);
         LogSession {
             label: copy,
             line: ArrayVec::new(),
+            heap,
         }
+    }
+
+    /// Its sliced heap, once it ends.
+    pub(crate) fn into_heap(self) -> SlicedHeap
+        ensures { result ≡ self.heap }
+    {
+        self.heap
     }
 
     /// Writes the bytes that hexadecimal digits stand for. Lines that they finish go to the reply. It stands alone, since who

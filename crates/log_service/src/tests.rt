@@ -5,8 +5,15 @@ mod sessions;
 
 use crate::{LogService, LogSession};
 use server_frame::{LONGEST_LABEL, Reply};
+use sliced_heap::SlicedHeap;
 use std::alloc::AllocError;
 use std::process::Abort;
+use trade_base::AccountId;
+
+// A heap of which these requests take nothing.
+fn unused() -> SlicedHeap {
+    SlicedHeap::new(AccountId(0))
+}
 
 // A request is answered a reply, after these lines.
 fn is_told(
@@ -24,8 +31,8 @@ fn is_told(
 #[test]
 fn lines_are_cut_and_labelled(rt: HostRuntime) {
     let mut reply = Reply::boot(rt.alloc()).expect(&rt, "memory for a reply");
-    let mut alice = LogSession::open(b"alice -> main");
-    let mut bob = LogSession::open(b"bob");
+    let mut alice = LogSession::open(unused(), b"alice -> main");
+    let mut bob = LogSession::open(unused(), b"bob");
     assert!(rt; is_told(&mut alice, &mut reply, b"WRITE 6869", b"OK 2", b""));
     assert!(rt;
         is_told(
@@ -70,7 +77,7 @@ fn lines_are_cut_and_labelled(rt: HostRuntime) {
 #[test]
 fn other_requests_leave_the_line(rt: HostRuntime) {
     let mut reply = Reply::boot(rt.alloc()).expect(&rt, "memory for a reply");
-    let mut session = LogSession::open(b"a");
+    let mut session = LogSession::open(unused(), b"a");
     assert!(rt; is_told(&mut session, &mut reply, b"WRITE 61", b"OK 1", b""));
     for request in [
         b"".as_slice(),
@@ -99,7 +106,7 @@ fn other_requests_leave_the_line(rt: HostRuntime) {
 #[test]
 fn two_hundred_bytes_are_a_line(rt: HostRuntime) -> Result<(), AllocError> {
     let mut reply = Reply::boot(rt.alloc()).expect(&rt, "memory for a reply");
-    let mut session = LogSession::open(b"bob");
+    let mut session = LogSession::open(unused(), b"bob");
     let mut most = Vec::new(rt.alloc());
     most.extend_from_slice(b"WRITE ")?;
     let mut line = Vec::new(rt.alloc());
@@ -122,7 +129,7 @@ fn two_hundred_bytes_are_a_line(rt: HostRuntime) -> Result<(), AllocError> {
 fn longest_request_finds_room(rt: HostRuntime) -> Result<(), AllocError> {
     let mut reply = Reply::boot(rt.alloc()).expect(&rt, "memory for a reply");
     let label = [b'l'; LONGEST_LABEL];
-    let mut session = LogSession::open(&label);
+    let mut session = LogSession::open(unused(), &label);
     let mut request = Vec::new(rt.alloc());
     request.extend_from_slice(b"WRITE ")?;
     for _ in 0..4093 {

@@ -167,7 +167,7 @@ module _ (store : Store) (ram caps : ℕ) where
   server_state account unused = ap (λ p. own_of no_lent no_sessions p empty empty no_heap empty) unused ∙ own_opened no_lent no_sessions ram caps
 
   -- and it is sound where it has no sessions
-  server_sound : {T : Type 0} (kept : T → Share → Type 0) (account : ℕ) (sessions : Slab (Kept T)) (regions : Regions) → part account store ≡ opened_part ram caps → HasNoSessions store sessions regions →
+  server_sound : {T : Type 0} (kept : T → ℕ → Share → Type 0) (account : ℕ) (sessions : Slab (Kept T)) (regions : Regions) → part account store ≡ opened_part ram caps → HasNoSessions store sessions regions →
       IsSoundServer kept store account sessions regions
   server_sound kept account sessions regions unused new = record {
     is_open = subst (λ (p : Part). IsSome p.account) (sym unused) refl;

@@ -83,7 +83,7 @@ module _ (store store' : Store) (Beside : ℕ → Type 0) (stays : (regions : Re
   AreBeside rows = (id : ℕ) (row : Row Labelled) → get rows id ≡ Some row → Beside row.key
 
   -- a server, all of whose sessions are on such accounts
-  module _ {T : Type 0} (value : T → Share → Labelled) (buffer : T → Option ℕ) (kept : T → Share → Type 0) (sessions : Slab (Kept T)) (regions : Regions) (beside : AreBeside (sessions_of value buffer sessions store regions)) where
+  module _ {T : Type 0} (value : T → Share → Labelled) (buffer : T → Option ℕ) (kept : T → ℕ → Share → Type 0) (sessions : Slab (Kept T)) (regions : Regions) (beside : AreBeside (sessions_of value buffer sessions store regions)) where
     session_stays : (id : ℕ) (session : Kept T) → slab.get sessions id ≡ Some session → Stays session.account.0 store store' regions regions
     session_stays id session there =
         stays regions session.account.0 (beside id (row_of value buffer store regions session) (get-map_of_at (row_of value buffer store regions) sessions id session there))

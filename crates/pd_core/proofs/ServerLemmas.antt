@@ -64,7 +64,7 @@ pub record IsPaidRow (store : Store) (row : Row Labelled) : Type 0 where
   pub account : account_in store row.key ≡ row.account
 
 -- so each row of a server is
-row_paid : {T : Type 0} (value : T → Share → Labelled) (buffer : T → Option ℕ) (kept : T → Share → Type 0) (sessions : Slab (Kept T)) (store : Store) (regions : Regions) → IsServer kept sessions store regions →
+row_paid : {T : Type 0} (value : T → Share → Labelled) (buffer : T → Option ℕ) (kept : T → ℕ → Share → Type 0) (sessions : Slab (Kept T)) (store : Store) (regions : Regions) → IsServer kept sessions store regions →
     (id : ℕ) (row : Row Labelled) → get (sessions_of value buffer sessions store regions) id ≡ Some row → IsPaidRow store row
 row_paid value buffer kept sessions store regions server id row there =
     let its = row_is value buffer sessions store regions id row there in
@@ -72,7 +72,7 @@ row_paid value buffer kept sessions store regions server id row there =
     subst (IsPaidRow store) its.is (record {
       child = holds.child;
       apart = λ e. holds.leaf its.session.account.0 (holds.child ∙ ap Some e);
-      opens = subst (IsOpenIn store) holds.payer holds.heap.sound.opens;
+      opens = holds.account.opens;
       account = refl;
     })
 
@@ -161,7 +161,7 @@ sound_server store AGone serving works is_open places = absurd (cc)
 abbrev pub AreClients : Heads → Store → Role → Type 0
 AreClients heads store role = (id : ℕ) (row : Row Labelled) → get (rows_in store role) id ≡ Some row → heads row.client ≡ false
 
-module _ {T : Type 0} (value : T → Share → Labelled) (buffer : T → Option ℕ) (kept : T → Share → Type 0) (heads : Heads) (sessions : Slab (Kept T)) (store : Store) (regions : Regions) (server : IsServer kept sessions store regions)
+module _ {T : Type 0} (value : T → Share → Labelled) (buffer : T → Option ℕ) (kept : T → ℕ → Share → Type 0) (heads : Heads) (sessions : Slab (Kept T)) (store : Store) (regions : Regions) (server : IsServer kept sessions store regions)
     (clients : (id : ℕ) (row : Row Labelled) → get (sessions_of value buffer sessions store regions) id ≡ Some row → heads row.client ≡ false) (room : HasRoom heads store)
     (places : caps_limits_in store ≤ sessions.capacity * 2 + 1) (client ram caps : ℕ) (none : IsNoRows (sessions_of value buffer sessions store regions) client) where
   -- a table with so many places has one for a client that has no session

@@ -278,7 +278,7 @@ abbrev pub HasPlaces : Sessions → Store → Role → Type 0
 HasPlaces sessions store role = IfSome (places_in role) (λ places. caps_limits (own_in sessions store role) ≤ places)
 
 -- a server's account is open, it works on this memory, and it has a place for each two capabilities of the machine
-pub record IsSoundServer {T : Type 0} (kept : T → Share → Type 0) (store : Store) (account : ℕ) (sessions : Slab (Kept T)) (regions : Regions) : Type 0 where
+pub record IsSoundServer {T : Type 0} (kept : T → ℕ → Share → Type 0) (store : Store) (account : ℕ) (sessions : Slab (Kept T)) (regions : Regions) : Type 0 where
   pub is_open : IsSome (part account store).account
   pub server : IsServer kept sessions store regions
   pub places : caps_limits_in store ≤ sessions.capacity * 2 + 1

@@ -15,8 +15,7 @@ use Rattle.cap_space.specs.declared.cap.Cap.TheVariants.{Session as ASession}
 use Rattle.dataspace_core.specs.Share.{Share}
 use Rattle.dataspace_core.specs.Store.{Store, account_in}
 use Rattle.server_frame.specs.Frame.{Row}
-use Rattle.server_frame.specs.Session.{HasBlocksAlone}
-use Rattle.log_service.specs.Session.{LabelledLine, as_kept}
+use Rattle.log_service.specs.Session.{LabelledLine, as_kept, IsSession as IsLogSession}
 use Rattle.file_service.specs.Lent.{buffer_key}
 use Rattle.file_service.specs.Session.{value_of, IsSession as IsFileSession}
 use Rattle.file_service.specs.declared.session.FileSession.{FileSession}
@@ -33,8 +32,8 @@ abbrev pub log_buffer : LabelledLine → Option ℕ
 log_buffer line = None
 
 -- all that it keeps of a session in the memory is blocks
-abbrev pub IsLogKept : LabelledLine → Share → Type 0
-IsLogKept line share = HasBlocksAlone share
+abbrev pub IsLogKept : LabelledLine → ℕ → Share → Type 0
+IsLogKept line account share = IsLogSession line account share
 
 -- what the file service keeps of a session to its client: its files, as its account's blocks hold them
 abbrev pub files_value : FileSession → Share → Labelled
@@ -45,8 +44,8 @@ abbrev pub files_buffer : FileSession → Option ℕ
 files_buffer session = buffer_key session.buffer
 
 -- all that it keeps of a session in the memory is blocks and nodes
-abbrev pub IsFilesKept : FileSession → Share → Type 0
-IsFilesKept session share = IsFileSession session share
+abbrev pub IsFilesKept : FileSession → ℕ → Share → Type 0
+IsFilesKept session account share = IsFileSession session account share
 
 -- a session of the server at a place as its client sees it
 abbrev pub row_session : ℕ → Row Labelled → AnOpenSession

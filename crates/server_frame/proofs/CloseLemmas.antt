@@ -14,24 +14,27 @@ use Rattle.dataspace_core.specs.Share.{Share}
 use Rattle.dataspace_core.proofs.PartLaws.{account_of-part}
 use Rattle.sliced_heap.specs.Heap.{payer_of, share_at, MapsMemory, KeepsOthers}
 use Rattle.sliced_heap.specs.declared.heap.SlicedHeap.{SlicedHeap}
-use Rattle.server_frame.specs.Session.{holding}
+use Rattle.server_frame.specs.Session.{holding, PaysFor}
 use Rattle.server_frame.specs.Frame.{Row, row_of, sessions_of, Holds, IsServer}
 use Rattle.server_frame.specs.declared.server.Session.{Session}
 use Rattle.server_frame.proofs.HoldingLemmas.{same_part}
 use Rattle.server_frame.proofs.FrameLemmas.{Stays, row_stays, map_of-emptied, server_without}
 
-module _ {T V : Type 0} (kept : T → Share → Type 0) (value : T → Share → V) (buffer : T → Option ℕ) (sessions now : Slab (Session T)) (old mid : Store) (regions between : Regions) (server : IsServer kept sessions old regions) (id : ℕ) (session : Session T) (there : slab.get sessions id ≡ Some session)
-    (removed : Updates sessions now id None) (heap : SlicedHeap) (payer : payer_of heap ≡ payer_of session.heap) (others_by : KeepsOthers (payer_of session.heap) old mid regions between)
-    (ram : (account_in mid (payer_of heap)).ram_limit ≡ (account_in old (payer_of session.heap)).ram_limit) (caps : (account_in mid (payer_of heap)).caps_limit ≡ (account_in old (payer_of session.heap)).caps_limit) where
+module _ {T V : Type 0} (kept : T → ℕ → Share → Type 0) (value : T → Share → V) (buffer : T → Option ℕ) (payer : T → ℕ) (sessions now : Slab (Session T)) (old mid : Store) (regions between : Regions) (server : IsServer kept sessions old regions) (id : ℕ) (session : Session T) (there : slab.get sessions id ≡ Some session)
+    (removed : Updates sessions now id None) (pays : PaysFor kept payer) (heap : SlicedHeap) (same : payer_of heap ≡ payer session.state) (others_by : KeepsOthers (payer session.state) old mid regions between)
+    (ram : (account_in mid (payer_of heap)).ram_limit ≡ (account_in old (payer session.state)).ram_limit) (caps : (account_in mid (payer_of heap)).caps_limit ≡ (account_in old (payer session.state)).caps_limit) where
   holds : Holds kept session old regions
   holds = server.each id session there
 
   -- the account is the session's, and still its client's child and nobody's parent
+  own : payer session.state ≡ session.account.0
+  own = pays session.state session.account.0 _ holds.state
+
   pub payer_is : payer_of heap ≡ session.account.0
-  payer_is = payer ∙ holds.payer
+  payer_is = same ∙ own
 
   others : KeepsOthers session.account.0 old mid regions between
-  others = subst (λ k. KeepsOthers k old mid regions between) holds.payer others_by
+  others = subst (λ k. KeepsOthers k old mid regions between) own others_by
 
   child : IsChildIn mid session.account.0 session.client.0
   child = ap (λ (m : NatMap ℕ). get m session.account.0) others.parents ∙ holds.child
@@ -52,10 +55,10 @@ module _ {T V : Type 0} (kept : T → Share → Type 0) (value : T → Share →
   client_apart e = holds.leaf session.account.0 (holds.child ∙ ap Some e)
 
   -- its limits are what they were
-  same_limit : (limit : Account → ℕ) → limit (account_in mid (payer_of heap)) ≡ limit (account_in old (payer_of session.heap)) → limit (account_of (part session.account.0 mid)) ≡ limit (account_of (part session.account.0 old))
-  same_limit limit same =
-      ap limit (account_of-part session.account.0 mid) ∙ ap (λ k. limit (account_in mid k)) (sym payer_is) ∙ same
-      ∙ ap (λ k. limit (account_in old k)) holds.payer ∙ ap limit (sym (account_of-part session.account.0 old))
+  same_limit : (limit : Account → ℕ) → limit (account_in mid (payer_of heap)) ≡ limit (account_in old (payer session.state)) → limit (account_of (part session.account.0 mid)) ≡ limit (account_of (part session.account.0 old))
+  same_limit limit alike =
+      ap limit (account_of-part session.account.0 mid) ∙ ap (λ k. limit (account_in mid k)) (sym payer_is) ∙ alike
+      ∙ ap (λ k. limit (account_in old k)) own ∙ ap limit (sym (account_of-part session.account.0 old))
 
   module _ (new : Store) (after : Regions) (closes_by : ClosesPart session.account.0 (parent_in mid session.account.0) mid new) (maps : MapsMemory new after)
       (holdings : (other : ℕ) → other ≢ session.account.0 → holding (share_at other new after) ≡ holding (share_at other mid between)) where

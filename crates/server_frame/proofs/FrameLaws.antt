@@ -22,7 +22,7 @@ use Rattle.server_frame.specs.declared.server.Session.{Session}
 use Rattle.server_frame.proofs.FrameLemmas.{Stays, holds_stays}
 
 -- a server without sessions works on each memory of its map's size
-pub server_at_first : {T : Type 0} (kept : T → Share → Type 0) (sessions : Slab (Session T)) (store : Store) (regions : Regions) → sessions.slots ≡ [] → regions.heap ≡ empty →
+pub server_at_first : {T : Type 0} (kept : T → ℕ → Share → Type 0) (sessions : Slab (Session T)) (store : Store) (regions : Regions) → sessions.slots ≡ [] → regions.heap ≡ empty →
     regions.pages * 4096 ≡ ram_limits_in store → regions.heap_most ≡ regions.pages → IsServer kept sessions store regions
 server_at_first kept sessions store regions none empty_window pages most = record {
   maps = (empty_map store regions empty_window pages most).0;
@@ -41,7 +41,7 @@ stays_of_others account other after old new regions becomes apart = record {
 }
 
 -- so a server stays as it is beside calls that leave what its sessions see, and all limits
-module _ {T : Type 0} (kept : T → Share → Type 0) (sessions : Slab (Session T)) (old new : Store) (regions : Regions) (server : IsServer kept sessions old regions) (limits : ram_limits_in new ≡ ram_limits_in old)
+module _ {T : Type 0} (kept : T → ℕ → Share → Type 0) (sessions : Slab (Session T)) (old new : Store) (regions : Regions) (server : IsServer kept sessions old regions) (limits : ram_limits_in new ≡ ram_limits_in old)
     (stays : (id : ℕ) (session : Session T) → slab.get sessions id ≡ Some session → Stays session.account.0 old new regions regions) where
   -- what a region shows is still there
   still_there : (start : ℕ) (r : Region) → get regions.heap start ≡ Some r → get (part (space_at old r.of).payer new).spaces r.of ≡ Some (space_at old r.of).bytes

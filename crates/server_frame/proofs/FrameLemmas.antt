@@ -16,13 +16,13 @@ use Rattle.region_map.specs.Regions.{Regions}
 use Rattle.dataspace_core.specs.Store.{Store, Part, part, account_of, account_in, space_at, parents_in, IsOpenIn, IsLeafIn}
 use Rattle.dataspace_core.specs.Share.{Share, share_in, shown}
 use Rattle.dataspace_core.proofs.PartLaws.{account_of-part, open_in_part, part_open, part_of_payer, paid_in_part}
-use Rattle.sliced_heap.specs.Heap.{payer_of, share_at, MapsMemory}
+use Rattle.sliced_heap.specs.Heap.{share_at, MapsMemory}
 use Rattle.dataspace_core.proofs.ShareLaws.{in_share}
 use Rattle.sliced_heap.proofs.ShareLemmas.{share_has}
 use Rattle.server_frame.specs.Session.{holding}
 use Rattle.server_frame.specs.Frame.{row_of, Holds, IsSessions, IsServer}
 use Rattle.server_frame.specs.declared.server.Session.{Session}
-use Rattle.server_frame.proofs.HoldingLemmas.{session_heap_held}
+use Rattle.server_frame.proofs.HoldingLemmas.{account_held}
 
 -- ---- a slab read in two ways
 
@@ -72,16 +72,14 @@ module _ (old new : Store) (regions after : Regions) where
 
   module _ {T : Type 0} (session : Session T) where
     -- it holds
-    pub holds_stays : (kept : T → Share → Type 0) → Holds kept session old regions → MapsMemory new after → Stays session.account.0 old new regions after → Holds kept session new after
+    pub holds_stays : (kept : T → ℕ → Share → Type 0) → Holds kept session old regions → MapsMemory new after → Stays session.account.0 old new regions after → Holds kept session new after
     holds_stays kept holds maps stays =
-        let held = subst (λ k. holding (share_at k new after) ≡ holding (share_at k old regions)) (sym holds.payer) stays.held in
-        let own = subst (λ k. part k new ≡ part k old) (sym holds.payer) stays.own in
+        let own = session.account.0 in
         record {
-          payer = holds.payer;
-          heap = session_heap_held session.heap old new regions after holds.heap (open_stays (payer_of session.heap) own holds.heap.sound.opens) maps held (ap (λ (a : Account). a.caps_used) (account_stays (payer_of session.heap) own));
+          account = account_held own old new regions after holds.account (open_stays own stays.own holds.account.opens) maps stays.held (ap (λ (a : Account). a.caps_used) (account_stays own stays.own));
           child = stays.parent ∙ holds.child;
           leaf = stays.leaf holds.leaf;
-          state = subst (kept session.state) (sym held) holds.state;
+          state = subst (kept session.state own) (sym stays.held) holds.state;
         }
 
     -- and is the same
@@ -108,7 +106,7 @@ region_was account old new regions after maps start r there pays held =
 
 -- ---- all sessions
 
-module _ {T : Type 0} (kept : T → Share → Type 0) (sessions now : Slab (Session T)) (old new : Store) (regions after : Regions) (server : IsServer kept sessions old regions) (maps : MapsMemory new after) (id account : ℕ)
+module _ {T : Type 0} (kept : T → ℕ → Share → Type 0) (sessions now : Slab (Session T)) (old new : Store) (regions after : Regions) (server : IsServer kept sessions old regions) (maps : MapsMemory new after) (id account : ℕ)
     (holdings : (other : ℕ) → other ≢ account → holding (share_at other new after) ≡ holding (share_at other old regions))
     (stays : (k : ℕ) (s : Session T) → k ≢ id → slab.get sessions k ≡ Some s → Stays s.account.0 old new regions after)
     (one : (s : Session T) → slab.get sessions id ≡ Some s → s.account.0 ≡ account) where

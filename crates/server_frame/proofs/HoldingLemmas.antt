@@ -15,12 +15,12 @@ use Rattle.region_map.specs.Regions.{Regions}
 use Rattle.quota_core.specs.Books.{Books}
 use Rattle.dataspace_core.specs.Store.{Store, part, account_in, IsOpenIn, ram_limits_in}
 use Rattle.dataspace_core.specs.Share.{Share, share_in}
-use Rattle.sliced_heap.specs.Sliced.{block_regions, payload_of, sliced_of}
-use Rattle.sliced_heap.specs.Heap.{payer_of, share_at, blocks_at, MapsMemory, IsSound, HasNoBlocks}
+use Rattle.sliced_heap.specs.Sliced.{block_regions, payload_of, sliced_of, IsLinked}
+use Rattle.sliced_heap.specs.Heap.{payer_of, share_at, blocks_at, MapsMemory, HasNoBlocks}
 use Rattle.sliced_heap.specs.declared.heap.SlicedHeap.{SlicedHeap}
 use Rattle.sliced_heap.proofs.ShareLemmas.{shown_block}
 use Rattle.sliced_heap.proofs.LinkedLemmas.{alike_linked}
-use Rattle.server_frame.specs.Session.{holding, IsSessionHeap}
+use Rattle.server_frame.specs.Session.{holding, holding_at, holding_of, IsSessionAccount, IsSessionHeap}
 
 -- ---- results
 
@@ -54,25 +54,39 @@ pub same_part : (account : ℕ) (old new : Store) (regions after : Regions) → 
 unfolding share_in
 same_part account old new regions after same_one = ap (λ (s : Share). s.part) same_one
 
--- a heap is sound where its account has the same
-pub sound_held : (heap : SlicedHeap) (old new : Store) (regions after : Regions) → IsSound heap old regions → IsOpenIn new (payer_of heap) → MapsMemory new after →
-    holding (share_at (payer_of heap) new after) ≡ holding (share_at (payer_of heap) old regions) → IsSound heap new after
-sound_held heap old new regions after sound opens maps held = record {
+-- an account stays a session's where it has the same and uses as many capabilities
+pub account_held : (account : ℕ) (old new : Store) (regions after : Regions) → IsSessionAccount account old regions → IsOpenIn new account → MapsMemory new after →
+    holding_at account new after ≡ holding_at account old regions → (account_in new account).caps_used ≡ (account_in old account).caps_used → IsSessionAccount account new after
+account_held account old new regions after was opens maps held used = record {
   opens = opens;
   maps = maps;
-  linked =
-      alike_linked (share_at (payer_of heap) old regions) (share_at (payer_of heap) new after) heap.first sound.linked
-      (blocks_held (payer_of heap) old new regions after held)
-      (λ s r block. ap (λ (x : Share). get x.part.spaces r.of) held);
+  pays = used ∙ was.pays ∙ ap (λ m. len m + 1) (sym (spaces_held account old new regions after held));
 }
 
--- and one of a session where its account also uses as many capabilities
-pub session_heap_held : (heap : SlicedHeap) (old new : Store) (regions after : Regions) → IsSessionHeap heap old regions → IsOpenIn new (payer_of heap) → MapsMemory new after →
-    holding (share_at (payer_of heap) new after) ≡ holding (share_at (payer_of heap) old regions) → (account_in new (payer_of heap)).caps_used ≡ (account_in old (payer_of heap)).caps_used → IsSessionHeap heap new after
-session_heap_held heap old new regions after session opens maps held used = record {
-  sound = sound_held heap old new regions after session.sound opens maps held;
-  pays = used ∙ session.pays ∙ ap (λ m. len m + 1) (sym (spaces_held (payer_of heap) old new regions after held));
-}
+-- ---- a session's heap
+
+-- links don't hang on limits and use
+pub linked_held : (share : Share) (first : ℕ) → IsLinked share first → IsLinked (holding share) first
+linked_held share first linked = alike_linked share (holding share) first linked refl (λ s r block. refl)
+
+module _ (heap : SlicedHeap) (store : Store) (regions : Regions) where
+  -- a heap of a session is linked, and its account a session's
+  pub heap_account : IsSessionHeap heap store regions → IsSessionAccount (payer_of heap) store regions
+  heap_account session = record { opens = session.sound.opens; maps = session.sound.maps; pays = session.pays }
+
+  pub heap_linked : IsSessionHeap heap store regions → IsLinked (holding_of heap store regions) heap.first
+  heap_linked session = linked_held (share_at (payer_of heap) store regions) heap.first session.sound.linked
+
+  -- and the other way round
+  pub session_heap : IsSessionAccount (payer_of heap) store regions → IsLinked (holding_of heap store regions) heap.first → IsSessionHeap heap store regions
+  session_heap account linked = record {
+    sound = record {
+      opens = account.opens;
+      maps = account.maps;
+      linked = alike_linked (holding_of heap store regions) (share_at (payer_of heap) store regions) heap.first linked refl (λ s r block. refl);
+    };
+    pays = account.pays;
+  }
 
 -- ---- a change of accounts
 

@@ -14,15 +14,18 @@ use Rattle.region_map.specs.Regions.{Regions}
 use Rattle.dataspace_core.specs.Store.{Store, accounts_in, parents_in, IsOpenIn}
 use Rattle.dataspace_core.specs.Share.{Share}
 use Rattle.dataspace_core.proofs.PartLaws.{account_of-part}
-use Rattle.sliced_heap.specs.Heap.{share_at}
-use Rattle.server_frame.specs.Session.{holding, holding_of, HasBlocksAlone}
+use Rattle.sliced_heap.specs.Heap.{payer_of, share_at}
+use Rattle.sliced_heap.specs.Sliced.{IsLinked}
+use Rattle.sliced_heap.specs.declared.heap.SlicedHeap.{SlicedHeap}
+use Rattle.server_frame.specs.Session.{holding, holding_at, holding_of, HasBlocksAlone, IsSessionAccount}
 use Rattle.server_frame.specs.Frame.{row_of, new_row, sessions_of, Holds, IsServer, IsNoSession, Furnishes, OpensSession}
 use Rattle.server_frame.specs.declared.server.Session.{Session}
 use Rattle.server_frame.proofs.FrameLemmas.{Stays, row_stays, map_of-written, server_with}
+use Rattle.server_frame.proofs.HoldingLemmas.{heap_account, heap_linked}
 
-module _ {T V : Type 0} (kept : T → Share → Type 0) (value : T → Share → V) (buffer : T → Option ℕ) (sessions now : Slab (Session T)) (old new : Store) (regions after : Regions) (server : IsServer kept sessions old regions) (id : ℕ) (vacant : slab.get sessions id ≡ None)
-    (session : Session T) (ram caps : ℕ) (client_open : IsOpenIn old session.client.0) (no_session : IsNoSession sessions session.client.0) (furnishes : Furnishes session.client.0 ram caps session.account.0 session.heap old new regions after)
-    (written : Updates sessions now id (Some session)) (first : V) (is_first : (share : Share) → HasBlocksAlone share → value session.state share ≡ first) (is_kept : (share : Share) → HasBlocksAlone share → kept session.state share) (nothing_lent : buffer session.state ≡ None) where
+module _ {T V : Type 0} (kept : T → ℕ → Share → Type 0) (value : T → Share → V) (buffer : T → Option ℕ) (sessions now : Slab (Session T)) (old new : Store) (regions after : Regions) (server : IsServer kept sessions old regions) (id : ℕ) (vacant : slab.get sessions id ≡ None)
+    (session : Session T) (heap : SlicedHeap) (ram caps : ℕ) (client_open : IsOpenIn old session.client.0) (no_session : IsNoSession sessions session.client.0) (furnishes : Furnishes session.client.0 ram caps session.account.0 heap old new regions after)
+    (written : Updates sessions now id (Some session)) (first : V) (is_first : (share : Share) → HasBlocksAlone share → value session.state share ≡ first) (is_kept : (share : Share) → HasBlocksAlone share → IsLinked share heap.first → kept session.state (payer_of heap) share) (nothing_lent : buffer session.state ≡ None) where
   -- another session is not the one under the key
   other_id : (k : ℕ) (s : Session T) → slab.get sessions k ≡ Some s → k ≢ id
   other_id k s found e = none-some s (sym vacant ∙ ap (slab.get sessions) (sym e) ∙ found)
@@ -31,7 +34,7 @@ module _ {T V : Type 0} (kept : T → Share → Type 0) (value : T → Share →
   other_account : (k : ℕ) (s : Session T) → slab.get sessions k ≡ Some s → s.account.0 ≢ session.account.0
   other_account k s found =
       let holds = server.each k s found in
-      apart_from_free (accounts_in old) session.account.0 s.account.0 furnishes.fresh (subst (IsOpenIn old) holds.payer holds.heap.sound.opens)
+      apart_from_free (accounts_in old) session.account.0 s.account.0 furnishes.fresh holds.account.opens
 
   stays : (k : ℕ) (s : Session T) → k ≢ id → slab.get sessions k ≡ Some s → Stays s.account.0 old new regions after
   stays k s other found = record {
@@ -50,11 +53,10 @@ module _ {T V : Type 0} (kept : T → Share → Type 0) (value : T → Share →
 
   holds : Holds kept session new after
   holds = record {
-    payer = furnishes.payer;
-    heap = furnishes.heap;
+    account = subst (λ k. IsSessionAccount k new after) furnishes.payer (heap_account heap new after furnishes.heap);
     child = ap (λ (m : NatMap ℕ). get m session.account.0) furnishes.parents ∙ get-insert_same (parents_in old) session.account.0 session.client.0 session.account.0 refl;
     leaf = furnishes.leaf;
-    state = is_kept (holding_of session.heap new after) furnishes.alone;
+    state = subst (λ k. kept session.state k (holding_at k new after)) furnishes.payer (is_kept (holding_of heap new after) furnishes.alone (heap_linked heap new after furnishes.heap));
   }
 
   pub server_opens : IsServer kept now new after

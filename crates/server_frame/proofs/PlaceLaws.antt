@@ -21,7 +21,7 @@ use Rattle.server_frame.specs.Frame.{IsServer, IsNoSession}
 use Rattle.server_frame.specs.Laws.{HasClients, TableHasPlace, OpensAnAccount}
 use Rattle.server_frame.specs.declared.server.Session.{Session}
 
-module _ {T : Type 0} (kept : T → Share → Type 0) (heads : ℕ → Bool) (sessions : Slab (Session T)) (store : Store) (regions : Regions) (server : IsServer kept sessions store regions) (clients : HasClients heads sessions) (room : HasRoom heads store) where
+module _ {T : Type 0} (kept : T → ℕ → Share → Type 0) (heads : ℕ → Bool) (sessions : Slab (Session T)) (store : Store) (regions : Regions) (server : IsServer kept sessions store regions) (clients : HasClients heads sessions) (room : HasRoom heads store) where
   -- the accounts of the sessions
   abbrev keys : NatMap ℕ
   keys = map_of (λ (s : Session T). s.account.0) sessions
@@ -75,7 +75,7 @@ module _ {T : Type 0} (kept : T → Share → Type 0) (heads : ℕ → Bool) (se
         omega (arith, all, counted, twice)
 
 -- so there is one for another client
-pub table_has_place : {T : Type 0} (kept : T → Share → Type 0) → TableHasPlace kept
+pub table_has_place : {T : Type 0} (kept : T → ℕ → Share → Type 0) → TableHasPlace kept
 table_has_place {T} kept heads sessions store regions client ram caps places server clients room no_session fits least enough =
     let paid = sessions_paid kept heads sessions store regions server clients room client no_session in
     let all = total-taken (λ (a : Account). a.caps_limit) (accounts_in store) client in

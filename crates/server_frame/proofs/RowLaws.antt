@@ -52,12 +52,12 @@ row_at value buffer sessions store regions id present =
     (row_of value buffer store regions session.0, get-map_of_at (row_of value buffer store regions) sessions id session.0 session.1)
 
 -- a session's account is open
-pub account_open : {T : Type 0} (kept : T → Share → Type 0) (sessions : Slab (Session T)) (store : Store) (regions : Regions) → IsServer kept sessions store regions → (id : ℕ) (account : AccountId) →
+pub account_open : {T : Type 0} (kept : T → ℕ → Share → Type 0) (sessions : Slab (Session T)) (store : Store) (regions : Regions) → IsServer kept sessions store regions → (id : ℕ) (account : AccountId) →
     slab.ContainsKey sessions id → IfSome (slab.get sessions id) (λ session. account ≡ session.account) → IsOpenIn store account.0
 account_open kept sessions store regions server id account present is =
     let session = some_of (slab.get sessions id) present in
     let holds = server.each id session.0 session.1 in
-    subst (IsOpenIn store) (holds.payer ∙ ap (λ (a : AccountId). a.0) (sym (rw session.1 at is))) holds.heap.sound.opens
+    subst (IsOpenIn store) (ap (λ (a : AccountId). a.0) (sym (rw session.1 at is))) holds.account.opens
 
 -- rows where one is written, or goes
 module _ {V : Type 0} (rows : NatMap (Row V)) (account : ℕ) (none : IsNoRows rows account) where
@@ -99,7 +99,7 @@ module _ {T V : Type 0} (value : T → Share → V) (buffer : T → Option ℕ) 
   pub open_closed : (id : ℕ) (row : Row V) → get rows id ≡ Some row → rows' ≡ remove rows id → slab_len now + 1 ≡ slab_len sessions
   open_closed id row there is = omega (arith, many_now, many_before, ap len is, len-remove_at rows id row there)
 
-  module _ {kept : T → Share → Type 0} {client most : ℕ} (admits : Admits kept sessions client most old regions) (server : IsServer kept now new after) (capacity : now.capacity ≡ sessions.capacity) where
+  module _ {kept : T → ℕ → Share → Type 0} {client most : ℕ} (admits : Admits kept sessions client most old regions) (server : IsServer kept now new after) (capacity : now.capacity ≡ sessions.capacity) where
     -- a client whose account is still open, and no row's, can open as many sessions where as many places are free
     admits_by : IsOpenIn new client → IsNoRows rows' client → room_in new + slab_len now ≡ room_in old + slab_len sessions → Admits kept now client most new after
     admits_by opens none places = record {
@@ -174,7 +174,7 @@ module _ {T V : Type 0} (value : T → Share → V) (buffer : T → Option ℕ) 
           (omega (arith, closes.room, open_closed id row there is))
 
 -- a server that has just booted admits as many sessions as it has places for, of a client that is open
-pub admits_at_first : {T : Type 0} (kept : T → Share → Type 0) (sessions : Slab (Session T)) (client most : ℕ) (store : Store) (regions : Regions) → sessions.slots ≡ [] → most ≤ sessions.capacity →
+pub admits_at_first : {T : Type 0} (kept : T → ℕ → Share → Type 0) (sessions : Slab (Session T)) (client most : ℕ) (store : Store) (regions : Regions) → sessions.slots ≡ [] → most ≤ sessions.capacity →
     IsServer kept sessions store regions → IsOpenIn store client → most ≤ room_in store → Admits kept sessions client most store regions
 admits_at_first kept sessions client most store regions none places server opens room = record {
   server = server;

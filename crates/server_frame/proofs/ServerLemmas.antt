@@ -15,14 +15,13 @@ use Rattle.region_map.specs.Regions.{Regions}
 use Rattle.dataspace_core.specs.Store.{Store, Part, account_of, account_in, IsOpenIn, with_moved_in, ram_limits_in, RaisesPart}
 use Rattle.dataspace_core.specs.Share.{Share}
 use Rattle.dataspace_core.proofs.PartLaws.{account_of-part, open_in_part}
-use Rattle.sliced_heap.specs.Heap.{payer_of, share_at, MapsMemory, KeepsOthers}
-use Rattle.sliced_heap.specs.declared.heap.SlicedHeap.{SlicedHeap}
-use Rattle.server_frame.specs.Session.{Served, IsSessionHeap, holding, holding_of}
+use Rattle.sliced_heap.specs.Heap.{share_at, MapsMemory, KeepsOthers}
+use Rattle.server_frame.specs.Session.{Served, IsSessionAccount, PaysFor, holding, holding_at}
 use Rattle.server_frame.specs.Frame.{Row, row_of, row_served, sessions_of, Holds, IsServer, ServesSession}
 use Rattle.server_frame.specs.Lent.{IsEffect, bytes_lent}
 use Rattle.server_frame.specs.declared.effect.Effect.{Effect}
 use Rattle.server_frame.specs.declared.server.Session.{Session}
-use Rattle.server_frame.proofs.HoldingLemmas.{same_part, held_by, maps_books, session_heap_held}
+use Rattle.server_frame.proofs.HoldingLemmas.{same_part, held_by, maps_books, account_held}
 use Rattle.server_frame.proofs.FrameLemmas.{Stays, row_stays, map_of-written, server_with}
 
 -- a session on another account stays while a call for one account keeps the others
@@ -34,7 +33,16 @@ stays_by account other old new regions after others apart = record {
   leaf = λ leaf k is. leaf k (ap (λ (m : NatMap ℕ). get m k) (sym others.parents) ∙ is);
 }
 
-module _ {T V : Type 0} (kept : T → Share → Type 0) (value : T → Share → V) (buffer : T → Option ℕ) (sessions : Slab (Session T)) (old : Store) (regions : Regions) (server : IsServer kept sessions old regions) (id : ℕ) (session : Session T) (there : slab.get sessions id ≡ Some session) where
+-- a session is kept for the account that pays
+pub paid : {T : Type 0} (kept : T → ℕ → Share → Type 0) (payer : T → ℕ) (pays : PaysFor kept payer) (session : Session T) (store : Store) (regions : Regions) → Holds kept session store regions →
+    IsSessionAccount (payer session.state) store regions × kept session.state (payer session.state) (holding_at (payer session.state) store regions)
+paid kept payer pays session store regions holds =
+    let own = sym (pays session.state session.account.0 _ holds.state) in (
+      subst (λ k. IsSessionAccount k store regions) own holds.account,
+      subst (λ k. kept session.state k (holding_at k store regions)) own holds.state,
+    )
+
+module _ {T V : Type 0} (kept : T → ℕ → Share → Type 0) (value : T → Share → V) (buffer : T → Option ℕ) (sessions : Slab (Session T)) (old : Store) (regions : Regions) (server : IsServer kept sessions old regions) (id : ℕ) (session : Session T) (there : slab.get sessions id ≡ Some session) where
   -- the session holds
   pub holds : Holds kept session old regions
   holds = server.each id session there
@@ -53,24 +61,26 @@ module _ {T V : Type 0} (kept : T → Share → Type 0) (value : T → Share →
 
   -- ---- a request is served
 
-  module _ (new : Store) (after : Regions) (heap : SlicedHeap) (state : T) (session_heap : IsSessionHeap heap new after) (state_kept : kept state (holding_of heap new after)) (payer : payer_of heap ≡ payer_of session.heap) (others_by : KeepsOthers (payer_of session.heap) old new regions after) where
+  module _ (payer : T → ℕ) (pays : PaysFor kept payer) (new : Store) (after : Regions) (state : T) (account_after : IsSessionAccount (payer state) new after) (state_kept : kept state (payer state) (holding_at (payer state) new after)) (same : payer state ≡ payer session.state) (others_by : KeepsOthers (payer session.state) old new regions after) where
     -- the session after it
     abbrev next : Session T
-    next = record { account = session.account; client = session.client; heap = heap; state = state }
+    next = record { account = session.account; client = session.client; state = state }
+
+    own : payer session.state ≡ session.account.0
+    own = pays session.state session.account.0 _ holds.state
 
     others : KeepsOthers session.account.0 old new regions after
-    others = subst (λ k. KeepsOthers k old new regions after) holds.payer others_by
+    others = subst (λ k. KeepsOthers k old new regions after) own others_by
 
     stays : (k : ℕ) (s : Session T) → k ≢ id → slab.get sessions k ≡ Some s → Stays s.account.0 old new regions after
     stays k s other found = stays_by session.account.0 s.account.0 old new regions after others (other_account k s other found)
 
     next_holds : Holds kept next new after
     next_holds = record {
-      payer = payer ∙ holds.payer;
-      heap = session_heap;
+      account = subst (λ k. IsSessionAccount k new after) (same ∙ own) account_after;
       child = ap (λ (m : NatMap ℕ). get m session.account.0) others.parents ∙ holds.child;
       leaf = λ k is. holds.leaf k (ap (λ (m : NatMap ℕ). get m k) (sym others.parents) ∙ is);
-      state = state_kept;
+      state = subst (λ k. kept state k (holding_at k new after)) (same ∙ own) state_kept;
     }
 
     written : Updates sessions (with_value sessions id next) id (Some next)
@@ -78,7 +88,7 @@ module _ {T V : Type 0} (kept : T → Share → Type 0) (value : T → Share →
 
     pub server_serves : IsServer kept (with_value sessions id next) new after
     server_serves =
-        server_with kept sessions (with_value sessions id next) old new regions after server session_heap.sound.maps id session.account.0
+        server_with kept sessions (with_value sessions id next) old new regions after server account_after.maps id session.account.0
         (λ other apart. ap holding (others.shares other apart)) stays
         (λ s found. ap (λ (x : Session T). x.account.0) (same_Some _ _ (sym found ∙ there)))
         next written refl other_account next_holds
@@ -87,15 +97,15 @@ module _ {T V : Type 0} (kept : T → Share → Type 0) (value : T → Share →
     rows_serve = map_of-written (row_of value buffer old regions) (row_of value buffer new after) sessions (with_value sessions id next) id (λ q x other found. row_stays old new regions after x value buffer (stays q x other found)) next written
 
     module _ (step : List ℕ → Account → Option (List ℕ) → V → Served V) (request text lines : List ℕ) (effect : Effect) (effect_is : IsEffect effect (buffer session.state) (buffer state))
-        (served : ◌≡◌ {A = Served V} (record { text = text; lines = lines; account = account_in new (payer_of heap); value = value state (holding_of heap new after); buffer = bytes_lent new (buffer state) })
-        (step request (account_in old (payer_of session.heap)) (bytes_lent old (buffer session.state)) (value session.state (holding_of session.heap old regions)))) where
+        (served : ◌≡◌ {A = Served V} (record { text = text; lines = lines; account = account_in new (payer state); value = value state (holding_at (payer state) new after); buffer = bytes_lent new (buffer state) })
+        (step request (account_in old (payer session.state)) (bytes_lent old (buffer session.state)) (value session.state (holding_at (payer session.state) old regions)))) where
       -- the same of the session's row
       served_row : (row : Row V) → row_of value buffer old regions session ≡ row →
           ◌≡◌ {A = Served V} (record { text = text; lines = lines; account = account_in new session.account.0; value = value state (holding (share_at session.account.0 new after)); buffer = bytes_lent new (buffer state) }) (row_served step request old row)
       served_row row is =
-          ap {B = Served V} (λ k. record { text = text; lines = lines; account = account_in new k; value = value state (holding (share_at k new after)); buffer = bytes_lent new (buffer state) }) (sym (payer ∙ holds.payer))
+          ap {B = Served V} (λ k. record { text = text; lines = lines; account = account_in new k; value = value state (holding (share_at k new after)); buffer = bytes_lent new (buffer state) }) (sym (same ∙ own))
           ∙ served
-          ∙ ap (λ k. step request (account_in old k) (bytes_lent old (buffer session.state)) (value session.state (holding (share_at k old regions)))) holds.payer
+          ∙ ap (λ k. step request (account_in old k) (bytes_lent old (buffer session.state)) (value session.state (holding_at k old regions))) own
           ∙ ap (row_served step request old) is
 
       pub text_served : (row : Row V) → row_of value buffer old regions session ≡ row → text ≡ (row_served step request old row).text
@@ -138,15 +148,12 @@ module _ {T V : Type 0} (kept : T → Share → Type 0) (value : T → Share →
 
     raised_holds : Holds kept session new regions
     raised_holds =
-        let held = held_by old new _ is (payer_of session.heap) regions in
-        let opens : IsOpenIn new (payer_of session.heap) = subst (IsOpenIn new) (sym holds.payer) (open_in_part session.account.0 new (ap (λ (p : Part). is_some p.account) raises.raised_one)) in
+        let held = held_by old new _ is session.account.0 regions in
         record {
-          payer = holds.payer;
-          heap = session_heap_held session.heap old new regions regions holds.heap opens maps_raised held
-              (subst (λ k. (account_in new k).caps_used ≡ (account_in old k).caps_used) (sym holds.payer) (ap (λ (a : Account). a.caps_used) raised_account));
+          account = account_held session.account.0 old new regions regions holds.account (open_in_part session.account.0 new (ap (λ (p : Part). is_some p.account) raises.raised_one)) maps_raised held (ap (λ (a : Account). a.caps_used) raised_account);
           child = ap (λ (m : NatMap ℕ). get m session.account.0) raises.parents ∙ holds.child;
           leaf = λ k e. holds.leaf k (ap (λ (m : NatMap ℕ). get m k) (sym raises.parents) ∙ e);
-          state = subst (kept session.state) (sym held) holds.state;
+          state = subst (kept session.state session.account.0) (sym held) holds.state;
         }
 
     as_it_was : Updates sessions sessions id (Some session)

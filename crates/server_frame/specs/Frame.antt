@@ -11,10 +11,10 @@ use Rattle.quota_core.specs.SlabMap.{map_of}
 use Rattle.region_map.specs.Regions.{Regions}
 use Rattle.dataspace_core.specs.Store.{Store, part, parted_part, space_at, accounts_in, account_in, root_in, room_in, parents_in, IsOpenIn, IsChildIn, IsLeafIn}
 use Rattle.dataspace_core.specs.Share.{Share}
-use Rattle.sliced_heap.specs.Heap.{payer_of, share_at, MapsMemory}
+use Rattle.sliced_heap.specs.Heap.{payer_of, MapsMemory}
 use Rattle.sliced_heap.specs.declared.heap.SlicedHeap.{SlicedHeap}
 use Rattle.server_frame.specs.Lent.{IsEffect, bytes_lent}
-use Rattle.server_frame.specs.Session.{Served, IsSessionHeap, HasBlocksAlone, holding, holding_of}
+use Rattle.server_frame.specs.Session.{Served, IsSessionAccount, IsSessionHeap, HasBlocksAlone, holding_at, holding_of}
 use Rattle.server_frame.specs.declared.effect.Effect.{Effect}
 use Rattle.server_frame.specs.declared.server.Session.{Session}
 
@@ -33,7 +33,7 @@ row_of value buffer store regions session = record {
   client = session.client.0;
   key = session.account.0;
   account = account_in store session.account.0;
-  value = value session.state (holding (share_at session.account.0 store regions));
+  value = value session.state (holding_at session.account.0 store regions);
   buffer = buffer session.state;
 }
 
@@ -54,13 +54,12 @@ AtSession value buffer sessions store regions id P = AtRow (sessions_of value bu
 
 -- ---- what is true between calls
 
--- a session's heap is its account's, the account is its client's child and nobody's parent, and the service finds what it keeps
-pub record Holds {T : Type 0} (kept : T → Share → Type 0) (session : Session T) (store : Store) (regions : Regions) : Type 0 where
-  pub payer : payer_of session.heap ≡ session.account.0
-  pub heap : IsSessionHeap session.heap store regions
+-- a session's account is its client's child and nobody's parent, and the service finds what it keeps for it
+pub record Holds {T : Type 0} (kept : T → ℕ → Share → Type 0) (session : Session T) (store : Store) (regions : Regions) : Type 0 where
+  pub account : IsSessionAccount session.account.0 store regions
   pub child : IsChildIn store session.account.0 session.client.0
   pub leaf : IsLeafIn store session.account.0
-  pub state : kept session.state (holding_of session.heap store regions)
+  pub state : kept session.state session.account.0 (holding_at session.account.0 store regions)
 
 -- an account is a session's
 pub record IsSessions {T : Type 0} (sessions : Slab (Session T)) (account : ℕ) : Type 0 where
@@ -71,7 +70,7 @@ pub record IsSessions {T : Type 0} (sessions : Slab (Session T)) (account : ℕ)
 
 -- a server works on this memory: each session holds, each has an account of its own, and each heap region of the map shows a
 -- dataspace of a session
-pub record IsServer {T : Type 0} (kept : T → Share → Type 0) (sessions : Slab (Session T)) (store : Store) (regions : Regions) : Type 0 where
+pub record IsServer {T : Type 0} (kept : T → ℕ → Share → Type 0) (sessions : Slab (Session T)) (store : Store) (regions : Regions) : Type 0 where
   pub maps : MapsMemory store regions
   pub each : (id : ℕ) (session : Session T) → slab.get sessions id ≡ Some session → Holds kept session store regions
   pub apart : (a b : ℕ) (s t : Session T) → slab.get sessions a ≡ Some s → slab.get sessions b ≡ Some t → s.account.0 ≡ t.account.0 → a ≡ b
@@ -83,7 +82,7 @@ IsNoSession {T} sessions account = (id : ℕ) (session : Session T) → slab.get
 
 -- so many sessions of a client can be open in all, those that are open among them: the client's account is open and no
 -- session's, and there are places for as many sessions and accounts
-pub record Admits {T : Type 0} (kept : T → Share → Type 0) (sessions : Slab (Session T)) (client most : ℕ) (store : Store) (regions : Regions) : Type 0 where
+pub record Admits {T : Type 0} (kept : T → ℕ → Share → Type 0) (sessions : Slab (Session T)) (client most : ℕ) (store : Store) (regions : Regions) : Type 0 where
   pub server : IsServer kept sessions store regions
   pub is_open : IsOpenIn store client
   pub no_session : IsNoSession sessions client
@@ -102,7 +101,7 @@ pub record Furnishes (client ram caps account : ℕ) (taken : SlicedHeap) (old n
   pub charge : (part account new).account ≡ Some (session_account ram caps)
   pub parted : part client new ≡ parted_part (part client old) ram caps
   pub parts : (other : ℕ) → other ≢ client → other ≢ account → part other new ≡ part other old
-  pub holdings : (other : ℕ) → other ≢ account → holding (share_at other new after) ≡ holding (share_at other old regions)
+  pub holdings : (other : ℕ) → other ≢ account → holding_at other new after ≡ holding_at other old regions
   pub root : root_in new ≡ root_in old
   pub parents : parents_in new ≡ insert (parents_in old) account client
   pub room : room_in new + 1 ≡ room_in old

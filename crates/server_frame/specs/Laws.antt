@@ -19,7 +19,7 @@ abbrev pub HasClients : {T : Type 0} → (ℕ → Bool) → Slab (Session T) →
 HasClients {T} heads sessions = (id : ℕ) (session : Session T) → slab.get sessions id ≡ Some session → heads session.client.0 ≡ false
 
 -- a table with a place for each two capabilities of the machine has one more for a client that covers two
-abbrev pub TableHasPlace : {T : Type 0} → (T → Share → Type 0) → Type 0
+abbrev pub TableHasPlace : {T : Type 0} → (T → ℕ → Share → Type 0) → Type 0
 TableHasPlace {T} kept =
     (heads : ℕ → Bool) (sessions : Slab (Session T)) (store : Store) (regions : Regions) (client ram caps places : ℕ) →
     IsServer kept sessions store regions → HasClients heads sessions → HasRoom heads store → IsNoSession sessions client →
@@ -34,7 +34,7 @@ OpensAnAccount V =
 -- ---- what sessions lend
 
 -- what a session lends is a dataspace of its account's part
-abbrev pub LentArePaid : {T V : Type 0} → (T → Share → Type 0) → (T → Share → V) → (T → Option ℕ) → Type 0
+abbrev pub LentArePaid : {T V : Type 0} → (T → ℕ → Share → Type 0) → (T → Share → V) → (T → Option ℕ) → Type 0
 LentArePaid {T} {V} kept value buffer =
     (sessions : Slab (Session T)) (store : Store) (regions : Regions) (id ds : ℕ) →
     IsServer kept sessions store regions → AtSession value buffer sessions store regions id (λ (row : Row V).
@@ -49,7 +49,7 @@ pub record WritesLent {V : Type 0} (row : Row V) (ds offset : ℕ) (bytes : List
   pub machine : ram_limits_in new ≡ ram_limits_in old
 
 -- that leaves the server and all its sessions as they were
-abbrev pub WritesLeaveSessions : {T V : Type 0} → (T → Share → Type 0) → (T → Share → V) → (T → Option ℕ) → Type 0
+abbrev pub WritesLeaveSessions : {T V : Type 0} → (T → ℕ → Share → Type 0) → (T → Share → V) → (T → Option ℕ) → Type 0
 WritesLeaveSessions {T} {V} kept value buffer =
     (sessions : Slab (Session T)) (old new : Store) (regions : Regions) (id ds offset : ℕ) (bytes : List ℕ) →
     IsServer kept sessions old regions → AtSession value buffer sessions old regions id (λ (row : Row V).

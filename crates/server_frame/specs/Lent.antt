@@ -31,13 +31,13 @@ share_with ds bytes share = record share { part = record share.part { spaces = i
 
 -- a session lends a dataspace of its account that is no sliced block, and by whose bytes goes neither what the session is to
 -- its client nor what is true of it: whatever as many bytes there are
-pub record LendsAside {T V : Type 0} (kept : T → Share → Type 0) (value : T → Share → V) (state : T) (share : Share) (ds : ℕ) : Type 0 where
+pub record LendsAside {T V : Type 0} (kept : T → ℕ → Share → Type 0) (value : T → Share → V) (state : T) (account : ℕ) (share : Share) (ds : ℕ) : Type 0 where
   pub paid : IsSome (get share.part.spaces ds)
   pub no_block : IsNoBlock share ds
-  pub kept_still : (bytes : List ℕ) → length bytes ≡ length (bytes_of share.part ds) → kept state (share_with ds bytes share)
+  pub kept_still : (bytes : List ℕ) → length bytes ≡ length (bytes_of share.part ds) → kept state account (share_with ds bytes share)
   pub value_same : (bytes : List ℕ) → length bytes ≡ length (bytes_of share.part ds) → value state (share_with ds bytes share) ≡ value state share
 
 -- all that the sessions of a service lend is such
-abbrev pub AllLendAside : {T V : Type 0} → (T → Share → Type 0) → (T → Share → V) → (T → Option ℕ) → Type 0
+abbrev pub AllLendAside : {T V : Type 0} → (T → ℕ → Share → Type 0) → (T → Share → V) → (T → Option ℕ) → Type 0
 AllLendAside {T} kept value buffer =
-    (state : T) (share : Share) (ds : ℕ) → kept state share → buffer state ≡ Some ds → LendsAside kept value state share ds
+    (state : T) (account : ℕ) (share : Share) (ds : ℕ) → kept state account share → buffer state ≡ Some ds → LendsAside kept value state account share ds

@@ -6,10 +6,10 @@ use Rattle.own_model.specs.Account.{Account}
 use Rattle.own_model.specs.Reply.{log_text}
 use Rattle.own_model.specs.Session.{Labelled, served, session_with, kept_of}
 use Rattle.region_map.specs.Regions.{Regions}
-use Rattle.dataspace_core.specs.Store.{Store, part, account_in}
+use Rattle.dataspace_core.specs.Store.{Store, part, account_in, IsOpenIn}
 use Rattle.dataspace_core.specs.Share.{Share}
 use Rattle.sliced_heap.specs.Sliced.{sliced_of}
-use Rattle.sliced_heap.specs.Heap.{IsSound, payer_of, share_at}
+use Rattle.sliced_heap.specs.Heap.{IsSound, payer_of, share_at, MapsMemory}
 use Rattle.sliced_heap.specs.declared.heap.SlicedHeap.{SlicedHeap}
 
 -- what a request is answered, the text of the lines that it finished, and after it the session's account and value, and the
@@ -38,13 +38,28 @@ service_step request account buffer kept =
 abbrev pub holding : Share → Share
 holding share = record share { part = record share.part { account = None } }
 
+-- that of the account under a key
+abbrev pub holding_at : ℕ → Store → Regions → Share
+holding_at account store regions = holding (share_at account store regions)
+
 -- that of a heap's account
 abbrev pub holding_of : SlicedHeap → Store → Regions → Share
-holding_of heap store regions = holding (share_at (payer_of heap) store regions)
+holding_of heap store regions = holding_at (payer_of heap) store regions
 
 -- all that an account has is blocks of its sliced heap: it has as many dataspaces as blocks
 abbrev pub HasBlocksAlone : Share → Type 0
 HasBlocksAlone share = len share.part.spaces ≡ len (sliced_of share)
+
+-- an account is a session's: it is open, the map is one of the memory, and it uses a capability for each of its dataspaces
+-- and one for the session itself
+pub record IsSessionAccount (account : ℕ) (store : Store) (regions : Regions) : Type 0 where
+  pub opens : IsOpenIn store account
+  pub maps : MapsMemory store regions
+  pub pays : (account_in store account).caps_used ≡ len (part account store).spaces + 1
+
+-- each session is kept for the account that pays for it
+abbrev pub PaysFor : {T : Type 0} → (T → ℕ → Share → Type 0) → (T → ℕ) → Type 0
+PaysFor {T} kept payer = (state : T) (account : ℕ) (share : Share) → kept state account share → payer state ≡ account
 
 -- a sliced heap is one of a session: it is sound, and its account uses a capability for each of its dataspaces and one for
 -- the session itself

@@ -20,16 +20,14 @@ use crate::service::{LONGEST_LABEL, Service};
 use dataspace_core::Memory;
 use region_map::RegionMap;
 use slab::Slab;
-use sliced_heap::SlicedHeap;
 use std::alloc::Global;
 use trade_base::{AccountId, Caps, DsId, NoMemory, Ram, Refusal, SessionId};
 
-/// A session: its account and its client's, the sliced heap of its account, and what the service keeps for it.
+/// A session: its account and its client's, and what the service keeps for it.
 #[derive(Drop)]
 struct Session<T: Drop> {
     account: AccountId,
     client: AccountId,
-    heap: SlicedHeap,
     state: T,
 }
 
@@ -128,11 +126,10 @@ impl<S: Service + Drop> Server<S> {
     {
         test_donation(memory, client, ram, caps)?;
         let (account, heap) = furnish(memory, &mut self.map, client, ram, caps)?;
-        let state = self.service.open(account, label);
+        let state = self.service.open(heap, label);
         let id = self.sessions.insert_reserved(Session {
             account,
             client,
-            heap,
             state,
         });
         Ok(SessionId(id))
@@ -199,14 +196,8 @@ impl<S: Service + Drop> Server<S> {
         ensures machine { ram_limits_in memory.new ≡ ram_limits_in memory.old }
     {
         let session = &mut self.sessions[id.0];
-        self.service.serve(
-            &mut session.state,
-            &mut session.heap,
-            memory,
-            &mut self.map,
-            request,
-            reply,
-        )
+        self.service
+            .serve(&mut session.state, memory, &mut self.map, request, reply)
     }
 
     /// Closes a session: all that it has is given back, and its client's limits are raised by those of its account.
@@ -222,9 +213,8 @@ impl<S: Service + Drop> Server<S> {
         ensures places { self.new.sessions.capacity ≡ self.old.sessions.capacity }
         ensures machine { ram_limits_in memory.new ≡ ram_limits_in memory.old }
     {
-        let mut session = self.sessions.remove(id.0);
-        self.service
-            .end(session.state, &mut session.heap, memory, &mut self.map);
-        dismiss(memory, &mut self.map, session.account, session.heap);
+        let session = self.sessions.remove(id.0);
+        let heap = self.service.end(session.state, memory, &mut self.map);
+        dismiss(memory, &mut self.map, session.account, heap);
     }
 }

@@ -5,7 +5,8 @@ ghost use Rattle.dataspace_core.specs.Store.{account_in};
 ghost use Rattle.dataspace_core.specs.Share.{Share};
 ghost use Rattle.sliced_heap.specs.Heap.{payer_of, KeepsOthers};
 ghost use Rattle.server_frame.specs.Lent.{AllLendAside, IsEffect, bytes_lent, key_of};
-ghost use Rattle.server_frame.specs.Session.{Served, IsSessionHeap, HasBlocksAlone, holding_of};
+ghost use Rattle.server_frame.specs.Session.{Served, IsSessionAccount, IsSessionHeap, HasBlocksAlone, PaysFor, holding_at, holding_of};
+ghost use Rattle.sliced_heap.specs.Sliced.{IsLinked};
 ghost use Rattle.server_frame.specs.Told.{nothing_told};
 
 use crate::effect::Effect;
@@ -13,7 +14,7 @@ use crate::reply::Reply;
 use dataspace_core::Memory;
 use region_map::RegionMap;
 use sliced_heap::SlicedHeap;
-use trade_base::{AccountId, DsId};
+use trade_base::DsId;
 
 /// The most bytes of a session's label: four names of 32 bytes and 64 bytes that its client gave, parted by arrows of four.
 pub const LONGEST_LABEL: usize = 208;
@@ -34,8 +35,11 @@ pub trait Service {
     // The key of the dataspace that a session lends its client, if it lends one.
     ghost buffer: { Self.State → Option ℕ };
 
-    // What is true of a session between its requests.
-    ghost IsKept: { Self.State → Share → Type 0 };
+    // The key of the account for which a session is kept.
+    ghost payer: { Self.State → ℕ };
+
+    // What is true of a session between its requests, by its account's key and by what that account has.
+    ghost IsKept: { Self.State → ℕ → Share → Type 0 };
 
     // A new session with this label.
     ghost first: { List ℕ → Value };
@@ -43,13 +47,14 @@ pub trait Service {
     // What a request does, by the bytes of what is lent.
     ghost step: { List ℕ → Account → Option (List ℕ) → Value → Served Value };
 
-    /// A new session with this label. What the service keeps in the memory for it, it will charge to this account: a heap of
-    /// its own, where it has one, is made for the account here.
-    fn open(&self, account: AccountId, label: &[u8]) -> Self::State
+    /// A new session with this label. It owns the sliced heap of its account, to which all that the service keeps for it in
+    /// the memory is charged.
+    fn open(&self, heap: SlicedHeap, label: &[u8]) -> Self::State
         requires { length label.now ≤ LONGEST_LABEL }
         ensures first { (share : Share) → HasBlocksAlone share →
             value result share ≡ first label.now }
-        ensures kept { (share : Share) → HasBlocksAlone share → IsKept result share }
+        ensures kept { (share : Share) → HasBlocksAlone share → IsLinked share heap.first
+            → IsKept result (payer_of heap) share }
         ensures buffer { buffer result ≡ None };
 
     /// The dataspace that a session lends its client, if it lends one.
@@ -60,48 +65,46 @@ pub trait Service {
     fn serve(
         &self,
         state: &mut Self::State,
-        heap: &mut SlicedHeap,
         memory: &mut Memory,
         map: &mut RegionMap,
         request: &[u8],
         reply: &mut Reply,
     ) -> Effect
-        requires heap { IsSessionHeap heap.old memory.old map.old }
-        requires kept { IsKept state.old (holding_of heap.old memory.old map.old) }
+        requires account { IsSessionAccount (payer state.old) memory.old map.old }
+        requires kept { IsKept state.old (payer state.old)
+            (holding_at (payer state.old) memory.old map.old) }
         requires reply { reply.old ≡ nothing_told }
         ensures served { record {
           text = reply.new.text;
           lines = reply.new.lines;
-          account = account_in memory.new (payer_of heap.new);
-          value = value state.new (holding_of heap.new memory.new map.new);
+          account = account_in memory.new (payer state.new);
+          value = value state.new (holding_at (payer state.new) memory.new map.new);
           buffer = bytes_lent memory.new (buffer state.new);
-        } ≡ step request.now (account_in memory.old (payer_of heap.old))
+        } ≡ step request.now (account_in memory.old (payer state.old))
             (bytes_lent memory.old (buffer state.old))
-            (value state.old (holding_of heap.old memory.old map.old)) }
+            (value state.old (holding_at (payer state.old) memory.old map.old)) }
         ensures effect { IsEffect result (buffer state.old) (buffer state.new) }
-        ensures kept { IsKept state.new (holding_of heap.new memory.new map.new) }
-        ensures heap { IsSessionHeap heap.new memory.new map.new }
-        ensures payer { payer_of heap.new ≡ payer_of heap.old }
-        ensures others { KeepsOthers (payer_of heap.old) memory.old memory.new map.old map.new };
+        ensures kept { IsKept state.new (payer state.new)
+            (holding_at (payer state.new) memory.new map.new) }
+        ensures account { IsSessionAccount (payer state.new) memory.new map.new }
+        ensures payer { payer state.new ≡ payer state.old }
+        ensures others { KeepsOthers (payer state.old) memory.old memory.new map.old map.new };
 
-    /// Gives back all that the service keeps for a session, but for the blocks of its sliced heap.
-    fn end(
-        &self,
-        state: Self::State,
-        heap: &mut SlicedHeap,
-        memory: &mut Memory,
-        map: &mut RegionMap,
-    )
-        requires heap { IsSessionHeap heap.old memory.old map.old }
-        requires kept { IsKept state (holding_of heap.old memory.old map.old) }
-        ensures blocks { HasBlocksAlone (holding_of heap.new memory.new map.new) }
-        ensures ram { (account_in memory.new (payer_of heap.new)).ram_limit
-            ≡ (account_in memory.old (payer_of heap.old)).ram_limit }
-        ensures caps { (account_in memory.new (payer_of heap.new)).caps_limit
-            ≡ (account_in memory.old (payer_of heap.old)).caps_limit }
-        ensures heap { IsSessionHeap heap.new memory.new map.new }
-        ensures payer { payer_of heap.new ≡ payer_of heap.old }
-        ensures others { KeepsOthers (payer_of heap.old) memory.old memory.new map.old map.new };
+    /// Gives back all that the service keeps for a session, but for the blocks of its sliced heap, and answers that heap.
+    fn end(&self, state: Self::State, memory: &mut Memory, map: &mut RegionMap) -> SlicedHeap
+        requires account { IsSessionAccount (payer state) memory.old map.old }
+        requires kept { IsKept state (payer state) (holding_at (payer state) memory.old map.old) }
+        ensures blocks { HasBlocksAlone (holding_of result memory.new map.new) }
+        ensures ram { (account_in memory.new (payer_of result)).ram_limit
+            ≡ (account_in memory.old (payer state)).ram_limit }
+        ensures caps { (account_in memory.new (payer_of result)).caps_limit
+            ≡ (account_in memory.old (payer state)).caps_limit }
+        ensures heap { IsSessionHeap result memory.new map.new }
+        ensures payer { payer_of result ≡ payer state }
+        ensures others { KeepsOthers (payer state) memory.old memory.new map.old map.new };
+
+    // A session is kept for no other account than the one that pays.
+    ghost pays: { PaysFor IsKept payer };
 
     // What a session lends is a dataspace of its account, by whose bytes goes neither what the session is to its client nor
     // what is true of it.

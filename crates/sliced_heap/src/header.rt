@@ -35,6 +35,7 @@ pub fn load(memory: &Memory, account: AccountId, ds: DsId, field: u64) -> u64
     requires field { IsField field }
     ensures { result ≡ word_at (part account.0 memory.now) field ds.0 }
 {
+    // The contract speaks of what the account has; a word is found by its dataspace alone.
     let _ = account;
     memory.load_word(ds, field)
 }
@@ -47,6 +48,7 @@ pub fn store(memory: &mut Memory, account: AccountId, ds: DsId, field: u64, word
     ensures stored { IsStored ds.0 field word (part account.0 memory.old)
         (part account.0 memory.new) }
 {
+    // The same as in `load`.
     let _ = account;
     memory.store_word(ds, field, word)
 }

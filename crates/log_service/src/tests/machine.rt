@@ -30,15 +30,14 @@ impl Model for Machine {
     ghost use Rattle.std.specs.Prelude.{ℕ, ◌≡◌};
     ghost use Rattle.slab.specs.Slab.{slab_len};
     ghost use Rattle.server_frame.specs.Frame.{Admits};
-    ghost use Rattle.server_frame.specs.Session.{HasBlocksAlone};
+    ghost use Rattle.log_service.specs.Session.{IsSession};
 
     ghost Value = { ℕ };
 
     ghost view = { λ m. m.client.0 };
 
     ghost invariant = { λ m.
-        Admits (λ session share.
-        HasBlocksAlone share) m.server.sessions m.client.0 2049 m.memory m.server.map
+        Admits IsSession m.server.sessions m.client.0 2049 m.memory m.server.map
         × (m.sessions ≡ slab_len m.server.sessions) };
 }
 

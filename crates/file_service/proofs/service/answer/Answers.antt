@@ -39,7 +39,7 @@ returns-in-Some-Read c =
     record {
       answered = files_answered c.requires.ready a.request.now _ t.0 a.reply.now _ (read_as a.request.now _ _ r.field-0-is r.ensures.request)
           (keeps_same c.requires.ready.furnished refl refl c.tell_read.ensures.memory refl)
-          (serves_same _ t.0 a.session.now a.heap.now a.memory.now _ a.map.now c.requires.ready.files c.tell_read.ensures.memory t.1.0) t.1.1 c.requires.reply;
+          (serves_same _ t.0 a.session.now a.memory.now _ a.map.now c.requires.ready.files c.tell_read.ensures.memory t.1.0) t.1.1 c.requires.reply;
     }
 
 pub returns-in-Some-Drop : goal.returns-in-Some-Drop
@@ -65,7 +65,7 @@ returns-in-Some c =
     let a = c.args in
     let r = c.in-Some-Name in
     let name = Some c.deref.result.now in
-    let serves = named_served r.place name a.session.now a.heap.now a.memory.now _ a.map.now c.requires.ready.files c.file_at.ensures.memory (ap Some c.deref.ensures.0 ∙ c.in-Some.ensures.name) in
+    let serves = named_served r.place name a.session.now a.memory.now _ a.map.now c.requires.ready.files c.file_at.ensures.memory (ap Some c.deref.ensures.0 ∙ c.in-Some.ensures.name) in
     record {
       answered = files_answered c.requires.ready a.request.now _ (name_reply name) a.reply.now _ (read_as a.request.now _ _ r.field-0-is r.ensures.request)
           (keeps_same c.requires.ready.furnished refl refl c.file_at.ensures.memory refl) serves c.write-in-Some.ensures c.requires.reply;
@@ -75,7 +75,7 @@ pub returns-in-None-file_at : goal.returns-in-None-file_at
 returns-in-None-file_at c =
     let a = c.args in
     let r = c.in-Some-Name in
-    let serves = named_served r.place None a.session.now a.heap.now a.memory.now _ a.map.now c.requires.ready.files c.file_at.ensures.memory c.in-None-file_at.ensures.name in
+    let serves = named_served r.place None a.session.now a.memory.now _ a.map.now c.requires.ready.files c.file_at.ensures.memory c.in-None-file_at.ensures.name in
     record {
       answered = files_answered c.requires.ready a.request.now _ (name_reply None) a.reply.now _ (read_as a.request.now _ _ r.field-0-is r.ensures.request)
           (keeps_same c.requires.ready.furnished refl refl c.file_at.ensures.memory refl) serves c.write-in-None-file_at.ensures c.requires.reply;

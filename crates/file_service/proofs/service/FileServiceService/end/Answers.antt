@@ -1,6 +1,9 @@
--- What is lent between requests stands there.
-use Rattle.file_service.proofs.SourceLemmas.{has_buffer}
+-- What is lent goes, and then the nodes.
+use Rattle.file_service.proofs.ReadyLemmas.{is_ready}
 use Rattle.file_service.proofs.service.FileServiceService.end.Goals as goal
 
+pub give_any-requires-clause-furnished : goal.give_any-requires-clause-furnished
+give_any-requires-clause-furnished c = (is_ready c.requires.account c.requires.kept c.lies_apart.ensures.sound).furnished
+
 pub give_any-requires-clause-lent : goal.give_any-requires-clause-lent
-give_any-requires-clause-lent c = has_buffer c.args.session.buffer c.args.heap.now c.args.memory.now c.args.map.now c.requires.heap c.requires.kept.buffer
+give_any-requires-clause-lent c = (is_ready c.requires.account c.requires.kept c.lies_apart.ensures.sound).lent

@@ -1,18 +1,13 @@
--- A session is ready once it is furnished.
-use Rattle.std.proofs.Common.{sym, subst}
-use Rattle.own_model.specs.OwnHeap.{OwnHeap}
-use Rattle.sliced_heap.specs.Sliced.{sliced_of}
-use Rattle.server_frame.specs.Session.{holding_of}
-use Rattle.file_service.specs.Index.{AreFiles}
-use Rattle.file_service.proofs.SourceLemmas.{has_buffer}
+-- A session is ready once its map is known to lie apart, and it is kept after the answer.
+use Rattle.server_frame.proofs.HoldingLemmas.{heap_account}
+use Rattle.file_service.proofs.ReadyLemmas.{is_ready, is_kept}
 use Rattle.file_service.proofs.service.FileServiceService.serve.Goals as goal
 
 pub answer-requires-clause-ready : goal.answer-requires-clause-ready
-answer-requires-clause-ready c =
-    let a = c.args in
-    let share = holding_of a.heap.now a.memory.now a.map.now in
-    record {
-      furnished = c.furnish.ensures.furnished;
-      files = subst (λ (h : OwnHeap). AreFiles a.session.now.first a.session.now.last a.session.now.root h (sliced_of share)) (sym (c.furnish.ensures.same share)) c.requires.kept.files;
-      lent = has_buffer a.session.now.buffer a.heap.now a.memory.now a.map.now c.requires.heap c.requires.kept.buffer;
-    }
+answer-requires-clause-ready c = is_ready c.requires.account c.requires.kept c.lies_apart.ensures.sound
+
+pub returns-clause-kept : goal.returns-clause-kept
+returns-clause-kept c = is_kept c.answer.ensures.answered.leaves.ready
+
+pub returns-clause-account : goal.returns-clause-account
+returns-clause-account c = heap_account _ _ _ c.answer.ensures.answered.leaves.ready.furnished.session

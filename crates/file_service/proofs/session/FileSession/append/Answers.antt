@@ -5,7 +5,8 @@ use Rattle.trade_base.specs.Word.{word_bytes}
 use Rattle.heap_core.specs.Words.{are_bytes}
 use Rattle.file_service.specs.Calls.{payload_in}
 use Rattle.file_service.specs.Files.{files_of}
-use Rattle.file_service.specs.Furnished.{Stock, stock}
+use Rattle.file_service.specs.Furnished.{Stock}
+use Rattle.file_service.specs.Rooms.{stock_of}
 use Rattle.file_service.specs.Index.{CanEnter, Enters}
 use Rattle.file_service.specs.Node.{FileNode, bytes_of, rank_of}
 use Rattle.file_service.specs.declared.session.FileSession.{FileSession}
@@ -17,17 +18,17 @@ use Rattle.file_service.proofs.session.FileSession.append.Goals as goal
 
 pub link-requires-clause-there : goal.link-requires-clause-there
 link-requires-clause-there c =
-    let was : Stock = stock c.args.self.now.heap c.args.sliced.now c.args.memory.now c.args.map.now in
-    let mid : Stock = stock c.args.self.now.heap c.args.sliced.now c.store_new.new.memory c.args.map.now in
+    let was : Stock = stock_of c.args.self.now.rooms c.args.memory.now c.args.map.now in
+    let mid : Stock = stock_of c.args.self.now.rooms c.store_new.new.memory c.args.map.now in
     let node : FileNode = record { next = 0; content = 0; size = 0; name = c.copied.result.items } in
     last_there c.args.self.now.first c.args.self.now.last was.nodes mid.nodes was.contents c.requires.files.blocks c.requires.files.stand c.args.address c.requires.fresh
     (with_part (payload_in was.nodes.payloads c.args.address) 0 (bytes_of node ++ (zeros 24 ++ word_bytes c.args.self.now.last))) (ap (λ (s : Stock). s.nodes) c.store_new.ensures.stored)
 
 pub enter-self-requires-clause-unnamed : goal.enter-self-requires-clause-unnamed
 enter-self-requires-clause-unnamed c =
-    let was : Stock = stock c.args.self.now.heap c.args.sliced.now c.args.memory.now c.args.map.now in
-    let mid : Stock = stock c.args.self.now.heap c.args.sliced.now c.store_new.new.memory c.args.map.now in
-    let linked : Stock = stock c.link.new.self.heap c.args.sliced.now c.link.new.memory c.args.map.now in
+    let was : Stock = stock_of c.args.self.now.rooms c.args.memory.now c.args.map.now in
+    let mid : Stock = stock_of c.args.self.now.rooms c.store_new.new.memory c.args.map.now in
+    let linked : Stock = stock_of c.link.new.self.rooms c.link.new.memory c.args.map.now in
     let node : FileNode = record { next = 0; content = 0; size = 0; name = c.copied.result.items } in
     let bytes : List ℕ = with_part (payload_in was.nodes.payloads c.args.address) 0 (bytes_of node ++ (zeros 24 ++ word_bytes c.args.self.now.last)) in
     let back = c.store_new.ensures.back ∙ ap (λ (x : List ℕ). record { next = 0; content = 0; size = 0; name = x }) c.copied.ensures in
@@ -41,10 +42,10 @@ enter-self-requires-clause-unnamed c =
 
 pub returns-clause-kept : goal.returns-clause-kept
 returns-clause-kept c =
-    let was : Stock = stock c.args.self.now.heap c.args.sliced.now c.args.memory.now c.args.map.now in
-    let mid : Stock = stock c.args.self.now.heap c.args.sliced.now c.store_new.new.memory c.args.map.now in
-    let linked : Stock = stock c.link.new.self.heap c.args.sliced.now c.link.new.memory c.args.map.now in
-    let now : Stock = stock c.link.new.self.heap c.args.sliced.now c.enter-self.new.memory c.args.map.now in
+    let was : Stock = stock_of c.args.self.now.rooms c.args.memory.now c.args.map.now in
+    let mid : Stock = stock_of c.args.self.now.rooms c.store_new.new.memory c.args.map.now in
+    let linked : Stock = stock_of c.link.new.self.rooms c.link.new.memory c.args.map.now in
+    let now : Stock = stock_of c.link.new.self.rooms c.enter-self.new.memory c.args.map.now in
     let node : FileNode = record { next = 0; content = 0; size = 0; name = c.copied.result.items } in
     let bytes : List ℕ = with_part (payload_in was.nodes.payloads c.args.address) 0 (bytes_of node ++ (zeros 24 ++ word_bytes c.args.self.now.last)) in
     let back = c.store_new.ensures.back ∙ ap (λ (x : List ℕ). record { next = 0; content = 0; size = 0; name = x }) c.copied.ensures in
@@ -57,10 +58,10 @@ returns-clause-kept c =
 
 pub returns-clause-files : goal.returns-clause-files
 returns-clause-files c =
-    let was : Stock = stock c.args.self.now.heap c.args.sliced.now c.args.memory.now c.args.map.now in
-    let mid : Stock = stock c.args.self.now.heap c.args.sliced.now c.store_new.new.memory c.args.map.now in
-    let linked : Stock = stock c.link.new.self.heap c.args.sliced.now c.link.new.memory c.args.map.now in
-    let now : Stock = stock c.link.new.self.heap c.args.sliced.now c.enter-self.new.memory c.args.map.now in
+    let was : Stock = stock_of c.args.self.now.rooms c.args.memory.now c.args.map.now in
+    let mid : Stock = stock_of c.args.self.now.rooms c.store_new.new.memory c.args.map.now in
+    let linked : Stock = stock_of c.link.new.self.rooms c.link.new.memory c.args.map.now in
+    let now : Stock = stock_of c.link.new.self.rooms c.enter-self.new.memory c.args.map.now in
     let node : FileNode = record { next = 0; content = 0; size = 0; name = c.copied.result.items } in
     let bytes : List ℕ = with_part (payload_in was.nodes.payloads c.args.address) 0 (bytes_of node ++ (zeros 24 ++ word_bytes c.args.self.now.last)) in
     let back = c.store_new.ensures.back ∙ ap (λ (x : List ℕ). record { next = 0; content = 0; size = 0; name = x }) c.copied.ensures in

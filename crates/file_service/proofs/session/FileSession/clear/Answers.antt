@@ -7,7 +7,8 @@ use Rattle.own_model.specs.FileText.FileReply.{Done}
 use Rattle.own_model.specs.FileText.FileRequest.{Clear}
 use Rattle.file_service.specs.Files.{file_at}
 use Rattle.file_service.specs.Index.{previous_at}
-use Rattle.file_service.specs.Furnished.{Stock, stock}
+use Rattle.file_service.specs.Furnished.{Stock}
+use Rattle.file_service.specs.Rooms.{stock_of}
 use Rattle.file_service.specs.Node.{value_of}
 use Rattle.file_service.specs.Session.{files_in, served_in, Finds}
 use Rattle.file_service.proofs.SearchLemmas.{found_named}
@@ -16,8 +17,8 @@ use Rattle.file_service.proofs.session.FileSession.clear.Goals as goal
 
 pub returns-clause-serves : goal.returns-clause-serves
 returns-clause-serves c =
-    let was : Stock = stock c.args.self.now.heap c.args.sliced.now c.args.memory.now c.args.map.now in
-    let now : Stock = stock c.replace.new.self.heap c.replace.new.sliced c.replace.new.memory c.replace.new.map in
+    let was : Stock = stock_of c.args.self.now.rooms c.args.memory.now c.args.map.now in
+    let now : Stock = stock_of c.replace.new.self.rooms c.replace.new.memory c.replace.new.map in
     let some : c.find.result ≡ Some c.in_ok-found.found = c.ok_or.ensures.ok_part ∙ ap result_ok c.in_ok-found.was in
     let found : Finds c.args.self.now was c.args.name.now c.in_ok-found.found = subst (λ o. IfSome o (Finds c.args.self.now was c.args.name.now)) some c.find.ensures.some in
     let previous = (previous_at was.nodes c.in_ok-found.found.address) in
@@ -27,10 +28,10 @@ returns-clause-serves c =
     let called = found_name c.args.self.now.first c.args.self.now.last c.args.self.now was c.args.name.now previous address node found in
     let files : files_in c.replace.new.self now ≡ record (files_in c.args.self.now was) { files = rewritten c.args.name.now [] (files_in c.args.self.now was).files } =
     c.replace.ensures.files
-    ∙ ap (λ m. let s = stock c.args.self.now.heap c.args.sliced.now m c.args.map.now in record (files_in c.args.self.now s) { files = rewritten node.name [] (files_in c.args.self.now s).files }) c.find.ensures.memory
+    ∙ ap (λ m. let s = stock_of c.args.self.now.rooms m c.args.map.now in record (files_in c.args.self.now s) { files = rewritten node.name [] (files_in c.args.self.now s).files }) c.find.ensures.memory
     ∙ ap (λ n. record (files_in c.args.self.now was) { files = rewritten n [] (files_in c.args.self.now was).files }) called in
     let account : now.account ≡ content_credited file was.account =
-    c.replace.ensures.account ∙ ap (λ m. let s = stock c.args.self.now.heap c.args.sliced.now m c.args.map.now in content_credited (file_at s.nodes s.contents address) s.account) c.find.ensures.memory in
+    c.replace.ensures.account ∙ ap (λ m. let s = stock_of c.args.self.now.rooms m c.args.map.now in content_credited (file_at s.nodes s.contents address) s.account) c.find.ensures.memory in
     serves_done (served_in (Clear c.args.name.now) c.args.self.now was) Done _ _ c.args.self.now c.replace.new.self now
     (clear_done c.args.name.now c.args.self.now was file
     (found_named c.args.self.now.first c.args.self.now.last was.nodes was.contents c.args.name.now previous address node found)

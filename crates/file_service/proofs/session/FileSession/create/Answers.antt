@@ -11,7 +11,8 @@ use Rattle.own_model.specs.OwnHeap.{chunk_with, offset_of}
 use Rattle.own_model.proofs.NatMapLemmas.{some_of, none_of}
 use Rattle.file_service.specs.Calls.{TakesNode}
 use Rattle.file_service.specs.Index.{previous_at}
-use Rattle.file_service.specs.Furnished.{Stock, stock}
+use Rattle.file_service.specs.Furnished.{Stock}
+use Rattle.file_service.specs.Rooms.{stock_of}
 use Rattle.file_service.specs.Node.{value_of, rank_of}
 use Rattle.sliced_heap.specs.Chain.{is_listed}
 use Rattle.file_service.specs.Session.{files_in, Finds, served_in}
@@ -27,37 +28,37 @@ use Rattle.file_service.proofs.session.FileSession.create.Goals as goal
 
 pub returns-then-is_some-clause-serves : goal.returns-then-is_some-clause-serves
 returns-then-is_some-clause-serves c =
-    let was : Stock = stock c.args.self.now.heap c.args.sliced.now c.args.memory.now c.args.map.now in
+    let was : Stock = stock_of c.args.self.now.rooms c.args.memory.now c.args.map.now in
     let got = some_of c.find.result (sym c.if-is_some.ensures) in
     let found : Finds c.args.self.now was c.args.name.now got.0 = subst (λ o. IfSome o (Finds c.args.self.now was c.args.name.now)) got.1 c.find.ensures.some in
     let there : is_some (file_named c.args.name.now (files_in c.args.self.now was)) ≡ true =
     ap is_some (found_named c.args.self.now.first c.args.self.now.last was.nodes was.contents c.args.name.now (previous_at was.nodes got.0.address) got.0.address (value_of got.0.node) found) in
-    serves_same (served_in (Create c.args.name.now) c.args.self.now was) (Refused Exists) c.args.self.now c.args.sliced.now c.args.memory.now c.find.new.memory c.args.map.now
+    serves_same (served_in (Create c.args.name.now) c.args.self.now was) (Refused Exists) c.args.self.now c.args.memory.now c.find.new.memory c.args.map.now
     c.requires.files c.find.ensures.memory (create_exists c.args.name.now c.args.self.now was (sym c.if-not-is_name.ensures) there)
 
 pub append-requires-clause-fresh : goal.append-requires-clause-fresh
 append-requires-clause-fresh c =
-    let was : Stock = stock c.args.self.now.heap c.args.sliced.now c.args.memory.now c.args.map.now in
-    let taken : Stock = stock c.take_node.new.heap c.args.sliced.now c.take_node.new.memory c.take_node.new.map in
+    let was : Stock = stock_of c.args.self.now.rooms c.args.memory.now c.args.map.now in
+    let taken : Stock = stock_of c.take_node.new.self c.take_node.new.memory c.take_node.new.map in
     let ok = was_ok c.take_node.result c.map_err.result c.in_ok-address.address _ c.map_err.ensures.cases c.map_err.ensures.variant c.in_ok-address.was in
-    let old : TakesNode c.in_ok-address.address (stock c.args.self.now.heap c.args.sliced.now c.find.new.memory c.args.map.now) taken =
-    subst (λ r. IfOk r (λ address. TakesNode address (stock c.args.self.now.heap c.args.sliced.now c.find.new.memory c.args.map.now) taken)) ok c.take_node.ensures.taken in
-    let t : TakesNode c.in_ok-address.address was taken = subst (λ m. TakesNode c.in_ok-address.address (stock c.args.self.now.heap c.args.sliced.now m c.args.map.now) taken) c.find.ensures.memory old in
+    let old : TakesNode c.in_ok-address.address (stock_of c.args.self.now.rooms c.find.new.memory c.args.map.now) taken =
+    subst (λ r. IfOk r (λ address. TakesNode address (stock_of c.args.self.now.rooms c.find.new.memory c.args.map.now) taken)) ok c.take_node.ensures.taken in
+    let t : TakesNode c.in_ok-address.address was taken = subst (λ m. TakesNode c.in_ok-address.address (stock_of c.args.self.now.rooms m c.args.map.now) taken) c.find.ensures.memory old in
     (takes_node c.args.self.now.first c.args.self.now.last c.requires.files.blocks c.in_ok-address.address (omega arith) was c.requires.files.stand
-    (furnished_has_places c.args.self.now.heap c.args.sliced.now c.args.memory.now c.args.map.now c.requires.furnished) t.free taken
-    (furnished_has_places c.take_node.new.heap c.args.sliced.now c.take_node.new.memory c.take_node.new.map c.take_node.ensures.keeps.stays.furnished) t).fresh
+    (furnished_has_places c.args.self.now.rooms.nodes c.args.self.now.rooms.contents c.args.memory.now c.args.map.now c.requires.furnished) t.free taken
+    (furnished_has_places c.take_node.new.self.nodes c.take_node.new.self.contents c.take_node.new.memory c.take_node.new.map c.take_node.ensures.keeps.stays.furnished) t).fresh
 
 pub append-requires-clause-files : goal.append-requires-clause-files
 append-requires-clause-files c =
-    let was : Stock = stock c.args.self.now.heap c.args.sliced.now c.args.memory.now c.args.map.now in
-    let taken : Stock = stock c.take_node.new.heap c.args.sliced.now c.take_node.new.memory c.take_node.new.map in
+    let was : Stock = stock_of c.args.self.now.rooms c.args.memory.now c.args.map.now in
+    let taken : Stock = stock_of c.take_node.new.self c.take_node.new.memory c.take_node.new.map in
     let ok = was_ok c.take_node.result c.map_err.result c.in_ok-address.address _ c.map_err.ensures.cases c.map_err.ensures.variant c.in_ok-address.was in
-    let old : TakesNode c.in_ok-address.address (stock c.args.self.now.heap c.args.sliced.now c.find.new.memory c.args.map.now) taken =
-    subst (λ r. IfOk r (λ address. TakesNode address (stock c.args.self.now.heap c.args.sliced.now c.find.new.memory c.args.map.now) taken)) ok c.take_node.ensures.taken in
-    let t : TakesNode c.in_ok-address.address was taken = subst (λ m. TakesNode c.in_ok-address.address (stock c.args.self.now.heap c.args.sliced.now m c.args.map.now) taken) c.find.ensures.memory old in
+    let old : TakesNode c.in_ok-address.address (stock_of c.args.self.now.rooms c.find.new.memory c.args.map.now) taken =
+    subst (λ r. IfOk r (λ address. TakesNode address (stock_of c.args.self.now.rooms c.find.new.memory c.args.map.now) taken)) ok c.take_node.ensures.taken in
+    let t : TakesNode c.in_ok-address.address was taken = subst (λ m. TakesNode c.in_ok-address.address (stock_of c.args.self.now.rooms m c.args.map.now) taken) c.find.ensures.memory old in
     let takes = takes_node c.args.self.now.first c.args.self.now.last c.requires.files.blocks c.in_ok-address.address (omega arith) was c.requires.files.stand
-    (furnished_has_places c.args.self.now.heap c.args.sliced.now c.args.memory.now c.args.map.now c.requires.furnished) t.free taken
-    (furnished_has_places c.take_node.new.heap c.args.sliced.now c.take_node.new.memory c.take_node.new.map c.take_node.ensures.keeps.stays.furnished) t in
+    (furnished_has_places c.args.self.now.rooms.nodes c.args.self.now.rooms.contents c.args.memory.now c.args.map.now c.requires.furnished) t.free taken
+    (furnished_has_places c.take_node.new.self.nodes c.take_node.new.self.contents c.take_node.new.memory c.take_node.new.map c.take_node.ensures.keeps.stays.furnished) t in
     record {
       blocks = c.requires.files.blocks;
       stand = takes.stand;
@@ -67,15 +68,15 @@ append-requires-clause-files c =
 
 pub append-requires-clause-new : goal.append-requires-clause-new
 append-requires-clause-new c b listed =
-    let was : Stock = stock c.args.self.now.heap c.args.sliced.now c.args.memory.now c.args.map.now in
-    let taken : Stock = stock c.take_node.new.heap c.args.sliced.now c.take_node.new.memory c.take_node.new.map in
+    let was : Stock = stock_of c.args.self.now.rooms c.args.memory.now c.args.map.now in
+    let taken : Stock = stock_of c.take_node.new.self c.take_node.new.memory c.take_node.new.map in
     let ok = was_ok c.take_node.result c.map_err.result c.in_ok-address.address _ c.map_err.ensures.cases c.map_err.ensures.variant c.in_ok-address.was in
-    let old : TakesNode c.in_ok-address.address (stock c.args.self.now.heap c.args.sliced.now c.find.new.memory c.args.map.now) taken =
-    subst (λ r. IfOk r (λ address. TakesNode address (stock c.args.self.now.heap c.args.sliced.now c.find.new.memory c.args.map.now) taken)) ok c.take_node.ensures.taken in
-    let t : TakesNode c.in_ok-address.address was taken = subst (λ m. TakesNode c.in_ok-address.address (stock c.args.self.now.heap c.args.sliced.now m c.args.map.now) taken) c.find.ensures.memory old in
+    let old : TakesNode c.in_ok-address.address (stock_of c.args.self.now.rooms c.find.new.memory c.args.map.now) taken =
+    subst (λ r. IfOk r (λ address. TakesNode address (stock_of c.args.self.now.rooms c.find.new.memory c.args.map.now) taken)) ok c.take_node.ensures.taken in
+    let t : TakesNode c.in_ok-address.address was taken = subst (λ m. TakesNode c.in_ok-address.address (stock_of c.args.self.now.rooms m c.args.map.now) taken) c.find.ensures.memory old in
     let takes = takes_node c.args.self.now.first c.args.self.now.last c.requires.files.blocks c.in_ok-address.address (omega arith) was c.requires.files.stand
-    (furnished_has_places c.args.self.now.heap c.args.sliced.now c.args.memory.now c.args.map.now c.requires.furnished) t.free taken
-    (furnished_has_places c.take_node.new.heap c.args.sliced.now c.take_node.new.memory c.take_node.new.map c.take_node.ensures.keeps.stays.furnished) t in
+    (furnished_has_places c.args.self.now.rooms.nodes c.args.self.now.rooms.contents c.args.memory.now c.args.map.now c.requires.furnished) t.free taken
+    (furnished_has_places c.take_node.new.self.nodes c.take_node.new.self.contents c.take_node.new.memory c.take_node.new.map c.take_node.ensures.keeps.stays.furnished) t in
     let none_found = none_of c.find.result (sym c.is_some.ensures ∙ c.if-is_some.false) in
     let none : file_named c.args.name.now (files_in c.args.self.now was) ≡ None =
     subst (λ o. IfNone o (file_named c.args.name.now (files_in c.args.self.now was) ≡ None)) none_found c.find.ensures.none in
@@ -88,24 +89,24 @@ append-requires-clause-new c b listed =
 
 pub returns-clause-serves : goal.returns-clause-serves
 returns-clause-serves c =
-    let was : Stock = stock c.args.self.now.heap c.args.sliced.now c.args.memory.now c.args.map.now in
-    let taken : Stock = stock c.take_node.new.heap c.args.sliced.now c.take_node.new.memory c.take_node.new.map in
+    let was : Stock = stock_of c.args.self.now.rooms c.args.memory.now c.args.map.now in
+    let taken : Stock = stock_of c.take_node.new.self c.take_node.new.memory c.take_node.new.map in
     let ok = was_ok c.take_node.result c.map_err.result c.in_ok-address.address _ c.map_err.ensures.cases c.map_err.ensures.variant c.in_ok-address.was in
-    let old : TakesNode c.in_ok-address.address (stock c.args.self.now.heap c.args.sliced.now c.find.new.memory c.args.map.now) taken =
-    subst (λ r. IfOk r (λ address. TakesNode address (stock c.args.self.now.heap c.args.sliced.now c.find.new.memory c.args.map.now) taken)) ok c.take_node.ensures.taken in
-    let t : TakesNode c.in_ok-address.address was taken = subst (λ m. TakesNode c.in_ok-address.address (stock c.args.self.now.heap c.args.sliced.now m c.args.map.now) taken) c.find.ensures.memory old in
+    let old : TakesNode c.in_ok-address.address (stock_of c.args.self.now.rooms c.find.new.memory c.args.map.now) taken =
+    subst (λ r. IfOk r (λ address. TakesNode address (stock_of c.args.self.now.rooms c.find.new.memory c.args.map.now) taken)) ok c.take_node.ensures.taken in
+    let t : TakesNode c.in_ok-address.address was taken = subst (λ m. TakesNode c.in_ok-address.address (stock_of c.args.self.now.rooms m c.args.map.now) taken) c.find.ensures.memory old in
     let takes : Takes c.args.self.now.first c.args.self.now.last c.requires.files.blocks c.in_ok-address.address was taken =
     takes_node c.args.self.now.first c.args.self.now.last c.requires.files.blocks c.in_ok-address.address (omega arith) was c.requires.files.stand
-    (furnished_has_places c.args.self.now.heap c.args.sliced.now c.args.memory.now c.args.map.now c.requires.furnished) t.free taken
-    (furnished_has_places c.take_node.new.heap c.args.sliced.now c.take_node.new.memory c.take_node.new.map c.take_node.ensures.keeps.stays.furnished) t in
+    (furnished_has_places c.args.self.now.rooms.nodes c.args.self.now.rooms.contents c.args.memory.now c.args.map.now c.requires.furnished) t.free taken
+    (furnished_has_places c.take_node.new.self.nodes c.take_node.new.self.contents c.take_node.new.memory c.take_node.new.map c.take_node.ensures.keeps.stays.furnished) t in
     let none_found = none_of c.find.result (sym c.is_some.ensures ∙ c.if-is_some.false) in
     let none : file_named c.args.name.now (files_in c.args.self.now was) ≡ None =
     subst (λ o. IfNone o (file_named c.args.name.now (files_in c.args.self.now was) ≡ None)) none_found c.find.ensures.none in
     let granted : heap_refusal node_size was.nodes.shape was.account ≡ None =
-    subst (λ m. let s = stock c.args.self.now.heap c.args.sliced.now m c.args.map.now in heap_refusal node_size s.nodes.shape s.account ≡ None) c.find.ensures.memory
+    subst (λ m. let s = stock_of c.args.self.now.rooms m c.args.map.now in heap_refusal node_size s.nodes.shape s.account ≡ None) c.find.ensures.memory
     (sym c.take_node.ensures.refusal ∙ ap result_err ok) in
     let is = create_done c.args.name.now c.args.self.now was (sym c.if-not-is_name.ensures) none granted ∙ takes.is_created c.args.name.now (files_in c.args.self.now was).files in
-    let same : (files_in (record c.args.self.now { heap = c.take_node.new.heap }) taken).files ≡ (files_in c.args.self.now was).files =
+    let same : (files_in (record c.args.self.now { rooms = c.take_node.new.self }) taken).files ≡ (files_in c.args.self.now was).files =
     files_are c.args.self.now.first c.args.self.now.last taken.nodes taken.contents c.requires.files.blocks takes.stand ∙ takes.files
     ∙ sym (files_are c.args.self.now.first c.args.self.now.last was.nodes was.contents c.requires.files.blocks c.requires.files.stand) in
     let file : File = record { name = c.args.name.now; bytes = []; chunk = chunk_with taken.nodes (c.in_ok-address.address - 16); offset = offset_of taken.nodes (c.in_ok-address.address - 16) } in

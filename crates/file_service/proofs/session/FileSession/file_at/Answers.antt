@@ -7,7 +7,8 @@ use Rattle.std.specs.Prelude.{slice_get}
 use Rattle.own_model.specs.FileService.{File}
 use Rattle.file_service.specs.Calls.{HasBytes}
 use Rattle.file_service.specs.Files.{file_at, link_in, node_at}
-use Rattle.file_service.specs.Furnished.{Stock, stock}
+use Rattle.file_service.specs.Furnished.{Stock}
+use Rattle.file_service.specs.Rooms.{stock_of}
 use Rattle.file_service.specs.Links.{last_of, Leads}
 use Rattle.file_service.specs.Node.{FileNode, value_of}
 use Rattle.file_service.proofs.KeptLemmas.{files_are}
@@ -29,18 +30,18 @@ pub load_node-node-requires-clause-there : goal.load_node-node-requires-clause-t
 load_node-node-requires-clause-there c =
     let i = c.loop-address.invariant in
     let some : c.loop-address.address ≢ 0 = λ (e : c.loop-address.address ≡ 0). absurd (omega (arith, e)) in
-    let has : Stock = stock c.args.self.now.heap c.args.sliced.now c.args.memory.now c.args.map.now in
-    subst (λ m. HasBytes (stock c.args.self.now.heap c.args.sliced.now m c.args.map.now).nodes.payloads c.loop-address.address 0 96) (sym i.memory)
+    let has : Stock = stock_of c.args.self.now.rooms c.args.memory.now c.args.map.now in
+    subst (λ m. HasBytes (stock_of c.args.self.now.rooms m c.args.map.now).nodes.payloads c.loop-address.address 0 96) (sym i.memory)
     (here_behind c.args.self.now.first c.args.self.now.last has.nodes has.contents (last_of 0 i.before) c.loop-address.address i.before i.behind i.stand i.leads i.address some).there
 
 pub loop-address-preserved : goal.loop-address-preserved
 loop-address-preserved c =
     let i = c.loop-address.invariant in
     let some : c.loop-address.address ≢ 0 = λ (e : c.loop-address.address ≡ 0). absurd (omega (arith, e)) in
-    let has : Stock = stock c.args.self.now.heap c.args.sliced.now c.args.memory.now c.args.map.now in
+    let has : Stock = stock_of c.args.self.now.rooms c.args.memory.now c.args.map.now in
     let next = next_behind c.args.self.now.first c.args.self.now.last has.nodes has.contents (last_of 0 i.before) c.loop-address.address i.before i.behind i.stand i.leads i.address some in
     let value : value_of c.load_node-node.result ≡ node_at has.nodes c.loop-address.address =
-    subst (λ m. value_of c.load_node-node.result ≡ node_at (stock c.args.self.now.heap c.args.sliced.now m c.args.map.now).nodes c.loop-address.address) i.memory c.load_node-node.ensures.value in
+    subst (λ m. value_of c.load_node-node.result ≡ node_at (stock_of c.args.self.now.rooms m c.args.map.now).nodes c.loop-address.address) i.memory c.load_node-node.ensures.value in
     let put : c.loop-address.address ≡ last_of 0 (i.before ++ c.loop-address.address ∷ []) = sym (last_put 0 c.loop-address.address i.before) in
     record {
       before = i.before ++ c.loop-address.address ∷ [];
@@ -59,10 +60,10 @@ pub returns-then-left-eq0-clause-name : goal.returns-then-left-eq0-clause-name
 returns-then-left-eq0-clause-name c =
     let i = c.loop-address.invariant in
     let some : c.loop-address.address ≢ 0 = λ (e : c.loop-address.address ≡ 0). absurd (omega (arith, e)) in
-    let has : Stock = stock c.args.self.now.heap c.args.sliced.now c.args.memory.now c.args.map.now in
+    let has : Stock = stock_of c.args.self.now.rooms c.args.memory.now c.args.map.now in
     let next = next_behind c.args.self.now.first c.args.self.now.last has.nodes has.contents (last_of 0 i.before) c.loop-address.address i.before i.behind i.stand i.leads i.address some in
     let value : value_of c.load_node-node.result ≡ node_at has.nodes c.loop-address.address =
-    subst (λ m. value_of c.load_node-node.result ≡ node_at (stock c.args.self.now.heap c.args.sliced.now m c.args.map.now).nodes c.loop-address.address) i.memory c.load_node-node.ensures.value in
+    subst (λ m. value_of c.load_node-node.result ≡ node_at (stock_of c.args.self.now.rooms m c.args.map.now).nodes c.loop-address.address) i.memory c.load_node-node.ensures.value in
     let left : length i.before + 0 ≡ c.args.place = omega (arith, i.place) in
     let f : ℕ → File = file_at has.nodes has.contents in
     sym (ap (λ files. option_map (λ (file : File). file.name) (slice_get files c.args.place))
@@ -74,7 +75,7 @@ pub returns-clause-name : goal.returns-clause-name
 returns-clause-name c =
     let i = c.loop-address.invariant in
     let zero : c.loop-address.address ≡ 0 = omega arith in
-    let has : Stock = stock c.args.self.now.heap c.args.sliced.now c.args.memory.now c.args.map.now in
+    let has : Stock = stock_of c.args.self.now.rooms c.args.memory.now c.args.map.now in
     let f : ℕ → File = file_at has.nodes has.contents in
     let e = none_behind c.args.self.now.first c.args.self.now.last has.nodes has.contents (last_of 0 i.before) c.loop-address.address i.before i.behind i.stand i.leads i.address zero in
     let past : length (map f i.before) ≤ c.args.place = omega (arith, i.place, length-map i.before f) in

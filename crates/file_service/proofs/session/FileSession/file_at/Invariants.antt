@@ -1,13 +1,13 @@
 -- As many files are before as places were passed, and the links lead on along the others.
 use Rattle.std.proofs.Common.{◌≡◌, ℕ, ◌+◌, List, ◌++◌, length}
 use Rattle.file_service.specs.Files.{link_in, StandAt}
-use Rattle.file_service.specs.Furnished.{stock}
+use Rattle.file_service.specs.Rooms.{stock_of}
 use Rattle.file_service.specs.Links.{last_of, Leads}
 use Rattle.file_service.proofs.session.FileSession.file_at.Given as goal
 
 abbrev pub invariant-loop-address : goal.invariant-loop-address
 invariant-loop-address l =
-    let has = stock l.fn.self.heap l.fn.sliced l.fn.memory l.fn.map in
+    let has = stock_of l.fn.self.rooms l.fn.memory l.fn.map in
     record {
       before : List ℕ;
       behind : List ℕ;

@@ -16,7 +16,8 @@ use Rattle.server_frame.specs.Session.{holding_of}
 use Rattle.session_proto.specs.FileReply.{model_error}
 use Rattle.file_service.specs.Calls.{payload_in}
 use Rattle.file_service.specs.Files.{file_at}
-use Rattle.file_service.specs.Furnished.{Stock, stock}
+use Rattle.file_service.specs.Furnished.{Stock}
+use Rattle.file_service.specs.Rooms.{stock_of}
 use Rattle.file_service.specs.Lent.{HasBuffer, buffer_key}
 use Rattle.file_service.specs.Node.{value_of}
 use Rattle.file_service.specs.Session.{files_in, session_served, counted_reply, Answers, Finds, IsReady}
@@ -29,21 +30,21 @@ use Rattle.file_service.proofs.session.FileSession.get.Goals as goal
 
 -- what is found, in the memory after the search
 record IsFoundNow (c : In_ok-found) : Type 0 where
-  ready : IsReady c.args.self.now c.args.sliced.now c.find.new.memory c.args.map.now
-  found : Finds c.args.self.now (stock c.args.self.now.heap c.args.sliced.now c.find.new.memory c.args.map.now) c.args.name.now c.in_ok-found.found
+  ready : IsReady c.args.self.now c.find.new.memory c.args.map.now
+  found : Finds c.args.self.now (stock_of c.args.self.now.rooms c.find.new.memory c.args.map.now) c.args.name.now c.in_ok-found.found
 
 found_now : (c : In_ok-found) → IsFoundNow c
 found_now c =
-    let finds = subst (λ o. IfSome o (Finds c.args.self.now (stock c.args.self.now.heap c.args.sliced.now c.args.memory.now c.args.map.now) c.args.name.now)) (c.ok_or.ensures.ok_part ∙ ap result_ok c.in_ok-found.was) c.find.ensures.some in
+    let finds = subst (λ o. IfSome o (Finds c.args.self.now (stock_of c.args.self.now.rooms c.args.memory.now c.args.map.now) c.args.name.now)) (c.ok_or.ensures.ok_part ∙ ap result_ok c.in_ok-found.was) c.find.ensures.some in
     record {
-      ready = subst (λ m. IsReady c.args.self.now c.args.sliced.now m c.args.map.now) (sym c.find.ensures.memory) c.requires.ready;
-      found = subst (λ m. Finds c.args.self.now (stock c.args.self.now.heap c.args.sliced.now m c.args.map.now) c.args.name.now c.in_ok-found.found) (sym c.find.ensures.memory) finds;
+      ready = subst (λ m. IsReady c.args.self.now m c.args.map.now) (sym c.find.ensures.memory) c.requires.ready;
+      found = subst (λ m. Finds c.args.self.now (stock_of c.args.self.now.rooms m c.args.map.now) c.args.name.now c.in_ok-found.found) (sym c.find.ensures.memory) finds;
     }
 
 abbrev file_of : (c : In_ok-found) → File
-file_of c = let s : Stock = stock c.args.self.now.heap c.args.sliced.now c.find.new.memory c.args.map.now in file_at s.nodes s.contents c.in_ok-found.found.address
+file_of c = let s : Stock = stock_of c.args.self.now.rooms c.find.new.memory c.args.map.now in file_at s.nodes s.contents c.in_ok-found.found.address
 
-named_now : (c : In_ok-found) → file_named c.args.name.now (files_in c.args.self.now (stock c.args.self.now.heap c.args.sliced.now c.find.new.memory c.args.map.now)) ≡ Some (file_of c)
+named_now : (c : In_ok-found) → file_named c.args.name.now (files_in c.args.self.now (stock_of c.args.self.now.rooms c.find.new.memory c.args.map.now)) ≡ Some (file_of c)
 named_now c = found_named c.args.self.now.first c.args.self.now.last _ _ c.args.name.now _ c.in_ok-found.found.address (value_of c.in_ok-found.found.node) (found_now c).found
 
 long_now : (c : In_ok-found) → length (file_of c).bytes ≡ c.in_ok-found.found.node.size
@@ -69,9 +70,9 @@ within c =
 pub returns-then-offset-size-clause-answers : goal.returns-then-offset-size-clause-answers
 returns-then-offset-size-clause-answers c =
     let at = (goal.at.returns-then-offset-size-clause-answers c).In_ok-found in
-    let s : Stock = stock c.args.self.now.heap c.args.sliced.now c.find.new.memory c.args.map.now in
+    let s : Stock = stock_of c.args.self.now.rooms c.find.new.memory c.args.map.now in
     let b = bytes_lent c.find.new.memory (buffer_key c.args.self.now.buffer) in
-    subst (λ m. Answers (session_served (Some (OfBuffer (Get c.args.name.now c.args.offset c.args.place c.args.count))) c.args.self.now c.args.sliced.now m c.args.map.now) (Refused Gap) c.args.self.now c.args.self.now c.args.sliced.now c.find.new.memory c.args.map.now) c.find.ensures.memory
+    subst (λ m. Answers (session_served (Some (OfBuffer (Get c.args.name.now c.args.offset c.args.place c.args.count))) c.args.self.now m c.args.map.now) (Refused Gap) c.args.self.now c.args.self.now c.find.new.memory c.args.map.now) c.find.ensures.memory
     (request.told_all (found_now at).ready (Refused Gap) _
     (ap (λ o. got c.args.offset c.args.place c.args.count b o (files_in c.args.self.now s) s.account) (named_now at)
     ∙ request.got_gap c.args.offset c.args.place c.args.count b (files_in c.args.self.now s) s.account (file_of at) (omega (arith, long_now at))))
@@ -82,13 +83,13 @@ range-requires c = let now = found_now (goal.at.range-requires c).In_ok-found in
 pub returns-in_err-lent-clause-answers : goal.returns-in_err-lent-clause-answers
 returns-in_err-lent-clause-answers c =
     let at = (goal.at.returns-in_err-lent-clause-answers c).In_ok-found in
-    let s : Stock = stock c.args.self.now.heap c.args.sliced.now c.find.new.memory c.args.map.now in
+    let s : Stock = stock_of c.args.self.now.rooms c.find.new.memory c.args.map.now in
     let b = bytes_lent c.find.new.memory (buffer_key c.args.self.now.buffer) in
     let e = model_error c.in_err-lent.field-0.0 in
     let tells : c.from_residual-in_err-lent.result ≡ Err c.in_err-lent.field-0.0 = search rules in
     let bad : range_refusal c.args.place c.args.count b ≡ Some e = sym c.range.ensures.refusal ∙ ap (λ r. option_map model_error (result_err r)) c.in_err-lent.was in
-    subst (λ r. Answers (session_served (Some (OfBuffer (Get c.args.name.now c.args.offset c.args.place c.args.count))) c.args.self.now c.args.sliced.now c.args.memory.now c.args.map.now) (counted_reply r) c.args.self.now c.args.self.now c.args.sliced.now c.find.new.memory c.args.map.now) (sym tells)
-    (subst (λ m. Answers (session_served (Some (OfBuffer (Get c.args.name.now c.args.offset c.args.place c.args.count))) c.args.self.now c.args.sliced.now m c.args.map.now) (Refused e) c.args.self.now c.args.self.now c.args.sliced.now c.find.new.memory c.args.map.now) c.find.ensures.memory
+    subst (λ r. Answers (session_served (Some (OfBuffer (Get c.args.name.now c.args.offset c.args.place c.args.count))) c.args.self.now c.args.memory.now c.args.map.now) (counted_reply r) c.args.self.now c.args.self.now c.find.new.memory c.args.map.now) (sym tells)
+    (subst (λ m. Answers (session_served (Some (OfBuffer (Get c.args.name.now c.args.offset c.args.place c.args.count))) c.args.self.now m c.args.map.now) (Refused e) c.args.self.now c.args.self.now c.find.new.memory c.args.map.now) c.find.ensures.memory
     (request.told_all (found_now at).ready (Refused e) _
     (ap (λ o. got c.args.offset c.args.place c.args.count b o (files_in c.args.self.now s) s.account) (named_now at)
     ∙ request.got_range c.args.offset c.args.place c.args.count b (files_in c.args.self.now s) s.account (file_of at) (omega (arith, long_now at)) e bad)))
@@ -96,7 +97,7 @@ returns-in_err-lent-clause-answers c =
 pub fill_buffer-requires-clause-lent : goal.fill_buffer-requires-clause-lent
 fill_buffer-requires-clause-lent c =
     let at = goal.at.fill_buffer-requires-clause-lent c in
-    subst (λ b. HasBuffer b (holding_of c.args.sliced.now c.find.new.memory c.args.map.now)) (in_range at.In_ok-lent).lent (found_now at.In_ok-found).ready.lent
+    subst (λ b. HasBuffer b (holding_of c.args.self.now.rooms.contents c.find.new.memory c.args.map.now)) (in_range at.In_ok-lent).lent (found_now at.In_ok-found).ready.lent
 
 pub fill_buffer-requires-clause-there : goal.fill_buffer-requires-clause-there
 fill_buffer-requires-clause-there c =
@@ -114,7 +115,7 @@ returns-then-part-gt0-clause-answers c =
     let places = goal.at.returns-then-part-gt0-clause-answers c in
     let at = places.In_ok-found in
     let is = in_range places.In_ok-lent in
-    let s : Stock = stock c.args.self.now.heap c.args.sliced.now c.find.new.memory c.args.map.now in
+    let s : Stock = stock_of c.args.self.now.rooms c.find.new.memory c.args.map.now in
     let b = bytes_lent c.find.new.memory (buffer_key c.args.self.now.buffer) in
     let node = value_of c.in_ok-found.found.node in
     let found = (found_now at).found in
@@ -128,7 +129,7 @@ returns-then-part-gt0-clause-answers c =
     ap (λ l. take c.args.count (drop c.args.offset l)) bytes
     ∙ front_part node.size c.args.count c.args.offset n content (omega arith) c.min-part.ensures
     ∙ ap (λ k. take k (drop c.args.offset content)) (sym count) in
-    subst (λ m. Answers (session_served (Some (OfBuffer (Get c.args.name.now c.args.offset c.args.place c.args.count))) c.args.self.now c.args.sliced.now m c.args.map.now) (Count n) c.args.self.now c.args.self.now c.args.sliced.now c.fill_buffer.new.memory c.args.map.now) c.find.ensures.memory
+    subst (λ m. Answers (session_served (Some (OfBuffer (Get c.args.name.now c.args.offset c.args.place c.args.count))) c.args.self.now m c.args.map.now) (Count n) c.args.self.now c.args.self.now c.fill_buffer.new.memory c.args.map.now) c.find.ensures.memory
     (request.got_filled (found_now at).ready c.in_ok-lent.lent c.args.place n part part _ is.lent c.fill_buffer.ensures.filled c.fill_buffer.ensures.stays refl
     (length-slice_range content c.args.offset n has.within)
     (ap (λ o. got c.args.offset c.args.place c.args.count b o (files_in c.args.self.now s) s.account) (named_now at)
@@ -139,7 +140,7 @@ returns-else-part-gt0-clause-answers c =
     let places = goal.at.returns-else-part-gt0-clause-answers c in
     let at = places.In_ok-found in
     let is = in_range places.In_ok-lent in
-    let s : Stock = stock c.args.self.now.heap c.args.sliced.now c.find.new.memory c.args.map.now in
+    let s : Stock = stock_of c.args.self.now.rooms c.find.new.memory c.args.map.now in
     let b = bytes_lent c.find.new.memory (buffer_key c.args.self.now.buffer) in
     let node = value_of c.in_ok-found.found.node in
     let content = payload_in s.contents node.content in
@@ -149,8 +150,8 @@ returns-else-part-gt0-clause-answers c =
     ap (λ l. take c.args.count (drop c.args.offset l)) bytes
     ∙ front_part node.size c.args.count c.args.offset c.min-part.result content (omega arith) c.min-part.ensures
     ∙ ap (λ k. take k (drop c.args.offset content)) none in
-    subst (λ n. Answers (session_served (Some (OfBuffer (Get c.args.name.now c.args.offset c.args.place c.args.count))) c.args.self.now c.args.sliced.now c.args.memory.now c.args.map.now) (Count n) c.args.self.now c.args.self.now c.args.sliced.now c.find.new.memory c.args.map.now) (sym none)
-    (subst (λ m. Answers (session_served (Some (OfBuffer (Get c.args.name.now c.args.offset c.args.place c.args.count))) c.args.self.now c.args.sliced.now m c.args.map.now) (Count 0) c.args.self.now c.args.self.now c.args.sliced.now c.find.new.memory c.args.map.now) c.find.ensures.memory
+    subst (λ n. Answers (session_served (Some (OfBuffer (Get c.args.name.now c.args.offset c.args.place c.args.count))) c.args.self.now c.args.memory.now c.args.map.now) (Count n) c.args.self.now c.args.self.now c.find.new.memory c.args.map.now) (sym none)
+    (subst (λ m. Answers (session_served (Some (OfBuffer (Get c.args.name.now c.args.offset c.args.place c.args.count))) c.args.self.now m c.args.map.now) (Count 0) c.args.self.now c.args.self.now c.find.new.memory c.args.map.now) c.find.ensures.memory
     (request.told_all (found_now at).ready (Count 0) _
     (ap (λ o. got c.args.offset c.args.place c.args.count b o (files_in c.args.self.now s) s.account) (named_now at)
     ∙ request.got_done c.args.offset c.args.place c.args.count b (files_in c.args.self.now s) s.account (file_of at) (omega (arith, long_now at)) [] is.good same

@@ -14,7 +14,8 @@ use Rattle.session_proto.specs.FileReply.{model_error}
 use Rattle.session_proto.specs.declared.file_reply.FileError.TheVariants.{OutOfRam}
 use Rattle.file_service.specs.Calls.{content_taken, content_written, HasBytes}
 use Rattle.file_service.specs.Index.{IsIndexed, previous_at}
-use Rattle.file_service.specs.Furnished.{Stock, stock}
+use Rattle.file_service.specs.Furnished.{Stock}
+use Rattle.file_service.specs.Rooms.{stock_of}
 use Rattle.file_service.specs.Node.{value_of}
 use Rattle.file_service.specs.Session.{IsFound, files_in, served_in, counted_reply}
 use Rattle.file_service.specs.Source.{bytes_from, HasSource}
@@ -27,13 +28,13 @@ use Rattle.file_service.proofs.session.FileSession.lengthen.Goals.{In_ok-content
 use Rattle.file_service.proofs.session.FileSession.lengthen.Goals as goal
 
 -- the new content
-takes : (c : In_ok-content) → TakesLonger (stock c.args.self.now.heap c.args.sliced.now c.args.memory.now c.args.map.now)
-    (stock c.args.self.now.heap c.take_content.new.sliced c.take_content.new.memory c.take_content.new.map) c.in_ok-size.size c.in_ok-content.content c.args.offset (bytes_from c.args.source c.args.memory.now)
+takes : (c : In_ok-content) → TakesLonger (stock_of c.args.self.now.rooms c.args.memory.now c.args.map.now)
+    (stock_of c.take_content.new.self c.take_content.new.memory c.take_content.new.map) c.in_ok-size.size c.in_ok-content.content c.args.offset (bytes_from c.args.source c.args.memory.now)
 takes c =
-    let was : Stock = stock c.args.self.now.heap c.args.sliced.now c.args.memory.now c.args.map.now in
-    let taken : Stock = stock c.args.self.now.heap c.take_content.new.sliced c.take_content.new.memory c.take_content.new.map in
+    let was : Stock = stock_of c.args.self.now.rooms c.args.memory.now c.args.map.now in
+    let taken : Stock = stock_of c.take_content.new.self c.take_content.new.memory c.take_content.new.map in
     let size = c.in_ok-size.size in
-    let count_is = c.count-count.ensures c.args.sliced.now c.args.memory.now c.args.map.now c.requires.source in
+    let count_is = c.count-count.ensures c.args.self.now.rooms.contents c.args.memory.now c.args.map.now c.requires.source in
     let size_is = sum_is c.checked_add.result c.ok_or.result _ size (c.args.offset + c.count-count.result) c.checked_add.ensures c.ok_or.ensures.ok_part c.in_ok-size.was ∙ ap (λ n. c.args.offset + n) count_is in
     let ok = was_ok c.take_content.result c.map_err.result c.in_ok-content.content _ c.map_err.ensures.cases c.map_err.ensures.variant c.in_ok-content.was in
     record {
@@ -57,7 +58,7 @@ copy_content-requires-clause-apart c =
 
 -- the source is as it was, when the front is copied
 record IsAsItWas (c : After-copy_content) : Type 0 where
-  has : HasSource c.args.source c.take_content.new.sliced c.copy_content.new.memory c.take_content.new.map
+  has : HasSource c.args.source c.take_content.new.self.contents c.copy_content.new.memory c.take_content.new.map
   bytes : bytes_from c.args.source c.copy_content.new.memory ≡ bytes_from c.args.source c.args.memory.now
 
 as_it_was : (c : After-copy_content) → IsAsItWas c
@@ -74,7 +75,7 @@ put_content-requires-clause-source c = (as_it_was (goal.at.put_content-requires-
 
 pub put_content-requires-clause-there : goal.put_content-requires-clause-there
 put_content-requires-clause-there c =
-    let copied : Stock = stock c.args.self.now.heap c.take_content.new.sliced c.copy_content.new.memory c.take_content.new.map in
+    let copied : Stock = stock_of c.take_content.new.self c.copy_content.new.memory c.take_content.new.map in
     subst (λ bytes. HasBytes copied.contents c.in_ok-content.content c.args.offset (length bytes)) (sym (as_it_was (goal.at.put_content-requires-clause-there c).After-copy_content).bytes)
     (room c.args.self.now _ _ _ _ _ _ c.requires.found _ _ _ _ c.requires.low (takes (goal.at.put_content-requires-clause-there c).In_ok-content) _ c.copy_content.ensures.copied)
 
@@ -83,19 +84,19 @@ replace-requires-clause-found c =
     let at = goal.at.replace-requires-clause-found c in
     let t = takes at.In_ok-content in
     let nodes = ap (λ (s : Stock). s.nodes) c.put_content.ensures.written ∙ ap (λ (s : Stock). s.nodes) c.copy_content.ensures.copied ∙ ap (λ (s : Stock). s.nodes) t.is in
-    let made : Stock = stock c.args.self.now.heap c.take_content.new.sliced c.put_content.new.memory c.take_content.new.map in
+    let made : Stock = stock_of c.take_content.new.self c.put_content.new.memory c.take_content.new.map in
     subst (λ n. IsFound c.args.self.now.first c.args.self.now.last made.nodes made.contents c.args.found.node.name.items (previous_at n c.args.found.address) c.args.found.address (value_of c.args.found.node)) (sym nodes)
-    (made_found c.args.self.now _ _ _ _ _ _ c.requires.found _ _ _ _ c.requires.low t _ c.copy_content.ensures.copied _ (c.put_content.ensures.written ∙ ap (λ bytes. content_written c.in_ok-content.content c.args.offset bytes (stock c.args.self.now.heap c.take_content.new.sliced c.copy_content.new.memory c.take_content.new.map)) (as_it_was at.After-copy_content).bytes))
+    (made_found c.args.self.now _ _ _ _ _ _ c.requires.found _ _ _ _ c.requires.low t _ c.copy_content.ensures.copied _ (c.put_content.ensures.written ∙ ap (λ bytes. content_written c.in_ok-content.content c.args.offset bytes (stock_of c.take_content.new.self c.copy_content.new.memory c.take_content.new.map)) (as_it_was at.After-copy_content).bytes))
 
 pub replace-requires-clause-content : goal.replace-requires-clause-content
 replace-requires-clause-content c =
     let at = goal.at.replace-requires-clause-content c in
-    λ _. made_has c.args.self.now _ _ _ _ _ _ c.requires.found _ _ _ _ c.requires.low (takes at.In_ok-content) _ c.copy_content.ensures.copied _ (c.put_content.ensures.written ∙ ap (λ bytes. content_written c.in_ok-content.content c.args.offset bytes (stock c.args.self.now.heap c.take_content.new.sliced c.copy_content.new.memory c.take_content.new.map)) (as_it_was at.After-copy_content).bytes)
+    λ _. made_has c.args.self.now _ _ _ _ _ _ c.requires.found _ _ _ _ c.requires.low (takes at.In_ok-content) _ c.copy_content.ensures.copied _ (c.put_content.ensures.written ∙ ap (λ bytes. content_written c.in_ok-content.content c.args.offset bytes (stock_of c.take_content.new.self c.copy_content.new.memory c.take_content.new.map)) (as_it_was at.After-copy_content).bytes)
 
 pub replace-requires-clause-own : goal.replace-requires-clause-own
 replace-requires-clause-own c =
     let at = goal.at.replace-requires-clause-own c in
-    λ _. made_own c.args.self.now _ _ _ _ _ _ c.requires.found _ _ _ _ c.requires.low (takes at.In_ok-content) _ c.copy_content.ensures.copied _ (c.put_content.ensures.written ∙ ap (λ bytes. content_written c.in_ok-content.content c.args.offset bytes (stock c.args.self.now.heap c.take_content.new.sliced c.copy_content.new.memory c.take_content.new.map)) (as_it_was at.After-copy_content).bytes)
+    λ _. made_own c.args.self.now _ _ _ _ _ _ c.requires.found _ _ _ _ c.requires.low (takes at.In_ok-content) _ c.copy_content.ensures.copied _ (c.put_content.ensures.written ∙ ap (λ bytes. content_written c.in_ok-content.content c.args.offset bytes (stock_of c.take_content.new.self c.copy_content.new.memory c.take_content.new.map)) (as_it_was at.After-copy_content).bytes)
 
 pub replace-requires-clause-indexed : goal.replace-requires-clause-indexed
 replace-requires-clause-indexed c =
@@ -106,17 +107,17 @@ replace-requires-clause-indexed c =
 pub returns-clause-serves : goal.returns-clause-serves
 returns-clause-serves c =
     let at = goal.at.returns-clause-serves c in
-    let count_is = c.count-count.ensures c.args.sliced.now c.args.memory.now c.args.map.now c.requires.source in
+    let count_is = c.count-count.ensures c.args.self.now.rooms.contents c.args.memory.now c.args.map.now c.requires.source in
     rw count_is
-    (made_served c.args.self.now _ _ _ _ _ _ c.requires.found _ _ _ _ c.requires.low (takes at.In_ok-content) _ c.copy_content.ensures.copied _ (c.put_content.ensures.written ∙ ap (λ bytes. content_written c.in_ok-content.content c.args.offset bytes (stock c.args.self.now.heap c.take_content.new.sliced c.copy_content.new.memory c.take_content.new.map)) (as_it_was at.After-copy_content).bytes)
-    c.requires.longer c.replace.new.self (stock c.replace.new.self.heap c.replace.new.sliced c.replace.new.memory c.replace.new.map)
-    c.replace.ensures.files c.replace.ensures.kept c.replace.ensures.account c.replace.ensures.own)
+    (made_served c.args.self.now _ _ _ _ _ _ c.requires.found _ _ _ _ c.requires.low (takes at.In_ok-content) _ c.copy_content.ensures.copied _ (c.put_content.ensures.written ∙ ap (λ bytes. content_written c.in_ok-content.content c.args.offset bytes (stock_of c.take_content.new.self c.copy_content.new.memory c.take_content.new.map)) (as_it_was at.After-copy_content).bytes)
+    c.requires.longer c.replace.new.self (stock_of c.replace.new.self.rooms c.replace.new.memory c.replace.new.map)
+    c.replace.ensures.files c.replace.ensures.kept c.replace.ensures.account (record { label = c.replace.ensures.own.label; buffer = c.replace.ensures.own.buffer }))
 
 pub returns-in_err-size-clause-serves : goal.returns-in_err-size-clause-serves
 returns-in_err-size-clause-serves c =
-    let was : Stock = stock c.args.self.now.heap c.args.sliced.now c.args.memory.now c.args.map.now in
+    let was : Stock = stock_of c.args.self.now.rooms c.args.memory.now c.args.map.now in
     let size = c.args.offset + length (bytes_from c.args.source c.args.memory.now) in
-    let count_is = c.count-count.ensures c.args.sliced.now c.args.memory.now c.args.map.now c.requires.source in
+    let count_is = c.count-count.ensures c.args.self.now.rooms.contents c.args.memory.now c.args.map.now c.requires.source in
     let above = no_sum c.checked_add.result c.ok_or.result (c.args.offset + c.count-count.result < 2 ^ 64) _ (c.args.offset + c.count-count.result) c.checked_add.ensures c.ok_or.ensures.ok_part c.in_err-size.was in
     let tells : c.from_residual.result ≡ Err OutOfRam = search rules in
     serves_told (served_in (Write c.args.found.node.name.items c.args.offset (bytes_from c.args.source c.args.memory.now)) c.args.self.now was) _ c.args.self.now was c.requires.files
@@ -126,16 +127,16 @@ returns-in_err-size-clause-serves c =
 
 pub returns-in_err-content-clause-serves : goal.returns-in_err-content-clause-serves
 returns-in_err-content-clause-serves c =
-    let was : Stock = stock c.args.self.now.heap c.args.sliced.now c.args.memory.now c.args.map.now in
-    let count_is = c.count-count.ensures c.args.sliced.now c.args.memory.now c.args.map.now c.requires.source in
+    let was : Stock = stock_of c.args.self.now.rooms c.args.memory.now c.args.map.now in
+    let count_is = c.count-count.ensures c.args.self.now.rooms.contents c.args.memory.now c.args.map.now c.requires.source in
     let size_is = sum_is c.checked_add.result c.ok_or.result _ c.in_ok-size.size (c.args.offset + c.count-count.result) c.checked_add.ensures c.ok_or.ensures.ok_part c.in_ok-size.was ∙ ap (λ n. c.args.offset + n) count_is in
     let refused = err_case c.take_content.result c.map_err.result c.in_err-content.field-0.0 _ c.map_err.ensures.cases c.map_err.ensures.variant c.in_err-content.was in
     let error : model_error c.in_err-content.field-0.0 ≡ error_of refused.0 = err_and c.map_err.result c.in_err-content.field-0.0 _ c.in_err-content.was refused.1.1 in
     let tells : c.from_residual-in_err-content.result ≡ Err c.in_err-content.field-0.0 = search rules in
     let short = refused_short c.in_ok-size.size was.account refused.0 (omega (arith, size_is, c.requires.longer)) c.ram_fits.ensures (sym c.take_content.ensures.refusal ∙ ap result_err refused.1.0) in
     serves_refused (served_in (Write c.args.found.node.name.items c.args.offset (bytes_from c.args.source c.args.memory.now)) c.args.self.now was) _ c.args.self.now
-    c.args.sliced.now c.take_content.new.sliced c.args.memory.now c.take_content.new.memory c.args.map.now c.take_content.new.map c.requires.files
-    (subst (λ r. OnErr r (c.take_content.new.sliced ≡ c.args.sliced.now)) refused.1.0 c.take_content.ensures.err)
+    c.take_content.new.self c.args.memory.now c.take_content.new.memory c.args.map.now c.take_content.new.map c.requires.files
+    (subst (λ r. OnErr r (c.take_content.new.self ≡ c.args.self.now.rooms)) refused.1.0 c.take_content.ensures.err)
     (subst (λ r. OnErr r (c.take_content.new.memory ≡ c.args.memory.now)) refused.1.0 c.take_content.ensures.memory_err)
     (subst (λ r. OnErr r (c.take_content.new.map ≡ c.args.map.now)) refused.1.0 c.take_content.ensures.map_err)
     (longer_refused c.args.self.now was _ _ _ _ c.requires.found c.args.offset (bytes_from c.args.source c.args.memory.now) c.requires.low c.requires.longer (error_of refused.0)

@@ -6,7 +6,8 @@ use Rattle.std.specs.Result.{result_ok}
 use Rattle.file_service.specs.Calls.{payload_in, HasBytes}
 use Rattle.file_service.specs.Files.{file_at}
 use Rattle.file_service.specs.Index.{previous_at}
-use Rattle.file_service.specs.Furnished.{Stock, stock}
+use Rattle.file_service.specs.Furnished.{Stock}
+use Rattle.file_service.specs.Rooms.{stock_of}
 use Rattle.file_service.specs.Node.{value_of}
 use Rattle.file_service.specs.Session.{Finds}
 use Rattle.file_service.proofs.FrontLemmas.{front_part, front_read}
@@ -16,7 +17,7 @@ use Rattle.file_service.proofs.session.FileSession.read.Goals as goal
 
 pub returns-then-offset-size-clause-told : goal.returns-then-offset-size-clause-told
 returns-then-offset-size-clause-told c =
-    let was : Stock = stock c.args.self.now.heap c.args.sliced.now c.args.memory.now c.args.map.now in
+    let was : Stock = stock_of c.args.self.now.rooms c.args.memory.now c.args.map.now in
     let some : c.find.result ≡ Some c.in_ok-found.found = c.ok_or.ensures.ok_part ∙ ap result_ok c.in_ok-found.was in
     let found : Finds c.args.self.now was c.args.name.now c.in_ok-found.found = subst (λ o. IfSome o (Finds c.args.self.now was c.args.name.now)) some c.find.ensures.some in
     let previous = (previous_at was.nodes c.in_ok-found.found.address) in
@@ -28,7 +29,7 @@ returns-then-offset-size-clause-told c =
 
 pub returns-then-len-gt-MOST_READ-clause-told : goal.returns-then-len-gt-MOST_READ-clause-told
 returns-then-len-gt-MOST_READ-clause-told c =
-    let was : Stock = stock c.args.self.now.heap c.args.sliced.now c.args.memory.now c.args.map.now in
+    let was : Stock = stock_of c.args.self.now.rooms c.args.memory.now c.args.map.now in
     let some : c.find.result ≡ Some c.in_ok-found.found = c.ok_or.ensures.ok_part ∙ ap result_ok c.in_ok-found.was in
     let found : Finds c.args.self.now was c.args.name.now c.in_ok-found.found = subst (λ o. IfSome o (Finds c.args.self.now was c.args.name.now)) some c.find.ensures.some in
     let previous = (previous_at was.nodes c.in_ok-found.found.address) in
@@ -40,18 +41,18 @@ returns-then-len-gt-MOST_READ-clause-told c =
 
 pub read_content-requires-clause-there : goal.read_content-requires-clause-there
 read_content-requires-clause-there c =
-    let was : Stock = stock c.args.self.now.heap c.args.sliced.now c.args.memory.now c.args.map.now in
+    let was : Stock = stock_of c.args.self.now.rooms c.args.memory.now c.args.map.now in
     let some : c.find.result ≡ Some c.in_ok-found.found = c.ok_or.ensures.ok_part ∙ ap result_ok c.in_ok-found.was in
     let found : Finds c.args.self.now was c.args.name.now c.in_ok-found.found = subst (λ o. IfSome o (Finds c.args.self.now was c.args.name.now)) some c.find.ensures.some in
     let node = value_of c.in_ok-found.found.node in
     let count : length (take c.min-count.result c.args.buffer.now) ≡ c.min-count.result = length-take-le c.min-count.result c.args.buffer.now (omega arith) in
-    subst (λ m. HasBytes (stock c.args.self.now.heap c.args.sliced.now m c.args.map.now).contents node.content c.args.offset (length (take c.min-count.result c.args.buffer.now))) (sym c.find.ensures.memory)
+    subst (λ m. HasBytes (stock_of c.args.self.now.rooms m c.args.map.now).contents node.content c.args.offset (length (take c.min-count.result c.args.buffer.now))) (sym c.find.ensures.memory)
     (found_has c.args.self.now.first c.args.self.now.last was.nodes was.contents c.args.name.now (previous_at was.nodes c.in_ok-found.found.address) c.in_ok-found.found.address node found
     c.args.offset (length (take c.min-count.result c.args.buffer.now)) (omega (arith, count)) (omega (arith, count)))
 
 pub returns-then-count-gt0-clause-told : goal.returns-then-count-gt0-clause-told
 returns-then-count-gt0-clause-told c =
-    let was : Stock = stock c.args.self.now.heap c.args.sliced.now c.args.memory.now c.args.map.now in
+    let was : Stock = stock_of c.args.self.now.rooms c.args.memory.now c.args.map.now in
     let some : c.find.result ≡ Some c.in_ok-found.found = c.ok_or.ensures.ok_part ∙ ap result_ok c.in_ok-found.was in
     let found : Finds c.args.self.now was c.args.name.now c.in_ok-found.found = subst (λ o. IfSome o (Finds c.args.self.now was c.args.name.now)) some c.find.ensures.some in
     let previous = (previous_at was.nodes c.in_ok-found.found.address) in
@@ -64,7 +65,7 @@ returns-then-count-gt0-clause-told c =
     let count : length (take c.min-count.result c.args.buffer.now) ≡ c.min-count.result = length-take-le c.min-count.result c.args.buffer.now (omega arith) in
     let payload = payload_in was.contents node.content in
     let piece : c.read_content.new.buffer ≡ slice_range payload c.args.offset (c.args.offset + length (take c.min-count.result c.args.buffer.now)) =
-    c.read_content.ensures ∙ ap (λ m. slice_range (payload_in (stock c.args.self.now.heap c.args.sliced.now m c.args.map.now).contents node.content) c.args.offset (c.args.offset + length (take c.min-count.result c.args.buffer.now))) c.find.ensures.memory in
+    c.read_content.ensures ∙ ap (λ m. slice_range (payload_in (stock_of c.args.self.now.rooms m c.args.map.now).contents node.content) c.args.offset (c.args.offset + length (take c.min-count.result c.args.buffer.now))) c.find.ensures.memory in
     read_found c.args.name.now c.args.self.now was c.args.offset c.args.len (file_at was.nodes was.contents address) _
     (found_named c.args.self.now.first c.args.self.now.last was.nodes was.contents c.args.name.now previous address node found) (omega (arith, long)) (omega arith)
     (ap (λ b. take c.args.len (drop c.args.offset b)) bytes
@@ -73,7 +74,7 @@ returns-then-count-gt0-clause-told c =
 
 pub returns-else-count-gt0-clause-told : goal.returns-else-count-gt0-clause-told
 returns-else-count-gt0-clause-told c =
-    let was : Stock = stock c.args.self.now.heap c.args.sliced.now c.args.memory.now c.args.map.now in
+    let was : Stock = stock_of c.args.self.now.rooms c.args.memory.now c.args.map.now in
     let some : c.find.result ≡ Some c.in_ok-found.found = c.ok_or.ensures.ok_part ∙ ap result_ok c.in_ok-found.was in
     let found : Finds c.args.self.now was c.args.name.now c.in_ok-found.found = subst (λ o. IfSome o (Finds c.args.self.now was c.args.name.now)) some c.find.ensures.some in
     let previous = (previous_at was.nodes c.in_ok-found.found.address) in

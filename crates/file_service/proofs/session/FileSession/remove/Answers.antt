@@ -5,7 +5,8 @@ use Rattle.std.specs.Result.{result_ok}
 use Rattle.own_model.specs.FileText.FileReply.{Done}
 use Rattle.own_model.specs.FileText.FileRequest.{Drop}
 use Rattle.sliced_heap.specs.Chain.{is_listed}
-use Rattle.file_service.specs.Furnished.{Stock, stock, KeepsSession}
+use Rattle.file_service.specs.Furnished.{Stock}
+use Rattle.file_service.specs.Rooms.{stock_of, KeepsRooms}
 use Rattle.file_service.specs.Index.{IsNamed}
 use Rattle.file_service.specs.Node.{value_of}
 use Rattle.file_service.specs.Session.{Finds, IsListed, KeepsOwn, LinksTo, Serves, served_in}
@@ -18,42 +19,42 @@ use Rattle.file_service.proofs.session.FileSession.remove.Goals as goal
 
 pub unlist-previous-requires-clause-listed : goal.unlist-previous-requires-clause-listed
 unlist-previous-requires-clause-listed c =
-    let was : Stock = stock c.args.self.now.heap c.args.sliced.now c.args.memory.now c.args.map.now in
+    let was : Stock = stock_of c.args.self.now.rooms c.args.memory.now c.args.map.now in
     let some : c.find.result ≡ Some c.in_ok-found.found = c.ok_or.ensures.ok_part ∙ ap result_ok c.in_ok-found.was in
     let found : Finds c.args.self.now was c.args.name.now c.in_ok-found.found = subst (λ o. IfSome o (Finds c.args.self.now was c.args.name.now)) some c.find.ensures.some in
     let blocks = blocks_are c.args.self.now.first c.args.self.now.last was.nodes was.contents _ found.stand in
-    subst (λ m. IsListed c.args.self.now (stock c.args.self.now.heap c.args.sliced.now m c.args.map.now) c.in_ok-found.found.address (value_of c.in_ok-found.found.node)) (sym c.find.ensures.memory)
+    subst (λ m. IsListed c.args.self.now (stock_of c.args.self.now.rooms m c.args.map.now) c.in_ok-found.found.address (value_of c.in_ok-found.found.node)) (sym c.find.ensures.memory)
     (record { there = ap (λ xs. is_listed xs c.in_ok-found.found.address) blocks ∙ in_blocks c.args.self.now.first c.args.self.now.last was.nodes was.contents c.args.name.now _ c.in_ok-found.found.address _ found; node_is = found.node_is })
 
 pub link-requires-clause-there : goal.link-requires-clause-there
 link-requires-clause-there c holder =
-    let old : Stock = stock c.args.self.now.heap c.args.sliced.now c.find.new.memory c.args.map.now in
-    let was : Stock = stock c.unlist-previous.new.self.heap c.args.sliced.now c.unlist-previous.new.memory c.args.map.now in
+    let old : Stock = stock_of c.args.self.now.rooms c.find.new.memory c.args.map.now in
+    let was : Stock = stock_of c.unlist-previous.new.self.rooms c.unlist-previous.new.memory c.args.map.now in
     let some : c.find.result ≡ Some c.in_ok-found.found = c.ok_or.ensures.ok_part ∙ ap result_ok c.in_ok-found.was in
     let address = c.in_ok-found.found.address in
     let node = value_of c.in_ok-found.found.node in
     let previous = c.unlist-previous.result in
-    let finds : Finds c.args.self.now (stock c.args.self.now.heap c.args.sliced.now c.args.memory.now c.args.map.now) c.args.name.now c.in_ok-found.found =
-    subst (λ o. IfSome o (Finds c.args.self.now (stock c.args.self.now.heap c.args.sliced.now c.args.memory.now c.args.map.now) c.args.name.now)) some c.find.ensures.some in
+    let finds : Finds c.args.self.now (stock_of c.args.self.now.rooms c.args.memory.now c.args.map.now) c.args.name.now c.in_ok-found.found =
+    subst (λ o. IfSome o (Finds c.args.self.now (stock_of c.args.self.now.rooms c.args.memory.now c.args.map.now) c.args.name.now)) some c.find.ensures.some in
     let from : Finds c.args.self.now old c.args.name.now c.in_ok-found.found =
-    subst (λ m. Finds c.args.self.now (stock c.args.self.now.heap c.args.sliced.now m c.args.map.now) c.args.name.now c.in_ok-found.found) (sym c.find.ensures.memory) finds in
+    subst (λ m. Finds c.args.self.now (stock_of c.args.self.now.rooms m c.args.map.now) c.args.name.now c.in_ok-found.found) (sym c.find.ensures.memory) finds in
     let is = is_unlisted c.args.self.now c.unlist-previous.new.self old was c.args.name.now previous address node from c.unlist-previous.ensures.previous c.unlist-previous.ensures.tails c.unlist-previous.ensures.unlists in
     previous_there c.args.self.now.first c.args.self.now.last was.nodes was.contents c.args.name.now previous address node is.found holder
 
 pub give_node-requires-clause-there : goal.give_node-requires-clause-there
 give_node-requires-clause-there c =
-    let old : Stock = stock c.args.self.now.heap c.args.sliced.now c.find.new.memory c.args.map.now in
-    let was : Stock = stock c.unlist-previous.new.self.heap c.args.sliced.now c.unlist-previous.new.memory c.args.map.now in
+    let old : Stock = stock_of c.args.self.now.rooms c.find.new.memory c.args.map.now in
+    let was : Stock = stock_of c.unlist-previous.new.self.rooms c.unlist-previous.new.memory c.args.map.now in
     let some : c.find.result ≡ Some c.in_ok-found.found = c.ok_or.ensures.ok_part ∙ ap result_ok c.in_ok-found.was in
     let address = c.in_ok-found.found.address in
     let node = value_of c.in_ok-found.found.node in
     let previous = c.unlist-previous.result in
-    let finds : Finds c.args.self.now (stock c.args.self.now.heap c.args.sliced.now c.args.memory.now c.args.map.now) c.args.name.now c.in_ok-found.found =
-    subst (λ o. IfSome o (Finds c.args.self.now (stock c.args.self.now.heap c.args.sliced.now c.args.memory.now c.args.map.now) c.args.name.now)) some c.find.ensures.some in
+    let finds : Finds c.args.self.now (stock_of c.args.self.now.rooms c.args.memory.now c.args.map.now) c.args.name.now c.in_ok-found.found =
+    subst (λ o. IfSome o (Finds c.args.self.now (stock_of c.args.self.now.rooms c.args.memory.now c.args.map.now) c.args.name.now)) some c.find.ensures.some in
     let from : Finds c.args.self.now old c.args.name.now c.in_ok-found.found =
-    subst (λ m. Finds c.args.self.now (stock c.args.self.now.heap c.args.sliced.now m c.args.map.now) c.args.name.now c.in_ok-found.found) (sym c.find.ensures.memory) finds in
+    subst (λ m. Finds c.args.self.now (stock_of c.args.self.now.rooms m c.args.map.now) c.args.name.now c.in_ok-found.found) (sym c.find.ensures.memory) finds in
     let is = is_unlisted c.args.self.now c.unlist-previous.new.self old was c.args.name.now previous address node from c.unlist-previous.ensures.previous c.unlist-previous.ensures.tails c.unlist-previous.ensures.unlists in
-    let linked : Stock = stock c.link.new.self.heap c.args.sliced.now c.link.new.memory c.args.map.now in
+    let linked : Stock = stock_of c.link.new.self.rooms c.link.new.memory c.args.map.now in
     let start : c.unlist-previous.new.self.first ≡ c.args.self.now.first = ap (λ (s : FileSession). s.first) c.unlist-previous.ensures.same in
     let links : LinksTo c.args.self.now.first previous node.next c.link.new.self.first was.nodes linked.nodes =
     subst (λ f. LinksTo f previous node.next c.link.new.self.first was.nodes linked.nodes) start c.link.ensures.links in
@@ -63,92 +64,92 @@ give_node-requires-clause-there c =
 
 pub give_content-requires-clause-there : goal.give_content-requires-clause-there
 give_content-requires-clause-there c =
-    let old : Stock = stock c.args.self.now.heap c.args.sliced.now c.find.new.memory c.args.map.now in
-    let was : Stock = stock c.unlist-previous.new.self.heap c.args.sliced.now c.unlist-previous.new.memory c.args.map.now in
+    let old : Stock = stock_of c.args.self.now.rooms c.find.new.memory c.args.map.now in
+    let was : Stock = stock_of c.unlist-previous.new.self.rooms c.unlist-previous.new.memory c.args.map.now in
     let some : c.find.result ≡ Some c.in_ok-found.found = c.ok_or.ensures.ok_part ∙ ap result_ok c.in_ok-found.was in
     let address = c.in_ok-found.found.address in
     let node = value_of c.in_ok-found.found.node in
     let previous = c.unlist-previous.result in
-    let finds : Finds c.args.self.now (stock c.args.self.now.heap c.args.sliced.now c.args.memory.now c.args.map.now) c.args.name.now c.in_ok-found.found =
-    subst (λ o. IfSome o (Finds c.args.self.now (stock c.args.self.now.heap c.args.sliced.now c.args.memory.now c.args.map.now) c.args.name.now)) some c.find.ensures.some in
+    let finds : Finds c.args.self.now (stock_of c.args.self.now.rooms c.args.memory.now c.args.map.now) c.args.name.now c.in_ok-found.found =
+    subst (λ o. IfSome o (Finds c.args.self.now (stock_of c.args.self.now.rooms c.args.memory.now c.args.map.now) c.args.name.now)) some c.find.ensures.some in
     let from : Finds c.args.self.now old c.args.name.now c.in_ok-found.found =
-    subst (λ m. Finds c.args.self.now (stock c.args.self.now.heap c.args.sliced.now m c.args.map.now) c.args.name.now c.in_ok-found.found) (sym c.find.ensures.memory) finds in
+    subst (λ m. Finds c.args.self.now (stock_of c.args.self.now.rooms m c.args.map.now) c.args.name.now c.in_ok-found.found) (sym c.find.ensures.memory) finds in
     let is = is_unlisted c.args.self.now c.unlist-previous.new.self old was c.args.name.now previous address node from c.unlist-previous.ensures.previous c.unlist-previous.ensures.tails c.unlist-previous.ensures.unlists in
-    let linked : Stock = stock c.link.new.self.heap c.args.sliced.now c.link.new.memory c.args.map.now in
+    let linked : Stock = stock_of c.link.new.self.rooms c.link.new.memory c.args.map.now in
     let start : c.unlist-previous.new.self.first ≡ c.args.self.now.first = ap (λ (s : FileSession). s.first) c.unlist-previous.ensures.same in
     let links : LinksTo c.args.self.now.first previous node.next c.link.new.self.first was.nodes linked.nodes =
     subst (λ f. LinksTo f previous node.next c.link.new.self.first was.nodes linked.nodes) start c.link.ensures.links in
     let root : c.link.new.self.root ≡ c.unlist-previous.new.self.root = ap (λ (s : FileSession). s.root) c.link.ensures.same in
     let named = subst (λ r. IsNamed r was.nodes (is.found.before ++ is.found.behind)) (sym root) is.named in
-    let given : Stock = stock c.give_node.new.heap c.args.sliced.now c.give_node.new.memory c.give_node.new.map in
+    let given : Stock = stock_of c.give_node.new.self c.give_node.new.memory c.give_node.new.map in
     given_there c.args.self.now c.link.new.self was linked given c.args.name.now previous address node is.found links c.link.ensures.rest named is.back c.give_node.ensures.given.is (omega arith)
 
 pub returns-then-node-gt0-clause-serves : goal.returns-then-node-gt0-clause-serves
 returns-then-node-gt0-clause-serves c =
-    let old : Stock = stock c.args.self.now.heap c.args.sliced.now c.find.new.memory c.args.map.now in
-    let was : Stock = stock c.unlist-previous.new.self.heap c.args.sliced.now c.unlist-previous.new.memory c.args.map.now in
+    let old : Stock = stock_of c.args.self.now.rooms c.find.new.memory c.args.map.now in
+    let was : Stock = stock_of c.unlist-previous.new.self.rooms c.unlist-previous.new.memory c.args.map.now in
     let some : c.find.result ≡ Some c.in_ok-found.found = c.ok_or.ensures.ok_part ∙ ap result_ok c.in_ok-found.was in
     let address = c.in_ok-found.found.address in
     let node = value_of c.in_ok-found.found.node in
     let previous = c.unlist-previous.result in
-    let finds : Finds c.args.self.now (stock c.args.self.now.heap c.args.sliced.now c.args.memory.now c.args.map.now) c.args.name.now c.in_ok-found.found =
-    subst (λ o. IfSome o (Finds c.args.self.now (stock c.args.self.now.heap c.args.sliced.now c.args.memory.now c.args.map.now) c.args.name.now)) some c.find.ensures.some in
+    let finds : Finds c.args.self.now (stock_of c.args.self.now.rooms c.args.memory.now c.args.map.now) c.args.name.now c.in_ok-found.found =
+    subst (λ o. IfSome o (Finds c.args.self.now (stock_of c.args.self.now.rooms c.args.memory.now c.args.map.now) c.args.name.now)) some c.find.ensures.some in
     let from : Finds c.args.self.now old c.args.name.now c.in_ok-found.found =
-    subst (λ m. Finds c.args.self.now (stock c.args.self.now.heap c.args.sliced.now m c.args.map.now) c.args.name.now c.in_ok-found.found) (sym c.find.ensures.memory) finds in
+    subst (λ m. Finds c.args.self.now (stock_of c.args.self.now.rooms m c.args.map.now) c.args.name.now c.in_ok-found.found) (sym c.find.ensures.memory) finds in
     let is = is_unlisted c.args.self.now c.unlist-previous.new.self old was c.args.name.now previous address node from c.unlist-previous.ensures.previous c.unlist-previous.ensures.tails c.unlist-previous.ensures.unlists in
-    let linked : Stock = stock c.link.new.self.heap c.args.sliced.now c.link.new.memory c.args.map.now in
+    let linked : Stock = stock_of c.link.new.self.rooms c.link.new.memory c.args.map.now in
     let start : c.unlist-previous.new.self.first ≡ c.args.self.now.first = ap (λ (s : FileSession). s.first) c.unlist-previous.ensures.same in
     let links : LinksTo c.args.self.now.first previous node.next c.link.new.self.first was.nodes linked.nodes =
     subst (λ f. LinksTo f previous node.next c.link.new.self.first was.nodes linked.nodes) start c.link.ensures.links in
     let root : c.link.new.self.root ≡ c.unlist-previous.new.self.root = ap (λ (s : FileSession). s.root) c.link.ensures.same in
     let named = subst (λ r. IsNamed r was.nodes (is.found.before ++ is.found.behind)) (sym root) is.named in
-    let given : Stock = stock c.give_node.new.heap c.args.sliced.now c.give_node.new.memory c.give_node.new.map in
-    let later : FileSession = record c.link.new.self { heap = c.give_node.new.heap; last = c.last_without-self.result } in
+    let given : Stock = stock_of c.give_node.new.self c.give_node.new.memory c.give_node.new.map in
+    let later : FileSession = record c.link.new.self { rooms = c.give_content.new.self; last = c.last_without-self.result } in
     let same : c.link.new.self.last ≡ c.args.self.now.last = ap (λ (s : FileSession). s.last) c.link.ensures.same ∙ ap (λ (s : FileSession). s.last) c.unlist-previous.ensures.same in
     let last_is = c.last_without-self.ensures ∙ ap (λ l. if l == address then previous else l) same in
     let own : KeepsOwn c.args.self.now later = record {
       label = ap (λ (s : FileSession). s.label) c.link.ensures.same ∙ ap (λ (s : FileSession). s.label) c.unlist-previous.ensures.same;
       buffer = ap (λ (s : FileSession). s.buffer) c.link.ensures.same ∙ ap (λ (s : FileSession). s.buffer) c.unlist-previous.ensures.same;
     } in
-    let now : Stock = stock c.give_node.new.heap c.give_content.new.sliced c.give_content.new.memory c.give_content.new.map in
-    subst (λ m. Serves (served_in (Drop c.args.name.now) c.args.self.now (stock c.args.self.now.heap c.args.sliced.now m c.args.map.now)) Done c.args.self.now later now) c.find.ensures.memory
+    let now : Stock = stock_of c.give_content.new.self c.give_content.new.memory c.give_content.new.map in
+    subst (λ m. Serves (served_in (Drop c.args.name.now) c.args.self.now (stock_of c.args.self.now.rooms m c.args.map.now)) Done c.args.self.now later now) c.find.ensures.memory
     (subst (λ s. Serves s Done c.args.self.now later now) is.served
     (serves_full c.args.self.now later was linked given c.args.name.now previous address node is.found links c.link.ensures.rest named is.back c.give_node.ensures.given.is last_is own
     now (omega arith) c.give_content.ensures.given))
 
 pub returns-else-node-gt0-clause-serves : goal.returns-else-node-gt0-clause-serves
 returns-else-node-gt0-clause-serves c =
-    let old : Stock = stock c.args.self.now.heap c.args.sliced.now c.find.new.memory c.args.map.now in
-    let was : Stock = stock c.unlist-previous.new.self.heap c.args.sliced.now c.unlist-previous.new.memory c.args.map.now in
+    let old : Stock = stock_of c.args.self.now.rooms c.find.new.memory c.args.map.now in
+    let was : Stock = stock_of c.unlist-previous.new.self.rooms c.unlist-previous.new.memory c.args.map.now in
     let some : c.find.result ≡ Some c.in_ok-found.found = c.ok_or.ensures.ok_part ∙ ap result_ok c.in_ok-found.was in
     let address = c.in_ok-found.found.address in
     let node = value_of c.in_ok-found.found.node in
     let previous = c.unlist-previous.result in
-    let finds : Finds c.args.self.now (stock c.args.self.now.heap c.args.sliced.now c.args.memory.now c.args.map.now) c.args.name.now c.in_ok-found.found =
-    subst (λ o. IfSome o (Finds c.args.self.now (stock c.args.self.now.heap c.args.sliced.now c.args.memory.now c.args.map.now) c.args.name.now)) some c.find.ensures.some in
+    let finds : Finds c.args.self.now (stock_of c.args.self.now.rooms c.args.memory.now c.args.map.now) c.args.name.now c.in_ok-found.found =
+    subst (λ o. IfSome o (Finds c.args.self.now (stock_of c.args.self.now.rooms c.args.memory.now c.args.map.now) c.args.name.now)) some c.find.ensures.some in
     let from : Finds c.args.self.now old c.args.name.now c.in_ok-found.found =
-    subst (λ m. Finds c.args.self.now (stock c.args.self.now.heap c.args.sliced.now m c.args.map.now) c.args.name.now c.in_ok-found.found) (sym c.find.ensures.memory) finds in
+    subst (λ m. Finds c.args.self.now (stock_of c.args.self.now.rooms m c.args.map.now) c.args.name.now c.in_ok-found.found) (sym c.find.ensures.memory) finds in
     let is = is_unlisted c.args.self.now c.unlist-previous.new.self old was c.args.name.now previous address node from c.unlist-previous.ensures.previous c.unlist-previous.ensures.tails c.unlist-previous.ensures.unlists in
-    let linked : Stock = stock c.link.new.self.heap c.args.sliced.now c.link.new.memory c.args.map.now in
+    let linked : Stock = stock_of c.link.new.self.rooms c.link.new.memory c.args.map.now in
     let start : c.unlist-previous.new.self.first ≡ c.args.self.now.first = ap (λ (s : FileSession). s.first) c.unlist-previous.ensures.same in
     let links : LinksTo c.args.self.now.first previous node.next c.link.new.self.first was.nodes linked.nodes =
     subst (λ f. LinksTo f previous node.next c.link.new.self.first was.nodes linked.nodes) start c.link.ensures.links in
     let root : c.link.new.self.root ≡ c.unlist-previous.new.self.root = ap (λ (s : FileSession). s.root) c.link.ensures.same in
     let named = subst (λ r. IsNamed r was.nodes (is.found.before ++ is.found.behind)) (sym root) is.named in
-    let given : Stock = stock c.give_node.new.heap c.args.sliced.now c.give_node.new.memory c.give_node.new.map in
-    let later : FileSession = record c.link.new.self { heap = c.give_node.new.heap; last = c.last_without-self.result } in
+    let given : Stock = stock_of c.give_node.new.self c.give_node.new.memory c.give_node.new.map in
+    let later : FileSession = record c.link.new.self { rooms = c.give_node.new.self; last = c.last_without-self.result } in
     let same : c.link.new.self.last ≡ c.args.self.now.last = ap (λ (s : FileSession). s.last) c.link.ensures.same ∙ ap (λ (s : FileSession). s.last) c.unlist-previous.ensures.same in
     let last_is = c.last_without-self.ensures ∙ ap (λ l. if l == address then previous else l) same in
     let own : KeepsOwn c.args.self.now later = record {
       label = ap (λ (s : FileSession). s.label) c.link.ensures.same ∙ ap (λ (s : FileSession). s.label) c.unlist-previous.ensures.same;
       buffer = ap (λ (s : FileSession). s.buffer) c.link.ensures.same ∙ ap (λ (s : FileSession). s.buffer) c.unlist-previous.ensures.same;
     } in
-    subst (λ m. Serves (served_in (Drop c.args.name.now) c.args.self.now (stock c.args.self.now.heap c.args.sliced.now m c.args.map.now)) Done c.args.self.now later given) c.find.ensures.memory
+    subst (λ m. Serves (served_in (Drop c.args.name.now) c.args.self.now (stock_of c.args.self.now.rooms m c.args.map.now)) Done c.args.self.now later given) c.find.ensures.memory
     (subst (λ s. Serves s Done c.args.self.now later given) is.served
     (serves_empty c.args.self.now later was linked given c.args.name.now previous address node is.found links c.link.ensures.rest named is.back c.give_node.ensures.given.is last_is own (omega arith)))
 
 pub returns-then-node-gt0-clause-keeps : goal.returns-then-node-gt0-clause-keeps
 returns-then-node-gt0-clause-keeps c =
-    let found = subst (λ m. KeepsSession c.args.sliced.now c.unlist-previous.new.self.heap c.args.sliced.now m c.unlist-previous.new.memory c.args.map.now c.args.map.now) c.find.ensures.memory c.unlist-previous.ensures.keeps in
+    let found = subst (λ m. KeepsRooms c.args.self.now.rooms c.unlist-previous.new.self.rooms m c.unlist-previous.new.memory c.args.map.now c.args.map.now) c.find.ensures.memory c.unlist-previous.ensures.keeps in
     keeps_both _ _ _ _ _ _ _ _ _ _ _ found
     (keeps_both _ _ _ _ _ _ _ _ _ _ _ c.link.ensures.keeps (keeps_both _ _ _ _ _ _ _ _ _ _ _ c.give_node.ensures.keeps c.give_content.ensures.keeps))

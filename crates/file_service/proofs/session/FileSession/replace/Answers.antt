@@ -10,7 +10,8 @@ use Rattle.own_model.specs.OwnState.{with_part}
 use Rattle.file_service.specs.Calls.{payload_in}
 use Rattle.file_service.specs.Files.{node_at, files_of}
 use Rattle.file_service.specs.Index.{AreFiles, previous_at}
-use Rattle.file_service.specs.Furnished.{Stock, stock}
+use Rattle.file_service.specs.Furnished.{Stock}
+use Rattle.file_service.specs.Rooms.{stock_of}
 use Rattle.file_service.specs.Node.{FileNode, value_of, bytes_of}
 use Rattle.file_service.proofs.ReplaceLemmas.{kept_alone, files_alone, kept_left, files_left, credited_is}
 use Rattle.file_service.proofs.SearchLemmas.{found_file, found_long}
@@ -18,13 +19,13 @@ use Rattle.file_service.proofs.session.FileSession.replace.Goals as goal
 
 pub store_node-requires-clause-there : goal.store_node-requires-clause-there
 store_node-requires-clause-there c =
-    let was : Stock = stock c.args.self.now.heap c.args.sliced.now c.args.memory.now c.args.map.now in
+    let was : Stock = stock_of c.args.self.now.rooms c.args.memory.now c.args.map.now in
     (found_file c.args.self.now.first c.args.self.now.last was.nodes was.contents c.args.found.node.name.items (previous_at was.nodes c.args.found.address) c.args.found.address (value_of c.args.found.node) c.requires.found).there
 
 pub give_content-requires-clause-there : goal.give_content-requires-clause-there
 give_content-requires-clause-there c =
-    let was : Stock = stock c.args.self.now.heap c.args.sliced.now c.args.memory.now c.args.map.now in
-    let mid : Stock = stock c.args.self.now.heap c.args.sliced.now c.store_node.new.memory c.args.map.now in
+    let was : Stock = stock_of c.args.self.now.rooms c.args.memory.now c.args.map.now in
+    let mid : Stock = stock_of c.args.self.now.rooms c.store_node.new.memory c.args.map.now in
     let node_is : value_of c.args.found.node ≡ node_at was.nodes c.args.found.address = c.requires.found.node_is in
     let file = found_file c.args.self.now.first c.args.self.now.last was.nodes was.contents c.args.found.node.name.items (previous_at was.nodes c.args.found.address) c.args.found.address (value_of c.args.found.node) c.requires.found in
     let some : 0 < c.args.found.node.size = omega arith in
@@ -34,8 +35,8 @@ give_content-requires-clause-there c =
 
 pub returns-else-was-gt0-clause-kept : goal.returns-else-was-gt0-clause-kept
 returns-else-was-gt0-clause-kept c =
-    let was : Stock = stock c.args.self.now.heap c.args.sliced.now c.args.memory.now c.args.map.now in
-    let mid : Stock = stock c.args.self.now.heap c.args.sliced.now c.store_node.new.memory c.args.map.now in
+    let was : Stock = stock_of c.args.self.now.rooms c.args.memory.now c.args.map.now in
+    let mid : Stock = stock_of c.args.self.now.rooms c.store_node.new.memory c.args.map.now in
     let node : FileNode = record (value_of c.args.found.node) { content = c.args.content; size = c.args.size } in
     let contents : mid.contents ≡ was.contents = ap (λ (s : Stock). s.contents) c.store_node.ensures.stored in
     subst (AreFiles c.args.self.now.first c.args.self.now.last c.args.self.now.root mid.nodes) (sym contents)
@@ -45,8 +46,8 @@ returns-else-was-gt0-clause-kept c =
 
 pub returns-else-was-gt0-clause-files : goal.returns-else-was-gt0-clause-files
 returns-else-was-gt0-clause-files c =
-    let was : Stock = stock c.args.self.now.heap c.args.sliced.now c.args.memory.now c.args.map.now in
-    let mid : Stock = stock c.args.self.now.heap c.args.sliced.now c.store_node.new.memory c.args.map.now in
+    let was : Stock = stock_of c.args.self.now.rooms c.args.memory.now c.args.map.now in
+    let mid : Stock = stock_of c.args.self.now.rooms c.store_node.new.memory c.args.map.now in
     let node : FileNode = record (value_of c.args.found.node) { content = c.args.content; size = c.args.size } in
     let contents : mid.contents ≡ was.contents = ap (λ (s : Stock). s.contents) c.store_node.ensures.stored in
     ap (files_of c.args.self.now.first mid.nodes) contents
@@ -56,9 +57,9 @@ returns-else-was-gt0-clause-files c =
 
 pub returns-then-was-gt0-clause-kept : goal.returns-then-was-gt0-clause-kept
 returns-then-was-gt0-clause-kept c =
-    let was : Stock = stock c.args.self.now.heap c.args.sliced.now c.args.memory.now c.args.map.now in
-    let mid : Stock = stock c.args.self.now.heap c.args.sliced.now c.store_node.new.memory c.args.map.now in
-    let now : Stock = stock c.args.self.now.heap c.give_content.new.sliced c.give_content.new.memory c.give_content.new.map in
+    let was : Stock = stock_of c.args.self.now.rooms c.args.memory.now c.args.map.now in
+    let mid : Stock = stock_of c.args.self.now.rooms c.store_node.new.memory c.args.map.now in
+    let now : Stock = stock_of c.give_content.new.self c.give_content.new.memory c.give_content.new.map in
     let node : FileNode = record (value_of c.args.found.node) { content = c.args.content; size = c.args.size } in
     let some : 0 < c.args.found.node.size = omega arith in
     let nodes : now.nodes ≡ mid.nodes = ap (λ (s : Stock). s.nodes) c.give_content.ensures.given in
@@ -72,9 +73,9 @@ returns-then-was-gt0-clause-kept c =
 
 pub returns-then-was-gt0-clause-files : goal.returns-then-was-gt0-clause-files
 returns-then-was-gt0-clause-files c =
-    let was : Stock = stock c.args.self.now.heap c.args.sliced.now c.args.memory.now c.args.map.now in
-    let mid : Stock = stock c.args.self.now.heap c.args.sliced.now c.store_node.new.memory c.args.map.now in
-    let now : Stock = stock c.args.self.now.heap c.give_content.new.sliced c.give_content.new.memory c.give_content.new.map in
+    let was : Stock = stock_of c.args.self.now.rooms c.args.memory.now c.args.map.now in
+    let mid : Stock = stock_of c.args.self.now.rooms c.store_node.new.memory c.args.map.now in
+    let now : Stock = stock_of c.give_content.new.self c.give_content.new.memory c.give_content.new.map in
     let node : FileNode = record (value_of c.args.found.node) { content = c.args.content; size = c.args.size } in
     let some : 0 < c.args.found.node.size = omega arith in
     let nodes : now.nodes ≡ mid.nodes = ap (λ (s : Stock). s.nodes) c.give_content.ensures.given in
@@ -88,7 +89,7 @@ returns-then-was-gt0-clause-files c =
 
 pub returns-then-was-gt0-clause-account : goal.returns-then-was-gt0-clause-account
 returns-then-was-gt0-clause-account c =
-    let was : Stock = stock c.args.self.now.heap c.args.sliced.now c.args.memory.now c.args.map.now in
+    let was : Stock = stock_of c.args.self.now.rooms c.args.memory.now c.args.map.now in
     let node_is : value_of c.args.found.node ≡ node_at was.nodes c.args.found.address = c.requires.found.node_is in
     let file = found_file c.args.self.now.first c.args.self.now.last was.nodes was.contents c.args.found.node.name.items (previous_at was.nodes c.args.found.address) c.args.found.address (value_of c.args.found.node) c.requires.found in
     let some : 0 < c.args.found.node.size = omega arith in

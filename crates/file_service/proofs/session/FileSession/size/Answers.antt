@@ -4,7 +4,8 @@ use Rattle.std.specs.Prelude.{IfSome}
 use Rattle.std.specs.Result.{result_ok}
 use Rattle.file_service.specs.Files.{file_at}
 use Rattle.file_service.specs.Index.{previous_at}
-use Rattle.file_service.specs.Furnished.{Stock, stock}
+use Rattle.file_service.specs.Furnished.{Stock}
+use Rattle.file_service.specs.Rooms.{stock_of}
 use Rattle.file_service.specs.Node.{value_of}
 use Rattle.file_service.specs.Session.{Finds}
 use Rattle.file_service.proofs.SearchLemmas.{found_named, found_long}
@@ -13,7 +14,7 @@ use Rattle.file_service.proofs.session.FileSession.size.Goals as goal
 
 pub returns-clause-told : goal.returns-clause-told
 returns-clause-told c =
-    let was : Stock = stock c.args.self.now.heap c.args.sliced.now c.args.memory.now c.args.map.now in
+    let was : Stock = stock_of c.args.self.now.rooms c.args.memory.now c.args.map.now in
     let some : c.find.result ≡ Some c.in_ok-found.found = c.ok_or.ensures.ok_part ∙ ap result_ok c.in_ok-found.was in
     let found : Finds c.args.self.now was c.args.name.now c.in_ok-found.found = subst (λ o. IfSome o (Finds c.args.self.now was c.args.name.now)) some c.find.ensures.some in
     let previous = (previous_at was.nodes c.in_ok-found.found.address) in

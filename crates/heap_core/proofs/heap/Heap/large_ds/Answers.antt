@@ -5,7 +5,7 @@ use Rattle.heap_core.proofs.SiteLemmas.{large_found, large_is, told_there}
 use Rattle.heap_core.proofs.heap.Heap.large_ds.Goals as goal
 
 pub unwrap-requires : goal.unwrap-requires
-unwrap-requires c = told_there _ _ _ c.heap_region.ensures.found (large_found _ _ _ c.requires.sound c.heap_region.ensures.sound _ c.requires.there)
+unwrap-requires c = told_there _ _ _ c.heap_region.ensures.found (large_found _ _ _ c.requires.sound.1 c.heap_region.ensures.sound _ c.requires.there)
 
 pub returns : goal.returns
-returns c = large_is _ _ _ c.requires.sound c.heap_region.ensures.sound _ c.requires.there _ _ _ (sym c.heap_region.ensures.found ∙ ap (option_map _) c.unwrap.ensures)
+returns c store sound = large_is _ _ _ sound c.heap_region.ensures.sound _ c.requires.there _ _ _ (sym c.heap_region.ensures.found ∙ ap (option_map _) c.unwrap.ensures)

@@ -31,7 +31,7 @@ returns-in-Some-clause-writes c =
     let size : length (take (end + 1) bytes) ≡ length before + 1 = ap length all ∙ length-append before (get_or (take n bytes) end 0 ∷ []) in
     let written = run_ended line before _ c.self.invariant b.before room b.at in
     rw (← c.self.view_is, c.finish.ensures.line, all)
-    (finishes c.self.inside.label.items line before _ c.add_run.new.line.items c.args.reply.now c.finish.new.reply written c.add_run.ensures
+    (finishes c.self.inside.heap c.self.inside.label.items line before _ c.add_run.new.line.items c.args.reply.now c.finish.new.reply written c.add_run.ensures
     (rw c.deref.ensures.0 at c.finish.ensures.reply) (rw c.deref.ensures.0 at c.finish.ensures.len) (search rules) (omega (arith, size, ap length all)) (omega (arith, size, ap length all)))
 
 pub returns-then-is_full-clause-writes : goal.returns-then-is_full-clause-writes
@@ -45,7 +45,7 @@ returns-then-is_full-clause-writes c =
     let some : 0 < length run = omega (arith, full, c.self.invariant.short) in
     let written = run_fills line run c.self.invariant whole full in
     rw (← c.self.view_is, c.finish-then-is_full.ensures.line, taken_whole n bytes)
-    (finishes c.self.inside.label.items line run run c.add_run-in-None.new.line.items c.args.reply.now c.finish-then-is_full.new.reply written c.add_run-in-None.ensures
+    (finishes c.self.inside.heap c.self.inside.label.items line run run c.add_run-in-None.new.line.items c.args.reply.now c.finish-then-is_full.new.reply written c.add_run-in-None.ensures
     (rw c.deref-then-is_full.ensures.0 at c.finish-then-is_full.ensures.reply) (rw c.deref-then-is_full.ensures.0 at c.finish-then-is_full.ensures.len) (search rules) (omega arith) some)
 
 pub returns-else-is_full-clause-writes : goal.returns-else-is_full-clause-writes
@@ -57,4 +57,4 @@ returns-else-is_full-clause-writes c =
     let whole = unbroken run (sym c.in-None.ensures.place) in
     let short : length line + length run < 200 = grind (arith, nat_tests, length-append, length-take-le n bytes) in
     rw (← c.self.view_is, taken_whole n bytes)
-    (adds c.self.inside.label.items line run run c.add_run-in-None.new.line.items c.args.reply.now (run_added line run c.self.invariant whole short) c.add_run-in-None.ensures (omega arith))
+    (adds c.self.inside.heap c.self.inside.label.items line run run c.add_run-in-None.new.line.items c.args.reply.now (run_added line run c.self.invariant whole short) c.add_run-in-None.ensures (omega arith))

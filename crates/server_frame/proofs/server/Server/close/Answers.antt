@@ -1,44 +1,44 @@
 -- The session goes, its client has its limits, and the others stay.
-use Rattle.server_frame.proofs.ServerLemmas.{row_there}
+use Rattle.server_frame.proofs.ServerLemmas.{paid, row_there}
 use Rattle.server_frame.proofs.CloseLemmas.{payer_is, child_there, leaf, server_closes, rows_close, closes_row}
 use Rattle.server_frame.proofs.server.Server.close.Goals as goal
 
-pub end-requires-clause-heap : goal.end-requires-clause-heap
-end-requires-clause-heap g c = (c.requires.server.each c.args.id.0 c.remove-session.result c.remove-session.ensures.value).heap
+pub end-heap-requires-clause-account : goal.end-heap-requires-clause-account
+end-heap-requires-clause-account g c = (paid g.S.Service.IsKept g.S.Service.payer g.met.S.Service.pays c.remove-session.result c.args.memory.now c.args.self.now.map (c.requires.server.each c.args.id.0 c.remove-session.result c.remove-session.ensures.value)).0
 
-pub end-requires-clause-kept : goal.end-requires-clause-kept
-end-requires-clause-kept g c = (c.requires.server.each c.args.id.0 c.remove-session.result c.remove-session.ensures.value).state
+pub end-heap-requires-clause-kept : goal.end-heap-requires-clause-kept
+end-heap-requires-clause-kept g c = (paid g.S.Service.IsKept g.S.Service.payer g.met.S.Service.pays c.remove-session.result c.args.memory.now c.args.self.now.map (c.requires.server.each c.args.id.0 c.remove-session.result c.remove-session.ensures.value)).1
 
 pub dismiss-requires-clause-payer : goal.dismiss-requires-clause-payer
 dismiss-requires-clause-payer g c =
-    payer_is g.S.Service.IsKept g.S.Service.value g.S.Service.buffer c.args.self.now.sessions c.remove-session.new.self c.args.memory.now c.end.new.memory c.args.self.now.map c.end.new.map c.requires.server c.args.id.0 c.remove-session.result c.remove-session.ensures.value
-    c.remove-session.ensures.updates c.end.new.heap c.end.ensures.payer c.end.ensures.others c.end.ensures.ram c.end.ensures.caps
+    payer_is g.S.Service.IsKept g.S.Service.value g.S.Service.buffer g.S.Service.payer c.args.self.now.sessions c.remove-session.new.self c.args.memory.now c.end-heap.new.memory c.args.self.now.map c.end-heap.new.map c.requires.server c.args.id.0 c.remove-session.result c.remove-session.ensures.value
+    c.remove-session.ensures.updates g.met.S.Service.pays c.end-heap.result c.end-heap.ensures.payer c.end-heap.ensures.others c.end-heap.ensures.ram c.end-heap.ensures.caps
 
 pub dismiss-requires-clause-child : goal.dismiss-requires-clause-child
 dismiss-requires-clause-child g c =
-    child_there g.S.Service.IsKept g.S.Service.value g.S.Service.buffer c.args.self.now.sessions c.remove-session.new.self c.args.memory.now c.end.new.memory c.args.self.now.map c.end.new.map c.requires.server c.args.id.0 c.remove-session.result c.remove-session.ensures.value
-    c.remove-session.ensures.updates c.end.new.heap c.end.ensures.payer c.end.ensures.others c.end.ensures.ram c.end.ensures.caps
+    child_there g.S.Service.IsKept g.S.Service.value g.S.Service.buffer g.S.Service.payer c.args.self.now.sessions c.remove-session.new.self c.args.memory.now c.end-heap.new.memory c.args.self.now.map c.end-heap.new.map c.requires.server c.args.id.0 c.remove-session.result c.remove-session.ensures.value
+    c.remove-session.ensures.updates g.met.S.Service.pays c.end-heap.result c.end-heap.ensures.payer c.end-heap.ensures.others c.end-heap.ensures.ram c.end-heap.ensures.caps
 
 pub dismiss-requires-clause-leaf : goal.dismiss-requires-clause-leaf
 dismiss-requires-clause-leaf g c =
-    leaf g.S.Service.IsKept g.S.Service.value g.S.Service.buffer c.args.self.now.sessions c.remove-session.new.self c.args.memory.now c.end.new.memory c.args.self.now.map c.end.new.map c.requires.server c.args.id.0 c.remove-session.result c.remove-session.ensures.value
-    c.remove-session.ensures.updates c.end.new.heap c.end.ensures.payer c.end.ensures.others c.end.ensures.ram c.end.ensures.caps
+    leaf g.S.Service.IsKept g.S.Service.value g.S.Service.buffer g.S.Service.payer c.args.self.now.sessions c.remove-session.new.self c.args.memory.now c.end-heap.new.memory c.args.self.now.map c.end-heap.new.map c.requires.server c.args.id.0 c.remove-session.result c.remove-session.ensures.value
+    c.remove-session.ensures.updates g.met.S.Service.pays c.end-heap.result c.end-heap.ensures.payer c.end-heap.ensures.others c.end-heap.ensures.ram c.end-heap.ensures.caps
 
 pub returns-clause-server : goal.returns-clause-server
 returns-clause-server g c =
-    server_closes g.S.Service.IsKept g.S.Service.value g.S.Service.buffer c.args.self.now.sessions c.remove-session.new.self c.args.memory.now c.end.new.memory c.args.self.now.map c.end.new.map c.requires.server c.args.id.0 c.remove-session.result c.remove-session.ensures.value
-    c.remove-session.ensures.updates c.end.new.heap c.end.ensures.payer c.end.ensures.others c.end.ensures.ram c.end.ensures.caps
+    server_closes g.S.Service.IsKept g.S.Service.value g.S.Service.buffer g.S.Service.payer c.args.self.now.sessions c.remove-session.new.self c.args.memory.now c.end-heap.new.memory c.args.self.now.map c.end-heap.new.map c.requires.server c.args.id.0 c.remove-session.result c.remove-session.ensures.value
+    c.remove-session.ensures.updates g.met.S.Service.pays c.end-heap.result c.end-heap.ensures.payer c.end-heap.ensures.others c.end-heap.ensures.ram c.end-heap.ensures.caps
     c.dismiss.new.memory c.dismiss.new.map c.dismiss.ensures.closes c.dismiss.ensures.maps c.dismiss.ensures.holdings
 
 pub returns-clause-closes : goal.returns-clause-closes
 returns-clause-closes g c = λ row is.
-    closes_row g.S.Service.IsKept g.S.Service.value g.S.Service.buffer c.args.self.now.sessions c.remove-session.new.self c.args.memory.now c.end.new.memory c.args.self.now.map c.end.new.map c.requires.server c.args.id.0 c.remove-session.result c.remove-session.ensures.value
-    c.remove-session.ensures.updates c.end.new.heap c.end.ensures.payer c.end.ensures.others c.end.ensures.ram c.end.ensures.caps
+    closes_row g.S.Service.IsKept g.S.Service.value g.S.Service.buffer g.S.Service.payer c.args.self.now.sessions c.remove-session.new.self c.args.memory.now c.end-heap.new.memory c.args.self.now.map c.end-heap.new.map c.requires.server c.args.id.0 c.remove-session.result c.remove-session.ensures.value
+    c.remove-session.ensures.updates g.met.S.Service.pays c.end-heap.result c.end-heap.ensures.payer c.end-heap.ensures.others c.end-heap.ensures.ram c.end-heap.ensures.caps
     c.dismiss.new.memory c.dismiss.new.map c.dismiss.ensures.closes c.dismiss.ensures.maps c.dismiss.ensures.holdings
     row (row_there g.S.Service.IsKept g.S.Service.value g.S.Service.buffer c.args.self.now.sessions c.args.memory.now c.args.self.now.map c.requires.server c.args.id.0 c.remove-session.result c.remove-session.ensures.value row is)
 
 pub returns-clause-sessions : goal.returns-clause-sessions
 returns-clause-sessions g c =
-    rows_close g.S.Service.IsKept g.S.Service.value g.S.Service.buffer c.args.self.now.sessions c.remove-session.new.self c.args.memory.now c.end.new.memory c.args.self.now.map c.end.new.map c.requires.server c.args.id.0 c.remove-session.result c.remove-session.ensures.value
-    c.remove-session.ensures.updates c.end.new.heap c.end.ensures.payer c.end.ensures.others c.end.ensures.ram c.end.ensures.caps
+    rows_close g.S.Service.IsKept g.S.Service.value g.S.Service.buffer g.S.Service.payer c.args.self.now.sessions c.remove-session.new.self c.args.memory.now c.end-heap.new.memory c.args.self.now.map c.end-heap.new.map c.requires.server c.args.id.0 c.remove-session.result c.remove-session.ensures.value
+    c.remove-session.ensures.updates g.met.S.Service.pays c.end-heap.result c.end-heap.ensures.payer c.end-heap.ensures.others c.end-heap.ensures.ram c.end-heap.ensures.caps
     c.dismiss.new.memory c.dismiss.new.map c.dismiss.ensures.closes c.dismiss.ensures.maps c.dismiss.ensures.holdings
