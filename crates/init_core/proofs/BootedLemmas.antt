@@ -8,14 +8,14 @@ use Rattle.std.specs.Str.{bytes_eq}
 use Rattle.std.proofs.lemmas.Bool.{eqb-true, eq-eqb, false≢true}
 use Rattle.std.proofs.lemmas.List.{take_all, drop_all, length-map}
 use Rattle.std.proofs.lemmas.List.Quantifiers.{position-Some}
-use Rattle.std.proofs.lemmas.Option.{none-some, slice_get-get_or, unwrap_or-slice_get, slice_get-map}
+use Rattle.std.proofs.lemmas.Option.{none-some, same_Some, slice_get-get_or, unwrap_or-slice_get, slice_get-map}
 use Rattle.trade_base.specs.declared.id.AccountId.{AccountId}
 use Rattle.own_model.specs.Account.{Account, opened}
-use Rattle.own_model.specs.Listed.{Listed, ListedEntry, ListedRule, Binary, Target, Way, asks_for, end_of, init_entry, most_lists, named_provider, offers, only_provider, route_of, route_within, rules_for, serves, service_at, service_of, start_of, start_list_of, way_by, way_to}
+use Rattle.own_model.specs.Listed.{Listed, ListedEntry, ListedRule, Binary, Target, Way, asks_for, end_of, init_entry, most_lists, named_provider, offers, only_provider, route_of, route_within, rules_for, server_at, serves, service_at, service_of, start_of, start_list_of, way_by, way_to}
 use Rattle.own_model.specs.Listed.Binary.{Script, LogServer, FileServer, Init}
 use Rattle.own_model.specs.Listed.Target.{Child, AnyChild, Parent}
 use Rattle.own_model.specs.Listed.Way.{Inside, Outside}
-use Rattle.own_model.specs.Routes.{Service, label_with, provider}
+use Rattle.own_model.specs.Routes.{ServerAt, Service, label_with, provider}
 use Rattle.own_model.specs.StartList.{AllCovered, Boots, inits_keep, start_state}
 use Rattle.own_model.specs.World.{start_world}
 use Rattle.own_model.proofs.ListedLemmas.{routes_lead}
@@ -28,7 +28,7 @@ use Rattle.pd_core.specs.Component.{service_of as service_in}
 use Rattle.pd_core.specs.Core.{IsInitOf, IsInits, inits_of, roles_of}
 use Rattle.pd_core.specs.Fresh.{start_of as start_in, started_world, AreFresh}
 use Rattle.pd_core.specs.SessionCalls.{Agrees}
-use Rattle.pd_core.specs.SessionCalls.{service_at as service_at_place}
+use Rattle.pd_core.specs.SessionCalls.{server_at as server_at_place, service_at as service_at_place}
 use Rattle.pd_core.specs.declared.component.Component.{Component}
 use Rattle.init_core.specs.Boot.{HasStarted, places_at, place_of, to_come, first_uncovered}
 use Rattle.init_core.proofs.InitLemmas.{map_twice, within}
@@ -169,6 +169,21 @@ module _ (entries : List ListedEntry) where
       ∙ ap Some (sym (unwrap_or-slice_get (map (λ e. service_of e.binary) entries) child None) ∙ ap (λ found. unwrap_or found None) (slice_get-map (λ e. service_of e.binary) entries child))
       ∙ of_entry (slice_get entries child) (some child refl)
 
+  -- a server of a kind at a place
+  abbrev stands : ℕ → Service → ServerAt
+  stands place kind = record { kind = kind; place = place }
+
+  there : (place : ℕ) (found said : Option Service) → Some found ≡ option_map Some said →
+      Some (option_map (stands place) found) ≡ option_map Some (option_map (stands place) said)
+  there place found None is = absurd (none-some found (sym is))
+  there place found (Some kind) is = ap (λ o. Some (option_map (stands place) o)) (same_Some found (Some kind) is)
+
+  -- and stands at its place
+  served_there : (components : List Component) → map service_in components ≡ map (λ e. service_of e.binary) entries → (child : Option ℕ) → LeadsToServer entries child →
+      option_map (server_at_place components) child ≡ option_map Some (option_and_then (server_at entries) child)
+  served_there components same None some = refl
+  served_there components same (Some child) some = there child (service_at_place components child) (service_at entries child) (served components same (Some child) some)
+
 -- the child that the wish of an entry leads to is a server, and so it is outward
 outward_some : (list : Listed) (routes : ListedEntry → Option ℕ) (init : Option ListedEntry) → ((entry : ListedEntry) → LeadsToServer list.entries (routes entry)) → LeadsToServer list.entries (option_and_then routes init)
 outward_some list routes None led = λ k is. absurd (none-some k is)
@@ -216,8 +231,8 @@ module _ {list : Listed} {store : Store} {components : List Component} {keys : L
         let entry = get_or list.entries i nobody in
         let here = slice_get-get_or list.entries i nobody (omega (arith, within, all, counted so_far (omega (arith, all)))) in
         let led = ap (option_and_then (λ e. route_within most_lists list e service label)) here in
-        ap (option_map (service_at_place components)) led
-        ∙ served list.entries components (so_far.services ∙ ap (map (λ e. service_of e.binary)) all_taken) (route_within most_lists list entry service label) (route_some most_lists list entry service label)
+        ap (option_map (server_at_place components)) led
+        ∙ served_there list.entries components (so_far.services ∙ ap (map (λ e. service_of e.binary)) all_taken) (route_within most_lists list entry service label) (route_some most_lists list entry service label)
         ∙ ap (option_map Some) (sym (routes_lead most_lists list entry service label) ∙ ap (λ found. provider (place_of list found).routes service label) (sym here));
     homes = so_far.homes;
   }

@@ -36,7 +36,7 @@ nothing_at_first Service.Log = (refl, refl)
 nothing_at_first Service.Files = (refl, refl)
 
 new_charges : (wish : Wish) → UsesItsCharge (new_session wish) None
-new_charges wish = let none = nothing_at_first wish.service in record { ram = omega (arith, none.0); caps = omega (arith, none.1) }
+new_charges wish = let none = nothing_at_first wish.server.kind in record { ram = omega (arith, none.0); caps = omega (arith, none.1) }
 
 -- a session that has served uses what it is charged for
 serve_charges : (state : ServiceState) (buffer : Option (List ℕ)) (x : Session) (request : List ℕ) → x.state ≡ state → UsesItsCharge x buffer →

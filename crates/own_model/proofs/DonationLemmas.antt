@@ -22,7 +22,7 @@ use Rattle.own_model.specs.OwnState.Object.{OpenSession}
 use Rattle.own_model.specs.OwnStep.{Outcome, own_step, own_run, unless, turned_away, opened_by, session_opened, upgraded_by, session_upgraded, session_called, session_closed, selectors_lent, with_buffer}
 use Rattle.own_model.specs.Reply.{Reply}
 use Rattle.own_model.specs.Reply.Reply.{Done, Refused}
-use Rattle.own_model.specs.Routes.{Level, Service, label_with, provider}
+use Rattle.own_model.specs.Routes.{Level, ServerAt, label_with, provider}
 use Rattle.own_model.specs.Session.{Session, Wish, given_by, wish_of, wish_in, donation_refusal, new_session, upgraded, served}
 use Rattle.own_model.specs.SessionLaws.{LimitsAreDonations, ClosesReturnDonations}
 use Rattle.own_model.specs.SessionArgs.{Arguments, arguments_of}
@@ -65,11 +65,11 @@ module _ (selector : ℕ) where
         puts (key == selector) key refl (donation_in text) sum s (parted_with s.account asked.ram asked.caps) (new_session asked) (λ _. named) h
 
     -- one where the route leads somewhere or not
-    opens_to : (service text name : List ℕ) (arguments : Arguments) → arguments_of text ≡ Some arguments → (to : Option Service) →
+    opens_to : (service text name : List ℕ) (arguments : Arguments) → arguments_of text ≡ Some arguments → (to : Option ServerAt) →
         IsCounted (Open service text) sum (opened_by (wish_of name arguments to) s)
     opens_to service text name arguments e None = h
-    opens_to service text name arguments e (Some kind) =
-        let asked : Wish = record { service = kind; label = label_with name arguments.label; ram = arguments.ram; caps = arguments.caps } in
+    opens_to service text name arguments e (Some server) =
+        let asked : Wish = record { server = server; label = label_with name arguments.label; ram = arguments.ram; caps = arguments.caps } in
         opens_by service text asked (ap (λ o. (given_by o).ram) (sym e), ap (λ o. (given_by o).caps) (sym e)) (donation_refusal s.account asked.ram asked.caps)
 
     opens : (service text name : List ℕ) (routes : List Level) (arguments : Option Arguments) → arguments_of text ≡ arguments →

@@ -59,6 +59,7 @@ pub mod SessionSoundLemmas
 pub mod ReserveLemmas
 pub mod RouteLemmas
 pub mod AloneLemmas
+pub mod ServerLemmas
 pub mod LentAloneLemmas
 pub mod LentServedLemmas
 pub mod ListedLemmas

@@ -6,8 +6,8 @@ use Rattle.std.specs.Option.{option_and_then, option_map, unwrap_or}
 use Rattle.std.specs.Str.{bytes_eq}
 use Rattle.std.proofs.lemmas.Bool.Decides.{nat_tests}
 use Rattle.std.proofs.lemmas.Slice.Eq.{bytes_eq-Decides}
-use Rattle.own_model.specs.Routes.{Lead, Level, Rule, Service, as_asked, decided, label_with, led_to, provider}
-use Rattle.own_model.specs.Listed.{Binary, Target, Listed, ListedEntry, ListedRule, Way, serves, offers, log_service, file_service, init_entry, way_to, way_by, rules_for, end_of, route_within, service_at, lead_to, lead_of, lead_without, own_rules_asking, own_rules, levels_within, RoutesLeadToProviders}
+use Rattle.own_model.specs.Routes.{Lead, Level, Rule, ServerAt, as_asked, decided, label_with, led_to, provider}
+use Rattle.own_model.specs.Listed.{Binary, Target, Listed, ListedEntry, ListedRule, Way, serves, offers, log_service, file_service, init_entry, way_to, way_by, rules_for, end_of, route_within, server_at, lead_to, lead_of, lead_without, own_rules_asking, own_rules, levels_within, RoutesLeadToProviders}
 use Rattle.own_model.specs.Listed.Binary.{Script, LogServer, FileServer, Init}
 use Rattle.own_model.specs.Listed.Target.{Child, AnyChild, Parent}
 use Rattle.own_model.specs.Listed.Way.{Inside, Outside}
@@ -90,22 +90,22 @@ rules_decide entries init [] service label = refl
 rules_decide entries init (rule ∷ rules) service label =
     first_decides entries init rule rule.service service label (own_rules entries init rules) (way_by entries init rules service label) (rules_decide entries init rules service label)
 
--- a lead to a kind of server, if there is one, ends there
-leads_there : (to outward : Option Service) → led_to (lead_to to) outward ≡ to
-leads_there (Some service) outward = refl
+-- a lead to a server, if there is one, ends there
+leads_there : (to outward : Option ServerAt) → led_to (lead_to to) outward ≡ to
+leads_there (Some server) outward = refl
 leads_there None outward = refl
 
 -- a lead ends where its way does, if it does so outward
-ends_there : (entries : List ListedEntry) (way : Way) (outward : Option Service) (child : Option ℕ) → outward ≡ option_and_then (service_at entries) child →
-    led_to (lead_of entries way) outward ≡ option_and_then (service_at entries) (end_of way child)
-ends_there entries (Inside found) outward child after = leads_there (option_and_then (service_at entries) found) outward
+ends_there : (entries : List ListedEntry) (way : Way) (outward : Option ServerAt) (child : Option ℕ) → outward ≡ option_and_then (server_at entries) child →
+    led_to (lead_of entries way) outward ≡ option_and_then (server_at entries) (end_of way child)
+ends_there entries (Inside found) outward child after = leads_there (option_and_then (server_at entries) found) outward
 ends_there entries Outside outward child after = after
 
 -- outward is an init, if there is one, whose wish leads on
 leads_outward : (lists : ℕ) (list : Listed) (init : Option ListedEntry) (service label : List ℕ) →
-    ((entry : ListedEntry) → provider (levels_within lists list entry) service label ≡ option_and_then (service_at list.entries) (route_within lists list entry service label)) →
+    ((entry : ListedEntry) → provider (levels_within lists list entry) service label ≡ option_and_then (server_at list.entries) (route_within lists list entry service label)) →
     provider (unwrap_or (option_map (levels_within lists list) init) []) service label
-    ≡ option_and_then (service_at list.entries) (option_and_then (λ entry. route_within lists list entry service label) init)
+    ≡ option_and_then (server_at list.entries) (option_and_then (λ entry. route_within lists list entry service label) init)
 leads_outward lists list (Some entry) service label each = each entry
 leads_outward lists list None service label each = refl
 

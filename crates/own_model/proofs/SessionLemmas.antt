@@ -67,7 +67,7 @@ module _ (Q : ℕ → Session → Type 0) where
   of_objects selectors each q (Buffer session bytes) is = tt
 
   -- one more object of which it holds
-  after_one : (selectors : NatMap Object) (k : ℕ) (object : Object) → ((selector : ℕ) (session : Session) → get selectors selector ≡ Some (OpenSession session) → Q selector session) →
+  pub after_one : (selectors : NatMap Object) (k : ℕ) (object : Object) → ((selector : ℕ) (session : Session) → get selectors selector ≡ Some (OpenSession session) → Q selector session) →
       OfObject k object → (selector : ℕ) (session : Session) → get (insert selectors k object) selector ≡ Some (OpenSession session) → Q selector session
   after_one selectors k object each here selector session is =
       each_after_insert selectors k object OfObject (of_objects selectors each) here selector (OpenSession session) is

@@ -37,4 +37,4 @@ kept_after (Filing files) buffer x request h = all_keep_files (session_request r
 pub run_kept : RunKeepsKept
 run_kept =
     run_keeps (EachSession Keeps) (effects_each Keeps) (reserve_each Keeps)
-    (sessions_each Keeps (λ wish enough. kept_at_first wish.service) (λ x ram caps h. h) (λ x buffer request h. kept_after x.state buffer x request h)) (gone_each Keeps)
+    (sessions_each Keeps (λ wish enough. kept_at_first wish.server.kind) (λ x ram caps h. h) (λ x buffer request h. kept_after x.state buffer x request h)) (gone_each Keeps)

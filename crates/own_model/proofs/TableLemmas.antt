@@ -25,7 +25,7 @@ use Rattle.own_model.specs.Place.Place.{InDataspace, InPayload, InBlock}
 use Rattle.own_model.specs.Region.{Region, most_regions, user_low, user_high, can_stand, first_gap, user_gap, resolved, attach_refusal, attach_at_refusal}
 use Rattle.own_model.specs.Reply.Reply.{Refused}
 use Rattle.own_model.specs.Reserve.{reserve_account}
-use Rattle.own_model.specs.Routes.{Service, label_with, provider}
+use Rattle.own_model.specs.Routes.{ServerAt, label_with, provider}
 use Rattle.own_model.specs.Session.{Session, Wish, wish_of, wish_in, too_small, donation_refusal, session_ram, session_caps}
 use Rattle.own_model.specs.SessionArgs.{Arguments, arguments_of}
 use Rattle.own_model.specs.Sliced.{sliced_header, sliced_size, sliced_refusal, block_found}
@@ -331,11 +331,11 @@ module _ (session moves ends : Bool) (P : OwnState → Type 0) (s : OwnState) (h
   yields None is = refused_for BadArgs _ refl
 
   -- an open, where the route leads somewhere or not
-  opens_to : (name : List ℕ) (arguments : Arguments) (to : Option Service) → session ≡ true → Explained session P s (opened_by (wish_of name arguments to) s)
+  opens_to : (name : List ℕ) (arguments : Arguments) (to : Option ServerAt) → session ≡ true → Explained session P s (opened_by (wish_of name arguments to) s)
       (when false BadArgs ∷ when (is_none to) ServiceDenied ∷ when (lacks_ram s.account arguments.ram) OutOfRam ∷ when (lacks_caps s.account arguments.caps) OutOfCaps
       ∷ when (nat_lt arguments.ram session_ram) InsufficientRamQuota ∷ when (nat_lt arguments.caps session_caps) InsufficientCapQuota ∷ [])
-  opens_to name arguments (Some service) of =
-      let asked : Wish = record { service = service; label = label_with name arguments.label; ram = arguments.ram; caps = arguments.caps } in
+  opens_to name arguments (Some server) of =
+      let asked : Wish = record { server = server; label = label_with name arguments.label; ram = arguments.ram; caps = arguments.caps } in
       record {
         why = donation_refusal s.account arguments.ram arguments.caps;
         accepted = session_opened asked s;

@@ -6,7 +6,7 @@ use Rattle.own_model.specs.Account.{Account, coded_account}
 use Rattle.own_model.specs.FileService.{File, Files}
 use Rattle.own_model.specs.Growth.{Shape}
 use Rattle.own_model.specs.OwnHeap.{coded_shape}
-use Rattle.own_model.specs.Routes.{Lead, Level, Rule, Service}
+use Rattle.own_model.specs.Routes.{Lead, Level, Rule, ServerAt, Service}
 use Rattle.own_model.specs.Routes.Lead.{To, Nowhere, Outward}
 use Rattle.own_model.specs.Session.{Session, ServiceState}
 use Rattle.own_model.specs.Session.ServiceState.{Logging, Filing}
@@ -31,24 +31,29 @@ coded_service = code_by ℕ coded_ℕ service_number service_from service_back
 abbrev pub coded_text : Coded (Option (List ℕ))
 coded_text = coded_option (coded_list coded_ℕ)
 
--- a lead is stored as the service that it leads to, if it isn't outward, and if there is one
-abbrev pub lead_code : Lead → Option (Option Service)
-lead_code (To service) = Some (Some service)
+-- a server is stored as its kind and its place
+abbrev pub coded_server : Coded ServerAt
+coded_server =
+    code_by (Service × ℕ) (coded× coded_service coded_ℕ) (λ s. (s.kind, s.place)) (λ p. record { kind = p.0; place = p.1 }) (λ _. refl)
+
+-- a lead is stored as the server that it leads to, if it isn't outward, and if there is one
+abbrev pub lead_code : Lead → Option (Option ServerAt)
+lead_code (To server) = Some (Some server)
 lead_code Nowhere = Some None
 lead_code Outward = None
 
-abbrev pub lead_from : Option (Option Service) → Lead
-lead_from (Some (Some service)) = To service
+abbrev pub lead_from : Option (Option ServerAt) → Lead
+lead_from (Some (Some server)) = To server
 lead_from (Some None) = Nowhere
 lead_from None = Outward
 
 abbrev pub lead_back : (l : Lead) → lead_from (lead_code l) ≡ l
-lead_back (To service) = refl
+lead_back (To server) = refl
 lead_back Nowhere = refl
 lead_back Outward = refl
 
 abbrev pub coded_lead : Coded Lead
-coded_lead = code_by (Option (Option Service)) (coded_option (coded_option coded_service)) lead_code lead_from lead_back
+coded_lead = code_by (Option (Option ServerAt)) (coded_option (coded_option coded_server)) lead_code lead_from lead_back
 
 abbrev pub coded_rule : Coded Rule
 coded_rule =
@@ -106,8 +111,8 @@ coded_state = code_by (List ℕ ⊎ Files) (coded⊎ (coded_list coded_ℕ) code
 abbrev pub coded_session : Coded Session
 coded_session =
     code_by
-    (List ℕ × (Account × ServiceState))
-    (coded× (coded_list coded_ℕ) (coded× coded_account coded_state))
-    (λ s. (s.label, (s.account, s.state)))
-    (λ p. record { label = p.0; account = p.1.0; state = p.1.1 })
+    (List ℕ × (Account × (ServiceState × ℕ)))
+    (coded× (coded_list coded_ℕ) (coded× coded_account (coded× coded_state coded_ℕ)))
+    (λ s. (s.label, (s.account, (s.state, s.server))))
+    (λ p. record { label = p.0; account = p.1.0; state = p.1.1.0; server = p.1.1.1 })
     (λ _. refl)

@@ -6,7 +6,7 @@ use Rattle.std.specs.Str.{bytes_eq}
 use Rattle.own_model.specs.Amounts.{Amounts}
 use Rattle.own_model.specs.Reserve.{no_reserve}
 use Rattle.own_model.specs.Routes as routes
-use Rattle.own_model.specs.Routes.{Lead, Level, Rule, Service, as_asked, label_with}
+use Rattle.own_model.specs.Routes.{Lead, Level, Rule, ServerAt, Service, as_asked, label_with}
 use Rattle.own_model.specs.Routes.Lead.{To, Nowhere, Outward}
 use Rattle.own_model.specs.StartList.{Kind, StartEntry, StartList}
 
@@ -157,14 +157,18 @@ service_of Init = None
 abbrev pub service_at : List ListedEntry → ℕ → Option Service
 service_at entries child = option_and_then (λ entry. service_of entry.binary) (slice_get entries child)
 
--- a lead to a kind of server, if there is one
-abbrev pub lead_to : Option Service → Lead
-lead_to (Some service) = To service
+-- the server that the child at a place is, if its binary is one
+abbrev pub server_at : List ListedEntry → ℕ → Option ServerAt
+server_at entries child = option_map (λ kind. record { kind = kind; place = child }) (service_at entries child)
+
+-- a lead to a server, if there is one
+abbrev pub lead_to : Option ServerAt → Lead
+lead_to (Some server) = To server
 lead_to None = Nowhere
 
 -- the lead of a way
 abbrev pub lead_of : List ListedEntry → Way → Lead
-lead_of entries (Inside child) = lead_to (option_and_then (service_at entries) child)
+lead_of entries (Inside child) = lead_to (option_and_then (server_at entries) child)
 lead_of entries Outside = Outward
 
 -- that of a target for a service which no child provides
@@ -241,9 +245,9 @@ start_of list entry = record {
 abbrev pub start_list_of : Listed → StartList
 start_list_of list = record { pages = list.pages; caps = list.caps; starts = map (start_of list) list.entries }
 
--- own step's routes lead where the list's rules do: to the kind of the child that the wish leads to
+-- own step's routes lead where the list's rules do: to the child that the wish leads to, and to what that serves
 abbrev pub RoutesLeadToProviders : Type 0
 RoutesLeadToProviders =
     (lists : ℕ) (list : Listed) (entry : ListedEntry) (service label : List ℕ) →
     routes.provider (levels_within lists list entry) service label
-    ≡ option_and_then (service_at list.entries) (route_within lists list entry service label)
+    ≡ option_and_then (server_at list.entries) (route_within lists list entry service label)

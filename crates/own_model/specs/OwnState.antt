@@ -77,6 +77,10 @@ session_named (Some RpcObject) = None
 session_named (Some (Buffer session bytes)) = None
 session_named None = None
 
+-- the place of the server of the session that a selector names, if it names one
+abbrev pub server_named : Option Object → Option ℕ
+server_named object = option_map (λ (session : Session). session.server) (session_named object)
+
 -- ---- buffers
 
 -- what a selector names is the buffer of the session under another

@@ -1,4 +1,4 @@
--- Routes: which kind of server a client's wish for a session leads to.
+-- Routes: which server a client's wish for a session leads to.
 use Rattle.std.specs.Prelude.{ℕ, ◌&&◌, Bool, true, List, [], ◌∷◌, ◌++◌, codes, nat_eq, if◌then◌else◌, Option, Some, None}
 use Rattle.std.specs.List.{starts_with, ends_with}
 use Rattle.std.specs.Str.{bytes_eq}
@@ -8,9 +8,14 @@ pub data Service : Type 0 where
   Log : Service
   Files : Service
 
--- where a rule leads: to a kind of server, to none, or outward, to the list of the init above
+-- a server: its kind, and its place among the entries
+pub record ServerAt : Type 0 where
+  pub kind : Service
+  pub place : ℕ
+
+-- where a rule leads: to a server, to none, or outward, to the list of the init above
 pub data Lead : Type 0 where
-  To : Service → Lead
+  To : ServerAt → Lead
   Nowhere : Lead
   Outward : Lead
 
@@ -50,14 +55,14 @@ pub record Level : Type 0 where
   pub rules : List Rule
 
 -- where a lead ends, if outward is there
-abbrev pub led_to : Lead → Option Service → Option Service
-led_to (To service) outward = Some service
+abbrev pub led_to : Lead → Option ServerAt → Option ServerAt
+led_to (To server) outward = Some server
 led_to Nowhere outward = None
 led_to Outward outward = outward
 
 -- the client's own list decides; where that leads outward, the list of its init's decides for the init, with the client's name
 -- before the label, and so on. From the machine's own list there is no way outward
-abbrev pub provider : List Level → List ℕ → List ℕ → Option Service
+abbrev pub provider : List Level → List ℕ → List ℕ → Option ServerAt
 provider [] service label = None
 provider (level ∷ outer) service label =
     led_to (decided level.rules service label) (provider outer service (label_with level.name label))

@@ -9,7 +9,7 @@ use Rattle.own_model.specs.BufferService.{BufferServed, text_served}
 use Rattle.own_model.specs.FileService.{Files, AreFiles, no_files}
 use Rattle.own_model.specs.LogService.{LogServed, IsPartial, labelled, log_served}
 use Rattle.own_model.specs.Reply.{LogLine}
-use Rattle.own_model.specs.Routes.{Level, Service, label_with, provider}
+use Rattle.own_model.specs.Routes.{Level, ServerAt, Service, label_with, provider}
 use Rattle.own_model.specs.SessionArgs.{Arguments, arguments_of}
 use Rattle.own_model.specs.Sliced.{sliced_size}
 
@@ -18,11 +18,13 @@ pub data ServiceState : Type 0 where
   Logging : List ℕ → ServiceState
   Filing : Files → ServiceState
 
--- a session: its label, its account, of which all is what its client donated, and what its server keeps for it
+-- a session: its label, its account, of which all is what its client donated, what its server keeps for it, and the place of
+-- that server among the entries
 pub record Session : Type 0 where
   pub label : List ℕ
   pub account : Account
   pub state : ServiceState
+  pub server : ℕ
 
 -- what is true of it: a line that isn't finished yet is shorter than the longest, and has no newline; files are as files are
 abbrev pub IsKept : ServiceState → Type 0
@@ -75,18 +77,18 @@ given text = given_by (arguments_of text)
 
 -- ---- what is asked for
 
--- a session that is asked for: the kind of server, the label, which is the client's and then what it gave, and the donation
+-- a session that is asked for: the server, the label, which is the client's and then what it gave, and the donation
 pub record Wish : Type 0 where
-  pub service : Service
+  pub server : ServerAt
   pub label : List ℕ
   pub ram : ℕ
   pub caps : ℕ
 
--- what arguments ask for where the route leads to a kind of server
-abbrev pub wish_of : List ℕ → Arguments → Option Service → Result Wish Refusal
+-- what arguments ask for where the route leads to a server
+abbrev pub wish_of : List ℕ → Arguments → Option ServerAt → Result Wish Refusal
 wish_of client arguments None = Err ServiceDenied
-wish_of client arguments (Some service) =
-    Ok (record { service = service; label = label_with client arguments.label; ram = arguments.ram; caps = arguments.caps })
+wish_of client arguments (Some server) =
+    Ok (record { server = server; label = label_with client arguments.label; ram = arguments.ram; caps = arguments.caps })
 
 -- what a client of this label and with these routes asks for: the arguments are read first, and then the route is taken
 abbrev pub wish_in : List ℕ → List Level → List ℕ → Option Arguments → Result Wish Refusal
@@ -101,7 +103,8 @@ abbrev pub new_session : Wish → Session
 new_session wish = record {
   label = wish.label;
   account = session_account wish.ram wish.caps;
-  state = state_at_first wish.service;
+  state = state_at_first wish.server.kind;
+  server = wish.server.place;
 }
 
 -- a session with more of a donation
@@ -154,6 +157,6 @@ pub record Labelled : Type 0 where
 abbrev pub kept_of : Session → Labelled
 kept_of session = record { label = session.label; state = session.state }
 
--- the session with an account
-abbrev pub session_with : Account → Labelled → Session
-session_with account kept = record { label = kept.label; account = account; state = kept.state }
+-- the session with an account, of the server at a place
+abbrev pub session_with : ℕ → Account → Labelled → Session
+session_with server account kept = record { label = kept.label; account = account; state = kept.state; server = server }

@@ -1,15 +1,17 @@
 -- The laws of sessions, as statements.
-use Rattle.std.specs.Prelude.{◌≡◌, ℕ, ◌==◌, Bool, true, false, List, Some}
+use Rattle.std.specs.Prelude.{◌≡◌, ℕ, ◌==◌, Bool, true, false, List, Option, Some, None}
+use Rattle.std.specs.Option.{option_map, option_or}
 use Rattle.std.specs.FinMap.{get}
 use Rattle.own_model.specs.Call.{Call}
-use Rattle.own_model.specs.Call.Call.{Upgrade, CallSession, Close, Exit}
+use Rattle.own_model.specs.Call.Call.{Open, Upgrade, CallSession, Close, Exit}
 use Rattle.own_model.specs.Donated.{donated}
 use Rattle.own_model.specs.Donation.{raised}
-use Rattle.own_model.specs.OwnState.{OwnState, EachSession}
+use Rattle.own_model.specs.OwnState.{OwnState, EachSession, server_named}
 use Rattle.own_model.specs.OwnState.Object.{OpenSession}
 use Rattle.own_model.specs.OwnStep.{own_step, own_run}
 use Rattle.own_model.specs.Reply.Reply.{Done}
-use Rattle.own_model.specs.Session.{Session, IsKept}
+use Rattle.own_model.specs.Session.{Session, IsKept, given}
+use Rattle.own_model.specs.Routes.{provider}
 use Rattle.own_model.specs.StartList.{Entry, StartEntry, start_state}
 use Rattle.own_model.specs.Sound.{AreLent}
 use Rattle.own_model.specs.Use.{UseTheirCharges}
@@ -43,6 +45,19 @@ SessionsStandAlone =
     (entry : Entry) (call : Call) (s : OwnState) (selector : ℕ) (session : Session) →
     get s.selectors selector ≡ Some (OpenSession session) → is_of selector call ≡ false →
     get (own_step entry call s).next.selectors selector ≡ Some (OpenSession session)
+
+-- the place of the server that the routes lead a call's wish for a session to, if it has one and they lead anywhere
+abbrev pub server_asked : Entry → Call → Option ℕ
+server_asked entry (Open service text) = option_map (λ server. server.place) (provider entry.routes service (given text).label)
+server_asked entry call = None
+
+-- a session that is there after a call is of the server of which it was before, and where it wasn't there of the one that its
+-- client's routes lead to
+abbrev pub SessionsHaveTheirServers : Type 0
+SessionsHaveTheirServers =
+    (entry : Entry) (call : Call) (s : OwnState) (selector : ℕ) (session : Session) →
+    get (own_step entry call s).next.selectors selector ≡ Some (OpenSession session) →
+    Some session.server ≡ option_or (server_named (get s.selectors selector)) (server_asked entry call)
 
 -- after any calls of a client that began without sessions, the limits of a session's account are what the client donated for it
 abbrev pub LimitsAreDonations : Type 0

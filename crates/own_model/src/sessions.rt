@@ -1,6 +1,6 @@
 //! Laws of sessions: what is charged to them, what servers keep for them, and that a close returns what was donated.
 ghost use Rattle.own_model.specs.LentLaws.{StartsLent, RunKeepsLent, BuffersStandAlone, GoneBuffersHaveNoRegions, RequestsAreServed, SessionCallsLeaveOthers};
-ghost use Rattle.own_model.specs.SessionLaws.{StartsWithoutSessions, RunKeepsCharges, RunKeepsKept, SessionsStandAlone, LimitsAreDonations, ClosesReturnDonations};
+ghost use Rattle.own_model.specs.SessionLaws.{StartsWithoutSessions, RunKeepsCharges, RunKeepsKept, SessionsHaveTheirServers, SessionsStandAlone, LimitsAreDonations, ClosesReturnDonations};
 
 /// Nobody starts with a session. After any calls each session's account uses exactly what the session is charged for,
 /// its buffer among it, and what its server keeps for it is as it should be.
@@ -19,6 +19,11 @@ pub fn buffers_are_of_sessions()
 /// A session stays as it is but for the upgrades, requests and the close that name its selector, and its client's exit.
 pub fn sessions_stand_alone()
     ensures { SessionsStandAlone }
+{}
+
+/// A session is of the server that its client's routes led the open to that made it, and stays so.
+pub fn sessions_have_their_servers()
+    ensures { SessionsHaveTheirServers }
 {}
 
 /// A buffer stays as it is but for the calls of its session, and for pokes found in its own regions, which change its bytes

@@ -25,9 +25,9 @@ pub fn machine_a_boots()
 /// Machine A's routes lead each of the two services to its server, whatever the label, and no other service anywhere.
 pub fn services_are_routed()
     ensures log { provider (levels_within most_lists machine_a alice) (codes "LOG") (codes "main")
-        ≡ Some Service.Log }
+        ≡ Some (record { kind = Service.Log; place = 0 }) }
     ensures files { provider (levels_within most_lists machine_a alice) (codes "File_system")
-        (codes "main") ≡ Some Service.Files }
+        (codes "main") ≡ Some (record { kind = Service.Files; place = 1 }) }
     ensures others { provider (levels_within most_lists machine_a alice) (codes "Nic") (codes "main")
         ≡ None }
 {}

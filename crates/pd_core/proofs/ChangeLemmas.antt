@@ -105,7 +105,7 @@ module _ {i s key : ℕ} {store store' : Store} {roles roles' : Roles} (core : I
       ]
 
   agree : (k : ℕ) → k ≢ i → AgreeOn (caps_in (roles k)) (sessions_in store roles) (sessions_in store' roles')
-  agree k other q server session names = ap (option_map row_session) (named_row k other q server session names)
+  agree k other q server session names = ap (option_map (row_session server)) (named_row k other q server session names)
 
   -- the own states of all others stay
   pub own_follows : (k : ℕ) → k ≢ i → own_in (sessions_in store' roles') store' (roles' k) ≡ own_in (sessions_in store roles) store (roles k)

@@ -153,7 +153,7 @@ module _ {store : Store} {roles : Roles} {i s : ℕ} {script : Script} (two : Ar
         let weights = total-remove by_weight script.caps.caps q (Session s session) names in
         let own = ap lent_weight (ap lent_of its.there) in
         let costs = total-remove by_cost script.caps.caps q (Session s session) names in
-        let found = ap (λ o. unwrap_or (option_map caps_with (option_map OpenSession (option_map row_session o))) 0) its.there in
+        let found = ap (λ o. unwrap_or (option_map caps_with (option_map OpenSession (option_map (row_session s) o))) 0) its.there in
         let rest = total_le by_weight by_cost (remove script.caps.caps q) (λ k cap is. cost_covers core i script is_script k cap (before_remove script.caps.caps q k cap is)) in
         let account = ap (λ (a : Account). a.caps_limit) (account_of-part payer store) in
         omega (arith, all, selectors, counted, weights, own, costs, found, rest, account)

@@ -53,7 +53,7 @@ module _ {store : Store} {roles : Roles} (core : IsSoundCore store roles) where
     cost_covers k (Session at other) is =
         let one = named.its k at other (ap session_at is) in
         let least = row_covers at other.0 one.row one.there in
-        let found = ap (λ o. unwrap_or (option_map caps_with (option_map OpenSession (option_map row_session o))) 0) one.there in
+        let found = ap (λ o. unwrap_or (option_map caps_with (option_map OpenSession (option_map (row_session at) o))) 0) one.there in
         omega (arith, least, found, lent_once (lent_by (rows_at store roles) (Some (at, other))))
 
     -- so there is a place for each selector that the account could pay for with all that is in reserve

@@ -108,7 +108,7 @@ module _ (places : Places) {store : Store} (components : List Component) {i : �
   none_by_world none =
       let S = sessions_in store (roles_of components) in
       let its = subst (NamesItsSessions (rows_at store (roles_of components))) (role_at components i d here) (core.named i) in
-      none_found S (get_or components i d).role q (λ named is. ap is_some (ap (option_map row_session) (its.its q named.0 named.1 is).there))
+      none_found S (get_or components i d).role q (λ named is. ap is_some (ap (option_map (row_session named.0)) (its.its q named.0 named.1 is).there))
       (sym (session_at_place places store components i d q here) ∙ none)
 
 -- a selector behind the places names none

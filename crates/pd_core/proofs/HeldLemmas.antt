@@ -247,4 +247,4 @@ module _ {store : Store} {roles : Roles} (core : IsSoundCore store roles) where
 
   -- each session that a selector names is open
   pub names_open : (i : ℕ) → HasSessions (sessions_in store roles) (caps_in (roles i))
-  names_open i q server session there = ap is_some (ap (option_map row_session) ((core.named i).its q server session (ap session_at there)).there)
+  names_open i q server session there = ap is_some (ap (option_map (row_session server)) ((core.named i).its q server session (ap session_at there)).there)

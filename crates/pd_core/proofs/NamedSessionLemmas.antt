@@ -105,23 +105,23 @@ module _ (store store' : Store) (script script' : Script) (rows : NatMap (Row La
   -- ---- it is closed
 
   module _ (closed : a ≡ raised (account_of p) names.row.account.ram_limit names.row.account.caps_limit) (none : lent' ≡ None) (gone : get script'.caps.caps selector ≡ None) where
-    closes : (entry : Entry) (S S' : Sessions) → AgreeBut S S' server session.0 → HasSessions S script.caps.caps → S server session.0 ≡ Some (row_session names.row) →
+    closes : (entry : Entry) (S S' : Sessions) → AgreeBut S S' server session.0 → HasSessions S script.caps.caps → S server session.0 ≡ Some (row_session server names.row) →
         entry_step entry (Close selector) (own_at S store script) ≡ record { reply = Done; lines = []; next = after S' }
     closes entry S S' agree ready was =
-        closes_own (changes S S' agree) heap sliced sound.own.named.one sound.own.attached entry server session (row_session names.row) names.named was names.lent
+        closes_own (changes S S' agree) heap sliced sound.own.named.one sound.own.attached entry server session (row_session server names.row) names.named was names.lent
         (same_new_selector p script.caps script.regions heap sliced sound.own S ready) none gone (account_is ∙ closed)
 
-    pub closes_does : DoesSession (Close selector) Done [] server session.0 (Some (row_session names.row)) None store script store' script'
+    pub closes_does : DoesSession (Close selector) Done [] server session.0 (Some (row_session server names.row)) None store script store' script'
     closes_does entry S S' ready kind agree was is = closes entry S S' agree ready was ∙ outcome_still Done [] S'
 
     -- with a place less for it and for its buffer
     pub closes_sound : total session_weight script'.caps.caps + 1 + lent_weight names.row.buffer ≡ total session_weight script.caps.caps → IsSoundScript store' script'
     closes_sound fewer =
-        let S = some_sessions server session.0 (row_session names.row) in
-        let ready = some_are_open server session.0 (row_session names.row) script.caps.caps in
+        let S = some_sessions server session.0 (row_session server names.row) in
+        let ready = some_are_open server session.0 (row_session server names.row) script.caps.caps in
         let limit = ap (λ (x : Account). x.caps_limit) closed in
         let before = ap (λ (x : Account). x.caps_limit) (account_of-part script.account.0 store) in
-        turned_sound (Close selector) Done [] S S (λ _ _ _. refl) ready (closes unrouted S S (λ _ _ _. refl) ready (some_same server session.0 (row_session names.row)))
+        turned_sound (Close selector) Done [] S S (λ _ _ _. refl) ready (closes unrouted S S (λ _ _ _. refl) ready (some_same server session.0 (row_session server names.row)))
         (ap (λ (x : Account). x.caps_used) closed) (omega (arith, fewer, limit, before, names.placed, turns.places))
 
   -- ---- it has the session still
@@ -130,58 +130,58 @@ module _ (store store' : Store) (script script' : Script) (rows : NatMap (Row La
     -- it is given more, and lends what it lent
     module _ (text : List ℕ) (more : Arguments) (reads : arguments_of text ≡ Some more) (enough : shortage (account_of p) more.ram more.caps ≡ None) (parted : a ≡ parted_with (account_of p) more.ram more.caps)
         (lends : option_map (lent_in store') lent' ≡ option_map (lent_in store) names.row.buffer) (whole : regions_after names.row.buffer lent' script.regions.user ≡ script.regions.user) where
-      upgrades : (entry : Entry) (S S' : Sessions) → AgreeBut S S' server session.0 → S server session.0 ≡ Some (row_session names.row) → S' server session.0 ≡ Some (upgraded (row_session names.row) more.ram more.caps) →
+      upgrades : (entry : Entry) (S S' : Sessions) → AgreeBut S S' server session.0 → S server session.0 ≡ Some (row_session server names.row) → S' server session.0 ≡ Some (upgraded (row_session server names.row) more.ram more.caps) →
           entry_step entry (Upgrade selector text) (own_at S store script) ≡ record { reply = Done; lines = []; next = after S' }
       upgrades entry S S' agree was is =
-          upgrades_own (changes S S' agree) heap sliced sound.own.named.one sound.own.attached entry server session (row_session names.row) names.named was text more reads enough named is (account_is ∙ parted) lends whole
+          upgrades_own (changes S S' agree) heap sliced sound.own.named.one sound.own.attached entry server session (row_session server names.row) names.named was text more reads enough named is (account_is ∙ parted) lends whole
 
-      pub upgrades_does : DoesSession (Upgrade selector text) Done [] server session.0 (Some (row_session names.row)) (Some (upgraded (row_session names.row) more.ram more.caps)) store script store' script'
+      pub upgrades_does : DoesSession (Upgrade selector text) Done [] server session.0 (Some (row_session server names.row)) (Some (upgraded (row_session server names.row) more.ram more.caps)) store script store' script'
       upgrades_does entry S S' ready kind agree was is = upgrades entry S S' agree was is ∙ outcome_still Done [] S'
 
       pub upgrades_sound : total session_weight script'.caps.caps ≡ total session_weight script.caps.caps → IsSoundScript store' script'
       upgrades_sound as_many =
-          let S = some_sessions server session.0 (row_session names.row) in
-          let x = upgraded (row_session names.row) more.ram more.caps in
+          let S = some_sessions server session.0 (row_session server names.row) in
+          let x = upgraded (row_session server names.row) more.ram more.caps in
           let S' = with_session S server session.0 x in
           let agree : AgreeBut S S' server session.0 = λ other at apart. with_session_other S server session.0 other at x apart in
-          turned_sound (Upgrade selector text) Done [] S S' agree (some_are_open server session.0 (row_session names.row) script.caps.caps)
-          (upgrades unrouted S S' agree (some_same server session.0 (row_session names.row)) (with_session_same S server session.0 x))
+          turned_sound (Upgrade selector text) Done [] S S' agree (some_are_open server session.0 (row_session server names.row) script.caps.caps)
+          (upgrades unrouted S S' agree (some_same server session.0 (row_session server names.row)) (with_session_same S server session.0 x))
           (ap (λ (y : Account). y.caps_used) parted) (omega (arith, as_many, sound.own.paid.placed, ap (λ (y : Account). y.caps_limit) parted, turns.places))
 
     -- or it serves a request
     module _ (request : List ℕ) (same_one : a ≡ account_of p) where
       abbrev o : Served
-      o = served (option_map (lent_in store) names.row.buffer) (row_session names.row) request
+      o = served (option_map (lent_in store) names.row.buffer) (row_session server names.row) request
 
       -- which is told with the selector of a buffer that is made
       abbrev reply : Reply
       reply = Told (completed (option_map (named_at (lent_in store) names.under) names.row.buffer) (option_map (lent_in store') lent') names.under o.reply)
 
       module _ (bytes : o.buffer ≡ option_map (lent_in store') lent') where
-        serves : (entry : Entry) (S S' : Sessions) → AgreeBut S S' server session.0 → HasSessions S script.caps.caps → S server session.0 ≡ Some (row_session names.row) → S' server session.0 ≡ Some o.session →
+        serves : (entry : Entry) (S S' : Sessions) → AgreeBut S S' server session.0 → HasSessions S script.caps.caps → S server session.0 ≡ Some (row_session server names.row) → S' server session.0 ≡ Some o.session →
             entry_step entry (CallSession selector request) (own_at S store script) ≡ record { reply = reply; lines = o.lines; next = after S' }
         serves entry S S' agree ready was is =
-            serves_own (changes S S' agree) heap sliced sound.own.named.one sound.own.attached entry server session (row_session names.row) names.named was names.lent
+            serves_own (changes S S' agree) heap sliced sound.own.named.one sound.own.attached entry server session (row_session server names.row) names.named was names.lent
             (same_new_selector p script.caps script.regions heap sliced sound.own S ready) request named is (account_is ∙ same_one) bytes
 
-        pub serves_does : DoesSession (CallSession selector request) reply o.lines server session.0 (Some (row_session names.row)) (Some o.session) store script store' script'
+        pub serves_does : DoesSession (CallSession selector request) reply o.lines server session.0 (Some (row_session server names.row)) (Some o.session) store script store' script'
         serves_does entry S S' ready kind agree was is = serves entry S S' agree ready was is ∙ outcome_still reply o.lines S'
 
         pub serves_sound : (account_of p).caps_limit + total session_weight script'.caps.caps ≤ script'.caps.places → IsSoundScript store' script'
         serves_sound placed =
-            let S = some_sessions server session.0 (row_session names.row) in
-            let ready = some_are_open server session.0 (row_session names.row) script.caps.caps in
+            let S = some_sessions server session.0 (row_session server names.row) in
+            let ready = some_are_open server session.0 (row_session server names.row) script.caps.caps in
             let S' = with_session S server session.0 o.session in
             let agree : AgreeBut S S' server session.0 = λ other at apart. with_session_other S server session.0 other at o.session apart in
-            turned_sound (CallSession selector request) reply o.lines S S' agree ready (serves unrouted S S' agree ready (some_same server session.0 (row_session names.row)) (with_session_same S server session.0 o.session))
+            turned_sound (CallSession selector request) reply o.lines S S' agree ready (serves unrouted S S' agree ready (some_same server session.0 (row_session server names.row)) (with_session_same S server session.0 o.session))
             (ap (λ (x : Account). x.caps_used) same_one) (omega (arith, placed, ap (λ (x : Account). x.caps_limit) same_one))
 
 -- ---- a call that is refused
 
 module _ (store : Store) (script : Script) (rows : NatMap (Row Labelled)) (selector server : ℕ) (session : SessionId) (names : NamesSession script store rows selector server session)
-    (entry : Entry) (S : Sessions) (was : S server session.0 ≡ Some (row_session names.row)) (text : List ℕ) where
+    (entry : Entry) (S : Sessions) (was : S server session.0 ≡ Some (row_session server names.row)) (text : List ℕ) where
   -- the selector names the session in the own state
-  session_there : session_named (get (own_at S store script).selectors selector) ≡ Some (row_session names.row)
+  session_there : session_named (get (own_at S store script).selectors selector) ≡ Some (row_session server names.row)
   unfolding own_of
   session_there = ap session_named (get-picked_at (object_of (lent_in store) S (part_at store script)) script.caps.caps selector (Session server session) names.named ∙ ap (option_map OpenSession) was)
 
@@ -196,7 +196,7 @@ module _ (store : Store) (script : Script) (rows : NatMap (Row Labelled)) (selec
   upgrade_refused more refusal reads short =
       let account : account_of (part_at store script) ≡ account_in store names.row.client = account_of-part script.account.0 store ∙ ap (account_in store) (sym names.client) in
       (λ i. upgraded_by selector (session_there i) (reads i) (own_at S store script))
-      ∙ ap (λ o. unless o (own_at S store script) (session_upgraded selector (row_session names.row) more (own_at S store script)))
+      ∙ ap (λ o. unless o (own_at S store script) (session_upgraded selector (row_session server names.row) more (own_at S store script)))
       (ap (λ a. shortage a more.ram more.caps) account ∙ short)
 
 -- a refusal that is passed on
@@ -215,7 +215,7 @@ module _ (store store' : Store) (script script' : Script) (rows : NatMap (Row La
     (names : NamesSession script store rows selector server session) (limits : ram_limits_in store' ≡ ram_limits_in store) (lent' : Option ℕ) (turns : Turns script script' selector names.under names.row.buffer lent')
     (alike : (s by key : ℕ) → s ≢ names.under → buffer_at (get script.caps.caps s) ≡ Some (by, key) → lent_in store' key ≡ lent_in store key) (others : AreOthers script.account.0 store' script'.caps.caps) where
   abbrev was : Option AnOpenSession
-  was = Some (row_session names.row)
+  was = Some (row_session server names.row)
 
   -- it is closed, and nothing is left of it and of its buffer
   pub closes_done : lent' ≡ None → get script'.caps.caps selector ≡ None → total session_weight script'.caps.caps + 1 + lent_weight names.row.buffer ≡ total session_weight script.caps.caps →
@@ -236,7 +236,7 @@ module _ (store store' : Store) (script script' : Script) (rows : NatMap (Row La
     pub upgrades_done : (text : List ℕ) (more : Arguments) → arguments_of text ≡ Some more → shortage (account_in store names.row.client) more.ram more.caps ≡ None →
         RaisesPart names.row.client names.row.key more.ram more.caps store store' → option_map (lent_in store') lent' ≡ option_map (lent_in store) names.row.buffer →
         regions_after names.row.buffer lent' script.regions.user ≡ script.regions.user → total session_weight script'.caps.caps ≡ total session_weight script.caps.caps →
-        IsDone (Upgrade selector text) Done [] server session.0 was (Some (upgraded (row_session names.row) more.ram more.caps)) store script store' script'
+        IsDone (Upgrade selector text) Done [] server session.0 was (Some (upgraded (row_session server names.row) more.ram more.caps)) store script store' script'
     upgrades_done text more reads enough raises lends whole as_many =
         let a : Account = parted_with (account_of (part_at store script)) more.ram more.caps in
         let own : part script.account.0 store' ≡ record (part_at store script) { account = Some a } = subst (λ k. part k store' ≡ parted_part (part k store) more.ram more.caps) names.client raises.parted_one in
@@ -249,9 +249,9 @@ module _ (store store' : Store) (script script' : Script) (rows : NatMap (Row La
 
     -- a request is served, which leaves the client's part
     pub serves_done : (request : List ℕ) → part script.account.0 store' ≡ part_at store script →
-        (served (option_map (lent_in store) names.row.buffer) (row_session names.row) request).buffer ≡ option_map (lent_in store') lent' →
+        (served (option_map (lent_in store) names.row.buffer) (row_session server names.row) request).buffer ≡ option_map (lent_in store') lent' →
         (account_of (part_at store script)).caps_limit + total session_weight script'.caps.caps ≤ script'.caps.places →
-        let o = served (option_map (lent_in store) names.row.buffer) (row_session names.row) request in
+        let o = served (option_map (lent_in store) names.row.buffer) (row_session server names.row) request in
         IsDone (CallSession selector request) (Told (completed (option_map (named_at (lent_in store) names.under) names.row.buffer) (option_map (lent_in store') lent') names.under o.reply)) o.lines server session.0 was
         (Some o.session) store script store' script'
     serves_done request same_part bytes placed =

@@ -69,7 +69,7 @@ has_object L sessions p (Some (Session server session)) there ready = map_some O
 
 -- sessions of which each is open
 abbrev pub all_sessions : Sessions
-all_sessions server session = Some (record { label = []; account = opened 0 0; state = Logging [] })
+all_sessions server session = Some (record { label = []; account = opened 0 0; state = Logging []; server = server })
 
 -- a capability of a session is one
 session_is : (o : Option Cap) (server : ℕ) (session : SessionId) → session_at o ≡ Some (server, session) → o ≡ Some (Session server session)

@@ -105,7 +105,7 @@ module _ (store : Store) (components : List Component) (i : ℕ) (d : Component)
 
       -- so all sessions stay
       same_sessions : sessions_in store' roles' ≡ S
-      same_sessions j server session = option_map row_session (get (same_rows server j) session)
+      same_sessions j server session = option_map (row_session server) (get (same_rows server j) session)
 
       -- the caller names the sessions and the buffers that it named
       same_names : (q : ℕ) → session_at (get (caps_in (roles' i)) q) ≡ session_at (get (caps_in (roles i)) q)

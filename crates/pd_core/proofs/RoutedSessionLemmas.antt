@@ -66,7 +66,7 @@ module _ {places : Places} {leads : Leads} {store : Store} {components : List Co
   S = sessions_in store (roles_of components)
 
   -- a server of this service stands there
-  to_service : (kind : Service) × (provider (places i).routes service args.label ≡ Some kind) × ((s < length components) × ((e : Component) → service_of_component (get_or components s e) ≡ Some kind))
+  to_service : (kind : Service) × (provider (places i).routes service args.label ≡ Some (record { kind = kind; place = s })) × ((s < length components) × ((e : Component) → service_of_component (get_or components s e) ≡ Some kind))
   to_service = led_to_service places leads store components i service args.label agrees here s led
 
   abbrev kind : Service
@@ -81,7 +81,7 @@ module _ {places : Places} {leads : Leads} {store : Store} {components : List Co
 
   -- what is asked for
   abbrev wished : Wish
-  wished = record { service = to_service.0; label = label_with (get_or components i d).name.items args.label; ram = args.ram; caps = args.caps }
+  wished = record { server = record { kind = to_service.0; place = s }; label = label_with (get_or components i d).name.items args.label; ram = args.ram; caps = args.caps }
 
   asks : wish (get_or components i d).name.items (places i).routes service text ≡ Ok wished
   asks = ap (wish_in (get_or components i d).name.items (places i).routes service) reads ∙ ap (wish_of (get_or components i d).name.items args) to_service.1
@@ -180,4 +180,4 @@ module _ {places : Places} {leads : Leads} {store : Store} {components : List Co
           let ready : HasSessions S script.caps.caps = subst (λ r. HasSessions S (caps_in r)) led_two.is_script (all_open core i) in
           step_goes components after led_two d at_place replaced faces alone changes component places (Open service text) refl refl (Selected selector.0) [] (told_alone (reply_text (Selected selector.0))) refl refl
           (for_it.does (entry_of (places i) (get_or components i d)) S (sessions_in store' (roles_of after)) service text wished ready asks refl refl
-          (sessions_agree led_two at_place replaced alone changes component) (ap (option_map row_session) (now_there led_two at_place replaced alone changes component)))
+          (sessions_agree led_two at_place replaced alone changes component) (ap (option_map (row_session s)) (now_there led_two at_place replaced alone changes component)))

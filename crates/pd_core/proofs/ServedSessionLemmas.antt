@@ -20,6 +20,7 @@ use Rattle.own_model.specs.Sound.{AreLent}
 use Rattle.own_model.proofs.LentLemmas.{buffer_none}
 use Rattle.own_model.proofs.LentServedLemmas.{requests_served}
 use Rattle.own_model.proofs.LimitLemmas.{serve_keeps}
+use Rattle.own_model.proofs.ServerLemmas.{served_anywhere, served_there}
 use Rattle.own_model.proofs.NatMapLemmas.{alike_insert, get-empty, get-insert_same}
 use Rattle.cap_space.specs.Space.{is_buffer}
 use Rattle.cap_space.specs.declared.cap.Cap.TheVariants.{Session}
@@ -44,7 +45,7 @@ use Rattle.pd_core.specs.declared.script.Script.{Script}
 use Rattle.pd_core.proofs.PlainLemmas.{unlisted}
 use Rattle.pd_core.proofs.ClientServerLemmas.{under, holds_lent, lent_alike, are_others, fresh_lent, row_paid, row_alone, serve_moves, changes_written, keeps_but, script_sound}
 use Rattle.pd_core.proofs.NameLemmas.{buffer_key, buffer_test, tested_key}
-use Rattle.pd_core.proofs.NamedSessionLemmas.{serves_done}
+use Rattle.pd_core.proofs.NamedSessionLemmas.{IsDone, serves_done}
 use Rattle.pd_core.proofs.OwnLemmas.{all_sessions}
 use Rattle.pd_core.proofs.ServerLemmas.{lent_paid, paid_in}
 use Rattle.pd_core.proofs.SessionChangeLemmas.{AreTwo, ReplacesTwo, session_goes, two_places}
@@ -134,7 +135,11 @@ module _ {store : Store} (components : List Component) {i s : ℕ} {script : Scr
   step = row_served service_step request store its_row
 
   abbrev o : ModelServed
-  o = served (option_map (lent_in store) its_row.buffer) (row_session its_row) request
+  o = served_there s (served (option_map (lent_in store) its_row.buffer) (row_session 0 its_row) request)
+
+  -- so the model has it, of the server at its place
+  model_serves : served (option_map (lent_in store) its_row.buffer) (row_session s its_row) request ≡ o
+  model_serves = served_anywhere s 0 its_row.account its_row.value (option_map (lent_in store) its_row.buffer) request
 
   serves : ServesSession its_row session.0 effect step store store' (rows_in store (roles_of components s)) (rows_of store' host')
   serves = subst (λ r. ServesSession its_row session.0 effect step store store' (rows_in store r) (rows_of store' host')) (sym host_is) (served_as its_row (there components two d host host_is q session names))
@@ -169,10 +174,13 @@ module _ {store : Store} (components : List Component) {i s : ℕ} {script : Scr
       Goes places (CallSession q request) i told store components store' components'
   turned_goes components' script' turns has placed replaced faces places told text lines =
       let keeps = keeps_but two q session names turns in
-      let done = serves_done store store' script script' (rows_in store (roles_of components s)) q s session (script_sound two) (named components two d host host_is q session names) stays.machine serves.lent turns
-      (lent_alike two q session names store' others) (are_others two q session names store' others serves.lent paid_lent keeps (ap buffer_at has) turns.tables.after) has request same_part (sym serves.bytes) placed in
+      let done = subst
+      (λ (v : ModelServed). IsDone (CallSession q request) (AnswerTold (completed (option_map (named_at (lent_in store) k) its_row.buffer) (option_map (lent_in store') serves.lent) k v.reply)) v.lines s session.0
+      (Some (row_session s its_row)) (Some v.session) store script store' script') model_serves
+      (serves_done store store' script script' (rows_in store (roles_of components s)) q s session (script_sound two) (named components two d host host_is q session names) stays.machine serves.lent turns
+      (lent_alike two q session names store' others) (are_others two q session names store' others serves.lent paid_lent keeps (ap buffer_at has) turns.tables.after) has request same_part (ap (λ (v : ModelServed). v.buffer) model_serves ∙ sym serves.bytes) placed) in
       let paid = paid_in store' host'.role stays.works session.0 next now in
-      let limit = (serve_keeps (row_session its_row).state (option_map (lent_in store) its_row.buffer) (row_session its_row) request).1 in
+      let limit = (serve_keeps (row_session 0 its_row).state (option_map (lent_in store) its_row.buffer) (row_session 0 its_row) request).1 in
       session_goes components components' two d host_is replaced faces (row_alone two q session names)
       (changes_written two q session names store' keeps has turns.tables.after refl refl serves.sessions
       (serve_moves two q session names store' serves paid.opens (ap (λ (a : Account). a.caps_limit) paid.account ∙ limit)) done.sound stays.machine) stays
@@ -232,11 +240,11 @@ module _ {store : Store} (components : List Component) {i s : ℕ} {script : Scr
         -- the reply has room for its selector
         pub has_room : (told : Told) → ((one : Row Labelled) → get (rows_of store host) session.0 ≡ Some one → told.text ≡ (row_served service_step request store one).text) → length told.text + 20 ≤ 2100
         has_room told text =
-            let bytes : (served None (row_session its_row) request).buffer ≡ Some (lent_in store' space.0)
-            = ap (λ b. (served (option_map (lent_in store) b) (row_session its_row) request).buffer) (sym made.0) ∙ sym serves.bytes ∙ ap (option_map (lent_in store')) made.1 in
-            let is : told.text ≡ (served None (row_session its_row) request).reply
-            = text its_row (there components two d host host_is q session names) ∙ ap (λ b. (served (option_map (lent_in store) b) (row_session its_row) request).reply) made.0 in
-            omega (arith, ap length is, short_reply (row_session its_row) request (lent_in store' space.0) bytes)
+            let bytes : (served None (row_session 0 its_row) request).buffer ≡ Some (lent_in store' space.0)
+            = ap (λ b. (served (option_map (lent_in store) b) (row_session 0 its_row) request).buffer) (sym made.0) ∙ sym serves.bytes ∙ ap (option_map (lent_in store')) made.1 in
+            let is : told.text ≡ (served None (row_session 0 its_row) request).reply
+            = text its_row (there components two d host host_is q session names) ∙ ap (λ b. (served (option_map (lent_in store) b) (row_session 0 its_row) request).reply) made.0 in
+            omega (arith, ap length is, short_reply (row_session 0 its_row) request (lent_in store' space.0) bytes)
 
         pub made_goes : (by : Selector) → by.0 ≡ q → (selector : Selector) (kept : Component) → selector.0 ≡ new_selector (caps_of (get_or (set components s host') i d')) →
             kept ≡ record (get_or (set components s host') i d') { role = with_buffer (get_or (set components s host') i d').role selector.0 space by } →

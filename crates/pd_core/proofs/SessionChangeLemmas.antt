@@ -236,7 +236,7 @@ module _ {store : Store} {roles : Roles} {i s : ℕ} {script : Script} (two : Ar
 
     -- all other sessions are the same
     pub sessions_agree : AgreeBut (sessions_in store roles) (sessions_in store' roles') s session.0
-    sessions_agree server id apart = ap (option_map row_session) (other_row server id apart)
+    sessions_agree server id apart = ap (option_map (row_session server)) (other_row server id apart)
 
     -- ---- the host
 
@@ -542,8 +542,8 @@ module _ {store store' : Store} (components components' : List Component) {i s :
       (ap (λ r. own_step (entry_of (places i) caller) call (own_in S store r)) caller_is ∙ step) text finished (sym own_after)
 
   -- and so does one that is this to the model
-  pub session_goes : DoesSession call reply lines s session.0 (option_map row_session was) (option_map row_session is) store script store' script' → Goes places call i told store components store' components'
+  pub session_goes : DoesSession call reply lines s session.0 (option_map (row_session s) was) (option_map (row_session s) is) store script store' script' → Goes places call i told store components store' components'
   session_goes does =
       let ready : HasSessions S script.caps.caps = subst (λ r. HasSessions S (caps_in r)) two.is_script (names_open two.core i) in
       step_goes (does (entry_of (places i) caller) S S' ready (ap kind_of caller_is) (sessions_agree two host_is replaced alone changes stays)
-      (ap (option_map row_session) changes.tied.there) (ap (option_map row_session) (now_there two host_is replaced alone changes stays)))
+      (ap (option_map (row_session s)) changes.tied.there) (ap (option_map (row_session s)) (now_there two host_is replaced alone changes stays)))

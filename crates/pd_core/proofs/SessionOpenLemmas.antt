@@ -154,7 +154,7 @@ module _ (store store' : Store) (script : Script) (rows : NatMap (Row Labelled))
 
       -- any wish for so much
       abbrev any_wish : Wish
-      any_wish = record { service = Log; label = []; ram = ram; caps = caps }
+      any_wish = record { server = record { kind = Log; place = server }; label = []; ram = ram; caps = caps }
 
       opened_lawful : (any : Sessions) → IsLawful (own_of (lent_in store') any (part script.account.0 store') opened_space.caps script.regions.user (own_heap_at store script) (sliced_at store script))
       unfolding own_of

@@ -181,7 +181,7 @@ module _ {store : Store} (components : List Component) {i s : ℕ} {script : Scr
     -- arguments that can't be read
     pub unread_goes : arguments_of text ≡ None → Goes places (Upgrade q text) i (told_alone (reply_text (Refused BadArgs))) store components store components
     unread_goes none =
-        refused_step BadArgs (upgrade_unread store script (rows_in store (roles_of components s)) q s session named (entry_of (places i) (get_or components i d)) S (ap (option_map row_session) named.there) text none)
+        refused_step BadArgs (upgrade_unread store script (rows_in store (roles_of components s)) q s session named (entry_of (places i) (get_or components i d)) S (ap (option_map (row_session s)) named.there) text none)
 
     -- more than its client covers
     pub short_goes : {more : Arguments} (refusal : Refusal) → arguments_of text ≡ Some more →
@@ -189,7 +189,7 @@ module _ {store : Store} (components : List Component) {i s : ℕ} {script : Scr
         Goes places (Upgrade q text) i (told_alone (reply_text (Refused refusal))) store components store components
     short_goes {more} refusal reads short =
         refused_step refusal (upgrade_refused store script (rows_in store (roles_of components s)) q s session named (entry_of (places i) (get_or components i d)) S
-        (ap (option_map row_session) named.there) text more refusal reads (sym (short row there)))
+        (ap (option_map (row_session s)) named.there) text more refusal reads (sym (short row there)))
 
   -- ---- the call is made
 

@@ -202,7 +202,7 @@ module _ {store store' : Store} {roles : Roles} (core : IsSoundCore store roles)
 
   -- and so do all sessions
   pub sessions_same : sessions_in store' roles ≡ sessions_in store roles
-  sessions_same j server session = option_map row_session (get (same_rows server j) session)
+  sessions_same j server session = option_map (row_session server) (get (same_rows server j) session)
 
   -- inits' accounts rest
   pub inits_rest : (one : ℕ) → IsInits store roles one → part one store' ≡ part one store

@@ -14,7 +14,7 @@ use Rattle.own_model.specs.Limits.{caps_limits}
 use Rattle.own_model.specs.OwnStep.{Outcome, own_step, refused}
 use Rattle.own_model.specs.Reply.{reply_text, log_text}
 use Rattle.own_model.specs.Reply.Reply.{Refused}
-use Rattle.own_model.specs.Routes.{Service}
+use Rattle.own_model.specs.Routes.{ServerAt, Service}
 use Rattle.own_model.specs.StartList.{Entry, Kind, no_account}
 use Rattle.own_model.specs.StartList.Kind.{Script as AScriptKind, Server as AServerKind, Init as AnInitKind}
 use Rattle.own_model.specs.Transcript.{nobody, nothing, entry_at, state_at}
@@ -29,7 +29,7 @@ use Rattle.pd_core.specs.Answer.{told_alone}
 use Rattle.pd_core.specs.Component.{entry_of, kind_of, served_by, service_of, places_in, own_in, own, HasPlaces}
 use Rattle.pd_core.specs.Core.{roles_of, Places, IsInitOf, IsInits, init_in, inits_of, entries_of, sessions_in, world_of, IsCore, IsCoreAt}
 use Rattle.pd_core.specs.Own.{Sessions}
-use Rattle.pd_core.specs.SessionCalls.{Agrees, AreAtHome, Answers, Goes, Leads, service_at}
+use Rattle.pd_core.specs.SessionCalls.{Agrees, AreAtHome, Answers, Goes, Leads, server_at, service_at}
 use Rattle.pd_core.specs.declared.component.Component.{Component}
 use Rattle.pd_core.specs.declared.component.Role.{Role}
 use Rattle.pd_core.specs.declared.component.Role.TheVariants.{Script as AScript, Server as AServer, Init as AnInit, Gone}
@@ -134,12 +134,19 @@ module _ (before after : List Component) (faces : SameFaces before after) where
         ∙ sym (get_or_past (map service_of before) p None (omega (arith, past, length-map before service_of)))
   ]
 
+  -- a server of a kind at a place
+  abbrev stands : ℕ → Service → ServerAt
+  stands p kind = record { kind = kind; place = p }
+
+  same_server : (p : ℕ) → server_at after p ≡ server_at before p
+  same_server p = ap (option_map (stands p)) (same_service p)
+
   -- and routes lead where they did, if each account is below its init's still
   pub same_leads : (store store' : Store) (places : Places) (leads : Leads) → (AreAtHome places store before → AreAtHome places store' after) → Agrees places leads store before → Agrees places leads store' after
   same_leads store store' places leads homes agrees = record {
     names = λ k d within. subst (λ (f : Face). length f.label ≤ 140) (sym (face_at k d)) (agrees.names k d (omega (arith, within, as_many)));
     each = λ i service label within.
-        (λ j. option_map (λ p. same_service p j) (leads i service label)) ∙ agrees.each i service label (omega (arith, within, as_many));
+        (λ j. option_map (λ p. same_server p j) (leads i service label)) ∙ agrees.each i service label (omega (arith, within, as_many));
     homes = homes agrees.homes;
   }
 

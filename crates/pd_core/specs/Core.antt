@@ -33,7 +33,7 @@ rows_at store roles server = rows_in store (roles server)
 
 -- the open sessions, each by its server's place and its key there
 abbrev pub sessions_in : Store → Roles → Sessions
-sessions_in store roles server session = option_map row_session (get (rows_at store roles server) session)
+sessions_in store roles server session = option_map (row_session server) (get (rows_at store roles server) session)
 
 -- what a start list says of each place
 abbrev pub Places : Type 0

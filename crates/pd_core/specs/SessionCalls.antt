@@ -10,7 +10,7 @@ use Rattle.trade_base.specs.declared.refusal.Refusal.{Refusal}
 use Rattle.trade_base.specs.declared.refusal.Refusal.TheVariants.{Gone, InvalidSession, NotAScript}
 use Rattle.own_model.specs.Call.{Call}
 use Rattle.own_model.specs.Reply.{reply_text, log_text}
-use Rattle.own_model.specs.Routes.{Service, provider}
+use Rattle.own_model.specs.Routes.{ServerAt, Service, provider}
 use Rattle.own_model.specs.World.{outcome_at, with_state}
 use Rattle.cap_space.specs.Space.{with_cap, without_cap, is_buffer}
 use Rattle.own_model.specs.NatMap.{NatMap}
@@ -37,6 +37,10 @@ Leads = ℕ → List ℕ → List ℕ → Option ℕ
 abbrev pub service_at : List Component → ℕ → Option Service
 service_at components place = get_or (map service_of components) place None
 
+-- the server there
+abbrev pub server_at : List Component → ℕ → Option ServerAt
+server_at components place = option_map (λ kind. record { kind = kind; place = place }) (service_at components place)
+
 -- an account is below that of the role of an init
 abbrev pub IsBelowInit : Store → Role → ℕ → Type 0
 IsBelowInit store (Script script) account = ⊥
@@ -54,12 +58,12 @@ abbrev pub AreAtHome : Places → Store → List Component → Type 0
 AreAtHome places store components =
     (i account : ℕ) → Pays (roles_of components i) account → IsAtHome store (roles_of components) (places i).home account
 
--- what a component asks for leads to one that serves what its routes say, and to none where they lead to none; a label has room
+-- what a component asks for leads to the server that its routes lead to, and to none where they lead to none; a label has room
 -- for the name of each component; and each one's account is below its init's
 pub record Agrees (places : Places) (leads : Leads) (store : Store) (components : List Component) : Type 0 where
   pub names : All (λ c. length c.name.items ≤ 140) components
   pub each : (i : ℕ) (service label : List ℕ) → i < length components →
-      option_map (service_at components) (leads i service label) ≡ option_map Some (provider (places i).routes service label)
+      option_map (server_at components) (leads i service label) ≡ option_map Some (provider (places i).routes service label)
   pub homes : AreAtHome places store components
 
 -- the session that a selector of a script names, by its server's entry and its key there, or why there is none

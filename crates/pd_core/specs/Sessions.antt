@@ -18,9 +18,9 @@ use Rattle.pd_core.specs.Own.{Sessions, HasSessions, own_at}
 use Rattle.pd_core.specs.Sound.{session_weight, lent_weight, buffer_at, lent_from}
 use Rattle.pd_core.specs.declared.script.Script.{Script}
 
--- a session of a server as its client sees it
-abbrev pub row_session : Row Labelled → AnOpenSession
-row_session row = session_with row.account row.value
+-- a session of the server at a place as its client sees it
+abbrev pub row_session : ℕ → Row Labelled → AnOpenSession
+row_session server row = session_with server row.account row.value
 
 -- all but one session are the same
 abbrev pub AgreeBut : Sessions → Sessions → ℕ → ℕ → Type 0

@@ -2,7 +2,7 @@
 ghost use Rattle.std.specs.Prelude.{◌≡◌, ◌+◌};
 ghost use Rattle.std.specs.FinMap.{get};
 ghost use Rattle.std.specs.Option.{option_map};
-ghost use Rattle.own_model.specs.OwnState.{session_named};
+ghost use Rattle.own_model.specs.OwnState.{server_named, session_named};
 ghost use Rattle.own_model.specs.Session.{Session as AnOpenSession};
 ghost use Rattle.own_model.specs.Transcript.{state_at};
 ghost use Rattle.own_model.specs.World.{account_at};
@@ -37,7 +37,7 @@ impl<R: Router + Drop> Core<R> {
     ghost use Rattle.std.specs.Prelude.{◌≡◌, ◌+◌, ◌<◌, ◌≤◌, ℕ, length, None};
     ghost use Rattle.std.specs.FinMap.{get};
     ghost use Rattle.std.specs.Option.{option_map};
-    ghost use Rattle.own_model.specs.OwnState.{session_named};
+    ghost use Rattle.own_model.specs.OwnState.{server_named, session_named};
     ghost use Rattle.own_model.specs.Session.{Session as AnOpenSession};
     ghost use Rattle.own_model.specs.Transcript.{state_at};
     ghost use Rattle.own_model.specs.World.{account_at, machine_init};
@@ -57,7 +57,8 @@ impl<R: Router + Drop> Core<R> {
     pub fn account(&self, component: usize) -> Quotas
         requires { component < length self.now.entries }
         ensures value { quotas_account result ≡ account_at self.now component }
-        ensures limits { CountsLimits (quotas_account result) (init_at self.now.inits (component + 1))
+        ensures limits { CountsLimits (quotas_account result) (init_at self.now.inits
+            (component + 1))
             (state_at self.now.states component).account }
     {
         component_quotas(&self.memory, self.components.as_slice(), component)
@@ -92,6 +93,20 @@ impl<R: Router + Drop> Core<R> {
             component,
             selector,
         )
+    }
+
+    /// The place of the component that serves the session which a selector of the component at a place names, or `None`
+    /// where it names none.
+    pub fn server_of(&self, component: usize, selector: u64) -> Option<usize>
+        requires { component < length self.now.entries }
+        ensures { result
+            ≡ server_named (get (state_at self.now.states component).selectors selector) }
+    {
+        let components = self.components.as_slice();
+        match components[component].session(selector) {
+            Ok((server, _)) => Some(server),
+            Err(_) => None,
+        }
     }
 
     /// No selector above this one, which is at most 4096, names anything of the component at a place.

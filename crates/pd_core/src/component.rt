@@ -287,7 +287,8 @@ impl Component {
         requires sound { IsSound memory.old self.old }
         requires script { IsScriptRole self.old.role }
         requires none { (selector : ℕ) → session_at (get (caps_of self.old) selector) ≡ None }
-        requires unlent { (selector : ℕ) → buffer_at (get (caps_of self.old) selector) ≡ None }
+        requires unlent { (selector : ℕ) → buffer_at (get (caps_of self.old) selector)
+            ≡ None }
         requires child { IsSome (get (parents_in memory.old) (payer_of self.old)) }
         requires leaf { IsLeafIn memory.old (payer_of self.old) }
         requires reserve { HasOwnReserve memory.old self.old.role }
@@ -320,7 +321,8 @@ impl Component {
             told reply.new (own sessions memory.new self.new)
             ≡ told_of (own_step (entry_of place self.old) (model_call call.entry)
             (own sessions memory.old self.old)) }
-        ensures keeps { IsScriptRole self.old.role → Keeps memory.old self.old memory.new self.new }
+        ensures keeps { IsScriptRole self.old.role
+            → Keeps memory.old self.old memory.new self.new }
         ensures stays { IsSome (refusal_of self.old.role) → (memory.new ≡ memory.old)
             × (self.new ≡ self.old) }
     {

@@ -35,7 +35,8 @@ impl Script {
     fn release_all(&mut self, memory: &mut Memory)
         requires sound { IsSoundScript memory.old self.old }
         requires none { (selector : ℕ) → session_at (get self.old.caps.caps selector) ≡ None }
-        requires unlent { (selector : ℕ) → buffer_at (get self.old.caps.caps selector) ≡ None }
+        requires unlent { (selector : ℕ) → buffer_at (get self.old.caps.caps selector)
+            ≡ None }
         ensures keeps { Keeps memory.old self.old memory.new self.new }
         ensures others { OthersStay self.old.account.0 memory.old memory.new }
         ensures none { (selector : ℕ) → get self.new.caps.caps selector ≡ None }

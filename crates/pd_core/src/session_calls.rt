@@ -49,7 +49,8 @@ pub(crate) fn upgrade(
     text: &[u8],
 ) -> Result<Answer, Refusal>
     requires { IsCoreAt caller memory.old components.old }
-    ensures { (places : Places) → GoesWith places (ModelledUpgrade selector text.now) caller result
+    ensures { (places : Places)
+        → GoesWith places (ModelledUpgrade selector text.now) caller result
         memory.old components.old memory.new components.new }
 {
     let (entry, session) = components[caller].session(selector)?;

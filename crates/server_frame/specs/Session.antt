@@ -22,10 +22,10 @@ pub record Served (Value : Type 0) : Type 0 where
   pub buffer : Option (List ℕ)
 
 -- the step of a service that keeps a session as the one-client model does: what is kept and the account are a session, which
--- serves the request
+-- serves the request; where its server stands is of no matter
 abbrev pub service_step : List ℕ → Account → Option (List ℕ) → Labelled → Served Labelled
 service_step request account buffer kept =
-    let o = served buffer (session_with account kept) request in
+    let o = served buffer (session_with 0 account kept) request in
     record {
       text = o.reply;
       lines = flat_map log_text o.lines;

@@ -153,7 +153,8 @@ impl Host {
         requires { Serves memory.old self.old id.0 }
         ensures closes { AtRow (rows_of memory.old self.old) id.0 (λ row.
             ClosesPart row.key row.client memory.old memory.new) }
-        ensures sessions { rows_of memory.new self.new ≡ remove (rows_of memory.old self.old) id.0 }
+        ensures sessions { rows_of memory.new self.new
+            ≡ remove (rows_of memory.old self.old) id.0 }
         ensures stays { StaysServer memory.old self.old memory.new self.new }
     {
         match self {

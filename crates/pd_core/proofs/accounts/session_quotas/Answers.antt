@@ -41,7 +41,7 @@ returns-in-Ok c = λ places.
     let served = served_where c.args.selector c.requires.core c.requires.caller caller.is (sym c.session.ensures.named ∙ c.in-Ok.is) in
     let state = session_at_place places memory components c.args.place caller.result c.args.selector c.requires.caller ∙ ap (λ (d : Component). found_in (sessions_in memory (roles_of components)) (named_in d.role c.args.selector)) (sym caller.is) in
     ap Some (c.session_quotas.ensures served.row (ap (λ d. get (rows_of memory d) c.in-Ok.session.0) at.is ∙ served.its at.result))
-    ∙ sym (ap (λ (o : Option (Row Labelled)). option_map (λ (s : AnOpenSession). s.account) (option_map row_session o)) served.there)
+    ∙ sym (ap (λ (o : Option (Row Labelled)). option_map (λ (s : AnOpenSession). s.account) (option_map (row_session c.in-Ok.server) o)) served.there)
     ∙ sym (ap (option_map (λ (s : AnOpenSession). s.account)) (state ∙ ap (found_in (sessions_in memory (roles_of components))) (sym c.session.ensures.named ∙ c.in-Ok.is)))
 
 pub returns-in-Err : goal.returns-in-Err
