@@ -23,14 +23,9 @@ use Rattle.own_model.proofs.NatMapLemmas.{same, get-empty, some_of, none_in_empt
 use Rattle.own_model.proofs.SoundLemmas.{start_sound}
 use Rattle.own_model.proofs.UseLemmas.{start_uses}
 use Rattle.own_model.proofs.Totals.{total-empty, total_at_le}
-use Rattle.quota_core.proofs.SlabMap.{map_of-empty}
 use Rattle.trade_base.specs.declared.id.AccountId.{AccountId}
 use Rattle.own_model.specs.Session.{Labelled}
-use Rattle.region_map.specs.Regions.{Regions}
-use Rattle.slab.specs.Slab.{Slab}
-use Rattle.server_frame.specs.Frame.{Row, row_of}
-use Rattle.server_frame.specs.declared.server.Session.{Session as Kept}
-use Rattle.server_frame.proofs.FrameLaws.{server_at_first}
+use Rattle.server_frame.specs.Frame.{Row}
 use Rattle.cap_space.specs.declared.cap.Cap.{Cap}
 use Rattle.dataspace_core.specs.Store.{Store, Part, part, root_in, accounts_in, account_of, IsOpenIn, ram_limits_in, caps_limits_in}
 use Rattle.dataspace_core.specs.Share.{Share}
@@ -51,7 +46,7 @@ use Rattle.pd_core.specs.declared.script.Script.{Script}
 use Rattle.sliced_heap.proofs.HeapLaws.{empty_map}
 use Rattle.pd_core.specs.Own.{Sessions, no_sessions, own_of, own_at, part_at, own_heap_at, sliced_at, object_of, regions_of, selector_of, Lent, lent_in, no_lent}
 use Rattle.pd_core.specs.Sound.{buffer_at, rpc_weight, session_weight, IsLawful, IsSoundScript}
-use Rattle.pd_core.specs.Component.{Place, Pays, amounts_in, with_reserve, reserve_in, reserve_of, reserve_held, entry_of, kind_of, payer_in, payer_of, caps_in, rows_in, tables_in, NamesItsSessions, HasPlaces, HasNewHeap, HasNewHeaps, own_in, own, IsSoundServer, IsSoundRole}
+use Rattle.pd_core.specs.Component.{Place, Pays, amounts_in, with_reserve, reserve_in, reserve_of, reserve_held, entry_of, kind_of, payer_in, payer_of, caps_in, rows_in, tables_in, NamesItsSessions, HasPlaces, HasNewHeap, HasNewHeaps, own_in, own, IsSoundRole}
 use Rattle.pd_core.specs.Core.{Heads, Places, Roles, roles_of, rows_at, sessions_in, inits_of, world_of, Owner, Owns, IsBelowHead, IsCore}
 use Rattle.pd_core.specs.Core.Owner.{Init, Place as PlaceAt, ReserveAt, SessionAt}
 use Rattle.pd_core.proofs.NameLemmas.{cap_named}

@@ -9,7 +9,6 @@ use Rattle.own_model.specs.NatMap.{NatMap}
 use Rattle.own_model.specs.Session.{Labelled}
 use Rattle.own_model.proofs.NatMapLemmas.{get-empty}
 use Rattle.cap_space.specs.declared.cap.Cap.{Cap}
-use Rattle.trade_base.specs.declared.refusal.Refusal.TheVariants.{NotAScript}
 use Rattle.dataspace_core.specs.Room.{IsOuter}
 use Rattle.dataspace_core.specs.Store.{Store, Part, part, space_at, IsOpenIn, IsChildIn}
 use Rattle.dataspace_core.proofs.PartLaws.{open_in_part, paid_in_part}

@@ -1,10 +1,9 @@
 -- The accounts of components and of their sessions, as own states tell them.
 use Rattle.std.proofs.Common.{◌≡◌, ◌≢◌, ℕ, ◌+◌, add-one, ◌<◌, ◌≤◌, List, Some, IsSome, is_some, length, get_or, refl, sym, ap, subst, ◌∙◌, arith, true≢false}
 use Rattle.std.proofs.lemmas.List.{get_or-map}
-use Rattle.std.specs.Prelude.{Option, None, IfSome, Result, Ok, Err}
+use Rattle.std.specs.Prelude.{Option, None, Result, Ok, Err}
 use Rattle.std.specs.Option.{option_map, option_and_then, ok_or}
 use Rattle.std.specs.FinMap.{get, empty}
-use Rattle.trade_base.specs.declared.id.AccountId.{AccountId}
 use Rattle.trade_base.specs.declared.id.SessionId.{SessionId}
 use Rattle.trade_base.specs.declared.refusal.Refusal.{Refusal}
 use Rattle.trade_base.specs.declared.refusal.Refusal.TheVariants.{InvalidSession}
@@ -24,10 +23,7 @@ use Rattle.cap_space.specs.declared.cap.Cap.{Cap}
 use Rattle.cap_space.specs.declared.cap.Cap.TheVariants.{Dataspace, RpcObject, Session, Buffer}
 use Rattle.dataspace_core.specs.Store.{Store, Part, part, account_in}
 use Rattle.dataspace_core.proofs.PartLaws.{account_of-part}
-use Rattle.dataspace_core.specs.Share.{Share}
-use Rattle.region_map.specs.Regions.{Regions}
-use Rattle.server_frame.specs.Frame.{Row, sessions_of}
-use Rattle.server_frame.specs.declared.server.Session.{Session as Kept}
+use Rattle.server_frame.specs.Frame.{Row}
 use Rattle.pd_core.specs.Own.{Sessions, no_sessions, object_of, own_of, part_at, Lent, lent_in, no_lent}
 use Rattle.pd_core.specs.Component.{Pays, kind_of, caps_in, rows_in, own_in, own, rows_of}
 use Rattle.pd_core.specs.Core.{Places, init_in, inits_of, roles_of, rows_at, sessions_in, world_of, IsCore}

@@ -1,6 +1,5 @@
 -- What a call leaves of the roles whose accounts it doesn't touch.
-use Rattle.std.proofs.Common.{◌≡◌, ℕ, false, ◌∙◌, Some, refl, sym, ap, is_some, arith}
-use Rattle.std.specs.Prelude.{Option, None}
+use Rattle.std.proofs.Common.{◌≡◌, ℕ, false, ◌∙◌, Some, refl, ap, is_some, arith}
 use Rattle.std.specs.Option.{option_map}
 use Rattle.std.specs.FinMap.{get, empty}
 use Rattle.trade_base.specs.declared.id.SessionId.{SessionId}

@@ -1,7 +1,7 @@
 -- Servers, whichever their service is: what is so of each that is sound.
-use Rattle.std.proofs.Common.{◌≡◌, ◌≢◌, ℕ, ◌+◌, ◌*◌, ◌<◌, ◌≤◌, Some, false, true, true≢false, is_some, refl, sym, ap, subst, ◌∙◌}
+use Rattle.std.proofs.Common.{◌≡◌, ◌≢◌, ℕ, ◌+◌, ◌*◌, ◌≤◌, Some, false, true, true≢false, refl, sym, ap, subst, ◌∙◌}
 use Rattle.std.proofs.lemmas.Option.{none-some}
-use Rattle.std.specs.Prelude.{Option, None, IsSome}
+use Rattle.std.specs.Prelude.{None, IsSome}
 use Rattle.std.specs.FinMap.{get, empty}
 use Rattle.trade_base.specs.declared.id.AccountId.{AccountId}
 use Rattle.own_model.specs.Account.{Fits}
@@ -12,7 +12,7 @@ use Rattle.dataspace_core.specs.Room.{HasRoom}
 use Rattle.dataspace_core.specs.Store.{Store, part, space_at, account_in, caps_limits_in}
 use Rattle.server_frame.specs.Frame.{Row}
 use Rattle.server_frame.proofs.RowLaws.{IsNoRows}
-use Rattle.services.specs.Host.{HasSession as HostHasSession, Serves as HostServes, StaysServer as HostStays}
+use Rattle.services.specs.Host.{Serves as HostServes, StaysServer as HostStays}
 use Rattle.services.specs.declared.host.Host.{Host}
 use Rattle.services.proofs.HostLaws as laws
 use Rattle.services.proofs.HostLaws.{IsPaidRow}
@@ -22,7 +22,6 @@ use Rattle.pd_core.specs.Own.{Sessions, no_sessions, own_of, no_lent}
 use Rattle.pd_core.specs.declared.component.Component.{Component}
 use Rattle.pd_core.specs.declared.component.Role.{Role}
 use Rattle.pd_core.specs.declared.component.Role.TheVariants.{Script as AScript, Server as AServer, Init as AnInit, Gone as AGone}
-use Rattle.pd_core.specs.declared.script.Script.{Script}
 
 -- ---- rows
 

@@ -19,7 +19,7 @@ use Rattle.own_model.specs.Reply.Reply.{Done, Refused}
 use Rattle.own_model.specs.Session.{Labelled}
 use Rattle.own_model.specs.SessionArgs.{Arguments, arguments_of}
 use Rattle.own_model.proofs.StepLemmas.{covers}
-use Rattle.own_model.proofs.NatMapLemmas.{get-empty, get-insert_same}
+use Rattle.own_model.proofs.NatMapLemmas.{get-insert_same}
 use Rattle.cap_space.specs.declared.cap.Cap.{Cap}
 use Rattle.cap_space.specs.declared.cap.Cap.TheVariants.{Dataspace, RpcObject, Session, Buffer}
 use Rattle.dataspace_core.specs.Store.{Store, Part, part, space_at, account_in, RaisesPart}
@@ -35,7 +35,7 @@ use Rattle.pd_core.specs.SessionCalls.{Goes, named_in}
 use Rattle.pd_core.specs.Sound.{session_at, buffer_at}
 use Rattle.pd_core.specs.declared.component.Component.{Component}
 use Rattle.pd_core.specs.declared.component.Role.{Role}
-use Rattle.pd_core.specs.declared.component.Role.TheVariants.{Script as AScript, Server as AServer, Init as AnInit, Gone as AGone}
+use Rattle.pd_core.specs.declared.component.Role.TheVariants.{Script as AScript, Gone as AGone}
 use Rattle.pd_core.specs.declared.script.Script.{Script}
 use Rattle.pd_core.proofs.AsideLemmas.{refused_aside}
 use Rattle.pd_core.proofs.PlainLemmas.{face_is}

@@ -1,5 +1,5 @@
 -- A component as the model sees it.
-use Rattle.std.specs.Prelude.{◌≡◌, ◌≢◌, ℕ, List, false, ◌+◌, ◌*◌, ◌<◌, ◌≤◌, Option, Some, None, IsSome, IsSomeAnd, IfSome}
+use Rattle.std.specs.Prelude.{◌≡◌, ◌≢◌, ℕ, List, false, ◌+◌, ◌*◌, ◌≤◌, Option, Some, None, IsSome, IsSomeAnd, IfSome}
 use Rattle.std.specs.FinMap.{get, empty}
 use Rattle.std.specs.Option.{option_map, unwrap_or}
 use Rattle.trade_base.specs.declared.id.SessionId.{SessionId}
@@ -13,11 +13,11 @@ use Rattle.own_model.specs.Reserve.{no_reserve}
 use Rattle.own_model.specs.Routes.{Level, Service}
 use Rattle.own_model.specs.StartList.{Entry, Kind}
 use Rattle.own_model.specs.StartList.Kind.{Script as AScript, Server as AServer, Init as AnInit}
-use Rattle.own_model.specs.Session.{Labelled, donation_refusal}
+use Rattle.own_model.specs.Session.{Labelled}
 use Rattle.cap_space.specs.Space.{Space}
 use Rattle.cap_space.specs.declared.cap.Cap.{Cap}
 use Rattle.region_map.specs.Regions.{Regions}
-use Rattle.dataspace_core.specs.Store.{Store, Part, part, account_of, account_in, opened_part, root_in, parents_in, room_in, ram_limits_in, caps_limits_in, IsOpenIn, IsChildIn, IsLeafIn}
+use Rattle.dataspace_core.specs.Store.{Store, Part, part, account_of, opened_part, root_in, parents_in, room_in, ram_limits_in, caps_limits_in, IsOpenIn, IsChildIn, IsLeafIn}
 use Rattle.heap_core.specs.Heap.{payer_of as heap_payer}
 use Rattle.sliced_heap.specs.Heap.{payer_of as sliced_payer}
 use Rattle.server_frame.specs.Frame.{Row}

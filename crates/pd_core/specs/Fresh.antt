@@ -10,7 +10,7 @@ use Rattle.own_model.specs.World.{World}
 use Rattle.cap_space.specs.Space.{Space}
 use Rattle.region_map.specs.Regions.{Regions}
 use Rattle.dataspace_core.specs.Room.{IsOuter, HasRoom}
-use Rattle.dataspace_core.specs.Store.{Store, part, account_in, root_in, ram_limits_in, caps_limits_in, IsOpenIn}
+use Rattle.dataspace_core.specs.Store.{Store, part, account_in, root_in, ram_limits_in, IsOpenIn}
 use Rattle.services.specs.Host.{IsNew}
 pub use Rattle.dataspace_core.specs.Store.{opened_part}
 use Rattle.pd_core.specs.Component.{Place, host_in, entry_of, payer_of, reserve_of, reserve_held, tables_of, HasNewHeap, IsReserve}
