@@ -19,8 +19,11 @@ use Rattle.pd_core.specs.Core.{Heads, Places, IsInitOf, IsInits, init_in, inits_
 use Rattle.pd_core.specs.Fresh.{start_of, starts_of, AreFreshBelow, IsFresh, IsFreshReserve, Has, ShareNone}
 use Rattle.pd_core.specs.SessionCalls.{IsBelowInit, IsAtHome, AreAtHome}
 use Rattle.pd_core.specs.declared.component.Role.{Role}
-use Rattle.pd_core.specs.declared.component.Role.TheVariants.{Script, Log, Files, Init, Gone}
+use Rattle.pd_core.specs.declared.component.Role.TheVariants.{Script, Server, Init, Gone}
 use Rattle.pd_core.specs.declared.component.Component.{Component}
+use Rattle.pd_core.proofs.ComponentLemmas.{pays_is}
+use Rattle.pd_core.proofs.HeldLemmas.{init_below, init_pays}
+use Rattle.pd_core.proofs.WorldLemmas.{init_is}
 use Rattle.init_core.specs.Boot.{IsInitAt}
 use Rattle.init_core.proofs.StartLemmas.{Beside, account_stays, fresh_open, init_after, start_stays}
 
@@ -119,73 +122,39 @@ module _ (components : List Component) (last : Component) where
 -- an init is charged on its account
 pub charged_as_init : (role : Role) (account : ℕ) → IsInitOf role account → (payer_in role ≡ account) × (kind_of role ≡ AnInit)
 charged_as_init (Script script) account is = absurd is
-charged_as_init (Log key server) account is = absurd is
-charged_as_init (Files key server) account is = absurd is
+charged_as_init (Server key host) account is = absurd is
 charged_as_init (Init key) account is = (is, refl)
 charged_as_init Gone account is = absurd is
 
 pub init_by_kind : (role : Role) → kind_of role ≡ AnInit → IsInitOf role (payer_in role)
 init_by_kind (Script script) is = absurd cc
-init_by_kind (Log key server) is = absurd cc
-init_by_kind (Files key server) is = absurd cc
+init_by_kind (Server key host) is = absurd cc
 init_by_kind (Init key) is = refl
 init_by_kind Gone is = absurd cc
-
-pays_payer : (role : Role) (account : ℕ) → Pays role account → payer_in role ≡ account
-pays_payer (Script script) account pays = pays
-pays_payer (Log key server) account pays = pays
-pays_payer (Files key server) account pays = pays
-pays_payer (Init key) account pays = pays
-pays_payer Gone account pays = absurd pays
-
-init_pays : (role : Role) (account : ℕ) → IsInitOf role account → Pays role account
-init_pays (Script script) account is = absurd is
-init_pays (Log key server) account is = absurd is
-init_pays (Files key server) account is = absurd is
-init_pays (Init key) account is = is
-init_pays Gone account is = absurd is
-
-has_account : (store : Store) (role : Role) (account : ℕ) → IsInitOf role account → init_in store role ≡ account_in store account
-has_account store (Script script) account is = absurd is
-has_account store (Log key server) account is = absurd is
-has_account store (Files key server) account is = absurd is
-has_account store (Init key) account is = ap (account_in store) is
-has_account store Gone account is = absurd is
 
 -- what is below an init stays so, and what was opened below its account is
 still_below : (old new : Store) (role : Role) (account : ℕ) → get (parents_in new) account ≡ get (parents_in old) account → IsBelowInit old role account → IsBelowInit new role account
 still_below old new (Script script) account stays below = absurd below
-still_below old new (Log key server) account stays below = absurd below
-still_below old new (Files key server) account stays below = absurd below
+still_below old new (Server key host) account stays below = absurd below
 still_below old new (Init key) account stays below = stays ∙ below
 still_below old new Gone account stays below = absurd below
-
-below_init : (store : Store) (role : Role) (init account : ℕ) → IsInitOf role init → IsChildIn store account init → IsBelowInit store role account
-below_init store (Script script) init account is child = absurd is
-below_init store (Log key server) init account is child = absurd is
-below_init store (Files key server) init account is child = absurd is
-below_init store (Init key) init account is child = child ∙ ap Some (sym is)
-below_init store Gone init account is child = absurd is
 
 -- a role is that of an init with this account
 abbrev is_init_on : Role → ℕ → Bool
 is_init_on (Script script) account = false
-is_init_on (Log key server) account = false
-is_init_on (Files key server) account = false
+is_init_on (Server key host) account = false
 is_init_on (Init key) account = key.0 == account
 is_init_on Gone account = false
 
 init_by_test : (role : Role) (account : ℕ) → is_init_on role account ≡ true → IsInitOf role account
 init_by_test (Script script) account is = absurd (false≢true is)
-init_by_test (Log key server) account is = absurd (false≢true is)
-init_by_test (Files key server) account is = absurd (false≢true is)
+init_by_test (Server key host) account is = absurd (false≢true is)
 init_by_test (Init key) account is = eqb-true key.0 account is
 init_by_test Gone account is = absurd (false≢true is)
 
 tested_as_init : (role : Role) (account : ℕ) → IsInitOf role account → is_init_on role account ≡ true
 tested_as_init (Script script) account is = absurd is
-tested_as_init (Log key server) account is = absurd is
-tested_as_init (Files key server) account is = absurd is
+tested_as_init (Server key host) account is = absurd is
 tested_as_init (Init key) account is = eq-eqb key.0 account is
 tested_as_init Gone account is = absurd is
 
@@ -248,7 +217,7 @@ module _ {heads : Heads} {store : Store} {components : List Component} (parts : 
   pays_open place account pays =
       let here = within components (λ role. Pays role account) (λ h. h) place pays in
       let d = some_component components place here in
-      subst (IsOpenIn store) (ap payer_in (sym (role_at components place d here)) ∙ pays_payer (roles_of components place) account pays)
+      subst (IsOpenIn store) (ap payer_in (sym (role_at components place d here)) ∙ pays_is (roles_of components place) account pays)
       (fresh_open heads store (get_or components place d) (parts.each place d here))
 
   -- that of an init too
@@ -295,7 +264,7 @@ module _ {heads : Heads} {store : Store} {components : List Component} (parts : 
   init_at_home (suc k) init is =
       let k_in = within components (λ role. IsInitOf role init) (λ h. h) k is in
       value_at (λ (c : Component). init_in store c.role) components k no_account (account_in store init) k_in
-      (λ d. ap (init_in store) (sym (role_at components k d k_in)) ∙ has_account store (roles_of components k) init is)
+      (λ d. ap (init_in store) (sym (role_at components k d k_in)) ∙ init_is store (roles_of components k) init is)
 
 -- ---- what inits have once one has parted with something
 
@@ -303,8 +272,7 @@ module _ {heads : Heads} {old new : Store} {components : List Component} {init r
   -- another role has what it had
   init_stays : (role : Role) → IsOpenIn old (payer_in role) → ((account : ℕ) → IsInitOf role account → account ≢ init) → init_in new role ≡ init_in old role
   init_stays (Script script) is_open other = refl
-  init_stays (Log key server) is_open other = refl
-  init_stays (Files key server) is_open other = refl
+  init_stays (Server key host) is_open other = refl
   init_stays (Init key) is_open other = account_stays beside key.0 is_open (other key.0 refl)
   init_stays Gone is_open other = refl
 
@@ -330,7 +298,7 @@ module _ {heads : Heads} {old new : Store} {components : List Component} {init r
       let own : account_in new (root_in new) ≡ account_in old (root_in old) = ap (account_in new) beside.root ∙ account_stays beside (root_in old) parts.init differs in
       let others = map_but_one (λ (c : Component). init_in old c.role) (λ (c : Component). init_in new c.role) components k left k_in
       (λ i d i_in other. others_stay (suc k) is i d i_in (λ e. other (omega (arith, e))))
-      (λ d. ap (init_in new) (sym (role_at components k d k_in)) ∙ has_account new (roles_of components k) init is ∙ init_after beside
+      (λ d. ap (init_in new) (sym (role_at components k d k_in)) ∙ init_is new (roles_of components k) init is ∙ init_after beside
       ∙ ap (λ (a : Account). parted_with a ram caps) (sym (init_at_home parts (suc k) init is))) in
       λ j. own j ∷ others j
 
@@ -347,8 +315,7 @@ module _ {heads : Heads} {old new : Store} {components : List Component} {init r
 pub made_init : (store : Store) (role : Role) (kind : Kind) (whole : Amounts) → kind_of role ≡ kind → (kind ≡ AnInit → account_in store (payer_in role) ≡ opened whole.ram whole.caps) →
     init_in store role ≡ opened (of_init kind whole).ram (of_init kind whole).caps
 made_init store (Script script) kind whole is has = ap (λ k. opened (of_init k whole).ram (of_init k whole).caps) is
-made_init store (Log key server) kind whole is has = ap (λ k. opened (of_init k whole).ram (of_init k whole).caps) is
-made_init store (Files key server) kind whole is has = ap (λ k. opened (of_init k whole).ram (of_init k whole).caps) is
+made_init store (Server key host) kind whole is has = ap (λ k. opened (of_init k whole).ram (of_init k whole).caps) is
 made_init store (Init key) kind whole is has = has (sym is) ∙ ap (λ k. opened (of_init k whole).ram (of_init k whole).caps) is
 made_init store Gone kind whole is has = ap (λ k. opened (of_init k whole).ram (of_init k whole).caps) is
 
@@ -417,14 +384,14 @@ module _ {heads : Heads} {old new : Store} {components : List Component} {init r
   -- and a new one is below the one that it was opened for
   new_home : (last : Component) (home account : ℕ) → IsInitAt old (roles_of components) home init → IsChildIn new account init → IsAtHome new (roles_of (components ++ last ∷ [])) home account
   new_home last zero account is child = child ∙ ap Some (sym is ∙ sym beside.root)
-  new_home last (suc k) account is child = still_role components last (λ role. IsBelowInit new role account) (λ h. h) k (below_init new (roles_of components k) init account is child)
+  new_home last (suc k) account is child = still_role components last (λ role. IsBelowInit new role account) (λ h. h) k (init_below new (roles_of components k) account init is child)
 
   pub homes_after : (home : ℕ) → IsInitAt old (roles_of components) home init → (places : Places) (last : Component) → (places (length components)).home ≡ home →
       IsChildIn new (payer_of last) init → AreAtHome places old components → AreAtHome places new (components ++ last ∷ [])
   homes_after home is places last home_is child homes i account pays = elim (either_role components last (λ role. Pays role account) (λ h. h) i pays) [
     | inl before ↦ still_home last (places i).home account (pays_open parts i account before) (homes i account before)
     | inr here ↦
-        let its = pays_payer last.role account here.1 in
+        let its = pays_is last.role account here.1 in
         subst (λ h. IsAtHome new (roles_of (components ++ last ∷ [])) h account) (sym home_is ∙ ap (λ p. (places p).home) here.0)
         (new_home last home account is (subst (λ key. IsChildIn new key init) its child))
   ]

@@ -22,12 +22,12 @@ use Rattle.dataspace_core.specs.Room.{IsOuter}
 use Rattle.dataspace_core.specs.Store.{Store, Part, part, parted_part, IsOpenIn, IsChildIn, accounts_in, account_in, account_of, root_in, parents_in, ram_limits_in, caps_limits_in, opened_part}
 use Rattle.dataspace_core.proofs.PartLaws.{account_of-part, open_in_part, part_open}
 use Rattle.server_frame.specs.declared.server.Session.{Session as Kept}
+use Rattle.services.specs.Host.{HasNoSessions}
 use Rattle.pd_core.specs.Component.{Place, entry_of, payer_of, reserve_of, amounts_in, tables_of, HasNewHeap, IsUnused}
 use Rattle.pd_core.specs.Core.{Heads, IsBelowHead}
-use Rattle.pd_core.specs.Fresh.{start_of, account_at, AreEmpty, HasNoSessions, IsNewServer, IsFreshReserve, IsFresh, Has, ShareNone}
-use Rattle.pd_core.specs.declared.component.Role.{Role}
-use Rattle.pd_core.specs.declared.component.Role.TheVariants.{Script, Log, Files, Init, Gone}
+use Rattle.pd_core.specs.Fresh.{start_of, account_at, AreEmpty, IsNewServer, IsFreshReserve, IsFresh, Has, ShareNone}
 use Rattle.pd_core.specs.declared.component.Component.{Component}
+use Rattle.pd_core.proofs.FreshLemmas.{new_server_stays}
 use Rattle.init_core.specs.Boot.{AreThere, Opens}
 
 -- ---- tables that have just booted
@@ -282,17 +282,6 @@ module _ {store store' : Store} {init ram caps : ℕ} (beside : Beside store sto
     few = fresh.few;
   }
 
-  -- so do those of a server
-  none_stays : {T : Type 0} (sessions : Slab (Kept T)) (regions : Regions) → HasNoSessions store sessions regions → HasNoSessions store' sessions regions
-  none_stays sessions regions new = record { none = new.none; places = omega (arith, beside.all_caps, new.places); no_heap = new.no_heap; heap_most = new.heap_most; pages = new.pages ∙ sym beside.machine }
-
-  server_stays : (role : Role) → IsNewServer store role → IsNewServer store' role
-  server_stays (Script script) new = tt
-  server_stays (Log account server) new = none_stays server.sessions server.map new
-  server_stays (Files account server) new = none_stays server.sessions server.map new
-  server_stays (Init account) new = tt
-  server_stays Gone new = tt
-
   -- it is below the same init
   child_stays : (heads heads' : Heads) → ((account : ℕ) → heads account ≡ true → heads' account ≡ true) → (key : ℕ) → IsOpenIn store key → IsBelowHead store heads key → IsBelowHead store' heads' key
   child_stays heads heads' more key is_open below = record {
@@ -314,7 +303,7 @@ module _ {store store' : Store} {init ram caps : ℕ} (beside : Beside store sto
         tables = empty_stays less (tables_of c) fresh.tables;
         heap = fresh.heap;
         child = child_stays heads heads' more (payer_of c) is_open fresh.child;
-        server = server_stays c.role fresh.server;
+        server = new_server_stays store store' beside.machine beside.all_caps c.role fresh.server;
       }
 
   -- what one starts with stays where none of its accounts is the init's

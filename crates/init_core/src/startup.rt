@@ -16,11 +16,10 @@ use crate::list::StartList;
 use crate::table::RouteTable;
 use cap_space::CapSpace;
 use dataspace_core::Memory;
-use file_service::FileService;
-use log_service::LogService;
 use pd_core::{Component, Core};
 use region_map::RegionMap;
 use server_frame::Server;
+use services::{FileService, LogService};
 use std::alloc::Global;
 use trade_base::{AccountId, Caps, Ram};
 

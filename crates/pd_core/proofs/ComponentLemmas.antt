@@ -24,9 +24,10 @@ use Rattle.pd_core.specs.Exit.{IsScriptRole}
 use Rattle.trade_base.specs.declared.refusal.Refusal.TheVariants.{Gone as IsGone, NotAScript}
 use Rattle.std.proofs.lemmas.Option.{none-some}
 use Rattle.pd_core.specs.declared.component.Role.{Role}
-use Rattle.pd_core.specs.declared.component.Role.TheVariants.{Script as AScript, Log as ALog, Files as AFiles, Init as AnInit, Gone as AGone}
+use Rattle.pd_core.specs.declared.component.Role.TheVariants.{Script as AScript, Server as AServer, Init as AnInit, Gone as AGone}
 use Rattle.pd_core.specs.declared.component.Component.{Component}
 use Rattle.pd_core.proofs.AsideLemmas.{outcome_with, stands_aside}
+use Rattle.pd_core.proofs.ServerLemmas.{is_server}
 use Rattle.cap_space.specs.declared.cap.Cap.{Cap}
 use Rattle.std.proofs.lemmas.Bool.{cases_eq}
 
@@ -80,31 +81,28 @@ script_keeps {store} {store'} component script script' is keeps others =
 -- the account that a role pays for is the one that it is charged on
 pub pays_is : (role : Role) (account : ℕ) → Pays role account → payer_in role ≡ account
 pays_is (AScript script) account pays = pays
-pays_is (ALog key server) account pays = pays
-pays_is (AFiles key server) account pays = pays
+pays_is (AServer key host) account pays = pays
 pays_is (AnInit key) account pays = pays
 pays_is AGone account pays = absurd pays
 
+-- who makes calls is a script
+pub a_script : (role : Role) → IsScriptRole role → (script : Script) × (role ≡ AScript script)
+a_script (AScript script) is = (script, refl)
+a_script (AServer key host) is = absurd (none-some NotAScript (sym is))
+a_script (AnInit key) is = absurd (none-some NotAScript (sym is))
+a_script AGone is = absurd (none-some IsGone (sym is))
+
 -- a script and a server have it
 pub pays_script : (role : Role) → IsScriptRole role → Pays role (payer_in role)
-pays_script (AScript script) is = refl
-pays_script (ALog key server) is = refl
-pays_script (AFiles key server) is = refl
-pays_script (AnInit key) is = absurd (none-some NotAScript (sym is))
-pays_script AGone is = absurd (none-some IsGone (sym is))
+pays_script role is = subst (λ r. Pays r (payer_in r)) (sym (a_script role is).1) refl
 
 pub pays_server : (role : Role) → IsSome (served_by role) → Pays role (payer_in role)
-pays_server (AScript script) serving = refl
-pays_server (ALog key server) serving = refl
-pays_server (AFiles key server) serving = refl
-pays_server (AnInit key) serving = absurd (cc)
-pays_server AGone serving = absurd (cc)
+pays_server role serves = subst (λ r. Pays r (payer_in r)) (sym (is_server role serves).1.1) refl
 
 -- and it is open
 pub account_open : (store : Store) (role : Role) → IsSoundRole store role → (account : ℕ) → Pays role account → IsSome (part account store).account
 account_open store (AScript script) sound account pays = subst (λ k. IsSome (part k store).account) pays sound.own.paid.is_open
-account_open store (ALog key server) sound account pays = subst (λ k. IsSome (part k store).account) pays sound.is_open
-account_open store (AFiles key server) sound account pays = subst (λ k. IsSome (part k store).account) pays sound.is_open
+account_open store (AServer key host) sound account pays = subst (λ k. IsSome (part k store).account) pays sound.is_open
 account_open store (AnInit key) sound account pays = part_open account store (subst (IsOpenIn store) pays sound)
 account_open store AGone sound account pays = absurd pays
 

@@ -33,10 +33,11 @@ use Rattle.pd_core.specs.Sessions.{row_session}
 use Rattle.pd_core.specs.Sound.{session_at}
 use Rattle.pd_core.specs.declared.component.Component.{Component}
 use Rattle.pd_core.specs.declared.component.Role.{Role}
-use Rattle.pd_core.specs.declared.component.Role.TheVariants.{Script as AScript, Log as ALog, Files as AFiles, Init as AnInit, Gone as AGone}
+use Rattle.pd_core.specs.declared.component.Role.TheVariants.{Script as AScript, Server as AServer, Init as AnInit, Gone as AGone}
 use Rattle.pd_core.proofs.PlainLemmas.{unlisted}
 use Rattle.pd_core.proofs.ExitLemmas.{IsAlone, closes_reserve, world_alone, core_alone, homes_alone, leads_alone, kind_of_script}
 use Rattle.pd_core.proofs.ExitWorldLemmas.{closed_at_first, closed_more, gone_world, exit_outcome}
+use Rattle.pd_core.proofs.ComponentLemmas.{a_script}
 use Rattle.pd_core.proofs.QuotaLemmas.{found_in, session_at_place}
 use Rattle.pd_core.proofs.WorldLemmas.{one_of, length-entries, entries_at, refused_goes, role_at}
 
@@ -45,17 +46,12 @@ use Rattle.pd_core.proofs.WorldLemmas.{one_of, length-entries, entries_at, refus
 -- it isn't gone
 here_of_script : (S : Sessions) (store : Store) (role : Role) → IsScriptRole role → (own_in S store role).gone ≡ false
 unfolding own_of
-here_of_script S store (AScript script) is = refl
-here_of_script S store (ALog account server) is = absurd (none-some NotAScript (sym is))
-here_of_script S store (AFiles account server) is = absurd (none-some NotAScript (sym is))
-here_of_script S store (AnInit account) is = absurd (none-some NotAScript (sym is))
-here_of_script S store AGone is = absurd (none-some IsGone (sym is))
+here_of_script S store role is = ap (λ r. (own_in S store r).gone) (a_script role is).1
 
 -- and what is a script that isn't gone makes calls
 script_of_state : (S : Sessions) (store : Store) (role : Role) → kind_of role ≡ AScriptKind → (own_in S store role).gone ≡ false → IsScriptRole role
 script_of_state S store (AScript script) kind here = refl
-script_of_state S store (ALog account server) kind here = absurd (cc)
-script_of_state S store (AFiles account server) kind here = absurd (cc)
+script_of_state S store (AServer account host) kind here = absurd (cc)
 script_of_state S store (AnInit key) kind here = absurd (cc)
 script_of_state S store AGone kind here = absurd (cc)
 
@@ -88,8 +84,7 @@ module _ (places : Places) (store : Store) (components : List Component) (i : �
 -- none is found
 found_none : (S : Sessions) (role : Role) (q : ℕ) → session_at (get (caps_in role) q) ≡ None → found_in S (named_in role q) ≡ None
 found_none S (AScript script) q none = ap (λ o. found_in S (ok_or o InvalidSession)) none
-found_none S (ALog account server) q none = refl
-found_none S (AFiles account server) q none = refl
+found_none S (AServer account host) q none = refl
 found_none S (AnInit key) q none = refl
 found_none S AGone q none = refl
 
@@ -100,8 +95,7 @@ unnamed S (Some named) opens none = absurd (let no : false ≡ true = ap is_some
 
 none_found : (S : Sessions) (role : Role) (q : ℕ) → ((named : ℕ × SessionId) → session_at (get (caps_in role) q) ≡ Some named → IsSome (S named.0 named.1.0)) → found_in S (named_in role q) ≡ None → session_at (get (caps_in role) q) ≡ None
 none_found S (AScript script) q opens none = unnamed S (session_at (get script.caps.caps q)) opens none
-none_found S (ALog account server) q opens none = ap session_at (get-empty q)
-none_found S (AFiles account server) q opens none = ap session_at (get-empty q)
+none_found S (AServer account host) q opens none = ap session_at (get-empty q)
 none_found S (AnInit key) q opens none = ap session_at (get-empty q)
 none_found S AGone q opens none = ap session_at (get-empty q)
 
@@ -154,8 +148,7 @@ closes_on {i} {count} {old} {mid} {new} {before} {between} {after} q here script
 -- who has places is a script
 script_with_places : (role : Role) (places : ℕ) → places_told role ≡ Ok places → IsScriptRole role
 script_with_places (AScript script) places is = refl
-script_with_places (ALog account server) places is = absurd (none-some places (ap result_ok is))
-script_with_places (AFiles account server) places is = absurd (none-some places (ap result_ok is))
+script_with_places (AServer account host) places is = absurd (none-some places (ap result_ok is))
 script_with_places (AnInit key) places is = absurd (none-some places (ap result_ok is))
 script_with_places AGone places is = absurd (none-some places (ap result_ok is))
 
@@ -225,8 +218,7 @@ module _ {i count : ℕ} {old mid : Store} {before between : List Component} (d 
 exit_refused : (S : Sessions) (store : Store) (place : Place) (component : Component) (role : Role) (refusal : Refusal) → places_told role ≡ Err refusal →
     own_step (entry_of place (record component { role = role })) Exit (own_in S store role) ≡ refused (own_in S store role) refusal
 exit_refused S store place component (AScript script) refusal is = absurd (none-some refusal (ap result_err is))
-exit_refused S store place component (ALog account server) refusal is = ap (refused (own_in S store (ALog account server))) (same_Some NotAScript refusal (ap result_err is))
-exit_refused S store place component (AFiles account server) refusal is = ap (refused (own_in S store (AFiles account server))) (same_Some NotAScript refusal (ap result_err is))
+exit_refused S store place component (AServer account host) refusal is = ap (refused (own_in S store (AServer account host))) (same_Some NotAScript refusal (ap result_err is))
 exit_refused S store place component (AnInit account) refusal is = ap (refused (own_in S store (AnInit account))) (same_Some NotAScript refusal (ap result_err is))
 exit_refused S store place component AGone refusal is = ap (refused (own_in S store AGone)) (same_Some IsGone refusal (ap result_err is))
 

@@ -30,9 +30,9 @@ use Rattle.pd_core.specs.SessionCalls.{Agrees, AreAtHome, Leads}
 use Rattle.pd_core.specs.Sound.{session_at, buffer_at}
 use Rattle.pd_core.specs.declared.component.Component.{Component}
 use Rattle.pd_core.specs.declared.component.Role.{Role}
-use Rattle.pd_core.specs.declared.component.Role.TheVariants.{Script as AScript, Log as ALog, Files as AFiles, Init as AnInit, Gone as AGone}
+use Rattle.pd_core.specs.declared.component.Role.TheVariants.{Script as AScript, Server as AServer, Init as AnInit, Gone as AGone}
 use Rattle.pd_core.proofs.ChangeLemmas.{ChangesCore, Follows, core_after, homes_after}
-use Rattle.pd_core.proofs.ComponentLemmas.{pays_is, pays_script}
+use Rattle.pd_core.proofs.ComponentLemmas.{a_script, pays_is, pays_script}
 use Rattle.dataspace_core.proofs.RoomLaws.{room_after_exit}
 use Rattle.pd_core.proofs.HeldLemmas.{names_none, same_place, same_reserve, not_place, no_place, no_reserve_place, no_reserve_session, init_pays, session_no_init, reserve_no_init, reserve_no_head, place_outer, pays_alone, script_inits, held_by, client_pays}
 use Rattle.pd_core.proofs.HomeLemmas.{inits_gain}
@@ -43,44 +43,24 @@ use Rattle.pd_core.proofs.WorldLemmas.{same_leads, SameFaces, face_set, entries_
 
 -- to a start list it is a script
 pub kind_of_script : (role : Role) → IsScriptRole role → kind_of role ≡ AScriptKind
-kind_of_script (AScript script) is = refl
-kind_of_script (ALog account server) is = absurd (none-some _ (sym is))
-kind_of_script (AFiles account server) is = absurd (none-some _ (sym is))
-kind_of_script (AnInit account) is = absurd (none-some _ (sym is))
-kind_of_script AGone is = refl
+kind_of_script role is = ap kind_of (a_script role is).1
 
 -- it serves no session
 rows_of_script : (store : Store) (role : Role) → IsScriptRole role → rows_in store role ≡ empty
-rows_of_script store (AScript script) is = refl
-rows_of_script store (ALog account server) is = absurd (none-some _ (sym is))
-rows_of_script store (AFiles account server) is = absurd (none-some _ (sym is))
-rows_of_script store (AnInit account) is = absurd (none-some _ (sym is))
-rows_of_script store AGone is = refl
+rows_of_script store role is = ap (rows_in store) (a_script role is).1
 
 -- its own state has its account
 account_of_script : (S : Sessions) (store : Store) (role : Role) → IsScriptRole role → (own_in S store role).account ≡ account_of (part (payer_in role) store)
 unfolding own_of
-account_of_script S store (AScript script) is = refl
-account_of_script S store (ALog account server) is = absurd (none-some _ (sym is))
-account_of_script S store (AFiles account server) is = absurd (none-some _ (sym is))
-account_of_script S store (AnInit account) is = absurd (none-some _ (sym is))
-account_of_script S store AGone is = absurd (none-some _ (sym is))
+account_of_script S store role is = subst (λ r. (own_in S store r).account ≡ account_of (part (payer_in r) store)) (sym (a_script role is).1) refl
 
 -- it has a reserve
 abbrev pub script_reserve : (role : Role) → IsScriptRole role → (account : ℕ) × (reserve_in role ≡ Some account)
-script_reserve (AScript script) is = (script.reserve.0, refl)
-script_reserve (ALog account server) is = absurd (none-some _ (sym is))
-script_reserve (AFiles account server) is = absurd (none-some _ (sym is))
-script_reserve (AnInit account) is = absurd (none-some _ (sym is))
-script_reserve AGone is = absurd (none-some _ (sym is))
+script_reserve role is = let its = a_script role is in (its.0.reserve.0, ap reserve_in its.1)
 
 -- which its own state tells
 reserve_of_script : (S : Sessions) (store : Store) (role : Role) (is : IsScriptRole role) → (own_in S store role).reserve ≡ amounts_in (part (script_reserve role is).0 store)
-reserve_of_script S store (AScript script) is = refl
-reserve_of_script S store (ALog account server) is = absurd (none-some _ (sym is))
-reserve_of_script S store (AFiles account server) is = absurd (none-some _ (sym is))
-reserve_of_script S store (AnInit account) is = absurd (none-some _ (sym is))
-reserve_of_script S store AGone is = absurd (none-some _ (sym is))
+reserve_of_script S store role is = ap (λ r. (own_in S store r).reserve) (a_script role is).1
 
 -- limits that come in two parts
 raised_twice : (a : Account) (ram caps more extra : ℕ) → raised (raised a ram caps) more extra ≡ raised a (ram + more) (caps + extra)
@@ -91,17 +71,12 @@ raised_twice a ram caps more extra =
 
 -- it serves nothing
 service_of_script : (role : Role) → IsScriptRole role → served_by role ≡ None
-service_of_script (AScript script) is = refl
-service_of_script (ALog account server) is = absurd (none-some _ (sym is))
-service_of_script (AFiles account server) is = absurd (none-some _ (sym is))
-service_of_script (AnInit account) is = absurd (none-some _ (sym is))
-service_of_script AGone is = refl
+service_of_script role is = ap served_by (a_script role is).1
 
 -- an init follows where its account is open
 init_role_follows : {store store' : Store} (role : Role) (account : ℕ) → IsInitOf role account → IsOpenIn store' account → Follows store role store' role
 init_role_follows (AScript script) account is opens = absurd is
-init_role_follows (ALog key server) account is opens = absurd is
-init_role_follows (AFiles key server) account is opens = absurd is
+init_role_follows (AServer key host) account is opens = absurd is
 init_role_follows {store' = store'} (AnInit key) account is opens = record {
   sound = subst (IsOpenIn store') (sym is) opens;
   own = λ S S' _. refl;

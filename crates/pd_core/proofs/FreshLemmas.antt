@@ -23,14 +23,9 @@ use Rattle.own_model.proofs.NatMapLemmas.{same, get-empty, some_of, none_in_empt
 use Rattle.own_model.proofs.SoundLemmas.{start_sound}
 use Rattle.own_model.proofs.UseLemmas.{start_uses}
 use Rattle.own_model.proofs.Totals.{total-empty, total_at_le}
-use Rattle.quota_core.proofs.SlabMap.{map_of-empty}
 use Rattle.trade_base.specs.declared.id.AccountId.{AccountId}
 use Rattle.own_model.specs.Session.{Labelled}
-use Rattle.region_map.specs.Regions.{Regions}
-use Rattle.slab.specs.Slab.{Slab}
-use Rattle.server_frame.specs.Frame.{Row, row_of}
-use Rattle.server_frame.specs.declared.server.Session.{Session as Kept}
-use Rattle.server_frame.proofs.FrameLaws.{server_at_first}
+use Rattle.server_frame.specs.Frame.{Row}
 use Rattle.cap_space.specs.declared.cap.Cap.{Cap}
 use Rattle.dataspace_core.specs.Store.{Store, Part, part, root_in, accounts_in, account_of, IsOpenIn, ram_limits_in, caps_limits_in}
 use Rattle.dataspace_core.specs.Share.{Share}
@@ -41,16 +36,17 @@ use Rattle.heap_core.specs.Laws.{IsMapOf}
 use Rattle.heap_core.proofs.StayLemmas.{empty_map as empty_heap_map}
 use Rattle.sliced_heap.specs.Heap.{payer_of as sliced_payer, share_at, MapsMemory, HasNoBlocks}
 use Rattle.sliced_heap.specs.Sliced.{block_regions, payload_of, sliced_of}
-use Rattle.pd_core.specs.Sessions.{log_value, log_buffer, IsLogKept, files_value, files_buffer, IsFilesKept}
+use Rattle.services.specs.Host.{table_of}
+use Rattle.services.proofs.HostLaws.{new_works, new_rows, still_new}
 use Rattle.pd_core.specs.declared.component.Component.{Component}
 use Rattle.pd_core.specs.declared.component.Role.{Role}
 use Rattle.own_model.specs.OwnHeap.{no_heap}
-use Rattle.pd_core.specs.declared.component.Role.TheVariants.{Script as AScript, Log as ALog, Files as AFiles, Init as AnInit, Gone as AGone}
+use Rattle.pd_core.specs.declared.component.Role.TheVariants.{Script as AScript, Server as AServer, Init as AnInit, Gone as AGone}
 use Rattle.pd_core.specs.declared.script.Script.{Script}
 use Rattle.sliced_heap.proofs.HeapLaws.{empty_map}
 use Rattle.pd_core.specs.Own.{Sessions, no_sessions, own_of, own_at, part_at, own_heap_at, sliced_at, object_of, regions_of, selector_of, Lent, lent_in, no_lent}
 use Rattle.pd_core.specs.Sound.{buffer_at, rpc_weight, session_weight, IsLawful, IsSoundScript}
-use Rattle.pd_core.specs.Component.{Place, Pays, amounts_in, with_reserve, reserve_in, reserve_of, reserve_held, entry_of, kind_of, payer_in, payer_of, caps_in, rows_in, tables_in, NamesItsSessions, HasPlaces, HasNewHeap, HasNewHeaps, own_in, own, IsSoundServer, IsSoundRole}
+use Rattle.pd_core.specs.Component.{Place, Pays, amounts_in, with_reserve, reserve_in, reserve_of, reserve_held, entry_of, kind_of, payer_in, payer_of, caps_in, rows_in, tables_in, NamesItsSessions, HasPlaces, HasNewHeap, HasNewHeaps, own_in, own, IsSoundRole}
 use Rattle.pd_core.specs.Core.{Heads, Places, Roles, roles_of, rows_at, sessions_in, inits_of, world_of, Owner, Owns, IsBelowHead, IsCore}
 use Rattle.pd_core.specs.Core.Owner.{Init, Place as PlaceAt, ReserveAt, SessionAt}
 use Rattle.pd_core.proofs.NameLemmas.{cap_named}
@@ -58,7 +54,7 @@ use Rattle.pd_core.proofs.ComponentLemmas.{pays_is}
 use Rattle.pd_core.proofs.HeldLemmas.{names_none}
 use Rattle.pd_core.proofs.WorldLemmas.{all_roles, place_of, role_at, one_of}
 use Rattle.std.proofs.lemmas.Bool.{cases_lt}
-use Rattle.pd_core.specs.Fresh.{Has, IsFreshReserve, account_at, start_of, opened_part, started_world, AreEmpty, HasNoSessions, IsNewServer, IsFresh, AreFresh}
+use Rattle.pd_core.specs.Fresh.{Has, IsFreshReserve, account_at, start_of, opened_part, started_world, AreEmpty, IsNewServer, IsFresh, AreFresh}
 
 -- a start of a component of this kind, with these limits and this reserve
 abbrev beginning : Kind → ℕ → ℕ → Amounts → StartEntry
@@ -166,15 +162,6 @@ module _ (store : Store) (ram caps : ℕ) where
   server_state : (account : AccountId) → part account.0 store ≡ opened_part ram caps → own_of no_lent no_sessions (part account.0 store) empty empty no_heap empty ≡ start_state (beginning AScriptKind ram caps no_reserve)
   server_state account unused = ap (λ p. own_of no_lent no_sessions p empty empty no_heap empty) unused ∙ own_opened no_lent no_sessions ram caps
 
-  -- and it is sound where it has no sessions
-  server_sound : {T : Type 0} (kept : T → ℕ → Share → Type 0) (account : ℕ) (sessions : Slab (Kept T)) (regions : Regions) → part account store ≡ opened_part ram caps → HasNoSessions store sessions regions →
-      IsSoundServer kept store account sessions regions
-  server_sound kept account sessions regions unused new = record {
-    is_open = subst (λ (p : Part). IsSome p.account) (sym unused) refl;
-    server = server_at_first kept sessions store regions new.none new.no_heap new.pages new.heap_most;
-    places = new.places;
-  }
-
   role_fresh : (role : Role) → part (payer_in role) store ≡ opened_part ram caps → IfSome (tables_in role) (λ tables. AreEmpty store (caps + (reserve_held store role).caps) tables.0 tables.1) → HasNewHeap role → IsNewServer store role →
       RoleIsFresh role
   role_fresh (AScript script) unused fresh heap new =
@@ -186,18 +173,15 @@ module _ (store : Store) (ram caps : ℕ) where
         no_rows = refl;
         places = λ sessions. omega (arith, ap caps_limits (script_unused script unused has.caps fresh heap sessions), total-empty caps_with, fresh.places);
       }
-  role_fresh (ALog account server) unused fresh heap new = record {
-    sound = server_sound IsLogKept account.0 server.sessions server.map unused new;
+  role_fresh (AServer account host) unused fresh heap new = record {
+    sound = record {
+      is_open = subst (λ (p : Part). IsSome p.account) (sym unused) refl;
+      works = new_works store host new;
+      places = new.places;
+    };
     state = λ sessions. server_state account unused;
     no_caps = refl;
-    no_rows = map_of-empty (row_of log_value log_buffer store server.map) server.sessions new.none;
-    places = λ sessions. tt;
-  }
-  role_fresh (AFiles account server) unused fresh heap new = record {
-    sound = server_sound IsFilesKept account.0 server.sessions server.map unused new;
-    state = λ sessions. server_state account unused;
-    no_caps = refl;
-    no_rows = map_of-empty (row_of files_value files_buffer store server.map) server.sessions new.none;
+    no_rows = new_rows store host new;
     places = λ sessions. tt;
   }
   role_fresh (AnInit account) unused fresh heap new = record {
@@ -359,13 +343,8 @@ module _ (store : Store) (components : List Component) (fresh : AreFresh store c
 
 -- a new server is still new while other accounts are opened
 module _ (store store' : Store) (ram : ram_limits_in store' ≡ ram_limits_in store) (caps : caps_limits_in store' ≡ caps_limits_in store) where
-  no_sessions_stay : {T : Type 0} (sessions : Slab (Kept T)) (regions : Regions) → HasNoSessions store sessions regions → HasNoSessions store' sessions regions
-  no_sessions_stay sessions regions new =
-      record { none = new.none; places = omega (arith, new.places, caps); no_heap = new.no_heap; heap_most = new.heap_most; pages = new.pages ∙ sym ram }
-
   pub new_server_stays : (role : Role) → IsNewServer store role → IsNewServer store' role
   new_server_stays (AScript script) new = tt
-  new_server_stays (ALog account server) new = no_sessions_stay server.sessions server.map new
-  new_server_stays (AFiles account server) new = no_sessions_stay server.sessions server.map new
+  new_server_stays (AServer account host) new = still_new store store' (table_of host).sessions (table_of host).map ram caps new
   new_server_stays (AnInit key) new = tt
   new_server_stays AGone new = tt

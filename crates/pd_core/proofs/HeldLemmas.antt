@@ -9,7 +9,6 @@ use Rattle.own_model.specs.NatMap.{NatMap}
 use Rattle.own_model.specs.Session.{Labelled}
 use Rattle.own_model.proofs.NatMapLemmas.{get-empty}
 use Rattle.cap_space.specs.declared.cap.Cap.{Cap}
-use Rattle.trade_base.specs.declared.refusal.Refusal.TheVariants.{NotAScript}
 use Rattle.dataspace_core.specs.Room.{IsOuter}
 use Rattle.dataspace_core.specs.Store.{Store, Part, part, space_at, IsOpenIn, IsChildIn}
 use Rattle.dataspace_core.proofs.PartLaws.{open_in_part, paid_in_part}
@@ -23,10 +22,11 @@ use Rattle.pd_core.specs.SessionCalls.{IsBelowInit}
 use Rattle.pd_core.specs.Sessions.{row_session}
 use Rattle.pd_core.specs.Sound.{session_at, buffer_at}
 use Rattle.pd_core.specs.declared.component.Role.{Role}
-use Rattle.pd_core.specs.declared.component.Role.TheVariants.{Script, Log, Files, Init as AnInit, Gone}
+use Rattle.pd_core.specs.declared.component.Role.TheVariants.{Script, Server, Init as AnInit, Gone}
 use Rattle.trade_base.specs.declared.id.SessionId.{SessionId}
-use Rattle.pd_core.proofs.ComponentLemmas.{account_open}
-use Rattle.pd_core.proofs.ServerLemmas.{IsPaidRow, paid_in, lent_paid, sound_works}
+use Rattle.pd_core.proofs.ComponentLemmas.{a_script, account_open}
+use Rattle.pd_core.proofs.ServerLemmas.{paid_in, lent_paid, sound_works}
+use Rattle.services.proofs.HostLaws.{IsPaidRow}
 
 -- ---- owners
 
@@ -63,39 +63,31 @@ no_reserve_session server id k e = cc
 -- an init pays for its account
 pub init_pays : (role : Role) (account : ℕ) → IsInitOf role account → Pays role account
 init_pays (Script script) account is = absurd is
-init_pays (Log key server) account is = absurd is
-init_pays (Files key server) account is = absurd is
+init_pays (Server key host) account is = absurd is
 init_pays (AnInit key) account is = is
 init_pays Gone account is = absurd is
 
 -- a script is none
 pub script_no_init : (role : Role) → IsScriptRole role → (account : ℕ) → IsInitOf role account → ⊥
-script_no_init (Script script) script_is account is = is
-script_no_init (Log key server) script_is account is = is
-script_no_init (Files key server) script_is account is = is
-script_no_init (AnInit key) script_is account is = none-some NotAScript (sym script_is)
-script_no_init Gone script_is account is = is
+script_no_init role script_is account is = subst (λ r. IsInitOf r account) (a_script role script_is).1 is
 
 -- who has a reserve is a script, which pays for an account
 pub reserve_pays : (role : Role) (account : ℕ) → reserve_in role ≡ Some account → Pays role (payer_in role)
 reserve_pays (Script script) account has = refl
-reserve_pays (Log key server) account has = absurd (none-some account has)
-reserve_pays (Files key server) account has = absurd (none-some account has)
+reserve_pays (Server key host) account has = absurd (none-some account has)
 reserve_pays (AnInit key) account has = absurd (none-some account has)
 reserve_pays Gone account has = absurd (none-some account has)
 
 -- what is below the account of a role's init is so by its key
 pub below_init : (store : Store) (role : Role) (account : ℕ) → IsBelowInit store role account → (head : ℕ) × (IsInitOf role head × IsChildIn store account head)
 below_init store (Script script) account below = absurd below
-below_init store (Log key server) account below = absurd below
-below_init store (Files key server) account below = absurd below
+below_init store (Server key host) account below = absurd below
 below_init store (AnInit key) account below = (key.0, (refl, below))
 below_init store Gone account below = absurd below
 
 pub init_below : (store : Store) (role : Role) (account head : ℕ) → IsInitOf role head → IsChildIn store account head → IsBelowInit store role account
 init_below store (Script script) account head is below = is
-init_below store (Log key server) account head is below = is
-init_below store (Files key server) account head is below = is
+init_below store (Server key host) account head is below = is
 init_below store (AnInit key) account head is below = below ∙ ap Some (sym is)
 init_below store Gone account head is below = is
 
@@ -241,8 +233,7 @@ module _ {store : Store} {roles : Roles} (core : IsSoundCore store roles) where
     by_role : (r : Role) → roles k ≡ r → HasReserveApart r
     by_role (Script script) is = λ e.
         no_reserve_place k k (core.apart (Place k) (ReserveAt k) script.reserve.0 (subst (λ r. Pays r script.reserve.0) (sym is) (sym e)) (ap reserve_in is))
-    by_role (Log account server) is = tt
-    by_role (Files account server) is = tt
+    by_role (Server account host) is = tt
     by_role (AnInit key) is = tt
     by_role Gone is = tt
 

@@ -23,7 +23,7 @@ use Rattle.pd_core.specs.Sessions.{row_session}
 use Rattle.pd_core.specs.Sound.{session_at, buffer_at, WritesLent}
 use Rattle.pd_core.specs.declared.component.Component.{Component}
 use Rattle.pd_core.specs.declared.component.Role.{Role}
-use Rattle.pd_core.specs.declared.component.Role.TheVariants.{Script as AScript, Log as ALog, Files as AFiles, Init as AnInit, Gone as AGone}
+use Rattle.pd_core.specs.declared.component.Role.TheVariants.{Script as AScript, Server as AServer, Init as AnInit, Gone as AGone}
 use Rattle.pd_core.proofs.ChangeLemmas.{ChangesCore, Follows}
 use Rattle.pd_core.proofs.ComponentLemmas.{pays_is, pays_script, part_becomes, same_caps, same_room}
 use Rattle.pd_core.proofs.HeldLemmas.{held_by}
@@ -33,8 +33,7 @@ use Rattle.pd_core.proofs.WorldLemmas.{face_of, face_set, goes, places_kept, sta
 -- a role makes calls or is refused
 by_refusal : (role : Role) (X : Type 0) → (IsScriptRole role → X) → (IsSome (refusal_of role) → X) → X
 by_refusal (AScript script) X calls refused = calls refl
-by_refusal (ALog account server) X calls refused = refused refl
-by_refusal (AFiles account server) X calls refused = refused refl
+by_refusal (AServer account host) X calls refused = refused refl
 by_refusal (AnInit key) X calls refused = refused refl
 by_refusal AGone X calls refused = refused refl
 

@@ -1,10 +1,9 @@
 -- The accounts of components and of their sessions, as own states tell them.
 use Rattle.std.proofs.Common.{◌≡◌, ◌≢◌, ℕ, ◌+◌, add-one, ◌<◌, ◌≤◌, List, Some, IsSome, is_some, length, get_or, refl, sym, ap, subst, ◌∙◌, arith, true≢false}
 use Rattle.std.proofs.lemmas.List.{get_or-map}
-use Rattle.std.specs.Prelude.{Option, None, IfSome, Result, Ok, Err}
+use Rattle.std.specs.Prelude.{Option, None, Result, Ok, Err}
 use Rattle.std.specs.Option.{option_map, option_and_then, ok_or}
 use Rattle.std.specs.FinMap.{get, empty}
-use Rattle.trade_base.specs.declared.id.AccountId.{AccountId}
 use Rattle.trade_base.specs.declared.id.SessionId.{SessionId}
 use Rattle.trade_base.specs.declared.refusal.Refusal.{Refusal}
 use Rattle.trade_base.specs.declared.refusal.Refusal.TheVariants.{InvalidSession}
@@ -24,26 +23,20 @@ use Rattle.cap_space.specs.declared.cap.Cap.{Cap}
 use Rattle.cap_space.specs.declared.cap.Cap.TheVariants.{Dataspace, RpcObject, Session, Buffer}
 use Rattle.dataspace_core.specs.Store.{Store, Part, part, account_in}
 use Rattle.dataspace_core.proofs.PartLaws.{account_of-part}
-use Rattle.dataspace_core.specs.Share.{Share}
-use Rattle.region_map.specs.Regions.{Regions}
-use Rattle.slab.specs.Slab.{Slab}
-use Rattle.slab.specs.Slab as slab
-use Rattle.server_frame.specs.Frame.{Row, sessions_of}
-use Rattle.server_frame.specs.declared.server.Session.{Session as Kept}
+use Rattle.server_frame.specs.Frame.{Row}
 use Rattle.pd_core.specs.Own.{Sessions, no_sessions, object_of, own_of, part_at, Lent, lent_in, no_lent}
 use Rattle.pd_core.specs.Component.{Pays, kind_of, caps_in, rows_in, own_in, own, rows_of}
 use Rattle.pd_core.specs.Core.{Places, init_in, inits_of, roles_of, rows_at, sessions_in, world_of, IsCore}
 use Rattle.pd_core.specs.Exit.{HasSelectorsTo}
 use Rattle.pd_core.specs.SessionCalls.{named_in}
 use Rattle.pd_core.specs.Sound.{session_at}
-use Rattle.pd_core.proofs.ServerLemmas.{row_is}
 use Rattle.pd_core.proofs.ClientServerLemmas.{its as named_row}
 use Rattle.pd_core.proofs.SessionRefusedLemmas.{no_space}
 use Rattle.pd_core.proofs.SessionWorldLemmas.{Names, named_two, named_cap, host_within}
 use Rattle.pd_core.proofs.WorldLemmas.{entries_at, role_at}
 use Rattle.pd_core.specs.declared.component.Component.{Component}
 use Rattle.pd_core.specs.declared.component.Role.{Role}
-use Rattle.pd_core.specs.declared.component.Role.TheVariants.{Script as AScript, Log as ALog, Files as AFiles, Init as AnInit, Gone as AGone}
+use Rattle.pd_core.specs.declared.component.Role.TheVariants.{Script as AScript, Server as AServer, Init as AnInit, Gone as AGone}
 
 -- ---- a component's account
 
@@ -52,8 +45,7 @@ account_of_role : (sessions : Sessions) (store : Store) (role : Role) (account :
     account_by (kind_of role) (init_in store role) (own_in sessions store role).account ≡ account_in store account
 unfolding own_of
 account_of_role sessions store (AScript script) account pays = account_of-part script.account.0 store ∙ ap (account_in store) pays
-account_of_role sessions store (ALog key server) account pays = account_of-part key.0 store ∙ ap (account_in store) pays
-account_of_role sessions store (AFiles key server) account pays = account_of-part key.0 store ∙ ap (account_in store) pays
+account_of_role sessions store (AServer key host) account pays = account_of-part key.0 store ∙ ap (account_in store) pays
 account_of_role sessions store (AnInit key) account pays = ap (account_in store) pays
 account_of_role sessions store AGone account pays = absurd pays
 
@@ -66,8 +58,7 @@ account_of_known sessions store role known account is pays = sym (account_of_rol
 pub none_in_reserve : (sessions : Sessions) (store : Store) (role : Role) → ((script : Script) → role ≢ AScript script) → no_reserve ≡ (own_in sessions store role).reserve
 unfolding own_of
 none_in_reserve sessions store (AScript script) other = absurd (other script refl)
-none_in_reserve sessions store (ALog account server) other = refl
-none_in_reserve sessions store (AFiles account server) other = refl
+none_in_reserve sessions store (AServer account host) other = refl
 none_in_reserve sessions store (AnInit key) other = refl
 none_in_reserve sessions store AGone other = refl
 
@@ -92,8 +83,7 @@ limits_of_role : (sessions : Sessions) (store : Store) (role : Role) →
     CountsLimits (account_by (kind_of role) (init_in store role) (own_in sessions store role).account) (init_in store role) (own_in sessions store role).account
 unfolding own_of
 limits_of_role sessions store (AScript script) = record { ram = omega arith; caps = omega arith }
-limits_of_role sessions store (ALog key server) = record { ram = omega arith; caps = omega arith }
-limits_of_role sessions store (AFiles key server) = record { ram = omega arith; caps = omega arith }
+limits_of_role sessions store (AServer key host) = record { ram = omega arith; caps = omega arith }
 limits_of_role sessions store (AnInit key) = record { ram = omega arith; caps = omega arith }
 limits_of_role sessions store AGone = record { ram = omega arith; caps = omega arith }
 
@@ -129,8 +119,7 @@ no_caps role none q taken = absurd (true≢false (sym taken ∙ ap is_some (ap (
 no_object : (sessions : Sessions) (store : Store) (role : Role) (q : ℕ) → get (caps_in role) q ≡ None → get (own_in sessions store role).selectors q ≡ None
 unfolding own_of
 no_object sessions store (AScript script) q none = get-picked_none (object_of (lent_in store) sessions (part_at store script)) script.caps.caps q none
-no_object sessions store (ALog account server) q none = get-picked_none (object_of no_lent no_sessions (part account.0 store)) empty q none
-no_object sessions store (AFiles account server) q none = get-picked_none (object_of no_lent no_sessions (part account.0 store)) empty q none
+no_object sessions store (AServer account host) q none = get-picked_none (object_of no_lent no_sessions (part account.0 store)) empty q none
 no_object sessions store (AnInit key) q none = get-empty q
 no_object sessions store AGone q none = get-empty q
 
@@ -170,8 +159,7 @@ unfolding own_of
 by_role sessions store (AScript script) q =
     let part = part_at store script in
     ap session_named (get-picked (object_of (lent_in store) sessions part) script.caps.caps q) ∙ by_cap (lent_in store) sessions part (get script.caps.caps q)
-by_role sessions store (ALog account server) q = by_none (part account.0 store) q
-by_role sessions store (AFiles account server) q = by_none (part account.0 store) q
+by_role sessions store (AServer account host) q = by_none (part account.0 store) q
 by_role sessions store (AnInit key) q = ap session_named (get-empty q)
 by_role sessions store AGone q = ap session_named (get-empty q)
 
@@ -197,12 +185,3 @@ served_where {store} {components} {i} {d} q {named} core here read is =
     let within = host_within components named.0 two.serving in
     let its = named_row two q named.1 (named_cap names) in
     record { row = its.row; there = its.there; within = within; its = λ e. ap (λ r. get (rows_in store r) named.1.0) (sym (role_at components named.0 e within)) ∙ its.there }
-
--- the account that a server tells of a session is its row's
-module _ {T : Type 0} (value : T → Share → Labelled) (buffer : T → Option ℕ) (sessions : Slab (Kept T)) (store : Store) (regions : Regions) (id : ℕ) (account : AccountId)
-    (is : IfSome (slab.get sessions id) (λ session. account ≡ session.account)) where
-  pub account_of_row : (row : Row Labelled) → get (sessions_of value buffer sessions store regions) id ≡ Some row → account_in store account.0 ≡ row.account
-  account_of_row row there =
-      let its = row_is value buffer sessions store regions id row there in
-      let same : account ≡ its.session.account = subst (λ o. IfSome o (λ session. account ≡ session.account)) its.there is in
-      ap (λ (a : AccountId). account_in store a.0) same ∙ ap (λ (r : Row Labelled). r.account) its.is

@@ -1,36 +1,30 @@
 -- What a call leaves of the roles whose accounts it doesn't touch.
-use Rattle.std.proofs.Common.{◌≡◌, ℕ, false, ◌∙◌, Some, refl, sym, ap, is_some, arith}
-use Rattle.std.specs.Prelude.{Option, None}
+use Rattle.std.proofs.Common.{◌≡◌, ℕ, false, ◌∙◌, Some, refl, ap, is_some, arith}
 use Rattle.std.specs.Option.{option_map}
 use Rattle.std.specs.FinMap.{get, empty}
-use Rattle.slab.specs.Slab.{Slab}
-use Rattle.slab.specs.Slab as slab
 use Rattle.trade_base.specs.declared.id.SessionId.{SessionId}
 use Rattle.own_model.specs.Reserve.{no_reserve}
 use Rattle.own_model.specs.NatMap.{NatMap}
 use Rattle.own_model.specs.OwnHeap.{no_heap}
 use Rattle.own_model.specs.Session.{Labelled}
 use Rattle.own_model.specs.OwnState.Object.{OpenSession}
-use Rattle.own_model.proofs.NatMapLemmas.{same, picked_alike}
+use Rattle.own_model.proofs.NatMapLemmas.{picked_alike}
 use Rattle.cap_space.specs.declared.cap.Cap.{Cap}
 use Rattle.cap_space.specs.declared.cap.Cap.TheVariants.{Dataspace, RpcObject, Session, Buffer}
-use Rattle.quota_core.specs.SlabMap.{map_of}
-use Rattle.quota_core.proofs.SlabMap.{get-map_of, get-map_of_at}
 use Rattle.region_map.specs.Regions.{Regions}
-use Rattle.dataspace_core.specs.Share.{Share}
 use Rattle.dataspace_core.specs.Store.{Store, Part, part, account_of, space_at, ram_limits_in, caps_limits_in}
 use Rattle.dataspace_core.proofs.PartLaws.{open_in_part, part_open}
-use Rattle.server_frame.specs.Frame.{Row, row_of, sessions_of}
-use Rattle.server_frame.specs.declared.server.Session.{Session as Kept}
-use Rattle.server_frame.proofs.FrameLemmas.{Stays, row_stays}
-use Rattle.server_frame.proofs.FrameLaws.{server_stays}
+use Rattle.server_frame.specs.Frame.{Row}
+use Rattle.server_frame.proofs.FrameLemmas.{Stays}
+use Rattle.services.specs.Host.{rows_of}
+use Rattle.services.specs.declared.host.Host.{Host}
+use Rattle.services.proofs.HostLaws.{works_still, rows_stay as host_rows}
 use Rattle.pd_core.specs.Own.{Sessions, no_sessions, object_of, regions_of, own_of, own_at, own_heap_at, sliced_at, part_at, Lent, lent_in, no_lent}
 use Rattle.pd_core.specs.declared.script.Script.{Script}
-use Rattle.pd_core.specs.Sessions.{log_value, log_buffer, IsLogKept, files_value, files_buffer, IsFilesKept}
 use Rattle.pd_core.specs.Sound.{session_at, buffer_at, IsSoundScript}
 use Rattle.pd_core.specs.Component.{Pays, amounts_in, with_reserve, reserve_in, caps_in, rows_in, own_in, IsSoundServer, IsSoundRole}
 use Rattle.pd_core.specs.declared.component.Role.{Role}
-use Rattle.pd_core.specs.declared.component.Role.TheVariants.{Script as AScript, Log as ALog, Files as AFiles, Init as AnInit, Gone as AGone}
+use Rattle.pd_core.specs.declared.component.Role.TheVariants.{Script as AScript, Server as AServer, Init as AnInit, Gone as AGone}
 use Rattle.pd_core.specs.Core.{Roles, rows_at, Owner, Owns, IsSoundCore}
 use Rattle.pd_core.specs.Core.Owner.{Place, ReserveAt, SessionAt}
 use Rattle.pd_core.proofs.ChangeLemmas.{AgreeOn, Follows}
@@ -60,16 +54,7 @@ module _ (S S' : Sessions) (script : Script) (agrees : (q server : ℕ) (session
     gone = false;
   }
 
--- ---- a server's table
-
--- what is read of an option stays where each value's reading does
-read_alike : {T X : Type 0} (f g : T → X) (o : Option T) → ((x : T) → o ≡ Some x → g x ≡ f x) → option_map g o ≡ option_map f o
-read_alike f g None alike = refl
-read_alike f g (Some x) alike = ap Some (alike x refl)
-
--- a slab is read alike where each of its values is
-map_of_alike : {T X : Type 0} (f g : T → X) (s : Slab T) → ((q : ℕ) (x : T) → slab.get s q ≡ Some x → g x ≡ f x) → map_of g s ≡ map_of f s
-map_of_alike f g s alike = same _ _ (λ q. get-map_of g s q ∙ read_alike f g (slab.get s q) (alike q) ∙ sym (get-map_of f s q))
+-- ---- roles
 
 -- a map without a region, since what stays does so whatever the map is
 no_regions : Regions
@@ -83,30 +68,22 @@ module _ (store store' : Store) (Beside : ℕ → Type 0) (stays : (regions : Re
   AreBeside rows = (id : ℕ) (row : Row Labelled) → get rows id ≡ Some row → Beside row.key
 
   -- a server, all of whose sessions are on such accounts
-  module _ {T : Type 0} (value : T → Share → Labelled) (buffer : T → Option ℕ) (kept : T → ℕ → Share → Type 0) (sessions : Slab (Kept T)) (regions : Regions) (beside : AreBeside (sessions_of value buffer sessions store regions)) where
-    session_stays : (id : ℕ) (session : Kept T) → slab.get sessions id ≡ Some session → Stays session.account.0 store store' regions regions
-    session_stays id session there =
-        stays regions session.account.0 (beside id (row_of value buffer store regions session) (get-map_of_at (row_of value buffer store regions) sessions id session there))
+  module _ (host : Host) (beside : AreBeside (rows_of store host)) where
+    session_stays : (id : ℕ) (row : Row Labelled) → get (rows_of store host) id ≡ Some row → (regions : Regions) → Stays row.key store store' regions regions
+    session_stays id row there regions = stays regions row.key (beside id row there)
 
-    -- has the rows that it had
-    table_stays : sessions_of value buffer sessions store' regions ≡ sessions_of value buffer sessions store regions
-    table_stays =
-        map_of_alike (row_of value buffer store regions) (row_of value buffer store' regions) sessions
-        (λ id session there. row_stays store store' regions regions session value buffer (session_stays id session there))
-
-    -- and is sound, if its own account is such a one
-    table_sound : (account : ℕ) → Beside account → IsSoundServer kept store account sessions regions → IsSoundServer kept store' account sessions regions
-    table_sound account apart sound = record {
-      is_open = ap (λ (p : Part). is_some p.account) (stays regions account apart).own ∙ sound.is_open;
-      server = server_stays kept sessions store store' regions sound.server limits session_stays;
+    -- is sound, if its own account is such a one
+    host_sound : (account : ℕ) → Beside account → IsSoundServer store account host → IsSoundServer store' account host
+    host_sound account apart sound = record {
+      is_open = ap (λ (p : Part). is_some p.account) (stays no_regions account apart).own ∙ sound.is_open;
+      works = works_still store store' host session_stays limits sound.works;
       places = omega (arith, sound.places, caps_limits);
     }
 
   -- a role has the rows that it had
   pub rows_stay : (role : Role) → AreBeside (rows_in store role) → rows_in store' role ≡ rows_in store role
   rows_stay (AScript script) beside = refl
-  rows_stay (ALog account server) beside = table_stays log_value log_buffer IsLogKept server.sessions server.map beside
-  rows_stay (AFiles account server) beside = table_stays files_value files_buffer IsFilesKept server.sessions server.map beside
+  rows_stay (AServer account host) beside = host_rows store store' host (session_stays host beside)
   rows_stay (AnInit key) beside = refl
   rows_stay AGone beside = refl
 
@@ -123,14 +100,13 @@ module _ (store store' : Store) (Beside : ℕ → Type 0) (stays : (regions : Re
   -- it stays sound
   pub role_sound : (role : Role) → IsSoundRole store role → ((account : ℕ) → Pays role account → Beside account) → AreBeside (rows_in store role) → AreLentBeside role → IsSoundRole store' role
   role_sound (AScript script) sound apart beside lent = (script_stays script sound (apart _ refl) lent).sound
-  role_sound (ALog account server) sound apart beside lent = table_sound log_value log_buffer IsLogKept server.sessions server.map beside account.0 (apart _ refl) sound
-  role_sound (AFiles account server) sound apart beside lent = table_sound files_value files_buffer IsFilesKept server.sessions server.map beside account.0 (apart _ refl) sound
+  role_sound (AServer account host) sound apart beside lent = host_sound host beside account.0 (apart _ refl) sound
   role_sound (AnInit key) sound apart beside lent = open_in_part key.0 store' (ap (λ (p : Part). is_some p.account) (stays no_regions key.0 (apart _ refl)).own ∙ part_open key.0 store sound)
   role_sound AGone sound apart beside lent = tt
 
   -- the own state of a server
-  server_own : (regions : Regions) (account : ℕ) → Beside account → own_of no_lent no_sessions (part account store') empty empty no_heap empty ≡ own_of no_lent no_sessions (part account store) empty empty no_heap empty
-  server_own regions account apart = ap (λ p. own_of no_lent no_sessions p empty empty no_heap empty) (stays regions account apart).own
+  server_own : (account : ℕ) → Beside account → own_of no_lent no_sessions (part account store') empty empty no_heap empty ≡ own_of no_lent no_sessions (part account store) empty empty no_heap empty
+  server_own account apart = ap (λ p. own_of no_lent no_sessions p empty empty no_heap empty) (stays no_regions account apart).own
 
   -- and with the own state that it had, where the sessions that it names are the same
   pub own_stays : (S S' : Sessions) (role : Role) → IsSoundRole store role → ((account : ℕ) → Pays role account → Beside account) → ((account : ℕ) → reserve_in role ≡ Some account → Beside account) → AreLentBeside role →
@@ -139,8 +115,7 @@ module _ (store store' : Store) (Beside : ℕ → Type 0) (stays : (regions : Re
       let same : own_at S' store' script ≡ own_at S store script = own_alike S S' script (λ q server session is. agrees q server session (ap session_at is)) store'
       ∙ (script_stays script sound (apart _ refl) lent).own S in
       λ j. with_reserve (amounts_in ((stays script.regions script.reserve.0 (kept _ refl)).own j)) (same j)
-  own_stays S S' (ALog account server) sound apart kept lent agrees = server_own server.map account.0 (apart _ refl)
-  own_stays S S' (AFiles account server) sound apart kept lent agrees = server_own server.map account.0 (apart _ refl)
+  own_stays S S' (AServer account host) sound apart kept lent agrees = server_own account.0 (apart _ refl)
   own_stays S S' (AnInit key) sound apart kept lent agrees = refl
   own_stays S S' AGone sound apart kept lent agrees = refl
 

@@ -1,8 +1,10 @@
 -- A session that the component at a place asks for: the server that it is led to, and how it goes.
 use Rattle.std.proofs.Common.{◌≡◌, ℕ, ◌<◌, List, [], length, get_or, set, is_some, None, Some, Ok, refl, sym, ap, subst, ◌∙◌}
 use Rattle.std.proofs.lemmas.List.{get_or_default, get_or-set_other}
+use Rattle.std.proofs.lemmas.Option.{same_Some}
 use Rattle.std.specs.FinMap.{get}
 use Rattle.std.specs.Option.{option_map}
+use Rattle.trade_base.specs.declared.id.AccountId.{AccountId}
 use Rattle.trade_base.specs.declared.id.Selector.{Selector}
 use Rattle.trade_base.specs.declared.id.SessionId.{SessionId}
 use Rattle.trade_base.specs.declared.refusal.Refusal.{Refusal}
@@ -19,18 +21,21 @@ use Rattle.dataspace_core.specs.Store.{Store, account_in}
 use Rattle.dataspace_core.proofs.PartLaws.{account_of-part}
 use Rattle.server_frame.specs.Frame.{OpensSession}
 use Rattle.server_frame.proofs.RowLaws.{IsNoRows}
+use Rattle.services.specs.Host.{service_of, rows_of as rows_of_host, Admits, StaysServer}
+use Rattle.services.specs.declared.host.Host.{Host}
 use Rattle.pd_core.specs.Answer.{told_alone}
-use Rattle.pd_core.specs.Component.{entry_of, kind_of, served_by, caps_of, caps_in, rows_in, rows_of, service_of, own_in, HasPlace, IsSoundRole, Admits, StaysServer}
+use Rattle.pd_core.specs.Component.{entry_of, kind_of, served_by, caps_of, caps_in, rows_in, service_of as service_of_component, own_in, HasPlace, IsSoundRole, StaysServer as StaysServerAs}
 use Rattle.pd_core.specs.Core.{Places, Roles, roles_of, sessions_in, IsCore}
 use Rattle.pd_core.specs.Own.{Sessions, HasSessions, own_of}
 use Rattle.pd_core.specs.Sessions.{row_session}
 use Rattle.pd_core.specs.SessionCalls.{Agrees, Goes, HasSelectorLeft, Leads, with_session}
 use Rattle.pd_core.specs.declared.component.Component.{Component}
-use Rattle.pd_core.specs.declared.component.Role.TheVariants.{Script as AScript}
+use Rattle.pd_core.specs.declared.component.Role.TheVariants.{Script as AScript, Server as AServer}
 use Rattle.pd_core.specs.declared.script.Script.{Script}
 use Rattle.pd_core.proofs.HeldLemmas.{names_open as all_open}
 use Rattle.pd_core.proofs.PlainLemmas.{face_is}
 use Rattle.pd_core.proofs.RouterLemmas.{led_to_service}
+use Rattle.pd_core.proofs.ServerLemmas.{serving_as, as_it_is, component_stays}
 use Rattle.pd_core.proofs.ClientServerLemmas.{payer_open, no_session, has_place, has_room, script_sound, names_open, new_alone, open_alike, open_others, changes_opened}
 use Rattle.pd_core.proofs.SessionChangeLemmas.{AreTwo, ReplacesTwo, two_places, sessions_agree, now_there, step_goes}
 use Rattle.pd_core.proofs.SessionWorldLemmas.{kept_put}
@@ -61,7 +66,7 @@ module _ {places : Places} {leads : Leads} {store : Store} {components : List Co
   S = sessions_in store (roles_of components)
 
   -- a server of this service stands there
-  to_service : (kind : Service) × (provider (places i).routes service args.label ≡ Some (record { kind = kind; place = s })) × ((s < length components) × ((e : Component) → service_of (get_or components s e) ≡ Some kind))
+  to_service : (kind : Service) × (provider (places i).routes service args.label ≡ Some (record { kind = kind; place = s })) × ((s < length components) × ((e : Component) → service_of_component (get_or components s e) ≡ Some kind))
   to_service = led_to_service places leads store components i service args.label agrees here s led
 
   abbrev kind : Service
@@ -94,37 +99,39 @@ module _ {places : Places} {leads : Leads} {store : Store} {components : List Co
       (ap (λ a. donation_refusal a args.ram args.caps) (account_of-part script.account.0 store) ∙ sym is)))
 
   -- the server is read at its place
-  module _ (e : Component) where
-    abbrev host : Component
-    host = get_or components s e
-
-    host_is : roles_of components s ≡ (get_or components s e).role
-    host_is = role_at components s e to_service.2.0
+  module _ (e : Component) (key : AccountId) (host : Host) (is : (get_or components s e).role ≡ AServer key host) where
+    at_place : roles_of components s ≡ AServer key host
+    at_place = role_at components s e to_service.2.0 ∙ is
 
     -- it can open a session for the script
-    pub led_admits : Admits store (get_or components s e) script.account.0 args.ram args.caps
+    pub led_admits : Admits store host script.account.0 args.ram args.caps
     led_admits = record {
-      sound = subst (IsSoundRole store) host_is (core.sound s);
-      serving = ap is_some (to_service.2.1 e);
+      works = (subst (IsSoundRole store) at_place (core.sound s)).works;
       is_open = payer_open led_two;
-      no_session = subst (λ r. IsNoRows (rows_in store r) script.account.0) host_is (no_session led_two);
-      place = λ accepted. subst HasPlace host_is (has_place led_two args.ram args.caps accepted);
+      no_session = subst (λ r. IsNoRows (rows_in store r) script.account.0) at_place (no_session led_two);
+      place = λ accepted. subst HasPlace at_place (has_place led_two args.ram args.caps accepted);
       room = has_room led_two args.ram args.caps;
     }
 
+    -- of the service that is asked for
+    its_service : service_of host ≡ to_service.0
+    its_service = same_Some _ _ (ap served_by (sym is) ∙ to_service.2.1 e)
+
     -- a session is opened, and the script is read again
-    module _ (store' : Store) (host' : Component) (stays : StaysServer store (get_or components s e) store' host')
+    module _ (store' : Store) (opened : Host) (stays : StaysServer store host store' opened)
         (accepted : None ≡ donation_refusal (account_in store script.account.0) args.ram args.caps) (session : SessionId) (whole : List ℕ) (labelled : whole ≡ label_with (get_or components i d).name.items args.label)
-        (opening : (k : Service) → service_of (get_or components s e) ≡ Some k →
-        OpensSession script.account.0 args.ram args.caps session.0 (record { label = whole; state = state_at_first k }) store store' (rows_of store (get_or components s e)) (rows_of store' host')) (d' : Component) where
+        (opening : OpensSession script.account.0 args.ram args.caps session.0 (record { label = whole; state = state_at_first (service_of host) }) store store' (rows_of_host store host) (rows_of_host store' opened)) (d' : Component) where
       abbrev first : Labelled
       first = record { label = label_with (get_or components i d).name.items args.label; state = state_at_first (to_service.0) }
 
-      opens : OpensSession script.account.0 args.ram args.caps session.0 first store store' (rows_in store (roles_of components s)) (rows_of store' host')
+      abbrev host' : Component
+      host' = serving_as (get_or components s e) key opened
+
+      opens : OpensSession script.account.0 args.ram args.caps session.0 first store store' (rows_in store (roles_of components s)) (rows_of_host store' opened)
       opens =
-          subst (λ r. OpensSession script.account.0 args.ram args.caps session.0 first store store' (rows_in store r) (rows_of store' host')) (sym host_is)
-          (subst (λ l. OpensSession script.account.0 args.ram args.caps session.0 (record { label = l; state = state_at_first (to_service.0) }) store store' (rows_of store (get_or components s e)) (rows_of store' host')) labelled
-          (opening (to_service.0) (to_service.2.1 e)))
+          subst (λ r. OpensSession script.account.0 args.ram args.caps session.0 first store store' (rows_in store r) (rows_of_host store' opened)) (sym at_place)
+          (subst (λ f. OpensSession script.account.0 args.ram args.caps session.0 f store store' (rows_of_host store host) (rows_of_host store' opened))
+          (λ j. record { label = labelled j; state = state_at_first (its_service j) }) opening)
 
       abbrev again : Component
       again = get_or (set components s host') i d'
@@ -142,11 +149,17 @@ module _ {places : Places} {leads : Leads} {store : Store} {components : List Co
           (has_selector store store' script (rows_in store (roles_of components s)) s session args.ram args.caps (script_sound led_two) (names_open led_two) opens.free stays.machine opens.parted (sym accepted)
           (open_alike led_two args.ram args.caps (sym accepted) store' opens) (open_others led_two args.ram args.caps (sym accepted) store' opens))
 
+      abbrev host_then : Component
+      host_then = serving_as (get_or components s e) key host
+
+      component : StaysServerAs store host_then store' host'
+      component = component_stays (get_or components s e) key stays
+
       -- it goes as the model's
       pub led_opened : (selector : Selector) (kept : Component) → selector.0 ≡ new_selector (caps_of (get_or (set components s host') i d')) →
           kept ≡ record (get_or (set components s host') i d') { role = with_session (get_or (set components s host') i d').role selector.0 s session } →
           Goes places (Open service text) i (told_alone (reply_text (Selected selector.0))) store components store' (set (set components s host') i kept)
-      led_opened selector kept least is =
+      led_opened selector kept least kept_is =
           let after : List Component = set (set components s host') i kept in
           let script' : Script = script_with script selector.0 s session in
           let is_new : selector.0 ≡ new_selector script.caps.caps = least ∙ ap (λ r. new_selector (caps_in r)) same_role in
@@ -156,15 +169,15 @@ module _ {places : Places} {leads : Leads} {store : Store} {components : List Co
           (open_alike led_two args.ram args.caps (sym accepted) store' opens) (open_others led_two args.ram args.caps (sym accepted) store' opens) selector.0 unused is_new in
           let changes = changes_opened led_two args.ram args.caps (sym accepted) store' opens selector.0 unused for_it.sound stays.machine in
           let alone = new_alone led_two args.ram args.caps (sym accepted) store' opens in
-          let kept_role : kept.role ≡ AScript script' = ap (λ (c : Component). c.role) is ∙ ap (λ r. with_session r selector.0 s session) same_role in
+          let kept_role : kept.role ≡ AScript script' = ap (λ (c : Component). c.role) kept_is ∙ ap (λ r. with_session r selector.0 s session) same_role in
           let replaced = subst (λ r. ReplacesTwo (roles_of components) (roles_of after) i s r host'.role) kept_role (kept_put components led_two host' kept) in
           let name = (get_or (set components s host') i d').name.items in
           let faces : SameFaces components after
-          = face_set (set components s host') i kept d' (ap face_of is
+          = face_set (set components s host') i kept d' (ap face_of kept_is
           ∙ (λ j. record { label = name; kind = kind_of (with_session (same_role j) selector.0 s session); service = served_by (with_session (same_role j) selector.0 s session) })
           ∙ (λ j. record { label = name; kind = kind_of (sym same_role j); service = served_by (sym same_role j) }))
-          ∙ face_set components s host' e (face_is (get_or components s e) host' stays.entry stays.service) in
+          ∙ face_set components s host' e (face_is host_then host' component.entry component.service ∙ ap face_of (as_it_is (get_or components s e) key host is)) in
           let ready : HasSessions S script.caps.caps = subst (λ r. HasSessions S (caps_in r)) led_two.is_script (all_open core i) in
-          step_goes components after led_two d host_is replaced faces alone changes stays places (Open service text) refl refl (Selected selector.0) [] (told_alone (reply_text (Selected selector.0))) refl refl
+          step_goes components after led_two d at_place replaced faces alone changes component places (Open service text) refl refl (Selected selector.0) [] (told_alone (reply_text (Selected selector.0))) refl refl
           (for_it.does (entry_of (places i) (get_or components i d)) S (sessions_in store' (roles_of after)) service text wished ready asks refl refl
-          (sessions_agree led_two host_is replaced alone changes stays) (ap (option_map (row_session s)) (now_there led_two host_is replaced alone changes stays)))
+          (sessions_agree led_two at_place replaced alone changes component) (ap (option_map (row_session s)) (now_there led_two at_place replaced alone changes component)))

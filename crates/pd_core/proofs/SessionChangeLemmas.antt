@@ -43,7 +43,7 @@ use Rattle.pd_core.proofs.ComponentLemmas.{account_open, pays_is, pays_server}
 use Rattle.pd_core.proofs.HeldLemmas.{names_open, same_place, no_place, no_reserve_place, no_reserve_session, same_session, not_session, init_pays, reserve_pays, pays_alone, script_inits, held_by}
 use Rattle.pd_core.proofs.NameLemmas.{buffer_key, lent_aside}
 use Rattle.pd_core.proofs.RoleLemmas.{Leaves, role_left, rows_left}
-use Rattle.pd_core.proofs.ServerLemmas.{server_no_init, caps_of_server, places_of_server, reserve_of_server, own_of_server, enough_places, sound_server}
+use Rattle.pd_core.proofs.ServerLemmas.{is_serving, enough_places, sound_server}
 use Rattle.pd_core.proofs.SessionOwnLemmas.{is_step}
 use Rattle.pd_core.proofs.WorldLemmas.{SameFaces, goes, places_kept, place_of, role_at, same_inits}
 
@@ -254,20 +254,22 @@ module _ {store : Store} {roles : Roles} {i s : ℕ} {script : Script} (two : Ar
     host_follows : Follows store host.role store' host'.role
     host_follows =
         let sound = subst (IsSoundRole store) host_is (core.sound s) in
+        let was_serving = is_serving host.role host_serving in
+        let now = is_serving host'.role still_serving in
         let is_open = ap (λ (p : Part). is_some p.account) host_part ∙ account_open store host.role sound (payer_of host) (pays_server host.role host_serving) in
         record {
           sound = sound_server store' host'.role still_serving stays.works (subst (λ one. IsSome (part one store').account) (sym stays.account) is_open)
               (omega (arith, enough_places store host.role host_serving sound, changes.moves.caps, stays.capacity));
           own = λ S S' _.
-              own_of_server S' store' host'.role still_serving ∙ ap (λ one. own_of no_lent no_sessions (part one store') empty empty no_heap empty) stays.account
-              ∙ ap (λ p. own_of no_lent no_sessions p empty empty no_heap empty) host_part ∙ sym (own_of_server S store host.role host_serving);
-          caps = caps_of_server host'.role still_serving ∙ sym (caps_of_server host.role host_serving);
-          places = places_of_server host'.role still_serving ∙ sym (places_of_server host.role host_serving);
+              now.own S' store' ∙ ap (λ one. own_of no_lent no_sessions (part one store') empty empty no_heap empty) stays.account
+              ∙ ap (λ p. own_of no_lent no_sessions p empty empty no_heap empty) host_part ∙ sym (was_serving.own S store);
+          caps = now.caps ∙ sym was_serving.caps;
+          places = now.places ∙ sym was_serving.places;
           pays = λ one its. subst (Pays host.role) (sym stays.account ∙ pays_is host'.role one its) (pays_server host.role host_serving);
           paid = λ one its. subst (Pays host'.role) (stays.account ∙ pays_is host.role one its) (pays_server host'.role still_serving);
-          inits = λ one its. absurd (server_no_init host.role host_serving one its);
-          reserve = reserve_of_server host'.role still_serving ∙ sym (reserve_of_server host.role host_serving);
-          reserved = λ one is. absurd (none-some one (sym (reserve_of_server host.role host_serving) ∙ is));
+          inits = λ one its. absurd (was_serving.no_init one its);
+          reserve = now.reserve ∙ sym was_serving.reserve;
+          reserved = λ one is. absurd (none-some one (sym was_serving.reserve ∙ is));
         }
 
     follows : (k : ℕ) → k ≢ i → Follows store (roles k) store' (roles' k)

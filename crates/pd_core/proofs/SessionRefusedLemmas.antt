@@ -35,7 +35,7 @@ use Rattle.pd_core.specs.SessionCalls.{named_in, Goes}
 use Rattle.pd_core.specs.Sound.{session_at}
 use Rattle.pd_core.specs.declared.component.Component.{Component}
 use Rattle.pd_core.specs.declared.component.Role.{Role}
-use Rattle.pd_core.specs.declared.component.Role.TheVariants.{Script as AScript, Log as ALog, Files as AFiles, Init as AnInit, Gone as AGone}
+use Rattle.pd_core.specs.declared.component.Role.TheVariants.{Script as AScript, Server as AServer, Init as AnInit, Gone as AGone}
 use Rattle.pd_core.specs.declared.script.Script.{Script}
 use Rattle.pd_core.proofs.WorldLemmas.{refused_goes}
 use Rattle.pd_core.proofs.NamedSessionLemmas.{refused_reply}
@@ -54,8 +54,7 @@ ok_is (Some y) e x is = ap result_ok is
 pub named_script : (role : Role) (selector : ℕ) (named : ℕ × SessionId) → named_in role selector ≡ Ok named →
     (script : Script) × (role ≡ AScript script) × (session_at (get script.caps.caps selector) ≡ Some named)
 named_script (AScript script) selector named is = (script, refl, ok_is (session_at (get script.caps.caps selector)) InvalidSession named is)
-named_script (ALog account server) selector named is = absurd (none-some named (ap result_ok is))
-named_script (AFiles account server) selector named is = absurd (none-some named (ap result_ok is))
+named_script (AServer account host) selector named is = absurd (none-some named (ap result_ok is))
 named_script (AnInit key) selector named is = absurd (none-some named (ap result_ok is))
 named_script AGone selector named is = absurd (none-some named (ap result_ok is))
 
@@ -104,16 +103,14 @@ module _ (S : Sessions) (store : Store) (place : Place) (component : Component) 
   unnamed_step call selector asks (AScript script) refusal is =
       let why = err_is (session_at (get script.caps.caps selector)) InvalidSession refusal is in
       asks (entry_of place (record component { role = AScript script })) (own_in S store (AScript script)) (unnamed S store script selector why.0) ∙ ap (refused (own_in S store (AScript script))) why.1
-  unnamed_step call selector asks (ALog account server) refusal is = ap (refused (own_in S store (ALog account server))) (same_Some NotAScript refusal (ap result_err is))
-  unnamed_step call selector asks (AFiles account server) refusal is = ap (refused (own_in S store (AFiles account server))) (same_Some NotAScript refusal (ap result_err is))
+  unnamed_step call selector asks (AServer account host) refusal is = ap (refused (own_in S store (AServer account host))) (same_Some NotAScript refusal (ap result_err is))
   unnamed_step call selector asks (AnInit account) refusal is = ap (refused (own_in S store (AnInit account))) (same_Some NotAScript refusal (ap result_err is))
   unnamed_step call selector asks AGone refusal is = ap (refused gone_state) (same_Some Gone refusal (ap result_err is))
 
   -- a call of a server, or of one that has exited
   no_script : (call : Call) (role : Role) (refusal : Refusal) → ((script : Script) → role ≢ AScript script) → Some refusal ≡ option_or (refusal_of role) (Some NotAScript) → Refuses role call refusal
   no_script call (AScript script) refusal other why = absurd (other script refl)
-  no_script call (ALog account server) refusal other why = ap (refused (own_in S store (ALog account server))) (same_Some NotAScript refusal (sym why))
-  no_script call (AFiles account server) refusal other why = ap (refused (own_in S store (AFiles account server))) (same_Some NotAScript refusal (sym why))
+  no_script call (AServer account host) refusal other why = ap (refused (own_in S store (AServer account host))) (same_Some NotAScript refusal (sym why))
   no_script call (AnInit account) refusal other why = ap (refused (own_in S store (AnInit account))) (same_Some NotAScript refusal (sym why))
   no_script call AGone refusal other why = ap (refused gone_state) (same_Some Gone refusal (sym why))
 

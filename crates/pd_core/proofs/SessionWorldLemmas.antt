@@ -19,7 +19,7 @@ use Rattle.own_model.specs.Reply.Reply.{Done, Refused}
 use Rattle.own_model.specs.Session.{Labelled}
 use Rattle.own_model.specs.SessionArgs.{Arguments, arguments_of}
 use Rattle.own_model.proofs.StepLemmas.{covers}
-use Rattle.own_model.proofs.NatMapLemmas.{get-empty, get-insert_same}
+use Rattle.own_model.proofs.NatMapLemmas.{get-insert_same}
 use Rattle.cap_space.specs.declared.cap.Cap.{Cap}
 use Rattle.cap_space.specs.declared.cap.Cap.TheVariants.{Dataspace, RpcObject, Session, Buffer}
 use Rattle.dataspace_core.specs.Store.{Store, Part, part, space_at, account_in, RaisesPart}
@@ -35,11 +35,11 @@ use Rattle.pd_core.specs.SessionCalls.{Goes, named_in}
 use Rattle.pd_core.specs.Sound.{session_at, buffer_at}
 use Rattle.pd_core.specs.declared.component.Component.{Component}
 use Rattle.pd_core.specs.declared.component.Role.{Role}
-use Rattle.pd_core.specs.declared.component.Role.TheVariants.{Script as AScript, Log as ALog, Files as AFiles, Init as AnInit, Gone as AGone}
+use Rattle.pd_core.specs.declared.component.Role.TheVariants.{Script as AScript, Gone as AGone}
 use Rattle.pd_core.specs.declared.script.Script.{Script}
 use Rattle.pd_core.proofs.AsideLemmas.{refused_aside}
 use Rattle.pd_core.proofs.PlainLemmas.{face_is}
-use Rattle.pd_core.proofs.ServerLemmas.{lent_paid}
+use Rattle.pd_core.proofs.ServerLemmas.{server_of_row, lent_paid}
 use Rattle.pd_core.proofs.ClientServerLemmas.{its as its_row, under, holds_lent, its_lent, lent_alike, are_others, names_session, row_alone, raise_moves, changes_written, script_sound}
 use Rattle.pd_core.proofs.SessionChangeLemmas.{AreTwo, ReplacesTwo, KeepsBut, session_goes, two_places}
 use Rattle.pd_core.proofs.NamedSessionLemmas.{upgrades_done, upgrade_unread, upgrade_refused}
@@ -50,11 +50,7 @@ use Rattle.pd_core.proofs.WorldLemmas.{face_of, face_set, place_of, refused_goes
 
 -- a role with a session serves
 serving_role : (store : Store) (role : Role) (id : ℕ) (row : Row Labelled) → get (rows_in store role) id ≡ Some row → IsSome (served_by role)
-serving_role store (AScript script) id row there = absurd (none-some row (sym (get-empty id) ∙ there))
-serving_role store (ALog account server) id row there = refl
-serving_role store (AFiles account server) id row there = refl
-serving_role store (AnInit key) id row there = absurd (none-some row (sym (get-empty id) ∙ there))
-serving_role store AGone id row there = absurd (none-some row (sym (get-empty id) ∙ there))
+serving_role store role id row there = ap (λ r. is_some (served_by r)) (server_of_row store role id row there).1.1
 
 -- a capability that names a session
 cap_of : (o : Option Cap) (named : ℕ × SessionId) → session_at o ≡ Some named → o ≡ Some (Session named.0 named.1)

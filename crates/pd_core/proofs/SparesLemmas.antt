@@ -10,25 +10,23 @@ use Rattle.quota_core.specs.Books.{Books, ram_limits, caps_limits}
 use Rattle.dataspace_core.specs.Room.{HasRoom}
 use Rattle.dataspace_core.specs.Store.{Store, Part, part, part_with_bytes, ram_limits_in, caps_limits_in, space_at, Exists, PartBecomes}
 use Rattle.dataspace_core.proofs.PartLaws.{paid_in_part}
-use Rattle.file_service.specs.Aside.{lends_aside}
 use Rattle.server_frame.specs.Frame.{Row}
 use Rattle.server_frame.specs.Laws.{WritesLent as WritesRow}
 use Rattle.server_frame.proofs.FrameLaws.{stays_of_others}
-use Rattle.server_frame.proofs.LentLaws.{lends_nothing, writes_leave_sessions}
+use Rattle.services.proofs.HostLaws.{written as host_written}
 use Rattle.pd_core.specs.Component.{Pays, reserve_in, caps_in, rows_in, Works, IsSoundRole}
 use Rattle.pd_core.specs.Core.{Heads, Roles, rows_at, Owner, Owns, IsInits, IsSoundCore}
 use Rattle.pd_core.specs.Exit.{IsScriptRole}
 use Rattle.pd_core.specs.Core.Owner.{Place, ReserveAt, SessionAt}
 use Rattle.pd_core.specs.Own.{no_sessions, no_lent, own_of}
-use Rattle.pd_core.specs.Sessions.{log_value, log_buffer, IsLogKept, files_value, files_buffer, IsFilesKept}
 use Rattle.pd_core.specs.Sound.{WritesLent}
 use Rattle.pd_core.specs.declared.component.Role.{Role}
-use Rattle.pd_core.specs.declared.component.Role.TheVariants.{Script as AScript, Log as ALog, Files as AFiles, Init as AnInit, Gone as AGone}
+use Rattle.pd_core.specs.declared.component.Role.TheVariants.{Script as AScript, Server as AServer, Init as AnInit, Gone as AGone}
 use Rattle.pd_core.proofs.ChangeLemmas.{Follows}
 use Rattle.pd_core.proofs.HeldLemmas.{IsLender, lender, same_place, no_place, no_reserve_place, no_reserve_session, same_session, session_no_init, pays_alone, script_inits}
 use Rattle.pd_core.proofs.LentWriteLemmas.{same_books, room_by_books}
 use Rattle.pd_core.proofs.RoleLemmas.{Leaves, role_left, rows_left}
-use Rattle.pd_core.proofs.ServerLemmas.{sound_works}
+use Rattle.pd_core.proofs.ServerLemmas.{server_of_row, sound_works}
 
 -- all sessions of the others and all their roles stay, and so do inits' parts, the caller's reserve and the room for accounts
 pub record SparesRest (heads : Heads) (i : ℕ) (store : Store) (roles : Roles) (store' : Store) : Type 0 where
@@ -68,31 +66,17 @@ module _ (store store' : Store) (role : Role) (id : ℕ) (row : Row Labelled) wh
   -- its rows stay, and it works
   written : get (rows_in store role) id ≡ Some row → (ds offset : ℕ) (bytes : List ℕ) → Works store role → WritesRow row ds offset bytes store store' →
       Works store' role × (rows_in store' role ≡ rows_in store role)
-  written there ds offset bytes works writes = by_role role there works where
-    by_role : (r : Role) → get (rows_in store r) id ≡ Some row → Works store r → Works store' r × (rows_in store' r ≡ rows_in store r)
-    by_role (AScript script) there works = absurd (none-some row (sym (get-empty id) ∙ there))
-    by_role (ALog account server) there works = writes_leave_sessions IsLogKept log_value log_buffer lends_nothing server.sessions store store' server.map id ds offset bytes works row there writes
-    by_role (AFiles account server) there works = writes_leave_sessions IsFilesKept files_value files_buffer lends_aside server.sessions store store' server.map id ds offset bytes works row there writes
-    by_role (AnInit key) there works = absurd (none-some row (sym (get-empty id) ∙ there))
-    by_role AGone there works = absurd (none-some row (sym (get-empty id) ∙ there))
+  written there ds offset bytes works writes =
+      let its = server_of_row store role id row there in
+      subst (λ r. Works store' r × (rows_in store' r ≡ rows_in store r)) (sym its.1.1)
+      (host_written store store' its.1.0 id row (ap (λ r. get (rows_in store r) id) (sym its.1.1) ∙ there) ds offset bytes (subst (Works store) its.1.1 works) writes)
 
 -- it is what it was
 server_follows : (store store' : Store) (id : ℕ) (row : Row Labelled) (role : Role) → get (rows_in store role) id ≡ Some row → IsSoundRole store role → Works store' role →
     ((account : ℕ) → Pays role account → part account store' ≡ part account store) → caps_limits_in store' ≡ caps_limits_in store → Follows store role store' role
 server_follows store store' id row (AScript script) there sound works same caps = absurd (none-some row (sym (get-empty id) ∙ there))
-server_follows store store' id row (ALog account server) there sound works same caps = record {
-  sound = record { is_open = ap (λ (p : Part). is_some p.account) (same account.0 refl) ∙ sound.is_open; server = works; places = omega (arith, sound.places, caps) };
-  own = λ S S' _. ap (λ p. own_of no_lent no_sessions p empty empty no_heap empty) (same account.0 refl);
-  caps = refl;
-  places = refl;
-  pays = λ a pays. pays;
-  paid = λ a pays. pays;
-  inits = λ a is. is;
-  reserve = refl;
-  reserved = λ a is. absurd (none-some a is);
-}
-server_follows store store' id row (AFiles account server) there sound works same caps = record {
-  sound = record { is_open = ap (λ (p : Part). is_some p.account) (same account.0 refl) ∙ sound.is_open; server = works; places = omega (arith, sound.places, caps) };
+server_follows store store' id row (AServer account host) there sound works same caps = record {
+  sound = record { is_open = ap (λ (p : Part). is_some p.account) (same account.0 refl) ∙ sound.is_open; works = works; places = omega (arith, sound.places, caps) };
   own = λ S S' _. ap (λ p. own_of no_lent no_sessions p empty empty no_heap empty) (same account.0 refl);
   caps = refl;
   places = refl;

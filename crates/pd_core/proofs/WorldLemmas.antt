@@ -32,7 +32,7 @@ use Rattle.pd_core.specs.Own.{Sessions}
 use Rattle.pd_core.specs.SessionCalls.{Agrees, AreAtHome, Answers, Goes, Leads, server_at, service_at}
 use Rattle.pd_core.specs.declared.component.Component.{Component}
 use Rattle.pd_core.specs.declared.component.Role.{Role}
-use Rattle.pd_core.specs.declared.component.Role.TheVariants.{Script as AScript, Log as ALog, Files as AFiles, Init as AnInit, Gone}
+use Rattle.pd_core.specs.declared.component.Role.TheVariants.{Script as AScript, Server as AServer, Init as AnInit, Gone}
 use Rattle.pd_core.proofs.ChangeLemmas.{ChangesCore, core_after, own_follows, homes_after, init_follows}
 
 -- a list with a place has an element
@@ -155,16 +155,14 @@ module _ (before after : List Component) (faces : SameFaces before after) where
 -- who is no init has no account as one
 init_none : (store : Store) (role : Role) → kind_of role ≢ AnInitKind → init_in store role ≡ no_account
 init_none store (AScript script) other = refl
-init_none store (ALog account server) other = refl
-init_none store (AFiles account server) other = refl
+init_none store (AServer account host) other = refl
 init_none store (AnInit account) other = absurd (other refl)
 init_none store Gone other = refl
 
 -- and an init has its own
 pub init_is : (store : Store) (role : Role) (account : ℕ) → IsInitOf role account → init_in store role ≡ account_in store account
 init_is store (AScript script) account is = absurd is
-init_is store (ALog key server) account is = absurd is
-init_is store (AFiles key server) account is = absurd is
+init_is store (AServer key host) account is = absurd is
 init_is store (AnInit key) account is = ap (account_in store) is
 init_is store Gone account is = absurd is
 
@@ -177,8 +175,7 @@ module _ (store store' : Store) where
   init_alike : (before after : Role) → kind_of after ≡ kind_of before → ((account : ℕ) → IsInitOf before account → IsInitOf after account × (account_in store' account ≡ account_in store account)) →
       init_in store' after ≡ init_in store before
   init_alike (AScript script) after kinds stays = init_none store' after (λ e. let no : AnInitKind ≡ AScriptKind = sym e ∙ kinds in cc)
-  init_alike (ALog account server) after kinds stays = init_none store' after (λ e. let no : AnInitKind ≡ AServerKind = sym e ∙ kinds in cc)
-  init_alike (AFiles account server) after kinds stays = init_none store' after (λ e. let no : AnInitKind ≡ AServerKind = sym e ∙ kinds in cc)
+  init_alike (AServer account host) after kinds stays = init_none store' after (λ e. let no : AnInitKind ≡ AServerKind = sym e ∙ kinds in cc)
   init_alike (AnInit account) after kinds stays = let its = stays account.0 refl in init_is store' after account.0 its.0 ∙ its.1
   init_alike Gone after kinds stays = init_none store' after (λ e. let no : AnInitKind ≡ AScriptKind = sym e ∙ kinds in cc)
 

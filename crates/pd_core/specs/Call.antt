@@ -1,5 +1,5 @@
 -- A call as the model sees it.
-use Rattle.std.specs.Prelude.{◌≡◌, ◌||◌, ℕ, Bool, true, false, List, [], IsSome}
+use Rattle.std.specs.Prelude.{◌≡◌, ℕ, Bool, true, false, List, [], IsSome}
 use Rattle.std.specs.Option.{unwrap_or}
 use Rattle.own_model.specs.Call.{Call as Modelled, is_of_session, is_exit}
 use Rattle.own_model.specs.Call.Call.{Alloc as ModelledAlloc, Free as ModelledFree, Attach as ModelledAttach, AttachAt as ModelledAttachAt, Detach as ModelledDetach, Peek as ModelledPeek, Poke as ModelledPoke, Capalloc as ModelledCapalloc, Capfree as ModelledCapfree, New as ModelledNew, Del as ModelledDel, Snew as ModelledSnew, Sdel as ModelledSdel, Quota as ModelledQuota, Reserve as ModelledReserve, Request as ModelledRequest, Yield as ModelledYield, Open as ModelledOpen, Upgrade as ModelledUpgrade, CallSession as ModelledCallSession, Close as ModelledClose, Exit as ModelledExit}
@@ -42,10 +42,6 @@ is_of_reserve ModelledReserve = true
 is_of_reserve (ModelledRequest text) = true
 is_of_reserve (ModelledYield text) = true
 is_of_reserve call = false
-
--- it goes beyond what a script has alone: it is one of a session or of the reserve, or an exit
-abbrev pub goes_beyond : Modelled → Bool
-goes_beyond call = is_of_session call || (is_of_reserve call || is_exit call)
 
 -- it is none of a session, none of the reserve, and no exit
 pub record IsPlain (call : Call) : Type 0 where

@@ -1,8 +1,7 @@
 -- A component as the model sees it.
-use Rattle.std.specs.Prelude.{◌≡◌, ◌≢◌, ℕ, List, false, ◌+◌, ◌*◌, ◌<◌, ◌≤◌, Option, Some, None, IsSome, IfSome}
+use Rattle.std.specs.Prelude.{◌≡◌, ◌≢◌, ℕ, List, false, ◌+◌, ◌*◌, ◌≤◌, Option, Some, None, IsSome, IsSomeAnd, IfSome}
 use Rattle.std.specs.FinMap.{get, empty}
 use Rattle.std.specs.Option.{option_map, unwrap_or}
-use Rattle.slab.specs.Slab.{Slab, ContainsKey, slab_len}
 use Rattle.trade_base.specs.declared.id.SessionId.{SessionId}
 use Rattle.own_model.specs.Amounts.{Amounts}
 use Rattle.own_model.specs.Limits.{caps_limits}
@@ -12,40 +11,50 @@ use Rattle.own_model.specs.OwnState.{OwnState}
 use Rattle.own_model.specs.OwnStep.{gone_state}
 use Rattle.own_model.specs.Reserve.{no_reserve}
 use Rattle.own_model.specs.Routes.{Level, Service}
-use Rattle.own_model.specs.Routes.Service.{Log as LogKind, Files as FilesKind}
 use Rattle.own_model.specs.StartList.{Entry, Kind}
 use Rattle.own_model.specs.StartList.Kind.{Script as AScript, Server as AServer, Init as AnInit}
-use Rattle.own_model.specs.Session.{Labelled, donation_refusal}
+use Rattle.own_model.specs.Session.{Labelled}
 use Rattle.cap_space.specs.Space.{Space}
 use Rattle.cap_space.specs.declared.cap.Cap.{Cap}
 use Rattle.region_map.specs.Regions.{Regions}
-use Rattle.dataspace_core.specs.Store.{Store, Part, part, account_of, account_in, opened_part, root_in, parents_in, room_in, ram_limits_in, caps_limits_in, IsOpenIn, IsChildIn, IsLeafIn}
+use Rattle.dataspace_core.specs.Store.{Store, Part, part, account_of, opened_part, root_in, parents_in, room_in, ram_limits_in, caps_limits_in, IsOpenIn, IsChildIn, IsLeafIn}
 use Rattle.heap_core.specs.Heap.{payer_of as heap_payer}
 use Rattle.sliced_heap.specs.Heap.{payer_of as sliced_payer}
-use Rattle.dataspace_core.specs.Share.{Share}
-use Rattle.server_frame.specs.Frame.{Row, sessions_of, IsServer}
-use Rattle.server_frame.specs.declared.server.Session.{Session as Kept}
+use Rattle.server_frame.specs.Frame.{Row}
+use Rattle.services.specs.Host.{service_of as served_by_host, rows_of as rows_of_host, capacity_of, HasPlace as HostHasPlace, Works as HostWorks}
+use Rattle.services.specs.declared.host.Host.{Host}
 use Rattle.pd_core.specs.Own.{Sessions, no_sessions, no_lent, own_of, own_at}
-use Rattle.pd_core.specs.Sessions.{log_value, log_buffer, IsLogKept, files_value, files_buffer, IsFilesKept}
 use Rattle.pd_core.specs.Sound.{session_at, buffer_at, IsNewHeap, IsNewSliced, IsSoundScript, SparesOthers}
 use Rattle.pd_core.specs.declared.component.Role.{Role}
-use Rattle.pd_core.specs.declared.component.Role.TheVariants.{Script, Log, Files, Init, Gone}
+use Rattle.pd_core.specs.declared.component.Role.TheVariants.{Script, Server, Init, Gone}
 use Rattle.pd_core.specs.declared.component.Component.{Component}
 use Rattle.pd_core.specs.declared.script.Script.{Script as AnyScript}
+
+-- the script of a role
+abbrev pub script_in : Role → Option AnyScript
+script_in (Script script) = Some script
+script_in (Server account host) = None
+script_in (Init account) = None
+script_in Gone = None
+
+-- its server
+abbrev pub host_in : Role → Option Host
+host_in (Script script) = None
+host_in (Server account host) = Some host
+host_in (Init account) = None
+host_in Gone = None
 
 -- an account is a role's: one that has exited has none
 abbrev pub Pays : Role → ℕ → Type 0
 Pays (Script script) account = script.account.0 ≡ account
-Pays (Log key server) account = key.0 ≡ account
-Pays (Files key server) account = key.0 ≡ account
+Pays (Server key host) account = key.0 ≡ account
 Pays (Init key) account = key.0 ≡ account
 Pays Gone account = ⊥
 
 -- the key of the account that a role is charged on, and 0 of one that has exited
 abbrev pub payer_in : Role → ℕ
 payer_in (Script script) = script.account.0
-payer_in (Log account server) = account.0
-payer_in (Files account server) = account.0
+payer_in (Server account host) = account.0
 payer_in (Init account) = account.0
 payer_in Gone = 0
 
@@ -55,11 +64,7 @@ payer_of component = payer_in component.role
 
 -- the key of the account that a role has for its reserve
 abbrev pub reserve_in : Role → Option ℕ
-reserve_in (Script script) = Some script.reserve.0
-reserve_in (Log account server) = None
-reserve_in (Files account server) = None
-reserve_in (Init account) = None
-reserve_in Gone = None
+reserve_in role = option_map (λ script. script.reserve.0) (script_in role)
 
 -- that of a component
 abbrev pub reserve_of : Component → Option ℕ
@@ -90,18 +95,13 @@ HasOwnReserve store role = IfSome (reserve_in role) (λ reserve. IsOwnReserve st
 
 abbrev pub kind_of : Role → Kind
 kind_of (Script script) = AScript
-kind_of (Log account server) = AServer
-kind_of (Files account server) = AServer
+kind_of (Server account host) = AServer
 kind_of (Init account) = AnInit
 kind_of Gone = AScript
 
 -- a script's capabilities and regions
 abbrev pub tables_in : Role → Option (Space × Regions)
-tables_in (Script script) = Some (script.caps, script.regions)
-tables_in (Log account server) = None
-tables_in (Files account server) = None
-tables_in (Init account) = None
-tables_in Gone = None
+tables_in role = option_map (λ script. (script.caps, script.regions)) (script_in role)
 
 abbrev pub tables_of : Component → Option (Space × Regions)
 tables_of component = tables_in component.role
@@ -125,11 +125,7 @@ entry_of place component = record {
 
 -- the service that a role serves to others
 abbrev pub served_by : Role → Option Service
-served_by (Script script) = None
-served_by (Log account server) = Some LogKind
-served_by (Files account server) = Some FilesKind
-served_by (Init account) = None
-served_by Gone = None
+served_by role = option_map served_by_host (host_in role)
 
 abbrev pub service_of : Component → Option Service
 service_of component = served_by component.role
@@ -143,8 +139,7 @@ pub record HasNewHeaps (script : AnyScript) : Type 0 where
 
 abbrev pub HasNewHeap : Role → Type 0
 HasNewHeap (Script script) = HasNewHeaps script
-HasNewHeap (Log account server) = Unit {0}
-HasNewHeap (Files account server) = Unit {0}
+HasNewHeap (Server account host) = Unit {0}
 HasNewHeap (Init account) = Unit {0}
 HasNewHeap Gone = ⊥
 
@@ -152,68 +147,36 @@ HasNewHeap Gone = ⊥
 
 -- a script's capabilities, and none of a server
 abbrev pub caps_in : Role → NatMap Cap
-caps_in (Script script) = script.caps.caps
-caps_in (Log account server) = empty
-caps_in (Files account server) = empty
-caps_in (Init account) = empty
-caps_in Gone = empty
+caps_in role = unwrap_or (option_map (λ script. script.caps.caps) (script_in role)) empty
 
 abbrev pub caps_of : Component → NatMap Cap
 caps_of component = caps_in component.role
 
 -- how many capabilities find a place with a script
 abbrev pub places_in : Role → Option ℕ
-places_in (Script script) = Some script.caps.places
-places_in (Log account server) = None
-places_in (Files account server) = None
-places_in (Init account) = None
-places_in Gone = None
+places_in role = option_map (λ script. script.caps.places) (script_in role)
 
 abbrev pub places_of : Component → Option ℕ
 places_of component = places_in component.role
 
 -- the sessions that a component serves, by their keys
 abbrev pub rows_in : Store → Role → NatMap (Row Labelled)
-rows_in store (Script script) = empty
-rows_in store (Log account server) = sessions_of log_value log_buffer server.sessions store server.map
-rows_in store (Files account server) = sessions_of files_value files_buffer server.sessions store server.map
-rows_in store (Init account) = empty
-rows_in store Gone = empty
+rows_in store role = unwrap_or (option_map (rows_of_host store) (host_in role)) empty
 
 abbrev pub rows_of : Store → Component → NatMap (Row Labelled)
 rows_of store component = rows_in store component.role
 
 -- how many sessions find a place with a server
 abbrev pub capacity_in : Role → ℕ
-capacity_in (Script script) = 0
-capacity_in (Log account server) = server.sessions.capacity
-capacity_in (Files account server) = server.sessions.capacity
-capacity_in (Init account) = 0
-capacity_in Gone = 0
-
--- a session is open under a key
-abbrev pub HasSession : Role → ℕ → Type 0
-HasSession (Script script) id = ⊥
-HasSession (Log account server) id = ContainsKey server.sessions id
-HasSession (Files account server) id = ContainsKey server.sessions id
-HasSession (Init account) id = ⊥
-HasSession Gone id = ⊥
+capacity_in role = unwrap_or (option_map capacity_of (host_in role)) 0
 
 -- there is a place for one more
 abbrev pub HasPlace : Role → Type 0
-HasPlace (Script script) = ⊥
-HasPlace (Log account server) = slab_len server.sessions < server.sessions.capacity
-HasPlace (Files account server) = slab_len server.sessions < server.sessions.capacity
-HasPlace (Init account) = ⊥
-HasPlace Gone = ⊥
+HasPlace role = IsSomeAnd (host_in role) HostHasPlace
 
 -- a server works on this memory
 abbrev pub Works : Store → Role → Type 0
-Works store (Script script) = Unit {0}
-Works store (Log account server) = IsServer IsLogKept server.sessions store server.map
-Works store (Files account server) = IsServer IsFilesKept server.sessions store server.map
-Works store (Init account) = Unit {0}
-Works store Gone = Unit {0}
+Works store role = IfSome (host_in role) (HostWorks store)
 
 -- a session is there, and its client's account is the role's
 pub record IsSessionOf (role : Role) (session : Option (Row Labelled)) : Type 0 where
@@ -264,8 +227,7 @@ init_state = record gone_state { gone = false }
 -- the own state of a role: a script's has its reserve, a server has its account alone, and an init and who is gone have nothing
 abbrev pub own_in : Sessions → Store → Role → OwnState
 own_in sessions store (Script script) = with_reserve (amounts_in (part script.reserve.0 store)) (own_at sessions store script)
-own_in sessions store (Log account server) = own_of no_lent no_sessions (part account.0 store) empty empty no_heap empty
-own_in sessions store (Files account server) = own_of no_lent no_sessions (part account.0 store) empty empty no_heap empty
+own_in sessions store (Server account host) = own_of no_lent no_sessions (part account.0 store) empty empty no_heap empty
 own_in sessions store (Init account) = init_state
 own_in sessions store Gone = gone_state
 
@@ -278,16 +240,15 @@ abbrev pub HasPlaces : Sessions → Store → Role → Type 0
 HasPlaces sessions store role = IfSome (places_in role) (λ places. caps_limits (own_in sessions store role) ≤ places)
 
 -- a server's account is open, it works on this memory, and it has a place for each two capabilities of the machine
-pub record IsSoundServer {T : Type 0} (kept : T → ℕ → Share → Type 0) (store : Store) (account : ℕ) (sessions : Slab (Kept T)) (regions : Regions) : Type 0 where
+pub record IsSoundServer (store : Store) (account : ℕ) (host : Host) : Type 0 where
   pub is_open : IsSome (part account store).account
-  pub server : IsServer kept sessions store regions
-  pub places : caps_limits_in store ≤ sessions.capacity * 2 + 1
+  pub works : HostWorks store host
+  pub places : caps_limits_in store ≤ capacity_of host * 2 + 1
 
 -- a script is sound, and so is a server; the account of an init is open
 abbrev pub IsSoundRole : Store → Role → Type 0
 IsSoundRole store (Script script) = IsSoundScript store script
-IsSoundRole store (Log account server) = IsSoundServer IsLogKept store account.0 server.sessions server.map
-IsSoundRole store (Files account server) = IsSoundServer IsFilesKept store account.0 server.sessions server.map
+IsSoundRole store (Server account host) = IsSoundServer store account.0 host
 IsSoundRole store (Init account) = IsOpenIn store account.0
 IsSoundRole store Gone = Unit {0}
 
@@ -308,16 +269,6 @@ pub record StaysServer (old : Store) (before : Component) (new : Store) (after :
 pub record Serves (store : Store) (component : Component) (id : ℕ) : Type 0 where
   pub sound : IsSound store component
   pub row : IsSome (get (rows_of store component) id)
-
--- a sound component serves sessions, and can open one for a client's account with this donation: the client is open and no
--- session, and where it covers the donation there is a place for the session and for its account
-pub record Admits (store : Store) (component : Component) (client ram caps : ℕ) : Type 0 where
-  pub sound : IsSound store component
-  pub serving : IsSome (service_of component)
-  pub is_open : IsOpenIn store client
-  pub no_session : (id : ℕ) (row : Row Labelled) → get (rows_of store component) id ≡ Some row → row.key ≢ client
-  pub place : donation_refusal (account_in store client) ram caps ≡ None → HasPlace component.role
-  pub room : donation_refusal (account_in store client) ram caps ≡ None → 0 < room_in store
 
 -- what a script's call that is none of a session, none of the reserve and no exit keeps: the component is sound after it; its entry,
 -- service, account and reserve, its limit of capabilities and its places for them, what sessions and buffers its selectors name and what it serves, the root's key, who is whose

@@ -18,7 +18,7 @@ use Rattle.pd_core.specs.Sound.{session_at}
 use Rattle.pd_core.specs.Component.{Place as ListedPlace, Pays, payer_in, reserve_in, IsReserve, entry_of, caps_in, rows_in, own, NamesItsSessions, HasPlaces, IsSoundRole}
 use Rattle.pd_core.specs.declared.component.Component.{Component}
 use Rattle.pd_core.specs.declared.component.Role.{Role}
-use Rattle.pd_core.specs.declared.component.Role.TheVariants.{Script, Log, Files, Init as AnInit, Gone}
+use Rattle.pd_core.specs.declared.component.Role.TheVariants.{Script, Server, Init as AnInit, Gone}
 
 -- the role at each place: past the components it is that of one that has exited
 abbrev pub Roles : Type 0
@@ -46,8 +46,7 @@ entries_of places components = map (λ c. entry_of (places c.0) c.1) (enumerate_
 -- the account that a role has as an init
 abbrev pub init_in : Store → Role → Account
 init_in store (Script script) = no_account
-init_in store (Log account server) = no_account
-init_in store (Files account server) = no_account
+init_in store (Server account host) = no_account
 init_in store (AnInit account) = account_in store account.0
 init_in store Gone = no_account
 
@@ -96,8 +95,7 @@ Heads = ℕ → Bool
 -- an account is the one of a role as an init
 abbrev pub IsInitOf : Role → ℕ → Type 0
 IsInitOf (Script script) account = ⊥
-IsInitOf (Log key server) account = ⊥
-IsInitOf (Files key server) account = ⊥
+IsInitOf (Server key host) account = ⊥
 IsInitOf (AnInit key) account = key.0 ≡ account
 IsInitOf Gone account = ⊥
 

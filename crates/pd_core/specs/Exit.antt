@@ -13,13 +13,12 @@ use Rattle.pd_core.specs.Core.{Places, world_of, IsCore}
 use Rattle.pd_core.specs.SessionCalls.{Agrees, AreAtHome, Leads}
 use Rattle.pd_core.specs.declared.component.Component.{Component}
 use Rattle.pd_core.specs.declared.component.Role.{Role}
-use Rattle.pd_core.specs.declared.component.Role.TheVariants.{Script, Log, Files, Init, Gone}
+use Rattle.pd_core.specs.declared.component.Role.TheVariants.{Script, Server, Init, Gone}
 
 -- why a role's calls are refused, if they are
 abbrev pub refusal_of : Role → Option Refusal
 refusal_of (Script script) = None
-refusal_of (Log account server) = Some NotAScript
-refusal_of (Files account server) = Some NotAScript
+refusal_of (Server account host) = Some NotAScript
 refusal_of (Init account) = Some NotAScript
 refusal_of Gone = Some IsGone
 
@@ -36,8 +35,7 @@ pub record ClosesBoth (account reserve parent : ℕ) (old new : Store) : Type 0 
 -- for how many selectors a role has places, or why for none
 abbrev pub places_told : Role → Result ℕ Refusal
 places_told (Script script) = Ok script.caps.places
-places_told (Log account server) = Err NotAScript
-places_told (Files account server) = Err NotAScript
+places_told (Server account host) = Err NotAScript
 places_told (Init account) = Err NotAScript
 places_told Gone = Err IsGone
 

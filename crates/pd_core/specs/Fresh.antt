@@ -1,8 +1,7 @@
 -- The parts of a core before its first call, and the world that starts with them.
-use Rattle.std.specs.Prelude.{◌≡◌, ◌≢◌, ◌⊎◌, ℕ, ◌+◌, ◌*◌, ◌≤◌, true, List, [], map, Some, IfSome}
+use Rattle.std.specs.Prelude.{◌≡◌, ◌≢◌, ◌⊎◌, ℕ, ◌+◌, ◌*◌, ◌≤◌, true, List, map, Some, IfSome}
 use Rattle.std.specs.List.{All, AllPairs, enumerate_from}
 use Rattle.std.specs.FinMap.{empty}
-use Rattle.slab.specs.Slab.{Slab}
 use Rattle.own_model.specs.Account.{Account}
 use Rattle.own_model.specs.Amounts.{Amounts}
 use Rattle.own_model.specs.HeapWindow.{largest_machine}
@@ -11,13 +10,12 @@ use Rattle.own_model.specs.World.{World}
 use Rattle.cap_space.specs.Space.{Space}
 use Rattle.region_map.specs.Regions.{Regions}
 use Rattle.dataspace_core.specs.Room.{IsOuter, HasRoom}
-use Rattle.dataspace_core.specs.Store.{Store, part, account_in, root_in, ram_limits_in, caps_limits_in, IsOpenIn}
-use Rattle.server_frame.specs.declared.server.Session.{Session as Kept}
+use Rattle.dataspace_core.specs.Store.{Store, part, account_in, root_in, ram_limits_in, IsOpenIn}
+use Rattle.services.specs.Host.{IsNew}
 pub use Rattle.dataspace_core.specs.Store.{opened_part}
-use Rattle.pd_core.specs.Component.{Place, entry_of, payer_of, reserve_of, reserve_held, tables_of, HasNewHeap, IsReserve}
+use Rattle.pd_core.specs.Component.{Place, host_in, entry_of, payer_of, reserve_of, reserve_held, tables_of, HasNewHeap, IsReserve}
 use Rattle.pd_core.specs.Core.{Heads, Places, IsBelowHead, IsInits, inits_of, roles_of}
 use Rattle.pd_core.specs.declared.component.Role.{Role}
-use Rattle.pd_core.specs.declared.component.Role.TheVariants.{Script, Log, Files, Init, Gone}
 use Rattle.pd_core.specs.declared.component.Component.{Component}
 
 -- the account that a component is charged on
@@ -54,20 +52,9 @@ pub record AreEmpty (store : Store) (caps : ℕ) (space : Space) (regions : Regi
   pub pages : regions.pages * 4096 ≡ ram_limits_in store
   pub few : regions.pages ≤ largest_machine
 
--- a server has no session, an empty map with the pages of the machine, and a place for each two capabilities of it
-pub record HasNoSessions {T : Type 0} (store : Store) (sessions : Slab (Kept T)) (regions : Regions) : Type 0 where
-  pub none : sessions.slots ≡ []
-  pub places : caps_limits_in store ≤ sessions.capacity * 2 + 1
-  pub no_heap : regions.heap ≡ empty
-  pub heap_most : regions.heap_most ≡ regions.pages
-  pub pages : regions.pages * 4096 ≡ ram_limits_in store
-
+-- a server has no session
 abbrev pub IsNewServer : Store → Role → Type 0
-IsNewServer store (Script script) = Unit {0}
-IsNewServer store (Log account server) = HasNoSessions store server.sessions server.map
-IsNewServer store (Files account server) = HasNoSessions store server.sessions server.map
-IsNewServer store (Init account) = Unit {0}
-IsNewServer store Gone = Unit {0}
+IsNewServer store role = IfSome (host_in role) (IsNew store)
 
 -- a reserve has an account of its own, which isn't the machine's init's
 pub record IsFreshReserve (store : Store) (payer reserve : ℕ) : Type 0 where

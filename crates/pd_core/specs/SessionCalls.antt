@@ -1,5 +1,5 @@
 -- A call of a session in the core: what it requires of the components, and what it does to the world.
-use Rattle.std.specs.Prelude.{◌≡◌, true, false, ℕ, zero, suc, ◌<◌, ◌≤◌, List, length, map, get_or, Option, Some, None, Result, Err}
+use Rattle.std.specs.Prelude.{◌≡◌, true, false, ℕ, zero, suc, ◌<◌, ◌≤◌, List, length, map, get_or, Option, Some, None, IsSomeAnd, Result, Err}
 use Rattle.std.specs.FinMap.{get, len}
 use Rattle.std.specs.List.{All, flat_map}
 use Rattle.std.specs.Option.{ok_or, option_map}
@@ -21,11 +21,12 @@ use Rattle.dataspace_core.specs.Store.{Store, root_in, IsChildIn}
 use Rattle.server_frame.specs.Told.{Told}
 use Rattle.pd_core.specs.Answer.{told_alone, reply_of}
 use Rattle.pd_core.specs.declared.answer.Answer.{Answer}
-use Rattle.pd_core.specs.Component.{Pays, service_of, caps_in}
+use Rattle.pd_core.specs.Component.{Pays, script_in, service_of, caps_in}
 use Rattle.pd_core.specs.Core.{Places, Roles, roles_of, world_of, IsCore}
 use Rattle.pd_core.specs.Sound.{session_at}
 use Rattle.pd_core.specs.declared.component.Role.{Role}
-use Rattle.pd_core.specs.declared.component.Role.TheVariants.{Script, Log, Files, Init as InitRole, Gone as GoneRole}
+use Rattle.pd_core.specs.declared.component.Role.TheVariants.{Script, Server, Init as InitRole, Gone as GoneRole}
+use Rattle.pd_core.specs.declared.script.Script.{Script as AnyScript}
 use Rattle.pd_core.specs.declared.component.Component.{Component}
 
 -- the place of the component that serves what the component at a place asks for: a service by its name, with a given label
@@ -43,8 +44,7 @@ server_at components place = option_map (λ kind. record { kind = kind; place = 
 -- an account is below that of the role of an init
 abbrev pub IsBelowInit : Store → Role → ℕ → Type 0
 IsBelowInit store (Script script) account = ⊥
-IsBelowInit store (Log key server) account = ⊥
-IsBelowInit store (Files key server) account = ⊥
+IsBelowInit store (Server key host) account = ⊥
 IsBelowInit store (InitRole key) account = IsChildIn store account key.0
 IsBelowInit store GoneRole account = ⊥
 
@@ -69,53 +69,39 @@ pub record Agrees (places : Places) (leads : Leads) (store : Store) (components 
 -- the session that a selector of a script names, by its server's entry and its key there, or why there is none
 abbrev pub named_in : Role → ℕ → Result (ℕ × SessionId) Refusal
 named_in (Script script) selector = ok_or (session_at (get script.caps.caps selector)) InvalidSession
-named_in (Log account server) selector = Err NotAScript
-named_in (Files account server) selector = Err NotAScript
+named_in (Server account host) selector = Err NotAScript
 named_in (InitRole account) selector = Err NotAScript
 named_in GoneRole selector = Err Gone
 
+-- a role with another script in place of its own, if it has one
+abbrev pub with_script : (AnyScript → AnyScript) → Role → Role
+with_script change (Script script) = Script (change script)
+with_script change (Server account host) = Server account host
+with_script change (InitRole account) = InitRole account
+with_script change GoneRole = GoneRole
+
 -- a role without a selector's capability
 abbrev pub without_selector : Role → ℕ → Role
-without_selector (Script script) selector = Script (record script { caps = without_cap script.caps selector })
-without_selector (Log account server) selector = Log account server
-without_selector (Files account server) selector = Files account server
-without_selector (InitRole account) selector = InitRole account
-without_selector GoneRole selector = GoneRole
+without_selector role selector = with_script (λ script. record script { caps = without_cap script.caps selector }) role
 
 -- there is a selector for one capability more
 abbrev pub HasSelectorLeft : Role → Type 0
-HasSelectorLeft (Script script) = len script.caps.caps < script.caps.places
-HasSelectorLeft (Log account server) = ⊥
-HasSelectorLeft (Files account server) = ⊥
-HasSelectorLeft (InitRole account) = ⊥
-HasSelectorLeft GoneRole = ⊥
+HasSelectorLeft role = IsSomeAnd (script_in role) (λ script. len script.caps.caps < script.caps.places)
 
 -- a role with a session under a selector
 abbrev pub with_session : Role → ℕ → ℕ → SessionId → Role
-with_session (Script script) selector server session =
-    Script (record script { caps = with_cap script.caps selector (ASession server session) })
-with_session (Log account server) selector entry session = Log account server
-with_session (Files account server) selector entry session = Files account server
-with_session (InitRole account) selector entry session = InitRole account
-with_session GoneRole selector entry session = GoneRole
+with_session role selector server session =
+    with_script (λ script. record script { caps = with_cap script.caps selector (ASession server session) }) role
 
 -- a role with a buffer under a selector
 abbrev pub with_buffer : Role → ℕ → DsId → Selector → Role
-with_buffer (Script script) selector space session =
-    Script (record script { caps = with_cap script.caps selector (ABuffer space session) })
-with_buffer (Log account server) selector space session = Log account server
-with_buffer (Files account server) selector space session = Files account server
-with_buffer (InitRole account) selector space session = InitRole account
-with_buffer GoneRole selector space session = GoneRole
+with_buffer role selector space session =
+    with_script (λ script. record script { caps = with_cap script.caps selector (ABuffer space session) }) role
 
 -- a role without a selector's capability and without the regions of a dataspace
 abbrev pub without_buffer : Role → ℕ → ℕ → Role
-without_buffer (Script script) selector space =
-    Script (record script { caps = without_cap script.caps selector; regions = all_detached script.regions space })
-without_buffer (Log account server) selector space = Log account server
-without_buffer (Files account server) selector space = Files account server
-without_buffer (InitRole account) selector space = InitRole account
-without_buffer GoneRole selector space = GoneRole
+without_buffer role selector space =
+    with_script (λ script. record script { caps = without_cap script.caps selector; regions = all_detached script.regions space }) role
 
 -- a selector names the buffer in a dataspace
 pub record IsLentTo (space : ℕ) (caps : NatMap Cap) : Type 0 where
@@ -124,11 +110,7 @@ pub record IsLentTo (space : ℕ) (caps : NatMap Cap) : Type 0 where
 
 -- a script's does
 abbrev pub NamesBuffer : ℕ → Role → Type 0
-NamesBuffer space (Script script) = IsLentTo space script.caps.caps
-NamesBuffer space (Log account server) = ⊥
-NamesBuffer space (Files account server) = ⊥
-NamesBuffer space (InitRole account) = ⊥
-NamesBuffer space GoneRole = ⊥
+NamesBuffer space role = IsSomeAnd (script_in role) (λ script. IsLentTo space script.caps.caps)
 
 -- the buffer in a dataspace goes from its least selector, and its regions go
 pub record DropsBuffer (space : ℕ) (old new : Component) : Type 0 where

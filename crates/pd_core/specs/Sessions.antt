@@ -12,40 +12,11 @@ use Rattle.own_model.specs.StartList.Kind.{Script as AScript}
 use Rattle.own_model.specs.Session.{Session as AnOpenSession, Labelled, session_with}
 use Rattle.cap_space.specs.declared.cap.Cap.{Cap}
 use Rattle.cap_space.specs.declared.cap.Cap.TheVariants.{Session as ASession}
-use Rattle.dataspace_core.specs.Share.{Share}
 use Rattle.dataspace_core.specs.Store.{Store, account_in}
 use Rattle.server_frame.specs.Frame.{Row}
-use Rattle.log_service.specs.Session.{LabelledLine, as_kept, IsSession as IsLogSession}
-use Rattle.file_service.specs.Lent.{buffer_key}
-use Rattle.file_service.specs.Session.{value_of, IsSession as IsFileSession}
-use Rattle.file_service.specs.declared.session.FileSession.{FileSession}
 use Rattle.pd_core.specs.Own.{Sessions, HasSessions, own_at}
 use Rattle.pd_core.specs.Sound.{session_weight, lent_weight, buffer_at, lent_from}
 use Rattle.pd_core.specs.declared.script.Script.{Script}
-
--- what the log service keeps of a session is so to its client
-abbrev pub log_value : LabelledLine → Share → Labelled
-log_value line share = as_kept line
-
--- it lends nothing
-abbrev pub log_buffer : LabelledLine → Option ℕ
-log_buffer line = None
-
--- all that it keeps of a session in the memory is blocks
-abbrev pub IsLogKept : LabelledLine → ℕ → Share → Type 0
-IsLogKept line account share = IsLogSession line account share
-
--- what the file service keeps of a session to its client: its files, as its account's blocks hold them
-abbrev pub files_value : FileSession → Share → Labelled
-files_value session share = value_of session share
-
--- it lends its buffer
-abbrev pub files_buffer : FileSession → Option ℕ
-files_buffer session = buffer_key session.buffer
-
--- all that it keeps of a session in the memory is blocks and nodes
-abbrev pub IsFilesKept : FileSession → ℕ → Share → Type 0
-IsFilesKept session account share = IsFileSession session account share
 
 -- a session of the server at a place as its client sees it
 abbrev pub row_session : ℕ → Row Labelled → AnOpenSession

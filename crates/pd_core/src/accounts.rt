@@ -141,8 +141,7 @@ impl Component {
     {
         match &self.role {
             Role::Script(script) => quotas_of(memory, script.account),
-            Role::Log(account, _) => quotas_of(memory, *account),
-            Role::Files(account, _) => quotas_of(memory, *account),
+            Role::Server(account, _) => quotas_of(memory, *account),
             Role::Init(account) => quotas_of(memory, *account),
             Role::Gone => Quotas {
                 ram_used: Ram(0),
@@ -179,22 +178,20 @@ impl Component {
     {
         match &self.role {
             Role::Script(script) => script.caps.places() as u64,
-            Role::Log(..) | Role::Files(..) | Role::Init(_) | Role::Gone => 0,
+            Role::Server(..) | Role::Init(_) | Role::Gone => 0,
         }
     }
 
     /// The limits and the use of the account of a session that the component serves.
-    #[tactic(auto, using(crate::proofs::ServerLemmas::log_open, crate::proofs::ServerLemmas::files_open, crate::proofs::ServerLemmas::script_open, crate::proofs::ServerLemmas::init_open, crate::proofs::ServerLemmas::gone_open))]
     fn session_quotas(&self, memory: &Memory, id: SessionId) -> Quotas
         requires { Serves memory.now self.now id.0 }
         ensures { AtRow (rows_of memory.now self.now) id.0 (λ row.
             quotas_account result ≡ row.account) }
     {
-        match &self.role {
-            Role::Log(_, server) => quotas_of(memory, server.account(id)),
-            Role::Files(_, server) => quotas_of(memory, server.account(id)),
-            Role::Script(_) | Role::Init(_) | Role::Gone => unreachable!(),
-        }
+        let Role::Server(_, host) = &self.role else {
+            unreachable!()
+        };
+        quotas_of(memory, host.account(id))
     }
 }
 

@@ -7,11 +7,10 @@ use crate::script::Script;
 use arrayvec::ArrayVec;
 use cap_space::{Cap, CapSpace};
 use dataspace_core::Memory;
-use file_service::FileService;
 use heap_core::Heap;
-use log_service::LogService;
 use region_map::RegionMap;
 use server_frame::{Reply, Server};
+use services::{FileService, Host, LogService};
 use sliced_heap::SlicedHeap;
 use std::mem;
 use trade_base::{AccountId, DsId, Refusal, Selector, SessionId};
@@ -21,10 +20,8 @@ use trade_base::{AccountId, DsId, Refusal, Selector, SessionId};
 pub(crate) enum Role {
     /// It makes calls.
     Script(Script),
-    /// The log server.
-    Log(AccountId, Server<LogService>),
-    /// The file server.
-    Files(AccountId, Server<FileService>),
+    /// It answers calls of sessions.
+    Server(AccountId, Host),
     /// An init: the components that it starts have accounts below this one.
     Init(AccountId),
     /// It made calls and has exited.
@@ -55,7 +52,8 @@ impl Component {
     ghost use Rattle.pd_core.specs.declared.component.Role.TheVariants.{Gone as GoneRole};
     ghost use Rattle.pd_core.specs.Component.{Place, entry_of, payer_of, reserve_of, service_of, HasReserveApart, HasOwnReserve, tables_of, caps_of, HasNewHeap, own, IsSound, Keeps};
     ghost use Rattle.pd_core.specs.Core.{IsInitOf};
-    ghost use Rattle.pd_core.specs.Fresh.{HasNoSessions, IsNewServer};
+    ghost use Rattle.services.specs.Host.{service_of as service_in, HasNoSessions, IsNew};
+    ghost use Rattle.pd_core.specs.Fresh.{IsNewServer};
     ghost use Rattle.pd_core.specs.Own.{Sessions, HasSessions};
     ghost use Rattle.pd_core.specs.SessionCalls.{named_in, with_session, with_buffer, without_selector, HasSelectorLeft, NamesBuffer, DropsBuffer};
 
@@ -114,10 +112,7 @@ impl Component {
             IsNewServer store result.role }
         ensures service { service_of result ≡ Some LogKind }
     {
-        Component {
-            name: name_of(name),
-            role: Role::Log(account, server),
-        }
+        Component::server(name, account, Host::Log(server))
     }
 
     /// A file server of a name of at most 140 bytes that is charged on the account.
@@ -138,9 +133,29 @@ impl Component {
             IsNewServer store result.role }
         ensures service { service_of result ≡ Some FilesKind }
     {
+        Component::server(name, account, Host::Files(server))
+    }
+
+    // A server of a name of at most 140 bytes that is charged on the account.
+    fn server(name: &[u8], account: AccountId, host: Host) -> Component
+        requires { length name.now ≤ 140 }
+        ensures entry { (place : Place) → entry_of place result ≡ record {
+          name = place.name;
+          label = name.now;
+          kind = AServer;
+          home = place.home;
+          routes = place.routes;
+        } }
+        ensures account { payer_of result ≡ account.0 }
+        ensures reserve { reserve_of result ≡ None }
+        ensures tables { tables_of result ≡ None }
+        ensures heap { HasNewHeap result.role }
+        ensures server { (store : Store) → IsNew store host → IsNewServer store result.role }
+        ensures service { service_of result ≡ Some (service_in host) }
+    {
         Component {
             name: name_of(name),
-            role: Role::Files(account, server),
+            role: Role::Server(account, host),
         }
     }
 
@@ -182,7 +197,7 @@ impl Component {
                     _ => Err(Refusal::InvalidSession),
                 }
             }
-            Role::Log(..) | Role::Files(..) | Role::Init(_) => Err(Refusal::NotAScript),
+            Role::Server(..) | Role::Init(_) => Err(Refusal::NotAScript),
             Role::Gone => Err(Refusal::Gone),
         }
     }
@@ -200,7 +215,7 @@ impl Component {
                 .caps
                 .take_session(selector)
                 .ok_or(Refusal::InvalidSession),
-            Role::Log(..) | Role::Files(..) | Role::Init(_) => Err(Refusal::NotAScript),
+            Role::Server(..) | Role::Init(_) => Err(Refusal::NotAScript),
             Role::Gone => Err(Refusal::Gone),
         }
     }
@@ -214,7 +229,7 @@ impl Component {
     {
         match &mut self.role {
             Role::Script(script) => script.caps.insert(Cap::Session { server, session }),
-            Role::Log(..) | Role::Files(..) | Role::Init(_) | Role::Gone => unreachable!(),
+            Role::Server(..) | Role::Init(_) | Role::Gone => unreachable!(),
         }
     }
 
@@ -227,7 +242,7 @@ impl Component {
     {
         match &mut self.role {
             Role::Script(script) => script.caps.insert(Cap::Buffer { space, session }),
-            Role::Log(..) | Role::Files(..) | Role::Init(_) | Role::Gone => unreachable!(),
+            Role::Server(..) | Role::Init(_) | Role::Gone => unreachable!(),
         }
     }
 
@@ -241,7 +256,7 @@ impl Component {
                 let _ = script.caps.take_buffer(space);
                 script.regions.detach_all(space);
             }
-            Role::Log(..) | Role::Files(..) | Role::Init(_) | Role::Gone => unreachable!(),
+            Role::Server(..) | Role::Init(_) | Role::Gone => unreachable!(),
         }
     }
 
@@ -313,7 +328,7 @@ impl Component {
     {
         match &mut self.role {
             Role::Script(script) => script.step(memory, call, reply),
-            Role::Log(..) | Role::Files(..) | Role::Init(_) => refuse(Refusal::NotAScript, reply),
+            Role::Server(..) | Role::Init(_) => refuse(Refusal::NotAScript, reply),
             Role::Gone => refuse(Refusal::Gone, reply),
         }
     }

@@ -14,6 +14,7 @@ use trade_base::Refusal;
 
 /// The component at a place goes with all that it has, or why not: `NotAScript`, then `Gone`. Its sessions close, all that it
 /// holds is freed, its account closes, and its limits go back to its init's. Its name stays.
+#[inline(never)]
 pub(crate) fn exit(
     memory: &mut Memory,
     components: &mut [Component],

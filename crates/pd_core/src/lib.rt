@@ -3,13 +3,11 @@
 
 mod accounts;
 mod answer;
-mod beyond;
 mod bytes;
 mod call;
 mod component;
 mod exiting;
 mod hex_digits;
-mod host;
 mod label;
 mod machine;
 mod release;

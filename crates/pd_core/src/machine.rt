@@ -3,10 +3,13 @@ ghost use Rattle.pd_core.specs.Call.{model_call, IsWellFormed};
 ghost use Rattle.pd_core.specs.Core.{IsCoreAt};
 ghost use Rattle.pd_core.specs.SessionCalls.{Agrees, Goes};
 
-use crate::beyond::carry_out_beyond;
+use crate::answer::tell;
 use crate::call::Call;
 use crate::component::Component;
+use crate::exiting::exit;
+use crate::reserves::{give, request, reserve};
 use crate::router::Router;
+use crate::session_calls::{self, close, open, upgrade};
 use dataspace_core::Memory;
 use server_frame::Reply;
 use std::boxed::BoxedSlice;
@@ -96,7 +99,8 @@ impl<R: Router + Drop> Core<R> {
 }
 
 // Carries a call of the component at a place out, and writes the log lines that it finishes and what it is answered in
-// place of what the reply was.
+// place of what the reply was. What goes beyond what a component has alone is told apart here: its sessions, its reserve and its
+// exit. Each of these stands alone, since who takes one in would clear its places at each call.
 fn carry_out<R: Router>(
     memory: &mut Memory,
     components: &mut [Component],
@@ -111,15 +115,18 @@ fn carry_out<R: Router>(
     ensures { Goes (R.places routes.now) (model_call call.entry) caller reply.new
         memory.old components.old memory.new components.new }
 {
-    match call {
-        Call::Reserve
-        | Call::Request(_)
-        | Call::Yield(_)
-        | Call::Open { .. }
-        | Call::Upgrade { .. }
-        | Call::CallSession { .. }
-        | Call::Close(_)
-        | Call::Exit => carry_out_beyond(memory, components, routes, caller, call, reply),
-        _ => components[caller].step(memory, call, reply),
-    }
+    let outcome = match call {
+        Call::Open { service, args } => open(memory, components, routes, caller, service, args),
+        Call::Upgrade { selector, args } => upgrade(memory, components, caller, selector, args),
+        Call::Close(selector) => close(memory, components, caller, selector),
+        Call::Reserve => reserve(memory, components, caller),
+        Call::Request(args) => request(memory, components, caller, args),
+        Call::Yield(args) => give(memory, components, caller, args),
+        Call::Exit => exit(memory, components, caller),
+        Call::CallSession { selector, request } => {
+            return session_calls::call(memory, components, caller, selector, request, reply);
+        }
+        _ => return components[caller].step(memory, call, reply),
+    };
+    tell(outcome, reply);
 }

@@ -10,6 +10,7 @@ use session_proto::SessionArgs;
 use trade_base::Refusal;
 
 /// What the component at a place has in reserve, or why it has none: `NotAScript`, then `Gone`.
+#[inline(never)]
 pub(crate) fn reserve(
     memory: &Memory,
     components: &[Component],
@@ -28,6 +29,7 @@ pub(crate) fn reserve(
 
 /// Limits move from the reserve of the component at a place to its account, by the text of arguments, or why not:
 /// `NotAScript`, then `Gone`, then `BadArgs`, then `OutOfRam`, then `OutOfCaps`, where the reserve doesn't cover them.
+#[inline(never)]
 pub(crate) fn request(
     memory: &mut Memory,
     components: &[Component],
@@ -50,6 +52,7 @@ pub(crate) fn request(
 /// Limits move from the account of the component at a place to its reserve, by the text of arguments, or why not:
 /// `NotAScript`, then `Gone`, then `BadArgs`, then `OutOfRam`, then `OutOfCaps`, where what the account doesn't use doesn't
 /// cover them.
+#[inline(never)]
 pub(crate) fn give(
     memory: &mut Memory,
     components: &[Component],

@@ -65,14 +65,7 @@ impl Script {
             Call::Snew(bytes) => self.snew(memory, bytes),
             Call::Sdel(address) => self.sdel(memory, address),
             Call::Quota => Ok(Answer::Quotas(self.quota(memory))),
-            Call::Reserve
-            | Call::Request(_)
-            | Call::Yield(_)
-            | Call::Open { .. }
-            | Call::Upgrade { .. }
-            | Call::CallSession { .. }
-            | Call::Close(_)
-            | Call::Exit => { unreachable!() }
+            _ => unreachable!(),
         };
         tell(outcome, reply);
     }

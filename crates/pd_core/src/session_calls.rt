@@ -15,6 +15,7 @@ use trade_base::{Refusal, Selector};
 
 /// The session that a selector of the component at a place names goes, with the capability and the regions of its buffer, or
 /// why not: `NotAScript`, then `Gone`, then `InvalidSession`.
+#[inline(never)]
 pub(crate) fn close(
     memory: &mut Memory,
     components: &mut [Component],
@@ -26,9 +27,11 @@ pub(crate) fn close(
         memory.old components.old memory.new components.new }
 {
     let (entry, session) = components[caller].take_session(selector)?;
-    let server = &mut components[entry];
-    let lent = server.buffer_of_session(session);
-    server.close_session(memory, session);
+    let Role::Server(_, host) = &mut components[entry].role else {
+        unreachable!()
+    };
+    let lent = host.buffer(session);
+    host.close(memory, session);
     if let Some(space) = lent {
         components[caller].drop_buffer(space);
     }
@@ -37,6 +40,7 @@ pub(crate) fn close(
 
 /// More is donated for the session that a selector of the component at a place names, or why not: `NotAScript`, then `Gone`,
 /// then `InvalidSession`, then `BadArgs`, then `OutOfRam`, then `OutOfCaps`.
+#[inline(never)]
 pub(crate) fn upgrade(
     memory: &mut Memory,
     components: &mut [Component],
@@ -51,13 +55,17 @@ pub(crate) fn upgrade(
 {
     let (entry, session) = components[caller].session(selector)?;
     let more = SessionArgs::read(text)?;
-    components[entry].raise_session(memory, session, more.ram(), more.caps())?;
+    let Role::Server(_, host) = &mut components[entry].role else {
+        unreachable!()
+    };
+    host.raise(memory, session, more.ram(), more.caps())?;
     Ok(Answer::Done)
 }
 
 /// A request of the session that a selector of the component at a place names is answered, and the lines that it finishes
 /// are told before the answer. A buffer that it makes comes under a new selector, which is told at the end of the reply, and one
 /// that it gives back goes with its regions. It is refused with `NotAScript`, `Gone` or else `InvalidSession`.
+#[inline(never)]
 pub(crate) fn call(
     memory: &mut Memory,
     components: &mut [Component],
@@ -76,7 +84,10 @@ pub(crate) fn call(
         Err(refusal) => return refuse(refusal, reply),
     };
     reply.clear();
-    match components[entry].serve_session(memory, session, request, reply) {
+    let Role::Server(_, host) = &mut components[entry].role else {
+        unreachable!()
+    };
+    match host.serve(memory, session, request, reply) {
         Effect::Nothing => {}
         Effect::Buffer(space) => {
             let kept = components[caller].keep_buffer(space, Selector(selector as u32));
@@ -89,6 +100,7 @@ pub(crate) fn call(
 /// A session of the service is opened for the component at a place, by the text of arguments, or why not: `NotAScript`, then
 /// `Gone`, then `BadArgs`, then `ServiceDenied`, then `OutOfRam`, then `OutOfCaps`, then `InsufficientRamQuota`, then
 /// `InsufficientCapQuota`.
+#[inline(never)]
 pub(crate) fn open<R: Router>(
     memory: &mut Memory,
     components: &mut [Component],
@@ -112,7 +124,9 @@ pub(crate) fn open<R: Router>(
         return Err(Refusal::ServiceDenied);
     };
     let label = label_of(client.name.as_slice(), args.label());
-    let server = &mut components[entry];
-    let session = server.open_session(memory, account, &label, args.ram(), args.caps())?;
+    let Role::Server(_, host) = &mut components[entry].role else {
+        unreachable!()
+    };
+    let session = host.open(memory, account, &label, args.ram(), args.caps())?;
     Ok(Answer::Selected(components[caller].keep_session(entry, session)))
 }

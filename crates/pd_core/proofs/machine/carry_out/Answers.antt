@@ -1,14 +1,19 @@
 -- A call that stays with its component is the component's alone.
-use Rattle.std.proofs.Common.{rules, arith, subst, ◌≡◌, false}
+use Rattle.std.proofs.Common.{rules, arith, subst, ◌≡◌, ◌∙◌, ap, refl, false, Result}
 use Rattle.std.proofs.lemmas.Grind.{common_steps}
 use Rattle.own_model.specs.Call.{is_exit}
+use Rattle.trade_base.specs.declared.refusal.Refusal.{Refusal}
+use Rattle.own_model.specs.Reply.{reply_text}
+use Rattle.pd_core.specs.declared.answer.Answer.{Answer}
+use Rattle.pd_core.specs.Answer.{reply_of, told_alone}
 use Rattle.pd_core.specs.Call.{model_call}
 use Rattle.pd_core.specs.Core.{roles_of, sessions_in}
 use Rattle.pd_core.proofs.PlainLemmas.{plain_goes}
 use Rattle.pd_core.proofs.HeldLemmas.{names_open, reserve_apart}
-use Rattle.pd_core.proofs.WorldLemmas.{role_at}
+use Rattle.pd_core.proofs.WorldLemmas.{goes_as, role_at}
 use Rattle.pd_core.specs.Component.{HasReserveApart, caps_in, IsSoundRole}
 use Rattle.pd_core.specs.Own.{HasSessions}
+use Rattle.pd_core.proofs.machine.carry_out.Goals.{in-Open, in-Upgrade, in-Close, in-Reserve, in-Request, in-Yield, in-Exit}
 use Rattle.pd_core.proofs.machine.carry_out.Goals as goal
 
 pub step-requires-clause-sound : goal.step-requires-clause-sound
@@ -36,3 +41,22 @@ returns-in_default g c =
     let ready = subst (λ r. HasSessions (sessions_in memory roles) (caps_in r)) (role_at components i d c.requires.at.caller) (names_open c.requires.at.core i) in
     let on : is_exit call ≡ false = (let is_not = c.in_default.not-Exit in grind (arith, common_steps, is_not)) in
     plain_goes memory components i d c.requires.at.caller c.requires.at.core step.memory step.self done.keeps done.stays places call step.reply on (done.outcome (places i) (sessions_in memory roles) ready)
+
+-- the other calls do what they promise
+pub returns-in-CallSession : goal.returns-in-CallSession
+returns-in-CallSession g c = goes_as (ap model_call c.in-CallSession.is) refl (c.call.ensures (g.R.Router.places c.args.routes.now))
+
+pub returns : goal.returns
+returns g c =
+    let places = g.R.Router.places c.args.routes.now in
+    let told : (answered : Result Answer Refusal) → c.match-call.outcome ≡ answered → c.tell.new.reply ≡ told_alone (reply_text (reply_of answered))
+    = λ answered is. c.tell.ensures ∙ ap (λ o. told_alone (reply_text (reply_of o))) is in
+    elim c.match-call.branch [
+      | in-Open w ↦ rw (w.memory-is, w.components-is) (goes_as (ap model_call w.in-Open.is) (told _ w.outcome-is) w.open-outcome.ensures)
+      | in-Upgrade w ↦ rw (w.memory-is, w.components-is) (goes_as (ap model_call w.in-Upgrade.is) (told _ w.outcome-is) (w.upgrade-outcome.ensures places))
+      | in-Close w ↦ rw (w.memory-is, w.components-is) (goes_as (ap model_call w.in-Close.is) (told _ w.outcome-is) (w.close-outcome.ensures places))
+      | in-Reserve w ↦ rw (w.memory-is, w.components-is) (goes_as (ap model_call w.in-Reserve.is) (told _ w.outcome-is) (w.reserve-outcome.ensures places))
+      | in-Request w ↦ rw (w.memory-is, w.components-is) (goes_as (ap model_call w.in-Request.is) (told _ w.outcome-is) (w.request-outcome.ensures places))
+      | in-Yield w ↦ rw (w.memory-is, w.components-is) (goes_as (ap model_call w.in-Yield.is) (told _ w.outcome-is) (w.give-outcome.ensures places))
+      | in-Exit w ↦ rw (w.memory-is, w.components-is) (goes_as (ap model_call w.in-Exit.is) (told _ w.outcome-is) (w.exit-outcome.ensures places c.requires.routes.homes))
+    ]

@@ -1,11 +1,15 @@
 -- A refused call changes nothing; else a session is opened.
-use Rattle.std.proofs.Common.{rules, arith, length, get_or, Err, ap, refl, sym, ◌∙◌}
+use Rattle.std.proofs.Common.{rules, arith, length, get_or, Err, ap, refl, sym, subst, ◌∙◌}
+use Rattle.std.specs.Prelude.{IsSome}
 use Rattle.trade_base.specs.declared.refusal.Refusal.TheVariants.{ServiceDenied}
 use Rattle.own_model.specs.Call.Call.{Open}
 use Rattle.own_model.specs.Routes.{label_with}
 use Rattle.pd_core.proofs.RouterLemmas.{denied_wish}
 use Rattle.pd_core.proofs.SessionRefusedLemmas.{no_script_goes, unasked_goes, unread_wish, passed_on, unchanged, arguments_are}
+use Rattle.pd_core.specs.Component.{served_by}
+use Rattle.pd_core.proofs.ServerLemmas.{is_server, serving_as, as_it_is}
 use Rattle.pd_core.proofs.SessionWorldLemmas.{host_within}
+use Rattle.pd_core.proofs.WorldLemmas.{role_at}
 use Rattle.pd_core.proofs.RoutedSessionLemmas.{IsLed, led_two, led_refused, led_admits, led_selector, led_opened}
 use Rattle.pd_core.proofs.session_calls.open.Goals as goal
 
@@ -46,8 +50,25 @@ pub offset_bounds-components-entry : goal.offset_bounds-components-entry
 offset_bounds-components-entry g c =
     let within = bounds-components-entry g c in search rules
 
-pub open_session-requires : goal.open_session-requires
-open_session-requires g c =
+-- what is read there is a server
+pub unreachable-requires : goal.unreachable-requires
+unreachable-requires g c =
+    let is_led : IsLed (g.R.Router.places c.args.routes.now) (g.R.Router.leads c.args.routes.now) c.args.memory.now c.args.components.now c.args.caller c.in-Some.entry c.index-components-caller.result c.in-Script.script
+    c.args.service.now c.args.text.now (record { ram = c.in_ok-args.args.ram; caps = c.in_ok-args.args.caps; label = c.label.result.now }) = record {
+      core = c.requires.at.core;
+      here = c.requires.at.caller;
+      agrees = c.requires.routes;
+      is_script = c.in-Script.is;
+      reads = arguments_are c.args.text.now c.in_ok-args.args.ram c.in_ok-args.args.caps c.label.result.now c.in_ok-args.ensures.value refl refl c.label.ensures;
+      led = sym c.provider.ensures ∙ c.in-Some.is;
+    } in
+    let e = c.index-components-entry.result in
+    let two = led_two is_led in
+    let its = is_server _ (subst (λ r. IsSome (served_by r)) (role_at c.args.components.now c.in-Some.entry e (host_within c.args.components.now c.in-Some.entry two.serving)) two.serving) in
+    c.in_default-role.not-Server its.0 its.1.0 its.1.1
+
+pub open-requires : goal.open-requires
+open-requires g c =
     let is_led : IsLed (g.R.Router.places c.args.routes.now) (g.R.Router.leads c.args.routes.now) c.args.memory.now c.args.components.now c.args.caller c.in-Some.entry c.index-components-caller.result c.in-Script.script
     c.args.service.now c.args.text.now (record { ram = c.ram.result.0; caps = c.caps.result.0; label = c.label.result.now }) = record {
       core = c.requires.at.core;
@@ -57,7 +78,7 @@ open_session-requires g c =
       reads = arguments_are c.args.text.now c.ram.result.0 c.caps.result.0 c.label.result.now c.in_ok-args.ensures.value c.ram.ensures c.caps.ensures c.label.ensures;
       led = sym c.provider.ensures ∙ c.in-Some.is;
     } in
-    record { admits = led_admits is_led c.index-components-entry.result; label = omega (arith, ap length c.deref.ensures.0, c.label_of-label.ensures.len) }
+    record { admits = led_admits is_led c.index-components-entry.result c.in-Server.field-0 c.in-Server.host c.in-Server.is; label = omega (arith, ap length c.deref.ensures.0, c.label_of-label.ensures.len) }
 
 pub returns-in_err-session : goal.returns-in_err-session
 returns-in_err-session g c =
@@ -71,7 +92,9 @@ returns-in_err-session g c =
       led = sym c.provider.ensures ∙ c.in-Some.is;
     } in
     let refusal = c.in_err-session.field-0.0 in
-    unchanged c.in-Some.entry c.index-components-entry.result c.in_err-session.ensures.err.0 c.in_err-session.ensures.err.1
+    let at = get_or c.args.components.now c.in-Some.entry c.index-components-entry.result in
+    let key = c.in-Server.field-0 in
+    unchanged c.in-Some.entry c.index-components-entry.result c.in_err-session.ensures.memory_err (ap (serving_as at key) c.in_err-session.ensures.err ∙ as_it_is at key c.in-Server.host c.in-Server.is)
     (passed_on refusal c.from_residual-in_err-session.result c.from_residual-in_err-session.ensures.1 (led_refused is_led refusal c.in_err-session.ensures.refusal))
 
 pub keep_session-requires : goal.keep_session-requires
@@ -86,9 +109,9 @@ keep_session-requires g c =
       led = sym c.provider.ensures ∙ c.in-Some.is;
     } in
     let labelled = c.deref.ensures.0 ∙ c.label_of-label.ensures.label ∙ (λ j. label_with (c.as_slice.ensures.value j) ((c.label-2.ensures ∙ sym c.label.ensures) j)) in
-    let done = c.open_session in
+    let done = c.open in
     record {
-      room = led_selector is_led c.index-components-entry.result done.new.memory done.new.self done.ensures.stays
+      room = led_selector is_led c.index-components-entry.result c.in-Server.field-0 c.in-Server.host c.in-Server.is done.new.memory done.new.self done.ensures.stays
           c.in_ok-session.ensures.refusal c.in_ok-session.session c.deref.result.now labelled c.in_ok-session.ensures.opens c.index-components-caller-2.result;
     }
 
@@ -104,8 +127,8 @@ returns g c =
       led = sym c.provider.ensures ∙ c.in-Some.is;
     } in
     let labelled = c.deref.ensures.0 ∙ c.label_of-label.ensures.label ∙ (λ j. label_with (c.as_slice.ensures.value j) ((c.label-2.ensures ∙ sym c.label.ensures) j)) in
-    let done = c.open_session in
+    let done = c.open in
     let kept = c.keep_session in
-    led_opened is_led c.index-components-entry.result done.new.memory done.new.self done.ensures.stays
+    led_opened is_led c.index-components-entry.result c.in-Server.field-0 c.in-Server.host c.in-Server.is done.new.memory done.new.self done.ensures.stays
     c.in_ok-session.ensures.refusal c.in_ok-session.session c.deref.result.now labelled c.in_ok-session.ensures.opens c.index-components-caller-2.result
     kept.result kept.new.self kept.ensures.least kept.ensures.kept

@@ -1,37 +1,35 @@
 -- A session's account is open, and is its row's.
-use Rattle.std.proofs.Common.{ap, sym, subst, ◌∙◌}
+use Rattle.std.proofs.Common.{ap, sym, subst, is_some, ◌∙◌}
 use Rattle.std.specs.FinMap.{get}
-use Rattle.server_frame.proofs.RowLaws.{account_open}
+use Rattle.own_model.proofs.NatMapLemmas.{some_of}
+use Rattle.dataspace_core.specs.Store.{IsOpenIn, account_in}
+use Rattle.services.proofs.HostLaws.{has_session, row_paid}
 use Rattle.pd_core.specs.Component.{rows_in, IsSoundRole}
-use Rattle.pd_core.specs.Sessions.{log_value, log_buffer, IsLogKept, files_value, files_buffer, IsFilesKept}
-use Rattle.pd_core.proofs.QuotaLemmas.{account_of_row}
-use Rattle.pd_core.proofs.ServerLemmas.{log_open, files_open}
+use Rattle.pd_core.proofs.ServerLemmas.{server_of_row}
 use Rattle.pd_core.proofs.component.Component.session_quotas.Goals as goal
+
+pub unreachable-requires : goal.unreachable-requires
+unreachable-requires c =
+    let memory = c.args.memory.now in
+    let known = some_of (get (rows_in memory c.args.self.now.role) c.args.id.0) c.requires.row in
+    let its = server_of_row memory c.args.self.now.role c.args.id.0 known.0 known.1 in
+    c.in_default.not-Server its.0 its.1.0 its.1.1
+
+pub account-requires : goal.account-requires
+account-requires c =
+    has_session c.args.memory.now c.in-Server.host c.args.id.0 (ap (λ r. is_some (get (rows_in c.args.memory.now r) c.args.id.0)) (sym c.in-Server.is) ∙ c.requires.row)
 
 pub quotas_of-requires : goal.quotas_of-requires
 quotas_of-requires c =
     let memory = c.args.memory.now in
-    let server = c.in-Log.server in
-    account_open IsLogKept server.sessions memory server.map (subst (IsSoundRole memory) c.in-Log.is c.requires.sound).server c.args.id.0 c.account.result
-    (log_open memory c.args.self.now.role c.in-Log.field-0 server c.args.id.0 c.in-Log.is c.requires.row) c.account.ensures
+    let known = some_of (get (rows_in memory c.args.self.now.role) c.args.id.0) c.requires.row in
+    let there = ap (λ r. get (rows_in memory r) c.args.id.0) (sym c.in-Server.is) ∙ known.1 in
+    let works = (subst (IsSoundRole memory) c.in-Server.is c.requires.sound).works in
+    subst (IsOpenIn memory) (sym (c.account.ensures memory known.0 there)) (row_paid memory c.in-Server.host works c.args.id.0 known.0 there).opens
 
-pub quotas_of-requires-in-Files : goal.quotas_of-requires-in-Files
-quotas_of-requires-in-Files c =
+pub returns : goal.returns
+returns c = λ row known.
     let memory = c.args.memory.now in
-    let server = c.in-Files.server in
-    account_open IsFilesKept server.sessions memory server.map (subst (IsSoundRole memory) c.in-Files.is c.requires.sound).server c.args.id.0 c.account-in-Files.result
-    (files_open memory c.args.self.now.role c.in-Files.field-0 server c.args.id.0 c.in-Files.is c.requires.row) c.account-in-Files.ensures
-
-pub returns-in-Log : goal.returns-in-Log
-returns-in-Log c = λ row there.
-    let memory = c.args.memory.now in
-    let server = c.in-Log.server in
-    c.quotas_of.ensures ∙ account_of_row log_value log_buffer server.sessions memory server.map c.args.id.0 c.account.result c.account.ensures row
-    (ap (λ r. get (rows_in memory r) c.args.id.0) (sym c.in-Log.is) ∙ there)
-
-pub returns-in-Files : goal.returns-in-Files
-returns-in-Files c = λ row there.
-    let memory = c.args.memory.now in
-    let server = c.in-Files.server in
-    c.quotas_of-in-Files.ensures ∙ account_of_row files_value files_buffer server.sessions memory server.map c.args.id.0 c.account-in-Files.result c.account-in-Files.ensures row
-    (ap (λ r. get (rows_in memory r) c.args.id.0) (sym c.in-Files.is) ∙ there)
+    let there = ap (λ r. get (rows_in memory r) c.args.id.0) (sym c.in-Server.is) ∙ known in
+    let works = (subst (IsSoundRole memory) c.in-Server.is c.requires.sound).works in
+    c.quotas_of.ensures ∙ ap (account_in memory) (c.account.ensures memory row there) ∙ (row_paid memory c.in-Server.host works c.args.id.0 row there).account

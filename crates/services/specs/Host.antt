@@ -1,0 +1,117 @@
+-- A server of any service, as the model sees it.
+use Rattle.std.specs.Prelude.{◌≡◌, ◌≢◌, ℕ, ◌+◌, ◌*◌, ◌<◌, ◌≤◌, [], Option, Some, None, IsSome}
+use Rattle.std.specs.FinMap.{get, empty}
+use Rattle.slab.specs.Slab.{Slab, ContainsKey, slab_len}
+use Rattle.own_model.specs.NatMap.{NatMap}
+use Rattle.own_model.specs.Routes.{Service}
+use Rattle.own_model.specs.Session.{Labelled, donation_refusal}
+use Rattle.region_map.specs.Regions.{Regions}
+use Rattle.dataspace_core.specs.Share.{Share}
+use Rattle.dataspace_core.specs.Store.{Store, account_in, room_in, ram_limits_in, caps_limits_in, IsOpenIn}
+use Rattle.server_frame.specs.Frame.{Row, sessions_of, IsServer}
+use Rattle.server_frame.specs.declared.server.Session.{Session}
+use Rattle.log_service.specs.Session.{LabelledLine, as_kept, IsSession as IsLogSession}
+use Rattle.file_service.specs.Lent.{buffer_key}
+use Rattle.file_service.specs.Session.{value_of, IsSession as IsFileSession}
+use Rattle.file_service.specs.declared.session.FileSession.{FileSession}
+use Rattle.services.specs.declared.host.Host.{Host}
+use Rattle.services.specs.declared.host.Host.TheVariants.{Log, Files}
+
+-- the service that it serves
+abbrev pub service_of : Host → Service
+service_of (Log server) = Service.Log
+service_of (Files server) = Service.Files
+
+-- what a server keeps: its sessions and its map; and of what its service keeps for a session what that is to its client, what it
+-- lends it, and what is true of it
+pub record Table : Type 1 where
+  pub State : Type 0
+  pub value : State → Share → Labelled
+  pub buffer : State → Option ℕ
+  pub kept : State → ℕ → Share → Type 0
+  pub sessions : Slab (Session State)
+  pub map : Regions
+
+-- all that the log service keeps of a session in the memory is blocks of its sliced heap, and it lends nothing
+abbrev pub log_table : Slab (Session LabelledLine) → Regions → Table
+log_table sessions map = record {
+  State = LabelledLine;
+  value = λ line share. as_kept line;
+  buffer = λ line. None;
+  kept = IsLogSession;
+  sessions = sessions;
+  map = map;
+}
+
+-- the file service keeps blocks and nodes, by which go a session's files, and it lends a buffer
+abbrev pub file_table : Slab (Session FileSession) → Regions → Table
+file_table sessions map = record {
+  State = FileSession;
+  value = value_of;
+  buffer = λ session. buffer_key session.buffer;
+  kept = IsFileSession;
+  sessions = sessions;
+  map = map;
+}
+
+abbrev pub table_of : Host → Table
+table_of (Log server) = log_table server.sessions server.map
+table_of (Files server) = file_table server.sessions server.map
+
+-- the sessions that it serves, by their keys
+abbrev pub rows_by : Store → Table → NatMap (Row Labelled)
+rows_by store table = sessions_of table.value table.buffer table.sessions store table.map
+
+abbrev pub rows_of : Store → Host → NatMap (Row Labelled)
+rows_of store host = rows_by store (table_of host)
+
+-- how many sessions find a place
+abbrev pub capacity_of : Host → ℕ
+capacity_of host = (table_of host).sessions.capacity
+
+-- a session is open under a key
+abbrev pub HasSession : Host → ℕ → Type 0
+HasSession host id = ContainsKey (table_of host).sessions id
+
+-- there is a place for one more
+abbrev pub HasPlace : Host → Type 0
+HasPlace host = slab_len (table_of host).sessions < capacity_of host
+
+-- it works on this memory
+abbrev pub Works : Store → Host → Type 0
+Works store host = IsServer (table_of host).kept (table_of host).sessions store (table_of host).map
+
+-- it has no session, an empty map with the pages of the machine, and a place for each two capabilities of it
+pub record HasNoSessions {T : Type 0} (store : Store) (sessions : Slab (Session T)) (regions : Regions) : Type 0 where
+  pub none : sessions.slots ≡ []
+  pub places : caps_limits_in store ≤ sessions.capacity * 2 + 1
+  pub no_heap : regions.heap ≡ empty
+  pub heap_most : regions.heap_most ≡ regions.pages
+  pub pages : regions.pages * 4096 ≡ ram_limits_in store
+
+abbrev pub IsNew : Store → Host → Type 0
+IsNew store host = HasNoSessions store (table_of host).sessions (table_of host).map
+
+-- ---- calls
+
+-- it works, and serves a session
+pub record Serves (store : Store) (host : Host) (id : ℕ) : Type 0 where
+  pub works : Works store host
+  pub row : IsSome (get (rows_of store host) id)
+
+-- it works, and can open a session for a client's account with this donation: the client is open and no session, and where it
+-- covers the donation there is a place for the session and for its account
+pub record Admits (store : Store) (host : Host) (client ram caps : ℕ) : Type 0 where
+  pub works : Works store host
+  pub is_open : IsOpenIn store client
+  pub no_session : (id : ℕ) (row : Row Labelled) → get (rows_of store host) id ≡ Some row → row.key ≢ client
+  pub place : donation_refusal (account_in store client) ram caps ≡ None → HasPlace host
+  pub room : donation_refusal (account_in store client) ram caps ≡ None → 0 < room_in store
+
+-- after a call of one of its sessions it works on the memory, and is the same but for its sessions, and so are the limits of RAM
+-- in all
+pub record StaysServer (old : Store) (before : Host) (new : Store) (after : Host) : Type 0 where
+  pub service : service_of after ≡ service_of before
+  pub capacity : capacity_of after ≡ capacity_of before
+  pub works : Works new after
+  pub machine : ram_limits_in new ≡ ram_limits_in old

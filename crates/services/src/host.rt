@@ -1,0 +1,165 @@
+//! A server of one of the services.
+ghost use Rattle.std.specs.Prelude.{◌≡◌, ◌≤◌, length, is_some, IfOk, OnOk, OnErr};
+ghost use Rattle.std.specs.FinMap.{get, insert, remove};
+ghost use Rattle.std.specs.Result.{result_err};
+ghost use Rattle.own_model.specs.Account.{shortage};
+ghost use Rattle.own_model.specs.Donation.{raised};
+ghost use Rattle.own_model.specs.Session.{donation_refusal, state_at_first};
+ghost use Rattle.dataspace_core.specs.Store.{Store, account_in, RaisesPart, ClosesPart};
+ghost use Rattle.server_frame.specs.Frame.{AtRow, row_served, OpensSession, ServesSession};
+ghost use Rattle.server_frame.specs.Lent.{key_of};
+ghost use Rattle.server_frame.specs.Session.{service_step};
+ghost use Rattle.server_frame.specs.Told.{nothing_told};
+
+use dataspace_core::Memory;
+use file_service::FileService;
+use log_service::LogService;
+use server_frame::{Effect, LONGEST_LABEL, Reply, Server};
+use trade_base::{AccountId, Caps, DsId, Ram, Refusal, SessionId};
+
+/// A server, whichever its service is. Its calls are those of `Server`.
+#[derive(Drop)]
+pub enum Host {
+    /// Of the log service.
+    Log(Server<LogService>),
+    /// Of the file service.
+    Files(Server<FileService>),
+}
+
+impl Host {
+    ghost use Rattle.services.specs.Host.{service_of, rows_of, Admits, HasSession, Serves, StaysServer};
+
+    /// Whether a session is open.
+    pub fn is_open(&self, id: SessionId) -> bool
+        ensures { (store : Store) → result ≡ is_some (get (rows_of store self.now) id.0) }
+    {
+        match self {
+            Host::Log(server) => server.is_open(id),
+            Host::Files(server) => server.is_open(id),
+        }
+    }
+
+    /// The account of a session.
+    pub fn account(&self, id: SessionId) -> AccountId
+        requires { HasSession self.now id.0 }
+        ensures { (store : Store) → AtRow (rows_of store self.now) id.0 (λ row.
+            result.0 ≡ row.key) }
+    {
+        match self {
+            Host::Log(server) => server.account(id),
+            Host::Files(server) => server.account(id),
+        }
+    }
+
+    /// The dataspace that a session lends its client, if it lends one.
+    pub fn buffer(&self, id: SessionId) -> Option<DsId>
+        requires { HasSession self.now id.0 }
+        ensures { (store : Store) → AtRow (rows_of store self.now) id.0 (λ row.
+            key_of result ≡ row.buffer) }
+    {
+        match self {
+            Host::Log(server) => server.buffer(id),
+            Host::Files(server) => server.buffer(id),
+        }
+    }
+
+    /// Opens a session for a client's account, with its donation: RAM in bytes, and capabilities. Refused as
+    /// `Server::open` is, where nothing changes.
+    pub fn open(
+        &mut self,
+        memory: &mut Memory,
+        client: AccountId,
+        label: &[u8],
+        ram: Ram,
+        caps: Caps,
+    ) -> Result<SessionId, Refusal>
+        requires admits { Admits memory.old self.old client.0 ram.0 caps.0 }
+        requires label { length label.now ≤ LONGEST_LABEL }
+        ensures refusal { result_err result
+            ≡ donation_refusal (account_in memory.old client.0) ram.0 caps.0 }
+        ensures opens { IfOk result (λ id.
+            OpensSession client.0 ram.0 caps.0 id.0 (record {
+              label = label.now;
+              state = state_at_first (service_of self.old);
+            }) memory.old memory.new
+            (rows_of memory.old self.old) (rows_of memory.new self.new)) }
+        ensures stays { StaysServer memory.old self.old memory.new self.new }
+        ensures err { OnErr result (self.new ≡ self.old) }
+        ensures memory_err { OnErr result (memory.new ≡ memory.old) }
+    {
+        match self {
+            Host::Log(server) => server.open(memory, client, label, ram, caps),
+            Host::Files(server) => server.open(memory, client, label, ram, caps),
+        }
+    }
+
+    /// Moves so much more of its client's limits to a session's account, or why not: `OutOfRam`, then `OutOfCaps`.
+    #[tactic(auto, using(crate::proofs::HostLaws::log_open, crate::proofs::HostLaws::files_open))]
+    pub fn raise(
+        &mut self,
+        memory: &mut Memory,
+        id: SessionId,
+        ram: Ram,
+        caps: Caps,
+    ) -> Result<(), Refusal>
+        requires { Serves memory.old self.old id.0 }
+        ensures refusal { AtRow (rows_of memory.old self.old) id.0 (λ row.
+            result_err result ≡ shortage (account_in memory.old row.client) ram.0 caps.0) }
+        ensures raises { AtRow (rows_of memory.old self.old) id.0 (λ row.
+            OnOk result (RaisesPart row.client row.key ram.0 caps.0 memory.old memory.new)) }
+        ensures sessions { AtRow (rows_of memory.old self.old) id.0 (λ row.
+            OnOk result (rows_of memory.new self.new
+            ≡ insert (rows_of memory.old self.old) id.0
+            (record row { account = raised row.account ram.0 caps.0 }))) }
+        ensures stays { StaysServer memory.old self.old memory.new self.new }
+        ensures same { self.new ≡ self.old }
+        ensures memory_err { OnErr result (memory.new ≡ memory.old) }
+    {
+        match self {
+            Host::Log(server) => server.upgrade(memory, id, ram, caps),
+            Host::Files(server) => server.upgrade(memory, id, ram, caps),
+        }
+    }
+
+    /// Answers a request of a session, and tells what it did to what the session lends.
+    #[tactic(auto, using(crate::proofs::HostLaws::log_open, crate::proofs::HostLaws::files_open))]
+    pub fn serve(
+        &mut self,
+        memory: &mut Memory,
+        id: SessionId,
+        request: &[u8],
+        reply: &mut Reply,
+    ) -> Effect
+        requires serves { Serves memory.old self.old id.0 }
+        requires reply { reply.old ≡ nothing_told }
+        ensures text { AtRow (rows_of memory.old self.old) id.0 (λ row.
+            reply.new.text ≡ (row_served service_step request.now memory.old row).text) }
+        ensures lines { AtRow (rows_of memory.old self.old) id.0 (λ row.
+            reply.new.lines ≡ (row_served service_step request.now memory.old row).lines) }
+        ensures serves { AtRow (rows_of memory.old self.old) id.0 (λ row.
+            ServesSession row id.0 result (row_served service_step request.now memory.old row)
+            memory.old memory.new (rows_of memory.old self.old) (rows_of memory.new self.new)) }
+        ensures stays { StaysServer memory.old self.old memory.new self.new }
+    {
+        match self {
+            Host::Log(server) => server.serve(memory, id, request, reply),
+            Host::Files(server) => server.serve(memory, id, request, reply),
+        }
+    }
+
+    /// Closes a session: its client's limits are raised by those of its account.
+    #[tactic(auto, using(crate::proofs::HostLaws::log_open, crate::proofs::HostLaws::files_open))]
+    pub fn close(&mut self, memory: &mut Memory, id: SessionId)
+        requires { Serves memory.old self.old id.0 }
+        ensures closes { AtRow (rows_of memory.old self.old) id.0 (λ row.
+            ClosesPart row.key row.client memory.old memory.new) }
+        ensures sessions { rows_of memory.new self.new
+            ≡ remove (rows_of memory.old self.old) id.0 }
+        ensures stays { StaysServer memory.old self.old memory.new self.new }
+    {
+        match self {
+            Host::Log(server) => server.close(memory, id),
+            Host::Files(server) => server.close(memory, id),
+        }
+    }
+}
