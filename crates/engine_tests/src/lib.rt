@@ -2,6 +2,8 @@
 #![tactic(auto)]
 
 #[cfg(test)]
+mod calls;
+#[cfg(test)]
 mod configs;
 #[cfg(test)]
 mod devices;
@@ -17,3 +19,5 @@ mod rows;
 mod starts;
 #[cfg(test)]
 mod tasks;
+#[cfg(test)]
+mod words;

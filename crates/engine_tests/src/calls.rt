@@ -1,0 +1,76 @@
+//! How often a device is called: once a call of an `Input` or an `Output`, also after a failure.
+use scenario::{DeviceFault, Input, Output, Sink, Source};
+use std::io;
+use std::io::{Read, Write};
+
+// Counts its calls, and answers the first of them with an error of this kind.
+#[derive(Drop)]
+struct CallsCounted {
+    calls: u64,
+    fault: io::ErrorKind,
+}
+
+impl CallsCounted {
+    fn answer(&mut self, bytes: usize) -> io::Result<usize> {
+        self.calls += 1;
+        if self.calls == 1 {
+            return Err(io::Error::from(self.fault));
+        }
+        Ok(bytes)
+    }
+}
+
+impl Read for CallsCounted {
+    fn read(&mut self, buf: &mut [u8]) -> io::Result<usize> {
+        self.answer(buf.len())
+    }
+}
+
+impl Write for CallsCounted {
+    fn write(&mut self, buf: &[u8]) -> io::Result<usize> {
+        self.answer(buf.len())
+    }
+
+    fn flush(&mut self) -> io::Result<()> {
+        Ok(())
+    }
+}
+
+// The device answers after its first call, but it isn't called a second time.
+#[test]
+fn a_device_is_called_once_a_call(rt: HostRuntime) {
+    for fault in [io::ErrorKind::Interrupted, io::ErrorKind::Other] {
+        let mut input = Input::new(CallsCounted { calls: 0, fault });
+        assert!(rt; input.read(&mut [0; 4]) == Err(DeviceFault) && input.failed());
+        assert_eq!(rt; input.into_inner().calls, 1);
+        let mut output = Output::new(CallsCounted { calls: 0, fault });
+        assert!(rt; output.write(b"text") == Err(DeviceFault) && output.failed());
+        assert_eq!(rt; output.into_inner().calls, 1);
+    }
+}
+
+// Takes a byte a call.
+#[derive(Drop)]
+struct TakesOne {
+    calls: u64,
+}
+
+impl Write for TakesOne {
+    fn write(&mut self, buf: &[u8]) -> io::Result<usize> {
+        self.calls += 1;
+        Ok(buf.len().min(1))
+    }
+
+    fn flush(&mut self) -> io::Result<()> {
+        Ok(())
+    }
+}
+
+// A short write is told as one, at once.
+#[test]
+fn a_write_is_handed_on_at_once(rt: HostRuntime) {
+    let mut output = Output::new(TakesOne { calls: 0 });
+    assert!(rt; output.write(b"text") == Ok(1) && !output.failed());
+    assert!(rt; output.write(b"ext") == Ok(1));
+    assert_eq!(rt; output.into_inner().calls, 2);
+}
