@@ -9,5 +9,4 @@ pub mod TakenLemmas
 pub mod FreedLemmas
 pub mod CallLemmas
 pub mod GivenLemmas
-pub mod CellLemmas
 pub mod FitLemmas

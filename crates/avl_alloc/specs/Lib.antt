@@ -5,4 +5,3 @@ pub mod Context
 pub mod Walk
 pub mod Fit
 pub mod Found
-pub mod Cells

@@ -10,8 +10,6 @@ mod chunk;
 mod holes;
 mod laws;
 mod memory;
-#[cfg(test)]
-mod tests;
 
 pub use best_fit::{BestFit, BlockAddr, MOST_CHUNKS, UsedBlock, block_bytes};
 pub use laws::{

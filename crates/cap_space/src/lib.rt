@@ -4,8 +4,6 @@
 mod cap;
 mod places;
 mod space;
-#[cfg(test)]
-mod tests;
 
 pub use cap::Cap;
 pub use space::CapSpace;

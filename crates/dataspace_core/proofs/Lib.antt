@@ -5,7 +5,6 @@ pub mod ByteLemmas
 pub mod WriteLemmas
 pub mod WalkLemmas
 pub mod ReadLemmas
-pub mod TestLemmas
 pub mod GapLemmas
 pub mod LaidOutLemmas
 pub mod MemoryLemmas

@@ -14,8 +14,6 @@ mod rooms;
 mod service;
 mod session;
 mod source;
-#[cfg(test)]
-mod tests;
 
 pub use node::LONGEST_NAME;
 pub use service::FileService;

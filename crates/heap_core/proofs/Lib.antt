@@ -34,6 +34,5 @@ pub mod LookupLemmas
 pub mod StartLemmas
 pub mod GiveLemmas
 pub mod GoneLargeLemmas
-pub mod TestLemmas
 pub mod EndChunkLemmas
 pub mod EndLargeLemmas

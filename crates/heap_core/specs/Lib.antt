@@ -4,6 +4,5 @@ pub mod Heap
 pub mod Lookup
 pub mod Calls
 pub mod Laws
-pub mod Beside
 pub mod Taken
 pub mod End

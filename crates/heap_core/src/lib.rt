@@ -9,8 +9,6 @@ mod laws;
 mod loads;
 mod lookup;
 mod release;
-#[cfg(test)]
-mod tests;
 mod words;
 
 pub use heap::Heap;

@@ -19,8 +19,6 @@ mod routing;
 mod rule;
 mod startup;
 mod table;
-#[cfg(test)]
-mod tests;
 
 pub use entry::{Binary, Entry};
 pub use fault::{BootFault, Field};

@@ -1,2 +1,1 @@
 pub mod SessionLemmas
-mod TestLemmas

@@ -3,8 +3,6 @@
 
 mod service;
 mod session;
-#[cfg(test)]
-mod tests;
 
 pub use service::LogService;
 pub use session::LogSession;

@@ -5,7 +5,5 @@
 mod bytes;
 mod memory;
 mod pool;
-#[cfg(test)]
-mod tests;
 
 pub use pool::{PageNo, Pool};

@@ -3,8 +3,5 @@
 
 mod account;
 mod books;
-#[cfg(test)]
-#[tactic(auto, using(own_model::proofs::NatMapLemmas::natmaps))]
-mod tests;
 
 pub use books::Books;

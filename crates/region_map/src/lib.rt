@@ -8,7 +8,5 @@ mod row;
 mod rows;
 mod search;
 mod table;
-#[cfg(test)]
-mod tests;
 
 pub use map::RegionMap;

@@ -8,8 +8,6 @@ mod file_reply;
 mod hex_text;
 mod log;
 mod pair;
-#[cfg(test)]
-mod tests;
 mod text;
 
 pub use args::SessionArgs;

@@ -8,7 +8,6 @@ pub mod LookLemmas
 pub mod GiveLemmas
 pub mod HeapLaws
 pub mod EndLemmas
-pub mod TestLemmas
 pub mod ShareLemmas
 pub mod WindowLemmas
 pub mod BesideLemmas

@@ -30,12 +30,6 @@ pub record IsSound (heap : SlicedHeap) (store : Store) (regions : Regions) : Typ
   pub maps : MapsMemory store regions
   pub linked : IsLinked (share_at (payer_of heap) store regions) heap.first
 
--- two heaps of different accounts, on one map
-pub record AreBeside (heap other : SlicedHeap) (store : Store) (regions : Regions) : Type 0 where
-  pub sound : IsSound heap store regions
-  pub other_sound : IsSound other store regions
-  pub apart : payer_of other ≢ payer_of heap
-
 -- none of the regions in a share is a block's
 abbrev pub HasNoBlocks : Share → Type 0
 HasNoBlocks share = (s : ℕ) → get (block_regions share) s ≡ None

@@ -6,8 +6,6 @@ mod header;
 mod heap;
 mod laws;
 mod links;
-#[cfg(test)]
-mod tests;
 
 pub use heap::SlicedHeap;
 pub use laws::{blocks_are_regions, heaps_stay, maps_stay, payloads_are_memory};

@@ -6,8 +6,6 @@ mod byte_kinds;
 mod bytes;
 mod hex_pairs;
 mod hex_text;
-#[cfg(test)]
-mod tests;
 mod words;
 
 pub use address::read_address;

@@ -1,4 +1,0 @@
-use Rattle.avl_alloc.proofs.tests.a_call_after_many_holes_loads_few_words.Given as goal
-
-abbrev pub ghosts-most_loads : goal.ghosts-most_loads
-ghosts-most_loads g a = record { name = a.blank.name; parts = a.blank.parts }

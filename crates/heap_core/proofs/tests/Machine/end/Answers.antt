@@ -1,6 +1,0 @@
--- The other heap stays sound.
-use Rattle.heap_core.proofs.TestLemmas.{beside_after}
-use Rattle.heap_core.proofs.tests.Machine.end.Goals as goal
-
-pub returns : goal.returns
-returns c = beside_after _ _ _ _ _ _ _ c.requires c.end.ensures.sound c.end.ensures.others c.end.ensures.payer

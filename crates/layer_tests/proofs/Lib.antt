@@ -1,0 +1,4 @@
+mod HeapLemmas
+mod SlicedLemmas
+mod CellLemmas
+mod MemoryLemmas

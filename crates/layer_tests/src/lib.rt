@@ -1,0 +1,32 @@
+//! Tests of the layers below the core: worked calls of each, as tables where they are such.
+#![tactic(auto)]
+
+#[cfg(test)]
+mod accounts;
+#[cfg(test)]
+mod best_fit;
+#[cfg(test)]
+#[tactic(auto, using(crate::proofs::MemoryLemmas::store_laws))]
+mod dataspaces;
+#[cfg(test)]
+mod files;
+#[cfg(test)]
+mod heaps;
+#[cfg(test)]
+mod logs;
+#[cfg(test)]
+mod pages;
+#[cfg(test)]
+mod regions;
+#[cfg(test)]
+mod requests;
+#[cfg(test)]
+mod selectors;
+#[cfg(test)]
+mod server;
+#[cfg(test)]
+mod sliced;
+#[cfg(test)]
+mod steps;
+#[cfg(test)]
+mod texts;

@@ -1,0 +1,186 @@
+//! The readers of texts: each on texts that it takes and on others.
+
+use session_proto::SessionArgs;
+use std::process::Abort;
+use text_codec::{
+    decode_hex, encode_hex, find_byte, has_name_bytes, is_name, is_path, read_address, read_hex,
+    split_first_word,
+};
+use trade_base::{read_amount, read_number};
+
+/// Texts, and the numbers of bytes that they stand for as an amount.
+const AMOUNTS: &str = "0 => 0
+0042 => 42
+4K => 4096
+16M => 16777216
+00G => 0
+18446744073709551615 => 18446744073709551615
+17179869183G => 18446744072635809792
+ => none
+K => none
+4k => none
+4KK => none
+4K  => none
++4 => none
+-4 => none
+4K4 => none
+18446744073709551616 => none
+17179869184G => none
+18446744073709551616K => none";
+
+/// Texts, and the addresses that they stand for.
+const ADDRESSES: &str = "0x0000000000000010 => 16
+0xffffFFFFffffFFFF => 18446744073709551615
+0x => none
+10 => none
+0X10 => none
+0x1g => none
+0x00000000000000010 => none";
+
+/// Each row's text is read as the number behind it, or as none.
+fn check_numbers(rt: &impl Abort, rows: &str, amounts: bool) {
+    for line in rows.lines() {
+        let (text, want) = line.split_once(" => ").expect(rt, "a row has a number");
+        let read = if amounts {
+            read_amount(text.as_bytes())
+        } else {
+            read_address(text.as_bytes())
+        };
+        assert_eq!(rt; read, want.parse::<u64>().ok(), "of {text}");
+    }
+}
+
+#[test]
+fn amounts_and_addresses_are_read(rt: HostRuntime) {
+    check_numbers(&rt, AMOUNTS, true);
+    check_numbers(&rt, ADDRESSES, false);
+    assert_eq!(rt; read_number(b"007"), Some(7));
+    assert_eq!(rt; read_number(b"7K"), None);
+}
+
+/// Texts that are names.
+const NAMES: &str = "A-0_z.9
+abcdefghijklmnopqrstuvwxyz012345";
+
+/// Texts that are none.
+const NO_NAMES: &str = "abcdefghijklmnopqrstuvwxyz0123456
+
+a/b";
+
+/// Texts that aren't pairs of hexadecimal digits.
+const NO_HEX: &str = "
+0
+000
+0g
+00\x20";
+
+#[test]
+fn names_and_hexadecimal_digits_are_told(rt: HostRuntime) {
+    for name in NAMES.lines() {
+        assert!(rt;
+            is_name(name.as_bytes()) && is_path(name.as_bytes()),
+            "of {name}"
+        );
+    }
+    for text in NO_NAMES.lines() {
+        assert!(rt; !is_name(text.as_bytes()), "of {text}");
+    }
+    assert!(rt; is_path(b"a/b") && !is_path(b"a//b"));
+    assert!(rt; has_name_bytes(b"abcdefghijklmnopqrstuvwxyz0123456"));
+    assert!(rt; read_hex(b"00fF").is_some());
+    for text in NO_HEX.lines() {
+        assert!(rt; read_hex(text.as_bytes()).is_none(), "of {text}");
+    }
+}
+
+#[test]
+fn bytes_are_found_and_parted(rt: HostRuntime) {
+    assert_eq!(rt; find_byte(b'=', b"a=b=c"), Some(1));
+    assert_eq!(rt; find_byte(b'=', b"abc"), None);
+    assert_eq!(rt; find_byte(b'=', b""), None);
+    for (text, word, rest) in [
+        (
+            b"quota  1".as_slice(),
+            b"quota".as_slice(),
+            Some(b" 1".as_slice()),
+        ),
+        (b"quota", b"quota", None),
+        (b" quota", b"", Some(b"quota")),
+    ] {
+        assert!(rt; split_first_word(text) == (word, rest));
+    }
+}
+
+#[test]
+fn bytes_are_decoded_and_encoded(rt: HostRuntime) {
+    let mut bytes = [0; 11];
+    decode_hex(b"00fF0aA96f9B7e80c35D1b", &mut bytes);
+    assert_eq!(rt; &bytes, &[0, 255, 10, 169, 111, 155, 126, 128, 195, 93, 27]);
+    let mut hex = [0; 22];
+    encode_hex(&bytes, &mut hex);
+    assert_eq!(rt; &hex, b"00ff0aa96f9b7e80c35d1b");
+    decode_hex(b"", &mut bytes[..0]);
+    encode_hex(b"", &mut hex[..0]);
+    assert_eq!(rt; &hex, b"00ff0aa96f9b7e80c35d1b");
+}
+
+/// Texts of a session's arguments, and behind ` => ` RAM, capabilities and the label, where there is one.
+const ARGUMENTS: &str = r#" => 0 0
+    => 0 0
+ram_quota=4K, cap_quota=2, label="main" => 4096 2 main
+  cap_quota=003  ,ram_quota=7  => 7 3
+label="a, b = c",x="" => 0 0 a, b = c
+label="" => 0 0
+_k9=., ram_quota=17179869183G => 18446744072635809792 0
+ram_quota=1, ram_quota="x", ram_quota=2 => 1 0
+cap_quota=4294967295 => 0 4294967295"#;
+
+/// Texts that are no arguments.
+const NO_ARGUMENTS: &str = "ram_quota=18446744073709551616, cap_quota=2
+ram_quota=17179869184G, cap_quota=2
+ram_quota=x
+ram_quota =1
+ram_quota= 1
+ram_quota=\"1\"
+cap_quota=1K
+cap_quota=4294967296
+label=main
+label=\"a\\b\"
+label=\"a
+label=a\"
+label=\"a\" b
+label=\"
+label=\"\x7f\"
+ram_quota=1,
+,ram_quota=1
+ram_quota=1,,cap_quota=1
+ram_quota=1 cap_quota=1
+ram_quota
+=1
+9a=1
+a=
+a\t=1
+\tram_quota=1
+ram_quota=1, x
+ram_quota=1, ram_quota=a b
+label=\".................................................................\"";
+
+/// A label of 64 bytes.
+const LONGEST: &str = "label=\"................................................................\"";
+
+#[test]
+fn session_arguments_are_read(rt: HostRuntime) {
+    for line in ARGUMENTS.lines() {
+        let (text, want) = line.split_once(" => ").expect(&rt, "a row has arguments");
+        let (ram, rest) = want.split_once(' ').expect(&rt, "a row has RAM");
+        let (caps, label) = rest.split_once(' ').unwrap_or((rest, ""));
+        let args = SessionArgs::read(text.as_bytes()).expect(&rt, "arguments");
+        assert_eq!(rt; Some(args.ram().0), ram.parse::<u64>().ok(), "of {text}");
+        assert_eq!(rt; Some(args.caps().0), caps.parse::<u32>().ok(), "of {text}");
+        assert!(rt; args.label() == label.as_bytes(), "of {text}");
+    }
+    for text in NO_ARGUMENTS.lines() {
+        assert!(rt; SessionArgs::read(text.as_bytes()).is_err(), "of {text}");
+    }
+    assert!(rt; SessionArgs::read(LONGEST.as_bytes()).is_ok());
+}

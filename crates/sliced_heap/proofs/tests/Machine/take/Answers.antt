@@ -1,6 +1,0 @@
--- The other heap stays sound.
-use Rattle.sliced_heap.proofs.TestLemmas.{beside_after}
-use Rattle.sliced_heap.proofs.tests.Machine.take.Goals as goal
-
-pub returns : goal.returns
-returns g c = beside_after _ _ _ _ _ _ _ c.requires c.alloc.ensures.sound c.alloc.ensures.others c.alloc.ensures.payer
