@@ -8,8 +8,6 @@ mod parts;
 mod quotes;
 mod reading;
 mod signs;
-#[cfg(test)]
-mod tests;
 mod words;
 
 pub use fault::{Fault, Reason};

@@ -17,8 +17,6 @@ mod near;
 mod part;
 mod quoted;
 mod review;
-#[cfg(test)]
-mod tests;
 mod tree;
 mod unread;
 mod values;

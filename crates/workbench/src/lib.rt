@@ -13,8 +13,6 @@ mod notes;
 mod peaks;
 mod playing;
 mod row;
-#[cfg(test)]
-mod tests;
 mod text;
 mod tracing;
 mod transcript;

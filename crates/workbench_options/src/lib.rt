@@ -4,8 +4,6 @@
 mod command;
 mod commands;
 mod help;
-#[cfg(test)]
-mod tests;
 
 pub use command::Command;
 pub use commands::{needs_command, words_given};

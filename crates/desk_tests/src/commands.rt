@@ -1,0 +1,138 @@
+//! Command lines that are taken: the command that each asks for.
+use std::test::Fail;
+use workbench_options::Command;
+
+#[test]
+fn each_command_is_read(rt: HostRuntime) -> Result<(), Fail> {
+    let alloc = rt.alloc();
+    let lines: [(&[&str], Command<'_>); 14] = [
+        (
+            &["nethrywel", "run", "a.txt"],
+            Command::Run {
+                machine: None,
+                only: None,
+                accounts: false,
+                scenario: "a.txt",
+            },
+        ),
+        (
+            &[
+                "nethrywel",
+                "run",
+                "--accounts",
+                "--machine",
+                "m.json",
+                "-",
+                "--only=bob",
+            ],
+            Command::Run {
+                machine: Some("m.json"),
+                only: Some("bob"),
+                accounts: true,
+                scenario: "-",
+            },
+        ),
+        (
+            &["nethrywel", "run", "--", "--accounts"],
+            Command::Run {
+                machine: None,
+                only: None,
+                accounts: false,
+                scenario: "--accounts",
+            },
+        ),
+        (
+            &["nethrywel", "check", "m.json"],
+            Command::Check {
+                strict: false,
+                list: "m.json",
+            },
+        ),
+        (
+            &["nethrywel", "check", "-", "--strict"],
+            Command::Check {
+                strict: true,
+                list: "-",
+            },
+        ),
+        (
+            &["nethrywel", "tree", ""],
+            Command::Tree {
+                dot: false,
+                list: "",
+            },
+        ),
+        (
+            &["nethrywel", "tree", "--dot", "check"],
+            Command::Tree {
+                dot: true,
+                list: "check",
+            },
+        ),
+        (
+            &["nethrywel", "trace", "run"],
+            Command::Trace {
+                machine: None,
+                scenario: "run",
+            },
+        ),
+        (
+            &["", "trace", "--machine=", "a"],
+            Command::Trace {
+                machine: Some(""),
+                scenario: "a",
+            },
+        ),
+        (
+            &["nethrywel", "accounts", "a"],
+            Command::Accounts {
+                machine: None,
+                scenario: "a",
+            },
+        ),
+        (
+            &["nethrywel", "accounts", "a", "--machine", "b"],
+            Command::Accounts {
+                machine: Some("b"),
+                scenario: "a",
+            },
+        ),
+        (
+            &["nethrywel", "alone", "bob", "a"],
+            Command::Alone {
+                machine: None,
+                name: "bob",
+                scenario: "a",
+            },
+        ),
+        (
+            &["nethrywel", "alone", "bob", "--machine", "b", "a"],
+            Command::Alone {
+                machine: Some("b"),
+                name: "bob",
+                scenario: "a",
+            },
+        ),
+        (
+            &["nethrywel", "alone", "", "größe"],
+            Command::Alone {
+                machine: None,
+                name: "",
+                scenario: "größe",
+            },
+        ),
+    ];
+    for (words, command) in lines {
+        assert!(rt; Command::read(alloc, words)? == Some(command), "{words:?}");
+    }
+    Ok(())
+}
+
+#[test]
+fn no_command_is_none(rt: HostRuntime) -> Result<(), Fail> {
+    let lines: [&[&str]; 3] = [&[], &["nethrywel"], &["nethrywel", "--"]];
+    for words in lines {
+        assert!(rt; Command::read(rt.alloc(), words)?.is_none(), "{words:?}");
+    }
+    Ok(())
+}

@@ -1,0 +1,222 @@
+//! Lines of the friendly form, rule by rule: what each says.
+use friendly_lines::{Fault, Line, Reason, Said, read_friendly};
+use std::process::Abort;
+use std::test::Fail;
+
+// Checks that each line says the call that the engine reads beside it, with the reply that is expected or none.
+fn check_calls<R: Abort>(rt: &R, rows: &[(&[u8], &[u8], Option<&[u8]>)]) {
+    for (line, engine, reply) in rows {
+        let said = Said::Call {
+            line: engine,
+            reply: *reply,
+        };
+        assert!(rt; read_friendly(line, &mut Line::new()) == Ok(said));
+    }
+}
+
+#[test]
+fn lines_say_calls(rt: HostRuntime) -> Result<(), Fail> {
+    check_calls(
+        &rt,
+        &[
+            // what follows an exclamation mark passes
+            (b"!alice  quota", b"alice  quota", None),
+            (b" \t! # \" => x\r", b" # \" => x\r", None),
+            (b"!", b"", None),
+            // a carriage return at the end goes
+            (b"alice quota\r", b"alice quota", None),
+            (b"alice quota => ok\r", b"alice quota", Some(b"ok")),
+            (b"alice open LOG x\r\r", b"alice open LOG x\r", None),
+            // the last arrow outside of quotes ends the call
+            (b"alice alloc 1 => cap 1", b"alice alloc 1", Some(b"cap 1")),
+            (
+                b"alice alloc 1 =>  cap 1 ",
+                b"alice alloc 1",
+                Some(b" cap 1 "),
+            ),
+            (
+                b"alice call 1 a => b => ",
+                b"alice call 1 a => b",
+                Some(b""),
+            ),
+            (
+                b"alice call 1 WRITE \" => \" => OK 4",
+                b"alice call 1 WRITE 203d3e20",
+                Some(b"OK 4"),
+            ),
+            (
+                b"alice open LOG label=\"\\\" => \"",
+                b"alice open LOG label=\"\\\" => \"",
+                None,
+            ),
+            // no call, where that is expected
+            (b"alice  frob => Bad_line", b"alice frob", Some(b"Bad_line")),
+        ],
+    );
+    Ok(())
+}
+
+#[test]
+fn blanks_part_the_words(rt: HostRuntime) -> Result<(), Fail> {
+    check_calls(
+        &rt,
+        &[
+            (b"\talice \t alloc   1\t", b"alice alloc 1", None),
+            (
+                b" alice  attach_at  1\t0x10 ",
+                b"alice attach_at 1 0x10",
+                None,
+            ),
+            (b" alice  open  LOG\tx\ty ", b"alice open LOG x\ty ", None),
+            (b"alice\tcall\t1\t  STAT ", b"alice call 1   STAT ", None),
+            (b" alice   exit  => ok", b"alice exit", Some(b"ok")),
+            (b" alice  reserve ", b"alice reserve", None),
+            (
+                b" alice  request\t ram_quota=4K,  x=1 ",
+                b"alice request  ram_quota=4K,  x=1 ",
+                None,
+            ),
+            (b"alice  yield", b"alice yield", None),
+            (
+                b" sub/carol\talloc  1 => cap 1",
+                b"sub/carol alloc 1",
+                Some(b"cap 1"),
+            ),
+        ],
+    );
+    Ok(())
+}
+
+#[test]
+fn texts_and_sizes_are_translated(rt: HostRuntime) -> Result<(), Fail> {
+    check_calls(
+        &rt,
+        &[
+            (b"alice poke 0x10  \"hi\" ", b"alice poke 0x10 6869", None),
+            (
+                b"alice call 1 WRITE \"hi\\n\"",
+                b"alice call 1 WRITE 68690a",
+                None,
+            ),
+            (
+                b"alice call 1 WRITE f 05 \"\\t\"",
+                b"alice call 1 WRITE f 05 09",
+                None,
+            ),
+            (b"alice call 1 WRITE \"\"", b"alice call 1 WRITE", None),
+            (
+                b"alice call 1 WRITE f 0 \"\"",
+                b"alice call 1 WRITE f 0",
+                None,
+            ),
+            (
+                b"alice poke 0x10 \"\\n\\t\\\"\\\\\\x0aF\\xfF\"",
+                b"alice poke 0x10 0a09225c0a46ff",
+                None,
+            ),
+            (b"alice alloc 4K", b"alice alloc 4096", None),
+            (b"alice new 2M => x", b"alice new 2097152", Some(b"x")),
+            (b"alice snew 1G", b"alice snew 1073741824", None),
+        ],
+    );
+    Ok(())
+}
+
+#[test]
+fn lines_of_the_engine_pass(rt: HostRuntime) -> Result<(), Fail> {
+    for line in [
+        b"alice quota".as_slice(),
+        b"alice alloc 5000",
+        b"alice alloc 00018446744073709551615",
+        b"alice attach_at 1 0x10000000",
+        b"alice poke 0x10000000 00fF",
+        b"alice peek 0x10000000 16",
+        b"alice open LOG",
+        b"alice open LOG ",
+        b"alice open LOG  ram_quota=4K, cap_quota=2, label=\"a => b\"",
+        b"alice upgrade 1 ram_quota=4K ",
+        b"alice call 1 WRITE 68690a",
+        b"alice call 1 ",
+        b"alice call 1 WRITE a 0 \"x\"y",
+        b"alice call 1 SAY \"x\"",
+        b"alice exit",
+        b"sub/carol quota",
+        b"a/b/c/d open LOG ram_quota=4K, cap_quota=2",
+        // arguments are never translated
+        b"alice open LOG \"\\q\"",
+        b"alice upgrade 1 \"hi\"",
+        b"alice open LOG ram_quota=4K",
+        b"alice request ram_quota=4K,  label=\"a  b\"",
+        b"alice yield  cap_quota=1 ",
+        b"alice request ",
+    ] {
+        check_calls(&rt, &[(line, line, None)]);
+    }
+    Ok(())
+}
+
+#[test]
+fn lines_have_faults(rt: HostRuntime) -> Result<(), Fail> {
+    let rows: [(&[u8], Reason, usize); 18] = [
+        (b"alice quota\r ", Reason::NoCall, 1),
+        (b"alice call 1 WRITE \"hi", Reason::OpenQuote, 20),
+        (
+            b"  alice open LOG label=\"a\", \"b => x",
+            Reason::OpenQuote,
+            29,
+        ),
+        (b"alice call 1 WRITE \"hi\\\"", Reason::OpenQuote, 20),
+        (b"alice poke 0x10 \"\"", Reason::NoCall, 1),
+        (b"alice poke 0x10 \"a\"b", Reason::NoCall, 1),
+        (b"alice poke 0x10 \"ab\\q\"", Reason::BadEscape, 20),
+        (b" alice call 1 WRITE \"\\x4\"", Reason::BadEscape, 22),
+        (
+            b"alice call 1 WRITE f 0 \"\\xg0\" => OK 1",
+            Reason::BadEscape,
+            25,
+        ),
+        (b"alice alloc 4k", Reason::NoCall, 1),
+        (b"alice free 4K", Reason::NoCall, 1),
+        (b"alice alloc 17179869184G", Reason::NoCall, 1),
+        (b"alice alloc K", Reason::NoCall, 1),
+        (b"=>", Reason::NoCall, 1),
+        (b"  alice frob", Reason::NoCall, 3),
+        (b"alice frob => ok", Reason::NoCall, 1),
+        (b"alice alloc 1 2", Reason::NoCall, 1),
+        (b"\t\"", Reason::OpenQuote, 2),
+    ];
+    for (line, reason, column) in rows {
+        let fault = Fault { reason, column };
+        assert!(rt; read_friendly(line, &mut Line::new()) == Err(fault));
+    }
+    Ok(())
+}
+
+#[test]
+fn lines_say_nothing_or_a_log_line(rt: HostRuntime) -> Result<(), Fail> {
+    let rows: [(&[u8], Said<'_>); 10] = [
+        (b"", Said::Nothing),
+        (b" ", Said::Nothing),
+        (b"\t \t", Said::Nothing),
+        (b"\r", Said::Nothing),
+        (b"  \r", Said::Nothing),
+        (b"# alice quota", Said::Nothing),
+        (b" \t# \" not closed", Said::Nothing),
+        (b"#\r", Said::Nothing),
+        (b"=> [alice] \"hi", Said::Log(b"[alice] \"hi")),
+        (b" \t=> \r", Said::Log(b"")),
+    ];
+    for (line, said) in rows {
+        assert!(rt; read_friendly(line, &mut Line::new()) == Ok(said));
+    }
+    Ok(())
+}
+
+#[test]
+fn a_line_is_read_after_one_that_is_too_long(rt: HostRuntime) -> Result<(), Fail> {
+    let mut room = Line::new();
+    let long = vec![in rt.alloc(); b'x'; 8193]?;
+    assert!(rt; read_friendly(long.as_slice(), &mut room).is_err());
+    assert!(rt; read_friendly(b"alice quota", &mut room).is_ok());
+    Ok(())
+}
