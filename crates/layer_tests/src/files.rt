@@ -23,6 +23,7 @@ fn are_told(rt: &impl Abort, machine: &mut Machine<FileService>, id: SessionId, 
 
 /// A session of a donation is told these, and gives all back, on a machine of so many pages.
 fn check(rt: &impl Abort, alloc: Global, pages: usize, donation: (u64, u32), rows: &str) {
+    assert!(rt; pages <= 4096);
     let mut machine = booted(rt, alloc, pages);
     let id = machine.opened(rt, b"alice", donation.0, donation.1);
     are_told(rt, &mut machine, id, rows);

@@ -160,10 +160,7 @@ fn requests_are_read(rt: HostRuntime) -> Result<(), Fail> {
 #[test]
 fn requests_have_8192_bytes_at_most(rt: HostRuntime) {
     let mut text = [b'0'; 8193];
-    for (place, byte) in b"SIZE ".iter().enumerate() {
-        assert!(rt; place < 5);
-        text[place] = *byte;
-    }
+    text[..5].copy_from_slice(b"SIZE ");
     assert!(rt; FileRequest::read(&text[..8192]).is_some());
     assert!(rt; FileRequest::read(&text).is_none());
 }

@@ -1,5 +1,5 @@
 //! Sliced heaps: worked addresses, over two heaps on one map.
-ghost use Rattle.std.specs.Prelude.{◌<◌, ◌≤◌};
+ghost use Rattle.std.specs.Prelude.{◌<◌, ◌≤◌, length};
 ghost use Rattle.layer_tests.specs.Sliced.{AreBeside};
 
 use super::steps::Step;
@@ -78,11 +78,20 @@ impl Machine {
         requires { AreBeside self.old.heap self.old.other self.old.memory self.old.map }
         ensures { AreBeside self.new.heap self.new.other self.new.memory self.new.map }
     {
+        self.put(rt, address, &word.to_le_bytes());
+    }
+
+    /// Puts bytes over those of a payload.
+    fn put(&mut self, rt: &impl Abort, address: u64, bytes: &[u8])
+        requires sound { AreBeside self.old.heap self.old.other self.old.memory self.old.map }
+        requires some { 1 ≤ length bytes.now }
+        ensures { AreBeside self.new.heap self.new.other self.new.memory self.new.map }
+    {
         let (ds, offset) = self
             .heap
-            .block_of(&self.memory, &self.map, address, 8)
+            .block_of(&self.memory, &self.map, address, bytes.len() as u64)
             .expect(rt, "the payload has them");
-        self.memory.write(ds, offset, &word.to_le_bytes());
+        self.memory.write(ds, offset, bytes);
     }
 
     /// Eight bytes of a payload, as a word.
