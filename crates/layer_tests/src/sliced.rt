@@ -151,6 +151,28 @@ impl Machine {
         }
     }
 
+    /// The block of a page is given back, unless it is the fourth of ten.
+    fn give_page(&mut self, rt: &impl Abort, page: u64)
+        requires sound { AreBeside self.old.heap self.old.other self.old.memory self.old.map }
+        requires page { page < 4096 }
+        ensures { AreBeside self.new.heap self.new.other self.new.memory self.new.map }
+    {
+        if page % 10 != 3 {
+            assert!(rt; self.give(payload(page)).is_ok());
+        }
+    }
+
+    /// The next block is taken at a page, unless it is the fourth of ten.
+    fn take_page(&mut self, rt: &impl Abort, page: u64)
+        requires sound { AreBeside self.old.heap self.old.other self.old.memory self.old.map }
+        requires page { page < 4096 }
+        ensures { AreBeside self.new.heap self.new.other self.new.memory self.new.map }
+    {
+        if page % 10 != 3 {
+            assert!(rt; self.take(1) == Ok(payload(page)));
+        }
+    }
+
     /// Each call is answered as told.
     fn run(&mut self, rt: &impl Abort, steps: &[Step])
         requires { AreBeside self.old.heap self.old.other self.old.memory self.old.map }
@@ -187,15 +209,10 @@ fn thousand_blocks_come_and_go(rt: HostRuntime) {
     assert_eq!(rt; machine.take(1), Err(Refusal::OutOfRam));
     // Of each ten the one that is left stands where it did, and the others are taken again, the lowest first.
     for step in 0..1000 {
-        let page = step * 7 % 1000;
-        if page % 10 != 3 {
-            assert!(rt; machine.give(payload(page)).is_ok());
-        }
+        machine.give_page(&rt, step * 7 % 1000);
     }
     for page in 0..1000 {
-        if page % 10 != 3 {
-            assert!(rt; machine.take(1) == Ok(payload(page)));
-        }
+        machine.take_page(&rt, page);
     }
     assert_eq!(rt; machine.take(1), Err(Refusal::OutOfRam));
     machine.end();
