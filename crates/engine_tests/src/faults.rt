@@ -303,47 +303,58 @@ const CASES: [Case; 22] = [
     },
 ];
 
-#[test]
-fn devices_that_fail(rt: HostRuntime) -> Result<(), Fail> {
-    for case in CASES {
-        let reader = Reader {
-            failing: case.failing,
-            kind: case.kind.unwrap_or(ErrorKind::UnexpectedEof),
-            ..Reader::new(case.scenario, case.given)
-        };
-        let writer = Writer {
-            size: case.taken,
-            room: case.room,
-            kind: case.kind,
-            ..Writer::new(rt.alloc())
-        };
-        let ran = outcome_of(rt.alloc(), case.only, reader, writer, case.max_lines)?;
-        assert!(rt; ran.ended == case.ended, "{}", case.shows);
-        assert!(rt;
-            ran.read_failed == (ran.ended == Err(RunFault::ReadFault)),
-            "{}",
-            case.shows
-        );
-        assert!(rt;
-            ran.write_failed == (ran.ended == Err(RunFault::WriteFault)),
-            "{}",
-            case.shows
-        );
-        assert!(rt;
-            ran.writer.bytes.as_slice() == case.written,
-            "{}",
-            case.shows
-        );
-        assert!(rt; ran.reader.reads == case.reads, "{}", case.shows);
-        assert!(rt; ran.writer.writes == case.writes, "{}", case.shows);
-        assert!(rt;
-            ran.left
-                .ends_with(&[b' ', case.caps, b'/', b'1', b'6', b'\n']),
-            "{}",
-            case.shows
-        );
+// A run ends so.
+fn check<R: Abort + AllocGlobal>(rt: &R, case: &Case) -> Result<(), Fail> {
+    let reader = Reader {
+        failing: case.failing,
+        kind: case.kind.unwrap_or(ErrorKind::UnexpectedEof),
+        ..Reader::new(case.scenario, case.given)
+    };
+    let writer = Writer {
+        size: case.taken,
+        room: case.room,
+        kind: case.kind,
+        ..Writer::new(rt.alloc())
+    };
+    let ran = outcome_of(rt.alloc(), case.only, reader, writer, case.max_lines)?;
+    assert!(rt; ran.ended == case.ended, "{}", case.shows);
+    assert!(rt;
+        ran.read_failed == (ran.ended == Err(RunFault::ReadFault)),
+        "{}",
+        case.shows
+    );
+    assert!(rt;
+        ran.write_failed == (ran.ended == Err(RunFault::WriteFault)),
+        "{}",
+        case.shows
+    );
+    assert!(rt;
+        ran.writer.bytes.as_slice() == case.written,
+        "{}",
+        case.shows
+    );
+    assert!(rt; ran.reader.reads == case.reads, "{}", case.shows);
+    assert!(rt; ran.writer.writes == case.writes, "{}", case.shows);
+    assert!(rt;
+        ran.left
+            .ends_with(&[b' ', case.caps, b'/', b'1', b'6', b'\n']),
+        "{}",
+        case.shows
+    );
+    Ok(())
+}
+
+// Each run of a table.
+fn check_all<R: Abort + AllocGlobal>(rt: &R, cases: &[Case]) -> Result<(), Fail> {
+    for case in cases {
+        check(rt, case)?;
     }
     Ok(())
+}
+
+#[test]
+fn devices_that_fail(rt: HostRuntime) -> Result<(), Fail> {
+    check_all(&rt, &CASES)
 }
 
 // Each byte comes alone, and one read fails: what was answered is what stands before it.

@@ -1,5 +1,5 @@
 //! Mixes of lines: what a component is told among the others is what it is told alone.
-use crate::rows::{LISTED, PLAIN, machines, memory, sessions};
+use crate::rows::{LISTED, PLAIN, Row, machines, memory, sessions};
 use init_core::MACHINE_A;
 use scenario::{Task, run_bytes};
 use std::alloc::{AllocError, Global};
@@ -338,30 +338,32 @@ const NAMES: [&str; 4] = ["alice", "bob", "al", "log"];
 
 const SCRIPTS: [&str; 4] = ["alice", "bob", "carol", "dave"];
 
+// The same of each row of a table.
+fn compare_all<R: Abort + AllocGlobal>(
+    rt: &R,
+    rows: &[Row<'_>],
+    names: &[&str],
+) -> Result<(), Fail> {
+    for row in rows {
+        compare(rt, row.list, names, row.scenario)?;
+    }
+    Ok(())
+}
+
 #[test]
 fn rows_are_told_alone_as_among_others(rt: HostRuntime) -> Result<(), Fail> {
-    for rows in [memory::ROWS.as_slice(), sessions::ROWS.as_slice()] {
-        for row in rows {
-            compare(
-                &rt,
-                row.list,
-                &["alice", "bob", "carol", "log"],
-                row.scenario,
-            )?;
-        }
-    }
-    for row in machines::ROWS {
-        let names = [
-            "alice",
-            "bob",
-            "sub/carol",
-            "sub/dave",
-            "sub",
-            "carol",
-            "log",
-        ];
-        compare(&rt, row.list, &names, row.scenario)?;
-    }
+    let names = [
+        "alice",
+        "bob",
+        "carol",
+        "log",
+        "sub",
+        "sub/carol",
+        "sub/dave",
+    ];
+    compare_all(&rt, &memory::ROWS, &names)?;
+    compare_all(&rt, &sessions::ROWS, &names)?;
+    compare_all(&rt, &machines::ROWS, &names)?;
     let names = [
         "anna", "bert", "cleo", "dora", "emil", "fred", "gina", "mallory",
     ];

@@ -2,6 +2,7 @@
 use init_core::MACHINE_A;
 use scenario::{Task, run_bytes};
 use std::alloc::{AllocError, Global};
+use std::process::Abort;
 use std::test::Fail;
 
 /// A list of one entry.
@@ -388,13 +389,22 @@ fn told(alloc: Global, text: &[u8]) -> Result<String, AllocError> {
     }
 }
 
-#[test]
-fn lists_and_what_is_told_of_them(rt: HostRuntime) -> Result<(), Fail> {
-    for (list, old, new, want) in LISTS {
+// Each list of a table is told so.
+fn check_all<R: Abort + AllocGlobal>(
+    rt: &R,
+    lists: &[(&str, &str, &str, &str)],
+) -> Result<(), Fail> {
+    for (list, old, new, want) in lists {
         let text = changed(rt.alloc(), list, old, new)?;
         let told = told(rt.alloc(), text.as_str().as_bytes())?;
-        assert!(rt; told.as_str() == want, "{new} for {old}: {told}");
+        assert!(rt; told.as_str() == *want, "{new} for {old}: {told}");
     }
+    Ok(())
+}
+
+#[test]
+fn lists_and_what_is_told_of_them(rt: HostRuntime) -> Result<(), Fail> {
+    check_all(&rt, &LISTS)?;
     assert!(rt; told(rt.alloc(), b"\xff")?.as_str() == "boot: Bad_json");
     Ok(())
 }

@@ -7,6 +7,7 @@ use scenario::{
 };
 use std::alloc::{AllocError, Global};
 use std::io::ErrorKind;
+use std::process::Abort;
 use std::test::Fail;
 
 /// The built-in machine, if alice had more than it.
@@ -113,32 +114,43 @@ fn told(alloc: Global, failure: &Failure) -> Result<String, AllocError> {
     format!(in alloc; "{failure}")
 }
 
-#[test]
-fn tasks_over_writers_that_fail(rt: HostRuntime) -> Result<(), Fail> {
-    for case in CASES {
-        let mut source = Input::new(Reader::new(b"alice quota\n", 100));
-        let mut sink = Output::new(Writer {
-            size: 1,
-            room: case.room,
-            kind: case.kind,
-            ..Writer::new(rt.alloc())
-        });
-        let text = case.list.as_bytes();
-        let ended = boot_and_run(rt.alloc(), text, case.task, &mut source, &mut sink);
-        assert!(rt; exit_status(&ended) == case.status, "{}", case.shows);
-        if let Err(failure) = &ended {
-            assert!(rt;
-                told(rt.alloc(), failure)?.as_str() == case.told,
-                "{}",
-                case.shows
-            );
-        }
-        let writer = sink.into_inner();
-        assert!(rt; writer.bytes.as_slice() == case.written, "{}", case.shows);
-        assert!(rt; writer.writes == case.writes, "{}", case.shows);
-        assert!(rt; source.into_inner().reads == case.reads, "{}", case.shows);
+// A task ends so.
+fn check<R: Abort + AllocGlobal>(rt: &R, case: &Case) -> Result<(), Fail> {
+    let mut source = Input::new(Reader::new(b"alice quota\n", 100));
+    let mut sink = Output::new(Writer {
+        size: 1,
+        room: case.room,
+        kind: case.kind,
+        ..Writer::new(rt.alloc())
+    });
+    let text = case.list.as_bytes();
+    let ended = boot_and_run(rt.alloc(), text, case.task, &mut source, &mut sink);
+    assert!(rt; exit_status(&ended) == case.status, "{}", case.shows);
+    if let Err(failure) = &ended {
+        assert!(rt;
+            told(rt.alloc(), failure)?.as_str() == case.told,
+            "{}",
+            case.shows
+        );
+    }
+    let writer = sink.into_inner();
+    assert!(rt; writer.bytes.as_slice() == case.written, "{}", case.shows);
+    assert!(rt; writer.writes == case.writes, "{}", case.shows);
+    assert!(rt; source.into_inner().reads == case.reads, "{}", case.shows);
+    Ok(())
+}
+
+// Each task of a table.
+fn check_all<R: Abort + AllocGlobal>(rt: &R, cases: &[Case]) -> Result<(), Fail> {
+    for case in cases {
+        check(rt, case)?;
     }
     Ok(())
+}
+
+#[test]
+fn tasks_over_writers_that_fail(rt: HostRuntime) -> Result<(), Fail> {
+    check_all(&rt, &CASES)
 }
 
 // A sink that has failed isn't written to for the next task, and an account list or many replies are tried once too.
