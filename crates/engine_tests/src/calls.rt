@@ -11,24 +11,26 @@ struct CallsCounted {
 }
 
 impl CallsCounted {
-    fn answer(&mut self, bytes: usize) -> io::Result<usize> {
-        self.calls += 1;
+    fn count(&mut self) -> io::Result<()> {
+        self.calls = self.calls.saturating_add(1);
         if self.calls == 1 {
             return Err(io::Error::from(self.fault));
         }
-        Ok(bytes)
+        Ok(())
     }
 }
 
 impl Read for CallsCounted {
     fn read(&mut self, buf: &mut [u8]) -> io::Result<usize> {
-        self.answer(buf.len())
+        self.count()?;
+        Ok(buf.len())
     }
 }
 
 impl Write for CallsCounted {
     fn write(&mut self, buf: &[u8]) -> io::Result<usize> {
-        self.answer(buf.len())
+        self.count()?;
+        Ok(buf.len())
     }
 
     fn flush(&mut self) -> io::Result<()> {
@@ -57,7 +59,7 @@ struct TakesOne {
 
 impl Write for TakesOne {
     fn write(&mut self, buf: &[u8]) -> io::Result<usize> {
-        self.calls += 1;
+        self.calls = self.calls.saturating_add(1);
         Ok(buf.len().min(1))
     }
 
