@@ -1,13 +1,7 @@
 //! What is told of a start list: its faults and findings, and where its wishes lead.
+use crate::ends::{REFUSED, status_of};
 use crate::files::read_list;
 use start_review::{Fault, Review, Whereabouts};
-use std::io;
-
-/// The exit status of a result that can't be written.
-pub(crate) const UNWRITTEN: u8 = 1;
-
-/// The exit status of a start list that is none, doesn't boot or, where that is asked for, has findings.
-pub(crate) const REFUSED: u8 = 2;
 
 /// Tells what is wrong with a start list, a line each on standard error, and `ok` where nothing is that counts: findings
 /// count where the check is strict. Answers the exit status.
@@ -62,15 +56,4 @@ pub(crate) fn tell_fault(rt: &HostRuntime, path: &str, fault: &Fault) {
         }
         _ => eprintln!(rt; "{path}: {fault}"),
     };
-}
-
-// The exit status of what was printed.
-fn status_of(rt: &HostRuntime, printed: io::Result<()>) -> u8 {
-    match printed {
-        Ok(()) => 0,
-        Err(_) => {
-            let _ = eprintln!(rt; "run: Write_fault");
-            UNWRITTEN
-        }
-    }
 }

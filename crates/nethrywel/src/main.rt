@@ -1,11 +1,13 @@
 //! The program for people: start lists are looked at, and scenarios in the friendly form are played and measured.
 #![tactic(auto)]
 
+mod ends;
 mod files;
 mod lists;
 mod plays;
 
 use clap::Error;
+use ends::status_of;
 use lists::{check, tree};
 use plays::{Viewing, play};
 use std::process::ExitCode;
@@ -26,10 +28,13 @@ fn main(rt: HostRuntime) -> ExitCode {
     }
 }
 
-// Tells why the command line isn't taken, or the help that it asks for.
+// Tells why the command line isn't taken, or the help that it asks for, which is a result.
 fn refuse(rt: &HostRuntime, error: &Error) -> ExitCode {
-    let _ = error.print(rt);
-    ExitCode::from(error.exit_code() as u8)
+    let printed = error.print(rt);
+    if error.use_stderr() {
+        return ExitCode::from(error.exit_code() as u8);
+    }
+    ExitCode::from(status_of(rt, printed))
 }
 
 // Does what is asked for, and answers the exit status.

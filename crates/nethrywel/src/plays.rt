@@ -1,11 +1,12 @@
 //! A scenario's play on a machine, over files and the standard streams.
+use crate::ends::{Played, REFUSED};
 use crate::files::{STANDARD_INPUT, read_list};
-use crate::lists::{REFUSED, tell_fault};
+use crate::lists::tell_fault;
 use init_core::{BootFault, MACHINE_A, StartList};
 use scenario::{Input, Output, Source};
 use start_review::Review;
 use std::{fs, io};
-use workbench::{Ending, Play, accounts, alone, exit_status, run, trace};
+use workbench::{Play, accounts, alone, run, trace};
 
 /// What is told of a scenario.
 #[derive(Clone, Copy, Debug)]
@@ -73,7 +74,7 @@ fn play_on(
         machine: text,
         scenario: scenario.as_bytes(),
     };
-    let ended = if scenario == STANDARD_INPUT {
+    let played = if scenario == STANDARD_INPUT {
         play_from(rt, play, viewing, &mut Input::new(rt.reader()))
     } else {
         match fs::open(rt, scenario) {
@@ -84,8 +85,10 @@ fn play_on(
             }
         }
     };
-    tell_end(rt, text, machine, &ended);
-    exit_status(&ended)
+    if let Err(fault) = &played.ended {
+        tell_unbooted(rt, text, machine, fault);
+    }
+    played.tell(rt, scenario)
 }
 
 // Warns of a name that no component has.
@@ -103,11 +106,11 @@ fn play_from<S: Source>(
     play: Play<'_>,
     viewing: Viewing<'_>,
     reader: &mut S,
-) -> Result<Ending, BootFault> {
+) -> Played {
     let alloc = rt.alloc();
     let mut writer = Output::new(io::writer(rt));
     let mut complaints = Output::new(rt.stderr());
-    match viewing {
+    let ended = match viewing {
         Viewing::Run {
             only,
             accounts: listed,
@@ -136,21 +139,10 @@ fn play_from<S: Source>(
             &mut writer,
             &mut complaints,
         ),
-    }
-}
-
-// Tells why a play didn't come to its end: a start list's fault with its place.
-fn tell_end(
-    rt: &HostRuntime,
-    text: &[u8],
-    machine: Option<&str>,
-    ended: &Result<Ending, BootFault>,
-) {
-    match ended {
-        Ok(ending) => if let Some(fault) = &ending.fault {
-            let _ = eprintln!(rt; "run: {fault}");
-        },
-        Err(fault) => tell_unbooted(rt, text, machine, fault),
+    };
+    Played {
+        ended,
+        unread: writer.is_unread(),
     }
 }
 

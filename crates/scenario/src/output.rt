@@ -2,13 +2,14 @@
 ghost use Rattle.std.specs.Prelude.{◌≡◌, false};
 
 use crate::device::{DeviceFault, Sink};
-use std::io::Write;
+use std::io::{ErrorKind, Write};
 
 /// A writer as a sink: each of its errors is a fault, an interrupted write too.
 #[derive(Drop)]
 pub struct Output<W> {
     writer: W,
     failed: bool,
+    unread: bool,
 }
 
 impl<W: Write> Output<W> {
@@ -20,6 +21,7 @@ impl<W: Write> Output<W> {
         Output {
             writer,
             failed: false,
+            unread: false,
         }
     }
 
@@ -28,6 +30,11 @@ impl<W: Write> Output<W> {
         ensures { W.contents result ≡ ⟦<Output<W> as Sink>⟧.contents self }
     {
         self.writer
+    }
+
+    /// Whether a write failed because nobody reads what is written: the other end of a pipe is closed.
+    pub fn is_unread(&self) -> bool {
+        self.unread
     }
 }
 
@@ -44,8 +51,9 @@ impl<W: Write> Sink for Output<W> {
                 }
                 Ok(count)
             }
-            Err(_) => {
+            Err(error) => {
                 self.failed = true;
+                self.unread = error.kind() == ErrorKind::BrokenPipe;
                 Err(DeviceFault)
             }
         }
