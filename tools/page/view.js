@@ -119,7 +119,7 @@ const Page = (() => {
   // --- budgets
 
   const bar = (parts, peak, told) => {
-    const total = Math.max(parts.reduce((sum, [, value]) => sum + value, 0), 1);
+    const total = Math.max(parts.reduce((sum, [, value]) => sum + value, 0), peak || 0, 1);
     const it = svg("svg", { class: "bar", viewBox: "0 0 300 14", preserveAspectRatio: "none", role: "img" }, svg("title", {}, told));
     let x = 0;
     for (const [name, value] of parts) {

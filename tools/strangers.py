@@ -1,0 +1,78 @@
+"""Asks a desk what it has to refuse, and what it has to answer: strangers.py URL SCENARIO, for tools/trials."""
+import http.client
+import json
+import sys
+import threading
+import time
+from urllib.parse import parse_qs, urlsplit
+
+at = urlsplit(sys.argv[1])
+TOKEN = parse_qs(at.query)["token"][0]
+HOST = at.netloc
+
+
+def ask(method, path, body=None, **given):
+    """Asks, and returns the status and what is told; a header that is None isn't sent."""
+    headers = {"Host": HOST, "Origin": f"http://{HOST}", "X-Token": TOKEN, **{it.replace("_", "-"): given[it] for it in given}}
+    link = http.client.HTTPConnection("127.0.0.1", at.port, timeout=30)
+    link.putrequest(method, path, skip_host=True)
+    text = json.dumps(body).encode() if body is not None else b""
+    for name, value in {**headers, "Content-Length": str(len(text))}.items():
+        if value is not None:
+            link.putheader(name, value)
+    link.endheaders()
+    try:
+        link.send(text)
+    except (BrokenPipeError, ConnectionResetError):
+        pass
+    answer = link.getresponse()
+    told = answer.read()
+    link.close()
+    return answer.status, told.decode()
+
+
+def expect(status, text, asked):
+    got, told = asked
+    if got != status or text not in told:
+        print(f"expected {status} {text}, got {got} {told[:300]}")
+        sys.exit(1)
+
+
+SMALL = {"list": "", "scenario": "alice quota\n"}
+PAGE = f"/?token={TOKEN}"
+expect(200, "<!doctype html>", ask("GET", PAGE, Origin=None))
+expect(403, "wrong token", ask("GET", "/", Origin=None))
+expect(403, "wrong token", ask("GET", "/?token=x", Origin=None))
+expect(403, "wrong token", ask("GET", PAGE, Origin=None, Host="nethrywel.example"))
+expect(403, "wrong token", ask("GET", PAGE, Origin="http://nethrywel.example"))
+expect(404, "nothing is here", ask("GET", f"/etc/passwd?token={TOKEN}"))
+for wrong in ({"X_Token": "x"}, {"X_Token": None}, {"Origin": "http://nethrywel.example"}, {"Origin": None}, {"Origin": "null"},
+              {"Host": f"nethrywel.example:{at.port}"}, {"Sec_Fetch_Site": "cross-site"}):
+    expect(403, "wrong token", ask("POST", "/run", SMALL, **wrong))
+    expect(403, "wrong token", ask("POST", "/save", SMALL, **wrong))
+expect(200, "ram 0/65536 caps 0/16", ask("POST", "/run", SMALL))
+expect(400, "no request", ask("POST", "/run", {"list": 1, "scenario": ""}))
+expect(400, "no request", ask("POST", "/example", {"name": "../../README"}))
+expect(200, "crawler", ask("POST", "/example", {"name": "friendly/crawler"}))
+expect(413, "65537 bytes, at most 65536", ask("POST", "/run", {"list": " " * 65537, "scenario": ""}))
+expect(413, "1048577 bytes, at most 1048576", ask("POST", "/run", {"list": "", "scenario": "a" * 1048577}))
+expect(413, "1000001 lines, at most 1000000", ask("POST", "/run", {"list": "", "scenario": "\n" * 1000001}))
+# What would take long is ended by its limit, and by a later run.
+LONG = {"list": "", "scenario": "alice alloc 4096\nalice free 1\n" * 450_000}
+expect(409, "longer than 1 seconds", ask("POST", "/run", LONG))
+told = []
+earlier = threading.Thread(target=lambda: told.append(ask("POST", "/run", LONG)))
+earlier.start()
+time.sleep(0.5)
+expect(200, "ram 0/65536", ask("POST", "/run", SMALL))
+earlier.join()
+expect(409, "a later edit", told[0])
+# Files are saved on request.
+with open(sys.argv[2], encoding="utf-8") as it:
+    text = it.read()
+expect(200, "saved", ask("POST", "/save", {"list": "{}", "scenario": text + "# saved\n"}))
+with open(sys.argv[2], encoding="utf-8") as it:
+    saved = it.read()
+if saved != text + "# saved\n":
+    print("the scenario isn't saved")
+    sys.exit(1)
