@@ -63,6 +63,14 @@ impl BestFit {
         }
     }
 
+    /// The bytes of a chunk.
+    pub fn chunk_size(&self, chunk: usize) -> u64
+        requires { chunk < length (sizes_of self.now) }
+        ensures { result ≡ bytes_of self.now chunk }
+    {
+        self.sizes[chunk]
+    }
+
     /// One chunk more, behind the others, as one hole. Its bytes are words already. It comes as one
     /// used block, which is then made a hole.
     pub fn add_chunk<M: WordMemory>(&mut self, memory: &mut M, ordinal: usize, bytes: u64)

@@ -1,5 +1,5 @@
 -- How a session's heap of nodes begins: an account that has nothing but sliced blocks has no chunk.
-use Rattle.std.proofs.Common.{◌≡◌, ◌≢◌, ℕ, ◌+◌, ◌-◌, ◌≤◌, cond, List, length, Some, is_some, IsSome, refl, sym, ap, subst, ◌∙◌, arith, inl, inr}
+use Rattle.std.proofs.Common.{◌≡◌, ◌≢◌, ℕ, ◌+◌, ◌-◌, ◌≤◌, cond, List, length, Some, is_some, IsSome, refl, sym, ap, ◌∙◌, arith, inl, inr}
 use Rattle.std.proofs.lemmas.Bool.{cases_eq, cases_lt}
 use Rattle.std.proofs.lemmas.Bool.Decides.{nat_tests}
 use Rattle.std.proofs.lemmas.Option.{none-some, same_Some}
@@ -14,21 +14,19 @@ use Rattle.own_model.specs.Region.{Region}
 use Rattle.own_model.specs.Sliced.{sliced_header}
 use Rattle.own_model.proofs.NatMapLemmas.{same, none_if, by_insertions, get-empty, get-insert_same, get-insert_other, get-remove_other, get-picked, and_then_from, value_at}
 use Rattle.own_model.proofs.Totals.{len-insert_new, len-remove_at}
-use Rattle.region_map.specs.Regions.{Regions, AreSound, of_no_heap}
+use Rattle.region_map.specs.Regions.{Regions, of_no_heap}
 use Rattle.dataspace_core.specs.Share.{Share, share_in}
-use Rattle.dataspace_core.specs.Store.{Store, part, IsOpenIn}
+use Rattle.dataspace_core.specs.Store.{Store, part}
 use Rattle.heap_core.specs.declared.heap.Heap.{Heap}
-use Rattle.heap_core.specs.Heap.{payer_of as heap_payer, heap_in, HasNoBlocks, IsLaid}
+use Rattle.heap_core.specs.Heap.{heap_in, HasNoBlocks, IsLaid}
 use Rattle.sliced_heap.specs.declared.heap.SlicedHeap.{SlicedHeap}
-use Rattle.sliced_heap.specs.Heap.{payer_of, share_at}
+use Rattle.sliced_heap.specs.Heap.{payer_of}
 use Rattle.sliced_heap.specs.Sliced.{sliced_tag, is_sliced_tag, sliced_of, block_regions, payload_of}
 use Rattle.sliced_heap.proofs.ShareLemmas.{get-sliced_regions, in_numbered}
 use Rattle.dataspace_core.proofs.ShareLaws.{in_share}
 use Rattle.server_frame.specs.Session.{IsSessionHeap, HasBlocksAlone, holding_of}
-use Rattle.file_service.specs.Furnished.{IsShare, KeepsNodes, IsFurnished, is_lent_tag, lent_regions}
+use Rattle.file_service.specs.Furnished.{IsShare, KeepsNodes, is_lent_tag, lent_regions}
 use Rattle.file_service.proofs.LentLemmas.{lent_number}
-use Rattle.sliced_heap.proofs.BesideLemmas.{map_of}
-use Rattle.file_service.proofs.FurnishedLemmas.{laid_back}
 
 -- a session's share of a map is one that a map can have
 pub session_share : (sliced : SlicedHeap) (store : Store) (regions : Regions) → IsSessionHeap sliced store regions → IsShare (holding_of sliced store regions)

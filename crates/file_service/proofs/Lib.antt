@@ -25,6 +25,7 @@ pub mod SeekLemmas
 pub mod TailFileLemmas
 pub mod UnlistLemmas
 pub mod LinkBackLemmas
+pub mod NextLemmas
 pub mod EnterLemmas
 pub mod NameReadLemmas
 pub mod NameCallLemmas

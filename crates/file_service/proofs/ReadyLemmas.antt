@@ -1,5 +1,5 @@
 -- A session is ready for a request by what is true of it between requests, where the map lies apart; and the other way round.
-use Rattle.std.proofs.Common.{◌≡◌, ℕ, Some, refl, sym, subst}
+use Rattle.std.proofs.Common.{Some, refl, sym, subst}
 use Rattle.std.specs.Prelude.{Option, None}
 use Rattle.region_map.specs.Regions.{Regions, AreSound}
 use Rattle.dataspace_core.specs.Share.{Share}

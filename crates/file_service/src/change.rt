@@ -18,15 +18,13 @@ ghost use Rattle.file_service.specs.Rooms.{stock_of, AreFurnished, KeepsRooms};
 ghost use Rattle.file_service.specs.Session.{files_in, HasFiles, Finds, LinksTo, IsListed, Unlists, IsFresh, IsOwn, KeepsOwn, Serves, done_reply, counted_reply, served_in};
 
 use crate::names::PREVIOUS;
-use crate::node::{Node, copied};
+use crate::node::{NEXT, Node, copied};
 use crate::rooms::Rooms;
 use crate::session::{FileSession, Found};
 use crate::source::Source;
 use dataspace_core::Memory;
 use region_map::RegionMap;
 use session_proto::FileError;
-use std::marker::Brand;
-use std::sync::ledger::Blank;
 use text_codec::is_name;
 use trade_base::Refusal;
 
@@ -212,9 +210,7 @@ impl FileSession {
         self.rooms.store_new(memory, map, address, &node, last);
         self.link(memory, map, last, address);
         self.last = address;
-        self.root = self
-            .rooms
-            .enter::<Brand>(memory, map, self.root, name, address, Blank::new(1));
+        self.root = self.rooms.enter(memory, map, self.root, name, address);
     }
 
     // Takes a file's node out of the tree, links the node behind it back to the one before it, and tells that one.
@@ -235,10 +231,7 @@ impl FileSession {
             memory.old memory.new map.now map.now }
     {
         let previous = self.rooms.load_word(memory, map, address, PREVIOUS);
-        let root = self.root;
-        self.root = self
-            .rooms
-            .leave::<Brand>(memory, map, root, &node.name, Blank::new(1));
+        self.root = self.rooms.leave(memory, map, self.root, &node.name);
         self.rooms.link_back(memory, map, node.next, previous);
         previous
     }
@@ -262,9 +255,8 @@ impl FileSession {
             self.first = address;
             return;
         }
-        let mut node = self.rooms.load_node(memory, map, holder);
-        node.next = address;
-        self.rooms.store_node(memory, map, holder, &node);
+        let word = address.to_le_bytes();
+        self.rooms.put_bytes(memory, map, holder, NEXT, &word);
     }
 
     // Writes a file's bytes up to an offset, and a source's behind them, as a new content.

@@ -3,7 +3,6 @@
 
 mod change;
 mod contents;
-mod find;
 mod lend;
 mod lent;
 mod look;

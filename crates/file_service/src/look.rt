@@ -1,9 +1,12 @@
 //! What requests read of files.
-ghost use Rattle.std.specs.Prelude.{◌≡◌, ◌≤◌, IfOk};
+ghost use Rattle.std.specs.Prelude.{◌≡◌, ◌≤◌, IfOk, slice_get};
+ghost use Rattle.std.specs.Option.{option_map};
+ghost use Rattle.own_model.specs.FileService.{File};
 ghost use Rattle.own_model.specs.FileText.FileRequest.{Read, Size};
 ghost use Rattle.file_service.specs.Rooms.{stock_of, AreFurnished};
-ghost use Rattle.file_service.specs.Session.{HasFiles, counted_reply, bytes_reply, IsTold};
+ghost use Rattle.file_service.specs.Session.{files_in, HasFiles, counted_reply, bytes_reply, IsTold};
 
+use crate::node::{NEXT, Node};
 use crate::session::FileSession;
 use dataspace_core::Memory;
 use region_map::RegionMap;
@@ -65,5 +68,27 @@ impl FileSession {
             self.rooms.read_content(memory, map, content, offset, part);
         }
         Ok(count)
+    }
+
+    /// The node of the file at a place in the order of creation, if there are so many. The memory is as it was.
+    pub(crate) fn file_at(&self, memory: &mut Memory, map: &RegionMap, place: u64) -> Option<Node>
+        requires furnished { AreFurnished self.now.rooms memory.old map.now }
+        requires files { HasFiles self.now (stock_of self.now.rooms memory.old map.now) }
+        ensures name { option_map (λ node. node.name.items) result
+            ≡ option_map (λ (file : File). file.name)
+            (slice_get
+            (files_in self.now (stock_of self.now.rooms memory.old map.now)).files place) }
+        ensures memory { memory.new ≡ memory.old }
+    {
+        let mut left = place;
+        let mut address = self.first;
+        while address != 0 {
+            if left == 0 {
+                return Some(self.rooms.load_node(memory, map, address));
+            }
+            left -= 1;
+            address = self.rooms.load_word(memory, map, address, NEXT);
+        }
+        None
     }
 }

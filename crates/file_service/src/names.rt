@@ -1,5 +1,6 @@
 //! Files by their names: a balanced tree inside their nodes.
-ghost use Rattle.std.specs.Prelude.{◌≡◌, ℕ, ◌+◌, ◌*◌, ◌%◌, ◌^◌, ◌<◌, ◌≤◌, ◌++◌, ◌∷◌, [], List, length, slice_index, slice_range};
+ghost use Rattle.std.specs.Prelude.{◌≡◌, ℕ, ◌+◌, ◌*◌, ◌%◌, ◌^◌, ◌<◌, ◌≤◌, ◌++◌, ◌∷◌, [], List, length, slice_index, slice_range, IfSome, IfNone, None};
+ghost use Rattle.own_model.specs.FileService.{file_named};
 ghost use Rattle.std.specs.Ordering.{nat_cmp};
 ghost use Rattle.trade_base.specs.Word.{word_of, word_bytes};
 ghost use Rattle.dataspace_core.specs.Store.{Exists, space_at};
@@ -7,16 +8,18 @@ ghost use Rattle.file_service.specs.Rooms.{stock_of, AreFurnished, KeepsRooms};
 ghost use Rattle.heap_core.specs.Blocks.{IsBlankOf};
 ghost use Rattle.file_service.specs.Index.{IsNamed, CanEnter, ChangesTree, Enters, Leaves, Seeks, LoadsFew, KeepsNames};
 ghost use Rattle.file_service.specs.Node.{rank_by, rank_of, word_from};
+ghost use Rattle.file_service.specs.Session.{files_in, HasFiles, Finds};
 
-use crate::node::{NAME_LENGTH, NODE_SIZE, NameKey, append_word};
+use crate::node::{LONGEST_NAME, NAME_LENGTH, NODE_SIZE, NameKey, append_word};
 use crate::rooms::Rooms;
+use crate::session::{FileSession, Found};
 use arrayvec::ArrayVec;
 use avl_tree::{Links, Nodes, Step, find, insert, remove};
 use dataspace_core::Memory;
 use heap_core::Loads;
 use region_map::RegionMap;
 use std::cmp::Ordering;
-use std::marker::PhantomData;
+use std::marker::{Brand, PhantomData};
 use std::sync::ledger::{Blank, Ledger};
 use trade_base::DsId;
 
@@ -261,9 +264,49 @@ impl<'m, L: Ledger> FileNodes<'_, Counted<'m, L>> {
     }
 }
 
+impl FileSession {
+    /// The file of a name, if there is one. The memory is as it was.
+    pub(crate) fn find(&self, memory: &mut Memory, map: &RegionMap, name: &[u8]) -> Option<Found>
+        requires furnished { AreFurnished self.now.rooms memory.old map.now }
+        requires files { HasFiles self.now (stock_of self.now.rooms memory.old map.now) }
+        ensures some { IfSome result
+            (Finds self.now (stock_of self.now.rooms memory.old map.now) name.now) }
+        ensures none { IfNone result
+            (file_named name.now
+            (files_in self.now (stock_of self.now.rooms memory.old map.now)) ≡ None) }
+        ensures memory { memory.new ≡ memory.old }
+    {
+        if name.len() > LONGEST_NAME {
+            return None;
+        }
+        let address = self.rooms.seek(memory, map, self.root, name);
+        if address == 0 {
+            return None;
+        }
+        let node = self.rooms.load_node(memory, map, address);
+        if node.name.as_slice() != name {
+            return None;
+        }
+        Some(Found { address, node })
+    }
+}
+
 impl Rooms {
     /// The address of the node that has a name where any has it, by the root of the tree. The memory is as it was.
-    pub(crate) fn seek<L: Ledger>(
+    pub(crate) fn seek(&self, memory: &mut Memory, map: &RegionMap, root: u64, name: &[u8]) -> u64
+        requires few { length name.now ≤ 32 }
+        requires furnished { AreFurnished self.now memory.old map.now }
+        requires named { (blocks : List ℕ) × IsNamed root
+            (stock_of self.now memory.old map.now).nodes blocks }
+        ensures found { Seeks root (rank_of name.now)
+            (stock_of self.now memory.old map.now).nodes result }
+        ensures memory { memory.new ≡ memory.old }
+    {
+        self.seek_counted::<Brand>(memory, map, root, name, Blank::new(1))
+    }
+
+    // The same, with loads counted by a ledger.
+    fn seek_counted<L: Ledger>(
         &self,
         memory: &mut Memory,
         map: &RegionMap,
@@ -290,7 +333,31 @@ impl Rooms {
     }
 
     /// Enters a new file's node in the tree by its name, and tells the tree's root.
-    pub(crate) fn enter<L: Ledger>(
+    pub(crate) fn enter(
+        &self,
+        memory: &mut Memory,
+        map: &RegionMap,
+        root: u64,
+        name: &[u8],
+        address: u64,
+    ) -> u64
+        requires few { length name.now ≤ 32 }
+        requires furnished { AreFurnished self.now memory.old map.now }
+        requires unnamed { (blocks : List ℕ) × CanEnter root blocks address (rank_of name.now)
+            (stock_of self.now memory.old map.now).nodes }
+        ensures enters { Enters root address (rank_of name.now) result
+            (stock_of self.now memory.old map.now).nodes
+            (stock_of self.now memory.new map.now).nodes }
+        ensures tree { ChangesTree (stock_of self.now memory.old map.now)
+            (stock_of self.now memory.new map.now) }
+        ensures keeps { KeepsRooms self.now self.now
+            memory.old memory.new map.now map.now }
+    {
+        self.enter_counted::<Brand>(memory, map, root, name, address, Blank::new(1))
+    }
+
+    // The same, with loads counted by a ledger.
+    fn enter_counted<L: Ledger>(
         &self,
         memory: &mut Memory,
         map: &RegionMap,
@@ -322,7 +389,24 @@ impl Rooms {
     }
 
     /// Takes the node of a name out of the tree, and tells the tree's root.
-    pub(crate) fn leave<L: Ledger>(
+    pub(crate) fn leave(&self, memory: &mut Memory, map: &RegionMap, root: u64, name: &[u8]) -> u64
+        requires few { length name.now ≤ 32 }
+        requires furnished { AreFurnished self.now memory.old map.now }
+        requires named { (blocks : List ℕ) × IsNamed root
+            (stock_of self.now memory.old map.now).nodes blocks }
+        ensures gone { Leaves root (rank_of name.now) result
+            (stock_of self.now memory.old map.now).nodes
+            (stock_of self.now memory.new map.now).nodes }
+        ensures tree { ChangesTree (stock_of self.now memory.old map.now)
+            (stock_of self.now memory.new map.now) }
+        ensures keeps { KeepsRooms self.now self.now
+            memory.old memory.new map.now map.now }
+    {
+        self.leave_counted::<Brand>(memory, map, root, name, Blank::new(1))
+    }
+
+    // The same, with loads counted by a ledger.
+    fn leave_counted<L: Ledger>(
         &self,
         memory: &mut Memory,
         map: &RegionMap,

@@ -15,6 +15,9 @@ pub(crate) const NODE_BYTES: usize = 64;
 /// How many bytes of its block a node takes.
 pub(crate) const NODE_SIZE: usize = 96;
 
+/// Where the address of the next file's node stands.
+pub(crate) const NEXT: u64 = 0;
+
 /// Where the length of the name stands, and the name.
 pub(crate) const NAME_LENGTH: usize = 24;
 

@@ -1,8 +1,8 @@
 -- The payload that starts at an address stands in the one heap region that holds the address.
-use Rattle.std.proofs.Common.{◌≡◌, ℕ, ◌+◌, ◌-◌, ◌%◌, ◌≤◌, true, List, length, ap, subst, ◌∙◌, ⊎_elim, arith, Some, IsSome}
+use Rattle.std.proofs.Common.{◌≡◌, ℕ, ◌+◌, ◌-◌, ◌%◌, ◌<◌, ◌≤◌, true, List, length, refl, sym, ap, subst, ◌∙◌, ⊎_elim, arith, Some, IsSome}
 use Rattle.std.proofs.lemmas.Bool.Decides.{nat_tests}
 use Rattle.std.proofs.lemmas.Option.{none-some}
-use Rattle.std.specs.Prelude.{None}
+use Rattle.std.specs.Prelude.{Option, None}
 use Rattle.std.specs.FinMap.{get}
 use Rattle.own_model.specs.Region.{Region, holds as holds_range}
 use Rattle.own_model.proofs.BestFitLemmas.{HasOffset, payload_told}
@@ -10,6 +10,7 @@ use Rattle.own_model.proofs.NatMapLemmas.{some_of}
 use Rattle.region_map.specs.Regions.{Regions, AreSound, heap_found}
 use Rattle.dataspace_core.specs.Store.{Store, part}
 use Rattle.dataspace_core.specs.Share.{Share}
+use Rattle.avl_alloc.specs.Layout as avl
 use Rattle.heap_core.specs.declared.heap.Heap.{Heap}
 use Rattle.heap_core.specs.Calls.{HoldsRange}
 use Rattle.heap_core.specs.Heap.{IsSound, chunk_at, heap_at, payer_of, share_at}
@@ -104,3 +105,44 @@ module _ (heap : Heap) (store : Store) (regions : Regions) (sound : IsSound heap
       -- each range of it is held there
       pub start_held : get (heap_at heap store regions).payloads address ≡ Some payload → HoldsRange heap store regions of (address - start + into) (address + into) count
       start_held there = ⊎_elim in_chunk in_large (payload_from heap store regions sound address payload there)
+
+  module _ (k offset : ℕ) (lies : LiesInChunk heap address k offset) where
+    region_of : (o : Option (ℕ × ℕ × ℕ)) → heap_found regions address ≡ o → (tag : ℕ) × (heap_found regions address ≡ Some ((chunk_at heap k).start, (chunk_at heap k).ds.0, tag))
+    region_of None none =
+        let at = lies.at in
+        let inside = lies.inside in
+        absurd (⊎_elim
+        (λ (low : address < (chunk_at heap k).start). omega (arith, low, at))
+        (λ (past : (chunk_at heap k).start + avl.bytes_of heap.fit k ≤ address). omega (arith, past, at, inside))
+        ((none_found heap store regions sound map address none).chunks k lies.there))
+    region_of (Some (start, of, tag)) found =
+        let chunk = chunk_at heap k in
+        let stands = sound.laid.chunks k lies.there in
+        let whole = stands.whole in
+        let at = lies.at in
+        let inside = lies.inside in
+        let region : Region = record { of = chunk.ds.0; pages = stands.pages } in
+        let was = in_share (part (payer_of heap) store) regions.heap regions.tags chunk.start region stands.region in
+        let holds : holds_range address 1 (chunk.start, region) ≡ true = grind (arith, nat_tests) in
+        let one = only heap store regions sound map address start of tag found chunk.start region was.0 holds in
+        (tag, found ∙ (λ i. Some (sym one.0 i, sym one.1 i, tag)))
+
+    -- the map finds the region of the chunk in which an address lies
+    chunk_found : (tag : ℕ) × (heap_found regions address ≡ Some ((chunk_at heap k).start, (chunk_at heap k).ds.0, tag))
+    chunk_found = region_of (heap_found regions address) refl
+
+    -- a payload of the chunk starts at a multiple of 16
+    pub chunk_even : (payload : List ℕ) → get (heap_at heap store regions).payloads address ≡ Some payload → offset % 16 ≡ 0
+    chunk_even payload there =
+        let even = start_even (chunk_at heap k).start (chunk_at heap k).ds.0 chunk_found.0 chunk_found.1 payload there in
+        let at = lies.at in
+        omega (arith, even, at)
+
+    -- and each range of it is held there
+    pub chunk_held : (payload : List ℕ) (into count : ℕ) → 1 ≤ count → into + count ≤ length payload → get (heap_at heap store regions).payloads address ≡ Some payload →
+        HoldsRange heap store regions (chunk_at heap k).ds.0 (offset + into) (address + into) count
+    chunk_held payload into count some few there =
+        let held = start_held (chunk_at heap k).start (chunk_at heap k).ds.0 chunk_found.0 chunk_found.1 payload into count some few there in
+        let at = lies.at in
+        let same : address - (chunk_at heap k).start + into ≡ offset + into = omega (arith, at) in
+        subst (λ o. HoldsRange heap store regions (chunk_at heap k).ds.0 o (address + into) count) same held

@@ -22,8 +22,6 @@ use arrayvec::ArrayVec;
 use avl_alloc::{BestFit, BlockAddr, MOST_CHUNKS};
 use dataspace_core::Memory;
 use region_map::RegionMap;
-use std::marker::Brand;
-use std::sync::ledger::Blank;
 use trade_base::{AccountId, PAGE, Refusal};
 
 /// The most large blocks that a machine can hold at once.
@@ -73,15 +71,6 @@ impl Heap {
             large: ArrayVec::new(),
             growth: FIRST_GROWTH,
         }
-    }
-
-    /// Takes its blocks for this account from now on. What it has stays, where the account's share holds it.
-    pub fn pay_from(&mut self, account: AccountId)
-        ensures payer { payer_of self.new ≡ account.0 }
-        ensures laid { (share : Share) → IsLaid self.old share → IsLaid self.new share }
-        ensures value { (share : Share) → heap_in self.new share ≡ heap_in self.old share }
-    {
-        self.account = account;
     }
 
     /// Takes a block for so many bytes, all zero, and tells the address of its payload. Below 65536 bytes it is taken in the
@@ -231,6 +220,6 @@ impl Heap {
     {
         // The contract speaks of the map, which stays as it is: a hole is taken in the chunks' words.
         let _ = map;
-        take::<Brand>(&mut self.fit, memory, &self.chunks, bytes, Blank::new(1))
+        take(&mut self.fit, memory, &self.chunks, bytes)
     }
 }

@@ -2,6 +2,7 @@
 ghost use Rattle.std.specs.Prelude.{◌≡◌, ℕ, ◌+◌, ◌-◌, ◌%◌, ◌<◌, ◌≤◌, ◌==◌, List, length, IfSome, IfNone, IsSome, Some, None};
 ghost use Rattle.std.specs.FinMap.{get};
 ghost use Rattle.own_model.specs.Sliced.{block_found};
+ghost use Rattle.avl_alloc.specs.Layout.{sizes_of};
 ghost use Rattle.dataspace_core.specs.Store.{Exists, space_at};
 ghost use Rattle.heap_core.specs.Calls.{HoldsRange, FindsRange};
 ghost use Rattle.heap_core.specs.Heap.{payer_of, share_at, heap_at, IsSound};
@@ -12,8 +13,6 @@ use crate::heap::{Heap, LARGE};
 use avl_alloc::BlockAddr;
 use dataspace_core::Memory;
 use region_map::RegionMap;
-use std::marker::Brand;
-use std::sync::ledger::Blank;
 use trade_base::DsId;
 
 /// Where an address lies.
@@ -52,7 +51,7 @@ impl Heap {
     }
 
     /// The dataspace that holds the payload which starts at an address, and its offset there, a multiple of 16. It reads no byte
-    /// of the memory.
+    /// of the memory. The chunks are asked first: they are few, however many regions the map has.
     pub fn payload_at(&self, memory: &Memory, map: &RegionMap, address: u64) -> (DsId, u64)
         requires sound { IsSound self.now memory.now map.now }
         requires there { IsSome (get (heap_at self.now memory.now map.now).payloads address) }
@@ -63,10 +62,36 @@ impl Heap {
             (address + into) count }
         ensures even { result.1 % 16 ≡ 0 }
     {
-        // The contract speaks of the memory; the map alone is asked.
+        // The contract speaks of the memory; chunks and map alone are asked.
         let _ = memory;
-        let (start, ds, _) = map.heap_region(address).unwrap();
-        (ds, address - start)
+        map.lies_apart();
+        match self.chunk_over(address) {
+            Some(at) => (self.chunks[at.chunk].ds, at.offset),
+            None => {
+                let (start, ds, _) = map.heap_region(address).unwrap();
+                (ds, address - start)
+            }
+        }
+    }
+
+    // The chunk that an address lies in, and the offset there, or `None` where it lies in no chunk. The last chunks are the
+    // largest.
+    fn chunk_over(&self, address: u64) -> Option<BlockAddr>
+        requires { length (sizes_of self.now.fit) ≡ length self.now.chunks.items }
+        ensures { IfSome result (λ at. LiesInChunk self.now address at.chunk at.offset) }
+    {
+        let mut left = self.chunks.len();
+        while left > 0 {
+            left -= 1;
+            let start = self.chunks[left].start;
+            if start <= address && address - start < self.fit.chunk_size(left) {
+                return Some(BlockAddr {
+                    chunk: left,
+                    offset: address - start,
+                });
+            }
+        }
+        None
     }
 
     // Where an address lies. A region is this heap's by who pays for its dataspace, and by the number kept with it.
@@ -118,7 +143,7 @@ impl Heap {
         // The contract speaks of the map and of the address; the allocator knows the block by its place in the chunk.
         let _ = map;
         let _ = address;
-        let block = look::<Brand>(&self.fit, memory, &self.chunks, at, Blank::new(1))?;
+        let block = look(&self.fit, memory, &self.chunks, at)?;
         if count > block.size - (at.offset - block.offset) {
             return None;
         }

@@ -15,8 +15,6 @@ use crate::lookup::Site;
 use avl_alloc::BlockAddr;
 use dataspace_core::Memory;
 use region_map::RegionMap;
-use std::marker::Brand;
-use std::sync::ledger::Blank;
 use trade_base::{DsId, Refusal};
 
 /// The bytes of a block's header.
@@ -139,7 +137,7 @@ impl Heap {
             chunk: at.chunk,
             offset: at.offset - HEADER,
         };
-        let given = give::<Brand>(&mut self.fit, memory, &self.chunks, block, Blank::new(1));
+        let given = give(&mut self.fit, memory, &self.chunks, block);
         if given.is_none() {
             return Err(Refusal::PageFault);
         }

@@ -13,6 +13,7 @@ use Rattle.file_service.specs.Links.{last_of, Leads}
 use Rattle.file_service.specs.Node.{FileNode, value_of}
 use Rattle.file_service.proofs.KeptLemmas.{files_are}
 use Rattle.file_service.proofs.SearchLemmas.{next_behind, here_behind, stand_on, none_behind, last_put, link_some, append_none, file_there}
+use Rattle.file_service.proofs.NextLemmas.{next_is}
 use Rattle.file_service.proofs.session.FileSession.file_at.Goals as goal
 
 pub loop-address-init : goal.loop-address-init
@@ -26,8 +27,16 @@ loop-address-init c = record {
   memory = refl;
 }
 
-pub load_node-node-requires-clause-there : goal.load_node-node-requires-clause-there
-load_node-node-requires-clause-there c =
+pub load_node-requires-clause-there : goal.load_node-requires-clause-there
+load_node-requires-clause-there c =
+    let i = c.loop-address.invariant in
+    let some : c.loop-address.address ≢ 0 = λ (e : c.loop-address.address ≡ 0). absurd (omega (arith, e)) in
+    let has : Stock = stock_of c.args.self.now.rooms c.args.memory.now c.args.map.now in
+    subst (λ m. HasBytes (stock_of c.args.self.now.rooms m c.args.map.now).nodes.payloads c.loop-address.address 0 96) (sym i.memory)
+    (here_behind c.args.self.now.first c.args.self.now.last has.nodes has.contents (last_of 0 i.before) c.loop-address.address i.before i.behind i.stand i.leads i.address some).there
+
+pub load_word-address-requires-clause-there : goal.load_word-address-requires-clause-there
+load_word-address-requires-clause-there c =
     let i = c.loop-address.invariant in
     let some : c.loop-address.address ≢ 0 = λ (e : c.loop-address.address ≡ 0). absurd (omega (arith, e)) in
     let has : Stock = stock_of c.args.self.now.rooms c.args.memory.now c.args.map.now in
@@ -40,17 +49,17 @@ loop-address-preserved c =
     let some : c.loop-address.address ≢ 0 = λ (e : c.loop-address.address ≡ 0). absurd (omega (arith, e)) in
     let has : Stock = stock_of c.args.self.now.rooms c.args.memory.now c.args.map.now in
     let next = next_behind c.args.self.now.first c.args.self.now.last has.nodes has.contents (last_of 0 i.before) c.loop-address.address i.before i.behind i.stand i.leads i.address some in
-    let value : value_of c.load_node-node.result ≡ node_at has.nodes c.loop-address.address =
-    subst (λ m. value_of c.load_node-node.result ≡ node_at (stock_of c.args.self.now.rooms m c.args.map.now).nodes c.loop-address.address) i.memory c.load_node-node.ensures.value in
+    let value : c.load_word-address.result ≡ (node_at has.nodes c.loop-address.address).next =
+    c.load_word-address.ensures ∙ sym (next_is (stock_of c.args.self.now.rooms c.loop-address.memory c.args.map.now).nodes c.loop-address.address) ∙ ap (λ m. (node_at (stock_of c.args.self.now.rooms m c.args.map.now).nodes c.loop-address.address).next) i.memory in
     let put : c.loop-address.address ≡ last_of 0 (i.before ++ c.loop-address.address ∷ []) = sym (last_put 0 c.loop-address.address i.before) in
     record {
       before = i.before ++ c.loop-address.address ∷ [];
       behind = next.0;
       stand = stand_on c.args.self.now.first c.args.self.now.last has.nodes has.contents (last_of 0 i.before) c.loop-address.address i.before i.behind i.stand i.leads i.address some;
-      address = ap (λ (n : FileNode). n.next) value ∙ sym (link_some c.args.self.now.first has.nodes c.loop-address.address some) ∙ ap (link_in c.args.self.now.first has.nodes) put;
+      address = value ∙ sym (link_some c.args.self.now.first has.nodes c.loop-address.address some) ∙ ap (link_in c.args.self.now.first has.nodes) put;
       leads = subst (λ h. Leads (link_in c.args.self.now.first has.nodes) h next.0) put next.1.1;
       place = omega (arith, i.place, length-append i.before (c.loop-address.address ∷ []));
-      memory = c.load_node-node.ensures.memory ∙ i.memory;
+      memory = i.memory;
     }
 
 pub loop-address-smaller : goal.loop-address-smaller
@@ -62,8 +71,8 @@ returns-then-left-eq0-clause-name c =
     let some : c.loop-address.address ≢ 0 = λ (e : c.loop-address.address ≡ 0). absurd (omega (arith, e)) in
     let has : Stock = stock_of c.args.self.now.rooms c.args.memory.now c.args.map.now in
     let next = next_behind c.args.self.now.first c.args.self.now.last has.nodes has.contents (last_of 0 i.before) c.loop-address.address i.before i.behind i.stand i.leads i.address some in
-    let value : value_of c.load_node-node.result ≡ node_at has.nodes c.loop-address.address =
-    subst (λ m. value_of c.load_node-node.result ≡ node_at (stock_of c.args.self.now.rooms m c.args.map.now).nodes c.loop-address.address) i.memory c.load_node-node.ensures.value in
+    let value : value_of c.load_node.result ≡ node_at has.nodes c.loop-address.address =
+    subst (λ m. value_of c.load_node.result ≡ node_at (stock_of c.args.self.now.rooms m c.args.map.now).nodes c.loop-address.address) i.memory c.load_node.ensures.value in
     let left : length i.before + 0 ≡ c.args.place = omega (arith, i.place) in
     let f : ℕ → File = file_at has.nodes has.contents in
     sym (ap (λ files. option_map (λ (file : File). file.name) (slice_get files c.args.place))
