@@ -29,6 +29,14 @@ of_value d =
     let reads = all_extend 3 (read_within 3) (within_reads 3) outermost first so_far own.starts (read_ok (entries_read own.starts) so_far read) holds_none stands_first (omega (arith, few)) in
     record { given = record { entries = reads.holds.listed; few = omega (arith, reads.counted, reads.few) } })))))
 
+value_listed : (d : Data) (list : Listed) → list_of d ≡ Ok list → IsListed list
+value_listed d list is = subst (λ s. IfOk s IsListed) is (Gives.given (of_value d))
+
+-- what is read of a value is listed
+pub read_listed : (d : Data) (r : Result Listed BootFault) → IfOk r (λ list. list_of d ≡ Ok list) → IfOk r IsListed
+read_listed d (Ok list) is = value_listed d list is
+read_listed d (Err fault) is = tt
+
 by_value : (r : Result Data BootFault) → Gives IsListed (r >>= list_of)
 by_value r = gave r (λ d _. of_value d)
 

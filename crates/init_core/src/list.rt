@@ -10,6 +10,7 @@ ghost use Rattle.own_model.specs.StartList.{entries_of};
 ghost use Rattle.own_model.specs.Transcript.{entry_at};
 ghost use Rattle.init_core.specs.Depth.{IsHome, is_init};
 ghost use Rattle.init_core.specs.Entries.{entries_read};
+ghost use Rattle.init_core.specs.ListLaws.{IsListed};
 ghost use Rattle.init_core.specs.Misread.{entry_at_fault, place_of_fault, starts_of};
 ghost use Rattle.init_core.specs.StartText.{json_in, list_in, list_of, machine_of};
 ghost use Rattle.init_core.specs.declared.fault.BootFault.TheVariants.{NoMemory, BadConfig, BadJson};
@@ -74,6 +75,7 @@ impl StartList {
     /// The start list that a text is, or why it is none. Wherever the host has no room, that is told instead.
     pub fn read(alloc: Global, text: &[u8]) -> Result<StartList, BootFault>
         ensures ok { IfOk result (λ list. list_in text.now ≡ Ok list) }
+        ensures listed { IfOk result (λ list. IsListed list) }
         ensures err { IfErr result
             (λ fault. fault ≢ NoMemory → list_in text.now ≡ Err fault) }
     {
