@@ -1,0 +1,6 @@
+mod EachLemmas
+mod CellLemmas
+mod TestLemmas
+mod StepLemmas
+mod DecideLemmas
+mod RunLemmas

@@ -1,0 +1,4 @@
+pub mod Test
+pub mod Need
+pub mod Want
+pub mod Laws

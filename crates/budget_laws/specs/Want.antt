@@ -1,0 +1,46 @@
+-- What a run answers, and whether it is in want.
+use Rattle.std.specs.Prelude.{ℕ, ◌||◌, Bool, true, false, List, [], ◌∷◌}
+use Rattle.trade_base.specs.declared.refusal.Refusal.{Refusal}
+use Rattle.trade_base.specs.declared.refusal.Refusal.TheVariants.{OutOfRam, OutOfCaps}
+use Rattle.own_model.specs.Call.{Call}
+use Rattle.own_model.specs.Call.Call.{Request}
+use Rattle.own_model.specs.OwnState.{OwnState}
+use Rattle.own_model.specs.OwnStep.{own_step}
+use Rattle.own_model.specs.Reply.{Reply, LogLine}
+use Rattle.own_model.specs.Reply.Reply.{Quotas, Refused}
+use Rattle.own_model.specs.StartList.{Entry}
+use Rattle.own_model.specs.Amounts.{no_amounts}
+use Rattle.budget_laws.specs.Need.{limited, budgeted}
+
+-- a reply, but for the limits that it tells
+abbrev pub but_limits : Reply → Reply
+but_limits (Quotas account) = Quotas (limited no_amounts account)
+but_limits reply = reply
+
+-- what a call is answered, and the lines that it finished
+pub record Answer : Type 0 where
+  pub reply : Reply
+  pub lines : List LogLine
+
+-- what the calls of a run are answered, but for the limits that are told
+abbrev pub answers : Entry → List Call → OwnState → List Answer
+answers entry [] s = []
+answers entry (call ∷ calls) s =
+    record { reply = but_limits (own_step entry call s).reply; lines = (own_step entry call s).lines }
+    ∷ answers entry calls (own_step entry call s).next
+
+-- a refusal is for want of RAM or of capabilities
+abbrev pub is_short : Reply → Bool
+is_short (Refused OutOfRam) = true
+is_short (Refused OutOfCaps) = true
+is_short reply = false
+
+-- a call is in want: its caller's account refuses it. A request is refused by the reserve
+abbrev pub wants : Call → Reply → Bool
+wants (Request text) reply = false
+wants call reply = is_short reply
+
+-- some call of a run is in want
+abbrev pub in_want : Entry → List Call → OwnState → Bool
+in_want entry [] s = false
+in_want entry (call ∷ calls) s = wants call (own_step entry call s).reply || in_want entry calls (own_step entry call s).next
