@@ -6,3 +6,4 @@ pub mod TailLemmas
 pub mod ReadingLemmas
 pub mod LawLemmas
 pub mod PlainLemmas
+pub mod ExpectedLemmas

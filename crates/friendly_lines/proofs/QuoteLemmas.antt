@@ -8,7 +8,7 @@ use Rattle.friendly_lines.specs.declared.quotes.Quoting.{Quoting}
 use Rattle.friendly_lines.specs.declared.quotes.Quoting.TheVariants.{Outside}
 
 -- a byte at a place, and what is behind it
-byte_at : (text : List ℕ) (i b : ℕ) → i < length text → get_or text i 0 ≡ b → drop i text ≡ b ∷ drop (i + 1) text
+pub byte_at : (text : List ℕ) (i b : ℕ) → i < length text → get_or text i 0 ≡ b → drop i text ≡ b ∷ drop (i + 1) text
 byte_at text i b within is = rw (add-one, drop-cons text i 0) (ap (λ x. x ∷ drop (suc i) text) is)
 
 -- places of what stands one byte further

@@ -1,8 +1,11 @@
 -- The signs of a text, one after another.
-use Rattle.std.proofs.Common.{◌≡◌, ℕ, ◌+◌, ◌-◌, ◌<◌, ◌≤◌, Bool, true, false, cond, is_none, zero, suc, List, [], ◌∷◌, ◌++◌, length, drop, Option, Some, None, refl, sym, ap, ◌∙◌, subst, arith}
+use Rattle.std.proofs.Common.{◌≡◌, ℕ, ◌+◌, ◌-◌, ◌<◌, ◌≤◌, Bool, true, false, true≢false, cond, nat_eq, is_none, zero, suc, List, [], ◌∷◌, ◌++◌, length, drop, Option, Some, None, refl, sym, ap, ◌∙◌, subst, arith}
 use Rattle.std.specs.Option.{option_map, unwrap_or}
-use Rattle.std.proofs.lemmas.Bool.Decides.{nat_tests}
+use Rattle.std.specs.List.{starts_with}
+use Rattle.std.specs.Str.{bytes_eq}
+use Rattle.std.proofs.lemmas.Bool.Decides.{Decides-eqb, nat_tests}
 use Rattle.std.proofs.lemmas.List.{drop-drop, drop_all, length-drop}
+use Rattle.std.proofs.lemmas.Slice.Eq.{bytes_eq-Decides, starts_is}
 use Rattle.own_model.specs.Reply.{hex_text}
 use Rattle.friendly_lines.specs.Signs.{bytes_from, bytes_of, fault_from, fault_of, sign_at, sign_of}
 use Rattle.friendly_lines.specs.Words.{spaced}
@@ -86,6 +89,63 @@ put_nothing line [] none = added_none line
 put_nothing line (b ∷ bs) none = absurd (omega (arith, none))
 
 pub ruleset quoted = (put_behind_space, put_nothing)
+
+-- ---- digits that are compared
+
+-- what begins with a text goes on as what is behind it
+starts_same : (left front rest : List ℕ) → starts_with nat_eq left front ≡ true → bytes_eq left (front ++ rest) ≡ bytes_eq (drop (length front) left) rest
+starts_same left front rest starts =
+    let begins : left ≡ front ++ drop (length front) left = (starts_is Decides-eqb left front _ refl).0 starts in
+    ap (λ l. bytes_eq l (front ++ rest)) begins ∙ front_same front (drop (length front) left) rest
+  where
+    front_same : (front xs ys : List ℕ) → bytes_eq (front ++ xs) (front ++ ys) ≡ bytes_eq xs ys
+    front_same [] xs ys = refl
+    front_same (b ∷ bs) xs ys = let same : nat_eq b b ≡ true = grind (arith, nat_tests) in rw same (front_same bs xs ys)
+
+starts_other : (left front rest : List ℕ) → starts_with nat_eq left front ≡ false → bytes_eq left (front ++ rest) ≡ false
+starts_other left front rest other =
+    elim (bytes_eq left (front ++ rest)) as (λ t. bytes_eq left (front ++ rest) ≡ t → t ≡ false) [
+      | true ↦ λ same.
+          let e : left ≡ front ++ rest = (bytes_eq-Decides left (front ++ rest)).0 same in
+          absurd (true≢false (sym ((starts_is Decides-eqb left front _ refl).1 rest e) ∙ other))
+      | false ↦ λ same. refl
+    ] refl
+
+two_digits : (b : ℕ) → length (hex_text (b ∷ [])) ≡ 2
+unfolding hex_text
+two_digits b = refl
+
+hex_front : (text : List ℕ) (i : ℕ) (sign : Sign) → i < length text → sign ≡ sign_at (drop i text) → 1 ≤ sign.size →
+    hex_text (bytes_from 0 (drop i text)) ≡ hex_text (sign.byte ∷ []) ++ hex_text (bytes_from 0 (drop (i + sign.size) text))
+hex_front text i sign within is some =
+    let size : 1 ≤ (sign_at (drop i text)).size = subst (λ (s : Sign). 1 ≤ s.size) is some in
+    ap hex_text (bytes_step text i within size)
+    ∙ hex_cons (sign_at (drop i text)).byte (bytes_from 0 (drop (i + (sign_at (drop i text)).size) text))
+    ∙ ap (λ (s : Sign). hex_text (s.byte ∷ []) ++ hex_text (bytes_from 0 (drop (i + s.size) text))) (sym is)
+
+-- a sign's digits are there, and those of the signs behind it are left
+pub hex_step : (left text : List ℕ) (i : ℕ) (sign : Sign) → i < length text → sign ≡ sign_at (drop i text) → 1 ≤ sign.size →
+    starts_with nat_eq left (hex_text (sign.byte ∷ [])) ≡ true →
+    bytes_eq left (hex_text (bytes_from 0 (drop i text))) ≡ bytes_eq (drop 2 left) (hex_text (bytes_from 0 (drop (i + sign.size) text)))
+hex_step left text i sign within is some starts =
+    ap (bytes_eq left) (hex_front text i sign within is some)
+    ∙ starts_same left (hex_text (sign.byte ∷ [])) (hex_text (bytes_from 0 (drop (i + sign.size) text))) starts
+    ∙ ap (λ n. bytes_eq (drop n left) (hex_text (bytes_from 0 (drop (i + sign.size) text)))) (two_digits sign.byte)
+
+-- or they aren't
+pub hex_other : (left text : List ℕ) (i : ℕ) (sign : Sign) → i < length text → sign ≡ sign_at (drop i text) → 1 ≤ sign.size →
+    starts_with nat_eq left (hex_text (sign.byte ∷ [])) ≡ false → bytes_eq left (hex_text (bytes_from 0 (drop i text))) ≡ false
+hex_other left text i sign within is some other =
+    ap (bytes_eq left) (hex_front text i sign within is some)
+    ∙ starts_other left (hex_text (sign.byte ∷ [])) (hex_text (bytes_from 0 (drop (i + sign.size) text))) other
+
+-- behind the last sign nothing may be left
+pub hex_end : (left text : List ℕ) (i : ℕ) → length text ≤ i → bytes_eq left (hex_text (bytes_from 0 (drop i text))) ≡ nat_eq (length left) 0
+unfolding hex_text
+hex_end [] text i past = rw (drop_all i text past) refl
+hex_end (b ∷ bs) text i past = rw (drop_all i text past) (grind (arith, nat_tests))
+
+pub ruleset hex_signs = (hex_end)
 
 -- ---- faults
 

@@ -4,6 +4,8 @@ pub mod Signs
 pub mod Written
 pub mod Parts
 pub mod Views
+pub mod Expected
+pub mod Expectations
 pub mod Friendly
 pub mod Says
 pub mod Laws

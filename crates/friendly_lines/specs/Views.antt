@@ -1,7 +1,9 @@
 -- The parts of a call by their bytes.
-use Rattle.std.specs.Prelude.{ℕ, ◌+◌, ◌≤◌, List, length, IfSome, Result, Ok, Err}
+use Rattle.std.specs.Prelude.{ℕ, ◌+◌, ◌≤◌, List, length, IfSome, Option, Some, None, Result, Ok, Err}
+use Rattle.friendly_lines.specs.Expected.{Written}
 use Rattle.friendly_lines.specs.Parts.{Parts, Tail}
 use Rattle.friendly_lines.specs.Parts.Tail.{Words, Kept, Quoted}
+use Rattle.friendly_lines.specs.declared.expected.Written.{Written as Ended}
 use Rattle.friendly_lines.specs.declared.quotes.Marks.{Marks}
 use Rattle.friendly_lines.specs.declared.parts.Parts.{Parts as Cut}
 use Rattle.friendly_lines.specs.declared.parts.Tail.{Tail as End}
@@ -25,3 +27,8 @@ LiesIn count (Quoted front inside left) = (left ≤ count) × (length inside ≤
 pub record AreInside (marks : Marks) (count : ℕ) : Type 0 where
   pub arrow : IfSome marks.arrow (λ n. n + 4 ≤ count)
   pub quote : IfSome marks.quote (λ n. n + 1 ≤ count)
+
+-- the text in quotes with which an expectation ends
+abbrev pub written_view : Option Ended → Option Written
+written_view None = None
+written_view (Some written) = Some (record { front = written.front.now; inside = written.inside.now })

@@ -1,6 +1,7 @@
 //! The friendly form of a scenario's lines: comments, blanks, text in quotes, sizes, and the replies that are expected.
 #![tactic(auto)]
 
+mod expected;
 mod fault;
 mod laws;
 mod line;
@@ -10,6 +11,7 @@ mod reading;
 mod signs;
 mod words;
 
+pub use expected::meets;
 pub use fault::{Fault, Reason};
 pub use laws::calls_are_calls;
 pub use line::Line;

@@ -1,5 +1,7 @@
 //! The signs of a text in quotes.
-ghost use Rattle.std.specs.Prelude.{◌≡◌, ◌+◌, ◌≤◌, ◌<◌, IfSome, length};
+ghost use Rattle.std.specs.Prelude.{◌≡◌, ◌+◌, ◌≤◌, ◌<◌, ◌∷◌, [], true, nat_eq, IfSome, length};
+ghost use Rattle.std.specs.List.{starts_with};
+ghost use Rattle.std.specs.Str.{bytes_eq};
 ghost use Rattle.own_model.specs.Reply.{hex_text};
 ghost use Rattle.own_model.specs.Text.{byte_of_hex, hex_digit_of};
 ghost use Rattle.friendly_lines.specs.Signs.{bytes_of, escape_of, fault_of, sign_at, sign_of};
@@ -7,6 +9,7 @@ ghost use Rattle.friendly_lines.specs.Written.{added};
 
 use crate::line::Line;
 use crate::words::behind;
+use text_codec::encode_hex;
 
 /// A sign: the byte that it stands for, and how many bytes it has.
 #[derive(Clone, Copy, Debug, PartialEq, Eq)]
@@ -26,6 +29,34 @@ pub(crate) fn put_text(line: &mut Line, text: &[u8])
         line.put_hex(sign.byte);
         at += sign.size;
     }
+}
+
+/// Whether digits are those of what a text stands for.
+#[tactic(auto, using(crate::proofs::SignLemmas::hex_signs))]
+pub(crate) fn is_hex_of(digits: &[u8], text: &[u8]) -> bool
+    ensures { result ≡ bytes_eq digits.now (hex_text (bytes_of text.now)) }
+{
+    let mut at = 0;
+    let mut left = digits;
+    while at < text.len() {
+        let sign = sign_at(behind(text, at));
+        if !begins_with_hex(left, sign.byte) {
+            return false;
+        }
+        left = behind(left, 2);
+        at += sign.size;
+    }
+    left.is_empty()
+}
+
+// Whether digits begin with the two of a byte.
+fn begins_with_hex(digits: &[u8], byte: u8) -> bool
+    ensures value { result ≡ starts_with nat_eq digits.now (hex_text (byte ∷ [])) }
+    ensures some { result ≡ true → 2 ≤ length digits.now }
+{
+    let mut pair = [0; 2];
+    encode_hex(&[byte], &mut pair);
+    digits.starts_with(&pair)
 }
 
 /// Where a text has its first escape that is none.

@@ -50,9 +50,9 @@ fn blanks_before(text: &[u8]) -> usize
     }
 }
 
-// How many bytes of a text stand before its first blank.
+/// How many bytes of a text stand before its first blank.
 #[tactic(auto, using(crate::proofs::WordLemmas::places))]
-fn word_length(text: &[u8]) -> usize
+pub(crate) fn word_length(text: &[u8]) -> usize
     ensures count { result ≡ position_or_len is_blank text.now }
     ensures within { result ≤ length text.now }
 {

@@ -1,0 +1,170 @@
+//! Whether a reply is one that is expected.
+ghost use Rattle.std.specs.Prelude.{◌≡◌, ◌+◌, ◌<◌, ◌≤◌, [], not, length, position, nat_lt, slice_index, ◌==◌, ◌&&◌, true, IfSome, if◌then◌else◌};
+ghost use Rattle.std.specs.List.{position_or_len};
+ghost use Rattle.std.specs.Char.{is_ascii_digit};
+ghost use Rattle.std.specs.Option.{option_copied};
+ghost use Rattle.std.specs.Str.{bytes_eq};
+ghost use Rattle.own_model.specs.Reply.{hex_text};
+ghost use Rattle.friendly_lines.specs.Expected.{bytes_for, is_refusal, is_word_end, meets, meets_both, meets_words, reply_behind, written_fault, written_in};
+ghost use Rattle.friendly_lines.specs.Expectations.{IsExact, RefusalsAreTold};
+ghost use Rattle.friendly_lines.specs.Signs.{bytes_of};
+ghost use Rattle.friendly_lines.specs.Views.{written_view};
+
+use crate::quotes::inside_quotes;
+use crate::signs::{fault_of, is_hex_of};
+use crate::words::{behind, is_blank, word_length};
+use text_codec::split_first_word;
+
+/// A text in quotes with which an expectation ends, and what stands before it.
+#[derive(Clone, Copy, Debug)]
+pub(crate) struct Written<'a> {
+    pub front: &'a [u8],
+    pub inside: &'a [u8],
+}
+
+/// Whether a reply meets what is expected of it: `granted`, `refused`, `*` for any reply, or word for word, where `*` stands
+/// for a word or for a number within one, and text in quotes for its digits. An expectation without these is met by the
+/// reply alone that is the same.
+#[tactic(auto, using(crate::proofs::ExpectedLemmas::laws))]
+pub fn meets(reply: &[u8], expected: &[u8]) -> bool
+    ensures value { result ≡ meets reply.now expected.now }
+    ensures exact { IsExact expected.now → result ≡ bytes_eq reply.now expected.now }
+    ensures refusals { RefusalsAreTold }
+{
+    if expected == b"granted".as_slice() {
+        return !is_refusal(reply);
+    }
+    if expected == b"refused".as_slice() {
+        return is_refusal(reply);
+    }
+    expected == b"*".as_slice() || meets_words(reply, expected)
+}
+
+// Whether a reply refuses.
+#[tactic(auto, using(crate::proofs::ExpectedLemmas::nothing_is_capital))]
+fn is_refusal(reply: &[u8]) -> bool
+    ensures { result ≡ is_refusal reply.now }
+{
+    let (word, _) = split_first_word(reply);
+    !reply.is_empty() && reply[0].is_ascii_uppercase() && word != b"OK".as_slice()
+}
+
+// Whether a reply is what is expected word for word.
+fn meets_words(reply: &[u8], expected: &[u8]) -> bool
+    ensures { result ≡ meets_words reply.now expected.now }
+{
+    match written_in(expected) {
+        Some(written) => match reply_behind(reply, written.front) {
+            Some(left) => is_hex_of(left, written.inside),
+            None => false,
+        },
+        None => match reply_behind(reply, expected) {
+            Some(left) => left.is_empty(),
+            None => false,
+        },
+    }
+}
+
+/// The text in quotes with which an expectation ends, if it has one.
+pub(crate) fn written_in(expected: &[u8]) -> Option<Written<'_>>
+    ensures value { written_view result ≡ written_in expected.now }
+    ensures within { IfSome result (λ w. length w.front.now + 1 + length w.inside.now ≤ length expected.now) }
+{
+    let place = first_quote(expected)?;
+    let inside = inside_quotes(behind(expected, place))?;
+    Some(Written {
+        front: &expected[..place],
+        inside,
+    })
+}
+
+// Where a text has its first quote.
+fn first_quote(text: &[u8]) -> Option<usize>
+    ensures place { result ≡ position (λ b. b == 34) text.now }
+    ensures inside { IfSome result (λ place. place < length text.now) }
+{
+    text.iter().position(|byte| *byte == b'"')
+}
+
+/// Where the text in quotes of an expectation has an escape that is none.
+pub(crate) fn written_fault(expected: &[u8]) -> Option<usize>
+    ensures place { result ≡ written_fault expected.now }
+    ensures inside { IfSome result (λ place. place < length expected.now) }
+{
+    let written = written_in(expected)?;
+    let place = fault_of(written.inside)?;
+    Some(written.front.len() + 1 + place)
+}
+
+// What of a reply stands behind what is expected of it.
+#[tactic(auto, using(crate::proofs::ExpectedLemmas::passes))]
+fn reply_behind<'a>(reply: &'a [u8], expected: &[u8]) -> Option<&'a [u8]>
+    ensures { option_copied result ≡ reply_behind true expected.now reply.now }
+{
+    let mut left = reply;
+    let mut begins = true;
+    for (i, byte) in expected.iter().enumerate() {
+        let count = bytes_for(begins, *byte, behind(expected, i + 1), left);
+        if count == 0 {
+            return None;
+        }
+        left = behind(left, count);
+        begins = is_blank(*byte);
+    }
+    Some(left)
+}
+
+// For how many bytes of a reply the first byte of what is expected stands.
+#[tactic(auto, using(crate::proofs::ExpectedLemmas::passes))]
+fn bytes_for(begins: bool, byte: u8, more: &[u8], reply: &[u8]) -> usize
+    ensures value { result ≡ bytes_for begins byte more.now reply.now }
+    ensures within { result ≤ length reply.now }
+{
+    if byte != b'*' {
+        return stands_first(reply, byte);
+    }
+    if begins && is_word_end(more) {
+        word_length(reply)
+    } else {
+        number_length(reply)
+    }
+}
+
+// One where a text begins with a byte, and else none.
+fn stands_first(text: &[u8], byte: u8) -> usize
+    ensures value { result ≡ (if nat_lt 0 (length text.now) && slice_index text.now 0 == byte then 1 else 0) }
+    ensures within { result ≤ length text.now }
+{
+    if !text.is_empty() && text[0] == byte {
+        1
+    } else {
+        0
+    }
+}
+
+// Whether a word ends here.
+fn is_word_end(text: &[u8]) -> bool
+    ensures { result ≡ is_word_end text.now }
+{
+    text.is_empty() || is_blank(text[0])
+}
+
+// How many bytes of a text are decimal digits before one that is none.
+#[tactic(auto, using(crate::proofs::WordLemmas::places))]
+fn number_length(text: &[u8]) -> usize
+    ensures count { result ≡ position_or_len (λ d. not (is_ascii_digit d)) text.now }
+    ensures within { result ≤ length text.now }
+{
+    match first_other(text) {
+        Some(place) => place,
+        None => text.len(),
+    }
+}
+
+// Where a text has its first byte that is no decimal digit.
+fn first_other(text: &[u8]) -> Option<usize>
+    ensures place { result ≡ position (λ d. not (is_ascii_digit d)) text.now }
+    ensures inside { IfSome result (λ place. place < length text.now) }
+{
+    text.iter().position(|byte| !byte.is_ascii_digit())
+}
