@@ -1,14 +1,19 @@
 -- A line that is played: it says a call, which is answered and told, or nothing changes.
-use Rattle.std.proofs.Common.{◌≡◌, ℕ, ◌≤◌, List, [], ◌++◌, length, Option, Result, Ok, Err, OnOk, sym, ◌∙◌, ap}
+use Rattle.std.proofs.Common.{◌≡◌, ℕ, ◌≤◌, Bool, true, false, List, [], ◌++◌, length, Option, Result, Ok, Err, IfOk, OnOk, sym, ◌∙◌, ap, subst}
 use Rattle.own_model.specs.SaidBy.{said_by}
 use Rattle.own_model.specs.Transcript.{longest_line}
 use Rattle.own_model.specs.World.{World}
 use Rattle.friendly_lines.specs.Friendly.{Said, said_of}
+use Rattle.friendly_lines.specs.Friendly.Said.{Nothing, Log, Call}
 use Rattle.friendly_lines.specs.declared.fault.Fault.{Fault}
 use Rattle.scenario.specs.Answered.{after_all}
 use Rattle.scenario.specs.Gathered.{Tells, TellsUnless}
 use Rattle.scenario.proofs.GatheredLemmas.{Tells-none}
 use Rattle.scenario.proofs.Serving.{left_none, said_none}
+use Rattle.scenario.specs.Answer.{AnswersLine}
+use Rattle.scenario.specs.declared.answering.LineAnswer.{LineAnswer}
+use Rattle.workbench.specs.Judging.{Awaited, IsJudged, awaited_after, is_other}
+use Rattle.workbench.specs.declared.ending.PlayFault.{PlayFault}
 use Rattle.workbench.specs.Played.{call_in, call_of, told_of_calls}
 use Rattle.workbench.specs.Watching.{Watches}
 use Rattle.workbench.proofs.PlayLemmas.{watches_none}
@@ -59,3 +64,28 @@ module _ (only : Option (List ℕ)) (line : List ℕ) (silent : call_of line ≡
       Watches seen start earlier world → OnOk judged (Watches seen start (earlier ++ said_by only (call_of line)) world)
   seen_silent judged watches =
       on_ok judged (watches_none (said_by only (call_of line)) (ap (said_by only) silent ∙ said_none only) watches)
+
+-- ---- what is complained of
+
+module _ (only : Option (List ℕ)) (world : World) (line : List ℕ) (awaited : Awaited) where
+  -- of what is read of it
+  judged_by : (r : Result Bool PlayFault) (said : Result Said Fault) → said ≡ said_of line → IfOk r (IsJudged only world said awaited) → IfOk r (IsJudged only world (said_of line) awaited)
+  judged_by r said is judged = subst (λ s. IfOk r (IsJudged only world s awaited)) is judged
+
+  -- of a call by its answer
+  pub judged_call : (r : Result Bool PlayFault) (engine : List ℕ) (reply : Option (List ℕ)) (answer : Option LineAnswer) → Ok (Call engine reply) ≡ said_of line →
+      AnswersLine only world engine answer → IfOk r (λ complained. complained ≡ is_other reply answer awaited) → IfOk r (IsJudged only world (said_of line) awaited)
+  judged_call (Ok complained) engine reply answer is answers judged = judged_by (Ok complained) (Ok (Call engine reply)) is (answer, answers, judged)
+  judged_call (Err fault) engine reply answer is answers judged = tt
+
+  pub judged_log : (r : Result Bool PlayFault) (text : List ℕ) → Ok (Log text) ≡ said_of line → IfOk r (λ complained. complained ≡ false) → IfOk r (IsJudged only world (said_of line) awaited)
+  judged_log r text is judged = judged_by r (Ok (Log text)) is judged
+
+  pub judged_unread : (r : Result Bool PlayFault) (fault : Fault) → Err fault ≡ said_of line → IfOk r (λ complained. complained ≡ true) → IfOk r (IsJudged only world (said_of line) awaited)
+  judged_unread r fault is judged = judged_by r (Err fault) is judged
+
+-- ---- what is expected then
+
+pub expects_by : (r : Result Bool PlayFault) (number : ℕ) (line : List ℕ) (old new : Awaited) (said : Result Said Fault) → said ≡ said_of line → OnOk r (new ≡ awaited_after number said old) →
+    OnOk r (new ≡ awaited_after number (said_of line) old)
+expects_by r number line old new said is expects = subst (λ s. OnOk r (new ≡ awaited_after number s old)) is expects

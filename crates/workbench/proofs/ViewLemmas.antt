@@ -10,13 +10,12 @@ use Rattle.own_model.specs.World.{World}
 use Rattle.friendly_lines.specs.Friendly.{Said, said_of}
 use Rattle.friendly_lines.specs.Friendly.Said.{Nothing, Log, Call}
 use Rattle.friendly_lines.specs.declared.fault.Fault.{Fault}
-use Rattle.scenario.specs.Gathered.{Tells, TellsPart}
 use Rattle.scenario.specs.Program.{accounts_for}
 use Rattle.workbench.specs.Alone.{SeesAlone, alone_sum, alone_tells}
 use Rattle.workbench.specs.Kept.{SeesPeaks, found, peak_at}
 use Rattle.workbench.specs.PeakList.{list_with, peaks_text}
 use Rattle.workbench.specs.Played.{call_in, call_of, calls_answered, calls_said, engine_tells, told_of_calls, told_of_lines}
-use Rattle.workbench.specs.Plays.{PlaysAll, WritesTold}
+use Rattle.workbench.specs.Plays.{PlaysAll}
 use Rattle.workbench.specs.Tracing.{trace_header, trace_tells}
 use Rattle.workbench.specs.Writes.{Closes, IsPlayedFrom, WritesAfter, list_behind, transcript_of}
 use Rattle.workbench.specs.declared.ending.Ending.{Ending}
@@ -24,40 +23,22 @@ use Rattle.workbench.specs.declared.ending.PlayFault.{PlayFault}
 use Rattle.workbench.specs.declared.peaks.Peak.{Peak}
 use Rattle.workbench.specs.declared.peaks.Session.{Session}
 use Rattle.workbench.proofs.ListLemmas.{list_is}
-use Rattle.workbench.proofs.PlayLemmas.{all_left}
 use Rattle.workbench.proofs.PlayedLemmas.{told_as_engine}
-use Rattle.workbench.proofs.WriteLemmas.{closes_alone, played_from, told_behind}
+use Rattle.workbench.proofs.WriteLemmas.{closes_alone, played_from}
 
 -- the transcript, and the account list behind it where it is asked for
-pub run_played : (accounts : Bool) (only : Option (List ℕ)) (listed : Listed) {seen : List (List ℕ) → Type 0} {start last : World} {gathered : List ℕ} {input w w' w'' : Option (List ℕ)} (played ended : Ending) → gathered ≡ [] →
-    PlaysAll (engine_tells start) seen only played.fault played.lines start last gathered input w w' → Closes played ended w' w'' (accounts_for accounts listed last) →
-    IsPlayedFrom (transcript_of only start) (list_behind accounts only listed start) ended input w w''
-run_played accounts only listed {start = start} {w = w} {w' = w'} {w'' = w''} played ended none plays closes =
-    played_from played ended plays.lines plays.first plays.all plays.counted
-    (subst (WritesTold played.fault w w') (ap (λ g. g ++ told_of_lines (engine_tells start) only [] 1 plays.lines) none ∙ told_as_engine only start plays.lines) plays.told)
+pub run_played : (accounts : Bool) (only : Option (List ℕ)) (listed : Listed) {seen : List (List ℕ) → Type 0} {start last : World} {input rest w w' w'' : Option (List ℕ)} {failed : Bool} (played ended : Ending) →
+    PlaysAll (engine_tells start) false seen only played.fault played.lines start last [] input rest failed w w' → Closes played ended w' w'' (accounts_for accounts listed last) →
+    IsPlayedFrom (transcript_of only start) (list_behind accounts only listed start) false ended input rest failed w w''
+run_played accounts only listed {start = start} {w' = w'} {w'' = w''} played ended plays closes =
+    played_from played ended plays (told_as_engine only start plays.lines)
     (subst (λ world. Closes played ended w' w'' (accounts_for accounts listed world)) plays.world closes)
 
 -- the rows of a trace, behind its header
-pub trace_played : {seen : List (List ℕ) → Type 0} {start last : World} {before gathered : List ℕ} {input w w' w'' : Option (List ℕ)} (ending : Ending) → before ≡ [] →
-    Tells w before w' gathered trace_header → PlaysAll (trace_tells start) seen None ending.fault ending.lines start last gathered input w' w'' →
-    IsPlayedFrom (λ lines. trace_header ++ told_of_lines (trace_tells start) None [] 1 lines) (λ _. []) ending input w w''
-trace_played {start = start} {gathered = gathered} {w = w} {w' = w'} {w'' = w''} ending none header plays =
-    played_from ending ending plays.lines plays.first plays.all plays.counted
-    (told_behind ending.fault w'' (told_of_lines (trace_tells start) None [] 1 plays.lines) (subst (λ g. Tells w g w' gathered trace_header) none header) plays.told)
-    (closes_alone ending w'')
-
--- or a part of the header
-pub header_cut : (start : World) {before : List ℕ} (input : Option (List ℕ)) {w w' : Option (List ℕ)} (ending : Ending) (fault : PlayFault) → before ≡ [] → ending.fault ≡ Some fault → TellsPart w before w' trace_header →
-    IsPlayedFrom (λ lines. trace_header ++ told_of_lines (trace_tells start) None [] 1 lines) (λ _. []) ending input w w'
-header_cut start input {w = w} {w' = w'} ending fault none fails part =
-    played_from ending ending [] (all_left input) (rw fails tt) (rw fails tt)
-    (subst (λ f. WritesTold f w w' (trace_header ++ [])) (sym fails) (record {
-      part = part.1.out;
-      left = part.0;
-      parts = append-nil trace_header ∙ sym (part.1.parts ∙ ap (λ g. g ++ trace_header) none);
-      grows = part.1.grows;
-    }))
-    (closes_alone ending w')
+pub trace_played : {seen : List (List ℕ) → Type 0} {start last : World} {input rest w w' : Option (List ℕ)} {failed : Bool} (ending : Ending) →
+    PlaysAll (trace_tells start) true seen None ending.fault ending.lines start last trace_header input rest failed w w' →
+    IsPlayedFrom (λ lines. trace_header ++ told_of_lines (trace_tells start) None [] 1 lines) (λ _. []) true ending input rest failed w w'
+trace_played {w' = w'} ending plays = played_from ending ending plays refl (closes_alone ending w')
 
 -- ---- one name alone
 
@@ -99,14 +80,12 @@ closes_as played ended w w' a b same closes = record { lines = closes.lines; wri
     writes None f' is after = subst (WritesAfter None f' w w') is after
     writes (Some fault) f' is after = after
 
-pub alone_played : (name : List ℕ) {start last core : World} {count : ℕ} {difference : Option ℕ} {gathered : List ℕ} {input w w' w'' : Option (List ℕ)} (played ended : Ending) → gathered ≡ [] → played.lines ≤ 1000000 →
-    PlaysAll (alone_tells name start) (SeesAlone name core count difference start) None played.fault played.lines start last gathered input w w' →
+pub alone_played : (name : List ℕ) {start last core : World} {count : ℕ} {difference : Option ℕ} {input rest w w' w'' : Option (List ℕ)} {failed : Bool} (played ended : Ending) → played.lines ≤ 1000000 →
+    PlaysAll (alone_tells name start) false (SeesAlone name core count difference start) None played.fault played.lines start last [] input rest failed w w' →
     Closes played ended w' w'' (alone_sum name count) →
-    IsPlayedFrom (λ lines. told_of_lines (alone_tells name start) None [] 1 lines) (λ lines. alone_sum name (length (calls_answered (Some name) lines))) ended input w w''
-alone_played name {start = start} {core = core} {count = count} {difference = difference} {w = w} {w' = w'} {w'' = w''} played ended none few plays closes =
-    played_from played ended plays.lines plays.first plays.all plays.counted
-    (subst (WritesTold played.fault w w') (ap (λ g. g ++ told_of_lines (alone_tells name start) None [] 1 plays.lines) none) plays.told)
-    (closes_as played ended w' w'' _ _ (same played.fault plays.counted plays.sees) closes)
+    IsPlayedFrom (λ lines. told_of_lines (alone_tells name start) None [] 1 lines) (λ lines. alone_sum name (length (calls_answered (Some name) lines))) false ended input rest failed w w''
+alone_played name {start = start} {core = core} {count = count} {difference = difference} {w' = w'} {w'' = w''} played ended few plays closes =
+    played_from played ended plays refl (closes_as played ended w' w'' _ _ (same played.fault plays.counted plays.sees) closes)
   where
     same : (f : Option PlayFault) → IfNone f (played.lines ≡ length plays.lines) → IfNone f (SeesAlone name core count difference start (calls_answered None plays.lines)) →
         IfNone f (alone_sum name count ≡ alone_sum name (length (calls_answered (Some name) plays.lines)))
@@ -132,14 +111,12 @@ silent_lines only earlier number (line ∷ lines) =
     ap (λ text. text ++ told_of_lines (λ _ _ _. []) only (earlier ++ said_by only (call_of line)) (number + 1) lines) (silent_calls earlier number (said_by only (call_of line)))
     ∙ silent_lines only (earlier ++ said_by only (call_of line)) (number + 1) lines
 
-pub accounts_played : (listed : Listed) {init : Amounts} {components : List Peak} {sessions : List Session} {start last : World} {gathered : List ℕ} {input w w' w'' : Option (List ℕ)} (played ended : Ending) →
-    gathered ≡ [] → PlaysAll (λ _ _ _. []) (SeesPeaks init components sessions listed start) None played.fault played.lines start last gathered input w w' →
+pub accounts_played : (listed : Listed) {init : Amounts} {components : List Peak} {sessions : List Session} {start last : World} {input rest w w' w'' : Option (List ℕ)} {failed : Bool} (played ended : Ending) →
+    PlaysAll (λ _ _ _. []) true (SeesPeaks init components sessions listed start) None played.fault played.lines start last [] input rest failed w w' →
     Closes played ended w' w'' (list_with listed last init (peak_at components) (found sessions)) →
-    IsPlayedFrom (λ _. []) (λ lines. peaks_text listed start (calls_answered None lines)) ended input w w''
-accounts_played listed {init = init} {components = components} {sessions = sessions} {start = start} {last = last} {w = w} {w' = w'} {w'' = w''} played ended none plays closes =
-    played_from played ended plays.lines plays.first plays.all plays.counted
-    (subst (WritesTold played.fault w w') (ap (λ g. g ++ told_of_lines (λ _ _ _. []) None [] 1 plays.lines) none ∙ silent_lines None [] 1 plays.lines) plays.told)
-    (closes_as played ended w' w'' _ _ (same played.fault plays.sees) closes)
+    IsPlayedFrom (λ _. []) (λ lines. peaks_text listed start (calls_answered None lines)) true ended input rest failed w w''
+accounts_played listed {init = init} {components = components} {sessions = sessions} {start = start} {last = last} {w' = w'} {w'' = w''} played ended plays closes =
+    played_from played ended plays (silent_lines None [] 1 plays.lines) (closes_as played ended w' w'' _ _ (same played.fault plays.sees) closes)
   where
     same : (f : Option PlayFault) → IfNone f (SeesPeaks init components sessions listed start (calls_answered None plays.lines)) →
         IfNone f (list_with listed last init (peak_at components) (found sessions) ≡ peaks_text listed start (calls_answered None plays.lines))

@@ -1,27 +1,28 @@
 -- What is written of a play, from what the play itself promises.
-use Rattle.std.proofs.Common.{◌≡◌, ℕ, List, [], ◌++◌, length, Option, Some, None, IfSome, IfNone, Result, Ok, Err, IsErrAnd, inl, inr, refl, sym, ◌∙◌, ap, subst, append_assoc, append-nil}
+use Rattle.std.proofs.Common.{◌≡◌, ◌≢◌, ℕ, ◌+◌, ◌<◌, ◌≤◌, Bool, true, false, List, [], ◌∷◌, ◌++◌, length, get_or, slice_index_or, Option, Some, None, IfSome, IfNone, Result, Ok, Err, IsErrAnd, inl, inr, ⊎_elim, arith, refl, sym, ◌∙◌, ap, subst, append_assoc, append-nil, length-append}
+use Rattle.std.proofs.lemmas.List.{get_or-append-add}
 use Rattle.std.specs.Io.KnownBytes.{Appends}
 use Rattle.own_model.specs.Listed.{Listed, start_list_of}
 use Rattle.own_model.specs.StartList.{Boots}
+use Rattle.own_model.specs.Text.{lines_of}
 use Rattle.own_model.specs.World.{World}
 use Rattle.init_core.specs.StartText.{list_in}
 use Rattle.scenario.specs.Gathered.{Tells, TellsPart}
+use Rattle.scenario.specs.Lines.{AreReadable, longest_read}
 use Rattle.scenario.specs.Program.{world_of}
+use Rattle.scenario.specs.Runs.{HasCause}
 use Rattle.scenario.specs.Stops.{AppendsPart}
+use Rattle.scenario.proofs.Ending.{cause_unread, cause_unwritten}
 use Rattle.scenario.proofs.GatheredLemmas.{Appends-more, Tells-gathered}
-use Rattle.workbench.specs.Plays.{AreAll, AreFirst, WritesTold}
-use Rattle.workbench.specs.Writes.{Closes, IsPlayed, IsPlayedFrom, IsWrittenBy, WritesAfter, WritesBoth}
+use Rattle.scenario.proofs.Serving.{left_none, none_readable}
+use Rattle.workbench.proofs.PlayLemmas.{cut_behind}
+use Rattle.workbench.specs.Faults.{fault_before, is_write_fault, unplayed}
+use Rattle.workbench.specs.Played.{told_of_lines}
+use Rattle.workbench.specs.Plays.{EndsFor, PlaysAll, StopsAt, TakesRoomFor, WritesTold, most_lines}
+use Rattle.workbench.specs.Writes.{AreAll, Closes, IsPlayed, IsPlayedFrom, IsUnplayed, IsWrittenBy, WritesAfter, WritesBoth}
 use Rattle.workbench.specs.declared.ending.Ending.{Ending}
 use Rattle.workbench.specs.declared.ending.PlayFault.{PlayFault}
-
--- a part of a text is one of a longer text
-part_of_more : (old new : Option (List ℕ)) (told more : List ℕ) → AppendsPart old new told → AppendsPart old new (told ++ more)
-part_of_more old new told more part = record {
-  part = part.part;
-  left = part.left ++ more;
-  parts = ap (λ text. text ++ more) part.parts ∙ append_assoc part.part part.left more;
-  grows = part.grows;
-}
+use Rattle.workbench.specs.declared.ending.PlayFault.TheVariants.{ReadFault, WriteFault, TooManyLines, NoMemory}
 
 -- behind a text that is written a part of another is
 part_behind : (w w' w'' : Option (List ℕ)) (told more : List ℕ) → Appends w w' told → AppendsPart w' w'' more → AppendsPart w w'' (told ++ more)
@@ -32,28 +33,68 @@ part_behind w w' w'' told more first part = record {
   grows = Appends-more w w' w'' told part.part (told ++ part.part) first part.grows refl;
 }
 
--- what is gathered before a play is written before what it tells
-pub told_behind : (fault : Option PlayFault) {w w' : Option (List ℕ)} {gathered head : List ℕ} (w'' : Option (List ℕ)) (told : List ℕ) →
-    Tells w [] w' gathered head → WritesTold fault w' w'' (gathered ++ told) → WritesTold fault w w'' (head ++ told)
-told_behind None {w = w} {w' = w'} {gathered = gathered} {head = head} w'' told first then =
-    Appends-more w w' w'' first.out (gathered ++ told) (head ++ told) first.grows then
-    (ap (λ text. text ++ told) (sym first.parts) ∙ append_assoc first.out gathered told)
-told_behind (Some fault) {w = w} {w' = w'} {gathered = gathered} {head = head} w'' told first then =
-    subst (AppendsPart w w'') (sym (append_assoc first.out gathered told) ∙ ap (λ text. text ++ told) first.parts)
-    (part_behind w w' w'' first.out (gathered ++ told) first.grows then)
+-- what is told before a play is written before what it tells
+module _ {w w' : Option (List ℕ)} {gathered front : List ℕ} (w'' : Option (List ℕ)) (told : List ℕ) (first : Tells w [] w' gathered front) where
+  all_behind : Appends w' w'' (gathered ++ told) → Appends w w'' (front ++ told)
+  all_behind then =
+      Appends-more w w' w'' first.out (gathered ++ told) (front ++ told) first.grows then
+      (ap (λ text. text ++ told) (sym first.parts) ∙ append_assoc first.out gathered told)
 
--- what a play wrote and what was written behind it
-writes_both : (f f' : Option PlayFault) (input : Option (List ℕ)) (lines : List (List ℕ)) (w w' w'' : Option (List ℕ)) (told behind : List ℕ) →
-    IfNone f (IfSome input (AreAll lines)) → WritesTold f w w' told → WritesAfter f f' w' w'' behind → WritesBoth f' input lines w w'' told behind
-writes_both None None input lines w w' w'' told behind all first then = (all, Appends-more w w' w'' told behind (told ++ behind) first then refl)
-writes_both None (Some fault) input lines w w' w'' told behind all first then = inr (all, part_behind w w' w'' told behind first then)
-writes_both (Some fault) f' input lines w w' w'' told behind all first then = rw (then.0, then.1) (inl first)
+  some_behind : AppendsPart w' w'' (gathered ++ told) → AppendsPart w w'' (front ++ told)
+  some_behind then =
+      subst (AppendsPart w w'') (sym (append_assoc first.out gathered told) ∙ ap (λ text. text ++ told) first.parts)
+      (part_behind w w' w'' first.out (gathered ++ told) first.grows then)
 
-counted_still : (f f' : Option PlayFault) (count count' : ℕ) (w w' : Option (List ℕ)) (behind : List ℕ) (n : ℕ) →
-    IfNone f (count ≡ n) → count' ≡ count → WritesAfter f f' w w' behind → IfNone f' (count' ≡ n)
-counted_still None None count count' w w' behind n is same after = same ∙ is
-counted_still None (Some fault) count count' w w' behind n is same after = tt
-counted_still (Some fault) f' count count' w w' behind n is same after = rw after.0 tt
+  told_behind : (fault : Option PlayFault) → WritesTold fault w' w'' (gathered ++ told) → WritesTold fault w w'' (front ++ told)
+  told_behind None then = all_behind then
+  told_behind (Some ReadFault) then = all_behind then
+  told_behind (Some WriteFault) then = some_behind then
+  told_behind (Some TooManyLines) then = all_behind then
+  told_behind (Some NoMemory) then = some_behind then
+
+-- so a play behind a front is one that tells it
+pub plays_behind : {tells : List (List ℕ) → ℕ → List ℕ → List ℕ} {calls : Bool} {seen : List (List ℕ) → Type 0} {only : Option (List ℕ)} {fault : Option PlayFault} {count : ℕ} {old new : World}
+    {gathered front : List ℕ} {input rest : Option (List ℕ)} {failed : Bool} {w w' w'' : Option (List ℕ)} →
+    Tells w [] w' gathered front → PlaysAll tells calls seen only fault count old new gathered input rest failed w' w'' → PlaysAll tells calls seen only fault count old new front input rest failed w w''
+plays_behind {fault = fault} {w'' = w''} first plays = record {
+  lines = plays.lines;
+  readable = plays.readable;
+  world = plays.world;
+  told = told_behind w'' _ first fault plays.told;
+  ends = plays.ends;
+  takes = plays.takes;
+  counted = plays.counted;
+  few = plays.few;
+  sees = plays.sees;
+}
+
+-- of all lines of a text none is answered yet
+unplayed_all : (input : Option (List ℕ)) (failed : Bool) → EndsFor (Some WriteFault) [] input input failed
+unplayed_all None failed = tt
+unplayed_all (Some text) failed = (lines_of text, refl, (omega arith, record { read = []; left = text; is_left = refl; parts = refl; whole = inl (omega arith) }))
+
+-- a front that can't be told is a fault before any line
+pub front_cut : {tells : List (List ℕ) → ℕ → List ℕ → List ℕ} {calls : Bool} {seen : List (List ℕ) → Type 0} {only : Option (List ℕ)} (count : ℕ) (world : World) {gathered front : List ℕ}
+    (input : Option (List ℕ)) (failed : Bool) {w w' : Option (List ℕ)} → gathered ≡ [] → TellsPart w gathered w' front →
+    PlaysAll tells calls seen only (Some WriteFault) count world world front input input failed w w'
+front_cut {only = only} count world {front = front} input failed none part = record {
+  lines = [];
+  readable = none_readable;
+  world = sym (left_none only world);
+  told = record {
+    part = part.1.out;
+    left = part.0;
+    parts = append-nil front ∙ sym (part.1.parts ∙ ap (λ g. g ++ front) none);
+    grows = part.1.grows;
+  };
+  ends = unplayed_all input failed;
+  takes = tt;
+  counted = tt;
+  few = omega arith;
+  sees = tt;
+}
+
+-- ---- what stands behind a play
 
 -- where nothing is written behind a play
 pub closes_alone : (ending : Ending) (w : Option (List ℕ)) → Closes ending ending w w []
@@ -67,31 +108,129 @@ closes_alone ending w = record { lines = refl; writes = alone ending.fault w }
     alone None o = none o
     alone (Some fault) o = (refl, refl)
 
-module _ {told behind : List (List ℕ) → List ℕ} where
-  pub played_from : {input w w' w'' : Option (List ℕ)} (played ended : Ending) (lines : List (List ℕ)) → IfSome input (AreFirst lines) → IfNone played.fault (IfSome input (AreAll lines)) →
-      IfNone played.fault (played.lines ≡ length lines) → WritesTold played.fault w w' (told lines) → Closes played ended w' w'' (behind lines) → IsPlayedFrom told behind ended input w w''
-  played_from {input = input} {w = w} {w' = w'} {w'' = w''} played ended lines first all counted writes closes = record {
-    lines = lines;
-    first = first;
-    counted = counted_still played.fault ended.fault played.lines ended.lines w' w'' (behind lines) (length lines) counted closes.lines closes.writes;
-    writes = writes_both played.fault ended.fault input lines w w' w'' (told lines) (behind lines) all writes closes.writes;
-  }
+-- all lines were played
+all_lines : (input rest : Option (List ℕ)) (lines : List (List ℕ)) (failed : Bool) → EndsFor None lines input rest failed → IfSome input (AreAll lines)
+all_lines None rest lines failed ends = tt
+all_lines (Some text) rest lines failed ends = ends.1 ∙ ap (λ left. lines ++ left) ends.2.0 ∙ append-nil lines
+
+-- what a play wrote is written where nothing more is
+writes_alone : (fault : PlayFault) (input : Option (List ℕ)) (lines : List (List ℕ)) (w w' : Option (List ℕ)) (told behind : List ℕ) → WritesTold (Some fault) w w' told → WritesBoth (Some fault) input lines w w' told behind
+writes_alone ReadFault input lines w w' told behind first = first
+writes_alone WriteFault input lines w w' told behind first = inl first
+writes_alone TooManyLines input lines w w' told behind first = first
+writes_alone NoMemory input lines w w' told behind first = first
+
+writes_both : (f f' : Option PlayFault) (input rest : Option (List ℕ)) (lines : List (List ℕ)) (failed : Bool) (w w' w'' : Option (List ℕ)) (told behind : List ℕ) →
+    EndsFor f lines input rest failed → WritesTold f w w' told → WritesAfter f f' w' w'' behind → WritesBoth f' input lines w w'' told behind
+writes_both None None input rest lines failed w w' w'' told behind ends first then = Appends-more w w' w'' told behind (told ++ behind) first then refl
+writes_both None (Some fault) input rest lines failed w w' w'' told behind ends first then =
+    rw then.0 (inr (all_lines input rest lines failed ends, part_behind w w' w'' told behind first then.1))
+writes_both (Some fault) f' input rest lines failed w w' w'' told behind ends first then = rw (then.0, then.1) (writes_alone fault input lines w w' told behind first)
+
+-- why it ended
+ends_both : (f f' : Option PlayFault) (input rest : Option (List ℕ)) (lines : List (List ℕ)) (failed : Bool) (w w' : Option (List ℕ)) (behind : List ℕ) → length lines ≤ most_lines →
+    EndsFor f lines input rest failed → WritesAfter f f' w w' behind → EndsFor f' lines input rest failed
+ends_both None None input rest lines failed w w' behind few ends after = ends
+ends_both None (Some fault) input rest lines failed w w' behind few ends after = rw after.0 (cut_behind input rest lines failed few ends)
+ends_both (Some fault) f' input rest lines failed w w' behind few ends after = rw after.0 ends
+
+takes_both : (calls : Bool) (f f' : Option PlayFault) (lines : List (List ℕ)) (w w' : Option (List ℕ)) (behind : List ℕ) → TakesRoomFor calls f lines → WritesAfter f f' w w' behind → TakesRoomFor calls f' lines
+takes_both calls None None lines w w' behind takes after = tt
+takes_both calls None (Some fault) lines w w' behind takes after = rw after.0 tt
+takes_both calls (Some fault) f' lines w w' behind takes after = rw after.0 takes
+
+-- how many lines there were
+counted_still : (f f' : Option PlayFault) (count count' : ℕ) (w w' : Option (List ℕ)) (behind : List ℕ) (n : ℕ) →
+    IfNone f (count ≡ n) → count' ≡ count → WritesAfter f f' w w' behind → IfNone f' (count' ≡ n)
+counted_still None None count count' w w' behind n is same after = same ∙ is
+counted_still None (Some fault) count count' w w' behind n is same after = tt
+counted_still (Some fault) f' count count' w w' behind n is same after = rw after.0 tt
+
+-- what a play wrote and what was written behind it
+pub played_from : {told behind : List (List ℕ) → List ℕ} {calls : Bool} {tells : List (List ℕ) → ℕ → List ℕ → List ℕ} {seen : List (List ℕ) → Type 0} {only : Option (List ℕ)} {start last : World} {front : List ℕ}
+    {input rest w w' w'' : Option (List ℕ)} {failed : Bool} (played ended : Ending) (plays : PlaysAll tells calls seen only played.fault played.lines start last front input rest failed w w') →
+    front ++ told_of_lines tells only [] 1 plays.lines ≡ told plays.lines → Closes played ended w' w'' (behind plays.lines) → IsPlayedFrom told behind calls ended input rest failed w w''
+played_from {told = told} {behind = behind} {calls = calls} {input = input} {rest = rest} {w = w} {w' = w'} {w'' = w''} {failed = failed} played ended plays same closes = record {
+  lines = plays.lines;
+  readable = plays.readable;
+  ends = ends_both played.fault ended.fault input rest plays.lines failed w' w'' (behind plays.lines) plays.few plays.ends closes.writes;
+  takes = takes_both calls played.fault ended.fault plays.lines w' w'' (behind plays.lines) plays.takes closes.writes;
+  counted = counted_still played.fault ended.fault played.lines ended.lines w' w'' (behind plays.lines) (length plays.lines) plays.counted closes.lines closes.writes;
+  writes =
+      writes_both played.fault ended.fault input rest plays.lines failed w w' w'' (told plays.lines) (behind plays.lines) plays.ends
+      (subst (WritesTold played.fault w w') same plays.told) closes.writes;
+}
 
 -- on the machine of a text
-pub is_played : {text : List ℕ} {listed : Listed} (told : World → List (List ℕ) → List ℕ) (behind : Listed → World → List (List ℕ) → List ℕ) (ending : Ending) {start : World} (input w w' : Option (List ℕ)) →
-    list_in text ≡ Ok listed → Boots (start_list_of listed) → start ≡ world_of listed → IsPlayedFrom (told start) (behind listed start) ending input w w' →
-    IsPlayed text (λ l. told (world_of l)) (λ l. behind l (world_of l)) ending input w w'
-is_played {listed = listed} told behind ending input w w' reads boots starts played = record {
+pub is_played : {text : List ℕ} {listed : Listed} {calls : Bool} (told : World → List (List ℕ) → List ℕ) (behind : Listed → World → List (List ℕ) → List ℕ) (ending : Ending) {start : World}
+    (input rest : Option (List ℕ)) (failed : Bool) (w w' : Option (List ℕ)) →
+    list_in text ≡ Ok listed → Boots (start_list_of listed) → start ≡ world_of listed → IsPlayedFrom (told start) (behind listed start) calls ending input rest failed w w' →
+    IsPlayed text (λ l. told (world_of l)) (λ l. behind l (world_of l)) calls ending input rest failed w w'
+is_played {listed = listed} {calls = calls} told behind ending input rest failed w w' reads boots starts played = record {
   listed = listed;
   machine = record { reads = reads; boots = boots };
-  played = subst (λ world. IsPlayedFrom (told world) (behind listed world) ending input w w') starts played;
+  played = subst (λ world. IsPlayedFrom (told world) (behind listed world) calls ending input rest failed w w') starts played;
 }
+
+-- it has booted, and nothing more
+is_unplayed : {text : List ℕ} {listed : Listed} (ending : Ending) (fault : PlayFault) → list_in text ≡ Ok listed → Boots (start_list_of listed) → ending ≡ unplayed fault → IsUnplayed text ending fault
+is_unplayed {listed = listed} ending fault reads boots is = record { listed = listed; machine = record { reads = reads; boots = boots }; ending = is }
+
+-- ---- within the bounds, and with no failed device, only want of room is a cause to stop
+-- a first line that is left can be read where all can
+first_readable : (all lines left : List (List ℕ)) → all ≡ lines ++ left → AreReadable all → longest_read < length (slice_index_or left 0 []) → ⊥
+first_readable all lines [] parts short long = omega (arith, long)
+first_readable all lines (line ∷ left) parts short long =
+    let within : length lines + 0 < length all = omega (arith, ap length parts, length-append lines (line ∷ left)) in
+    let at : get_or all (length lines + 0) [] ≡ line = ap (λ xs. get_or xs (length lines + 0) []) parts ∙ get_or-append-add lines (line ∷ left) 0 [] in
+    omega (arith, short (length lines + 0) [] within, ap length at, long)
+
+within_bounds : (fault : PlayFault) (lines left : List (List ℕ)) (text : List ℕ) (rest : Option (List ℕ)) (failed write_failed : Bool) →
+    lines_of text ≡ lines ++ left → StopsAt fault lines left text rest failed → write_failed ≡ is_write_fault (Some fault) → fault ≢ NoMemory → HasCause text most_lines failed write_failed
+within_bounds ReadFault lines left text rest failed write_failed parts cause fails other =
+    λ reads writes short few. ⊎_elim (λ cut. let e : failed ≡ true = cut.0 in cc) (λ long. first_readable (lines_of text) lines left parts short long) cause
+within_bounds WriteFault lines left text rest failed write_failed parts cause fails other = λ reads writes short few. let e : write_failed ≡ true = fails in cc
+within_bounds TooManyLines lines left text rest failed write_failed parts cause fails other =
+    λ reads writes short few. omega (arith, cause.0, cause.1, ap length parts, length-append lines left)
+within_bounds NoMemory lines left text rest failed write_failed parts cause fails other = absurd (other refl)
+
+pub caused : {told behind : List (List ℕ) → List ℕ} {calls : Bool} {ending : Ending} {input rest : Option (List ℕ)} {failed : Bool} {w w' : Option (List ℕ)} (write_failed : Bool) →
+    IsPlayedFrom told behind calls ending input rest failed w w' → write_failed ≡ is_write_fault ending.fault →
+    IfSome ending.fault (λ fault. fault ≢ NoMemory → IfSome input (λ text. HasCause text most_lines failed write_failed))
+caused {ending = ending} {input = input} {rest = rest} {failed = failed} write_failed played fails = of ending.fault input played.ends fails
+  where
+    of : (f : Option PlayFault) (o : Option (List ℕ)) → EndsFor f played.lines o rest failed → write_failed ≡ is_write_fault f → IfSome f (λ fault. fault ≢ NoMemory → IfSome o (λ text. HasCause text most_lines failed write_failed))
+    of None o ends is = tt
+    of (Some fault) None ends is = λ other. tt
+    of (Some fault) (Some text) ends is = λ other. within_bounds fault played.lines ends.0 text rest failed write_failed ends.1 ends.2 is other
+
+-- or a device had failed before
+pub ends_for_cause : {told behind : List (List ℕ) → List ℕ} {calls : Bool} {ending : Ending} {input rest : Option (List ℕ)} {failed : Bool} {w w' : Option (List ℕ)} (read_before write_before write_failed : Bool) →
+    (fault_before read_before write_before ≡ None → IsPlayedFrom told behind calls ending input rest failed w w') →
+    IfSome (fault_before read_before write_before) (λ fault. (ending ≡ unplayed fault) × (failed ≡ read_before)) → write_failed ≡ is_write_fault ending.fault →
+    IfSome ending.fault (λ fault. fault ≢ NoMemory → IfSome input (λ text. HasCause text most_lines failed write_failed))
+ends_for_cause false false write_failed played before fails = caused write_failed (played refl) fails
+ends_for_cause {input = input} {failed = failed} true false write_failed played before fails = rw before.0 (λ other. cause_unread input most_lines failed write_failed before.1)
+ends_for_cause {input = input} {failed = failed} read_before true write_failed played before fails =
+    let is : write_failed ≡ true = fails ∙ ap (λ (e : Ending). is_write_fault e.fault) before.0 in
+    rw before.0 (λ other. cause_unwritten input most_lines failed write_failed is)
+
+-- what is known of that by one device
+pub unplayed_with : (ending : Ending) (B C D E : Type 0) (o : Option PlayFault) → (B → E) → IfSome o (λ fault. (ending ≡ unplayed fault) × B × C × D) → IfSome o (λ fault. (ending ≡ unplayed fault) × E)
+unplayed_with ending B C D E None seen before = tt
+unplayed_with ending B C D E (Some fault) seen before = (before.0, seen before.1)
+
+-- and of the machine
+pub unplayed_on : (text : List ℕ) {listed : Listed} (ending : Ending) (B C D : Type 0) (o : Option PlayFault) → list_in text ≡ Ok listed → Boots (start_list_of listed) →
+    IfSome o (λ fault. (ending ≡ unplayed fault) × B × C × D) → IfSome o (λ fault. IsUnplayed text ending fault × B × C × D)
+unplayed_on text ending B C D None reads boots before = tt
+unplayed_on text ending B C D (Some fault) reads boots before = (is_unplayed ending fault reads boots before.0, before.1, before.2, before.3)
 
 -- a fault before anything is told loses all of it
 pub lost_all : (w : Option (List ℕ)) (g text : List ℕ) → TellsPart w g w text
 lost_all w g text = (g ++ text, Tells-gathered w g (g ++ text) text refl)
 
 -- a fault that is handed on leaves a part
-pub written_err : {T : Type 0} (Q : PlayFault → Type 0) (r : Result T PlayFault) (w w' : Option (List ℕ)) (text : List ℕ) → IsErrAnd r Q → AppendsPart w w' text → IsWrittenBy r w w' text
-written_err Q (Ok done) w w' text is part = absurd is
-written_err Q (Err fault) w w' text is part = part
+pub written_err : {T : Type 0} (r : Result T PlayFault) (w w' : Option (List ℕ)) (text : List ℕ) → IsErrAnd r (λ fault. fault ≡ WriteFault) → AppendsPart w w' text → IsWrittenBy r w w' text
+written_err (Ok done) w w' text is part = absurd is
+written_err (Err fault) w w' text is part = (is, part)

@@ -1,6 +1,8 @@
 pub mod Devices
 pub mod Said
 pub mod Ending
+pub mod Faults
+pub mod Judging
 pub mod Played
 pub mod Plays
 pub mod Watching

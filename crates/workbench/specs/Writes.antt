@@ -2,52 +2,73 @@
 use Rattle.std.specs.Prelude.{◌≡◌, ◌⊎◌, ℕ, Bool, List, [], ◌++◌, length, Option, Some, None, IfSome, IfNone, Result, Ok, Err}
 use Rattle.std.specs.Io.KnownBytes.{Appends}
 use Rattle.own_model.specs.Listed.{Listed}
+use Rattle.own_model.specs.Text.{lines_of}
 use Rattle.own_model.specs.Transcript.{told_after}
 use Rattle.own_model.specs.World.{World}
 use Rattle.scenario.specs.Answered.{after_all}
+use Rattle.scenario.specs.Lines.{AreReadable}
 use Rattle.scenario.specs.Program.{IsMachine, accounts_for, world_of}
 use Rattle.scenario.specs.Stops.{AppendsPart}
+use Rattle.workbench.specs.Faults.{unplayed}
 use Rattle.workbench.specs.Played.{calls_answered, calls_said}
-use Rattle.workbench.specs.Plays.{AreAll, AreFirst}
+use Rattle.workbench.specs.Plays.{EndsFor, TakesRoomFor}
 use Rattle.workbench.specs.declared.ending.Ending.{Ending}
 use Rattle.workbench.specs.declared.ending.PlayFault.{PlayFault}
+use Rattle.workbench.specs.declared.ending.PlayFault.TheVariants.{ReadFault, WriteFault, TooManyLines, NoMemory}
 
--- all is written of what is told of all lines, and behind it what stands there; at a fault a part of what is told of these
--- lines, or of both where they are all
+-- all lines of a text
+abbrev pub AreAll : List (List ℕ) → List ℕ → Type 0
+AreAll lines text = lines_of text ≡ lines
+
+-- all is written of what is told of these lines, and behind it what stands there; where a write failed a part of what is told,
+-- or of both where these are all lines; where the host had no room a part of what is told; and at another fault all of it
 abbrev pub WritesBoth : Option PlayFault → Option (List ℕ) → List (List ℕ) → Option (List ℕ) → Option (List ℕ) →
     List ℕ → List ℕ → Type 0
-WritesBoth None input lines old new told behind = IfSome input (AreAll lines) × Appends old new (told ++ behind)
-WritesBoth (Some fault) input lines old new told behind =
+WritesBoth None input lines old new told behind = Appends old new (told ++ behind)
+WritesBoth (Some ReadFault) input lines old new told behind = Appends old new told
+WritesBoth (Some WriteFault) input lines old new told behind =
     AppendsPart old new told ⊎ (IfSome input (AreAll lines) × AppendsPart old new (told ++ behind))
+WritesBoth (Some TooManyLines) input lines old new told behind = Appends old new told
+WritesBoth (Some NoMemory) input lines old new told behind = AppendsPart old new told
 
--- a scenario was played, from its first line on, and this was written: what is told of its lines, and what stands behind them
-pub record IsPlayedFrom (told behind : List (List ℕ) → List ℕ) (ending : Ending) (input written now_written : Option (List ℕ)) : Type 0 where
+-- a scenario was played, from its first line on, to its end or to a fault that has a cause, and this was written: what is told
+-- of its lines, and what stands behind them; whether what is told of calls takes memory of the host is given
+pub record IsPlayedFrom (told behind : List (List ℕ) → List ℕ) (calls : Bool) (ending : Ending) (input rest : Option (List ℕ))
+    (failed : Bool) (written now_written : Option (List ℕ)) : Type 0 where
   pub lines : List (List ℕ)
-  pub first : IfSome input (AreFirst lines)
+  pub readable : AreReadable lines
+  pub ends : EndsFor ending.fault lines input rest failed
+  pub takes : TakesRoomFor calls ending.fault lines
   pub counted : IfNone ending.fault (ending.lines ≡ length lines)
   pub writes : WritesBoth ending.fault input lines written now_written (told lines) (behind lines)
 
 -- the same on the machine of a text
-pub record IsPlayed (text : List ℕ) (told behind : Listed → List (List ℕ) → List ℕ) (ending : Ending)
-    (input written now_written : Option (List ℕ)) : Type 0 where
+pub record IsPlayed (text : List ℕ) (told behind : Listed → List (List ℕ) → List ℕ) (calls : Bool) (ending : Ending)
+    (input rest : Option (List ℕ)) (failed : Bool) (written now_written : Option (List ℕ)) : Type 0 where
   pub listed : Listed
   pub machine : IsMachine text listed
-  pub played : IsPlayedFrom (told listed) (behind listed) ending input written now_written
+  pub played : IsPlayedFrom (told listed) (behind listed) calls ending input rest failed written now_written
 
--- behind a play that came to its end this is written, or at a fault a part of it; behind another nothing
+-- on the machine of a text nothing was played, since a device had failed before
+pub record IsUnplayed (text : List ℕ) (ended : Ending) (fault : PlayFault) : Type 0 where
+  pub listed : Listed
+  pub machine : IsMachine text listed
+  pub ending : ended ≡ unplayed fault
+
+-- behind a play that came to its end this is written, or a part of it where a write failed; behind another nothing
 abbrev pub WritesAfter : Option PlayFault → Option PlayFault → Option (List ℕ) → Option (List ℕ) → List ℕ → Type 0
 WritesAfter None None old new behind = Appends old new behind
-WritesAfter None (Some fault) old new behind = AppendsPart old new behind
+WritesAfter None (Some fault) old new behind = (fault ≡ WriteFault) × AppendsPart old new behind
 WritesAfter (Some fault) ended old new behind = (ended ≡ Some fault) × (new ≡ old)
 
 pub record Closes (played ended : Ending) (old new : Option (List ℕ)) (behind : List ℕ) : Type 0 where
   pub lines : ended.lines ≡ played.lines
   pub writes : WritesAfter played.fault ended.fault old new behind
 
--- all of a text is written, or at a fault a part of it
+-- all of a text is written, or a part of it where a write failed
 abbrev pub IsWrittenBy : {T : Type 0} → Result T PlayFault → Option (List ℕ) → Option (List ℕ) → List ℕ → Type 0
 IsWrittenBy (Ok done) old new text = Appends old new text
-IsWrittenBy (Err fault) old new text = AppendsPart old new text
+IsWrittenBy (Err fault) old new text = (fault ≡ WriteFault) × AppendsPart old new text
 
 -- nothing stands there
 abbrev pub nothing_told : Listed → List (List ℕ) → List ℕ

@@ -1,6 +1,7 @@
 //! The account list with peaks, servers and labels.
-ghost use Rattle.std.specs.Prelude.{◌≡◌, ◌≢◌, ◌+◌, ◌<◌, ◌≤◌, ◌++◌, [], codes, length, false, is_err, IfOk, IfErr, OnErr, None, Some};
+ghost use Rattle.std.specs.Prelude.{◌≡◌, ◌≢◌, ◌+◌, ◌<◌, ◌≤◌, ◌++◌, ◌||◌, [], codes, length, false, true, is_err, IfNone, IfOk, IfErr, IfSome, OnErr, None, Some};
 ghost use Rattle.std.specs.List.{flat_map};
+ghost use Rattle.std.specs.Result.{result_err};
 ghost use Rattle.own_model.specs.AccountList.{reserve_line, total_line};
 ghost use Rattle.own_model.specs.Listed.{start_list_of};
 ghost use Rattle.own_model.specs.Reply.{amounts_text};
@@ -11,10 +12,13 @@ ghost use Rattle.init_core.specs.declared.fault.BootFault.TheVariants.{NoMemory}
 ghost use Rattle.pd_core.specs.Answer.{quotas_account, reserve_amounts};
 ghost use Rattle.scenario.specs.Gathered.{TellsUnless};
 ghost use Rattle.scenario.specs.Program.{boot_fault};
+ghost use Rattle.scenario.specs.Runs.{HasCause};
+ghost use Rattle.workbench.specs.Faults.{fault_before, is_write_fault, unplayed};
 ghost use Rattle.workbench.specs.Kept.{SeesPeaks, found, noted_in, peak_at, peaked};
 ghost use Rattle.workbench.specs.PeakList.{accounts_behind, client_text, line_at, lines_at, list_with, name_at, noted_line, origin_text, peaked_line, peaked_text, peaks_text, places, selectors, server_text};
 ghost use Rattle.workbench.specs.Played.{calls_answered};
-ghost use Rattle.workbench.specs.Writes.{Closes, IsPlayed, IsPlayedFrom, IsWrittenBy, nothing_told};
+ghost use Rattle.workbench.specs.Writes.{Closes, IsPlayed, IsPlayedFrom, IsUnplayed, IsWrittenBy, nothing_told};
+ghost use Rattle.workbench.specs.declared.ending.PlayFault.TheVariants.{NoMemory as NoRoom};
 
 use crate::ending::{Ending, PlayFault};
 use crate::machine::Play;
@@ -37,8 +41,8 @@ const LONGEST_REST: usize = 240;
 /// sums of all limits. A peak is the most that was in use at the start or after any line, of a session since it is open.
 /// Complaints are written as they come.
 ///
-/// At a fault of the play no list is written, and at one of the list's a part of it, from the front. Where no machine is booted,
-/// no device is touched.
+/// At a fault of the play no list is written, and at one of the list's a part of it, from the front. It stops as `run` does, and for
+/// want of room at a call too.
 #[tactic(auto, using(scenario::proofs::TaskLemmas::tasks))]
 pub fn accounts<S: Source, K: Sink, E: Sink>(
     alloc: Global,
@@ -47,9 +51,22 @@ pub fn accounts<S: Source, K: Sink, E: Sink>(
     writer: &mut K,
     complaints: &mut E,
 ) -> Result<Ending, BootFault>
-    ensures played { IfOk result (λ ending. IsPlayed play.entry.machine.now nothing_told accounts_behind ending
-        (S.remaining reader.old) (K.contents writer.old) (K.contents writer.new)) }
+    ensures played { IfOk result (λ ending. fault_before (S.has_failed reader.old)
+        (K.has_failed writer.old || E.has_failed complaints.old) ≡ None →
+        IsPlayed play.entry.machine.now nothing_told accounts_behind true ending
+        (S.remaining reader.old) (S.remaining reader.new)
+        (S.has_failed reader.new) (K.contents writer.old) (K.contents writer.new)) }
     ensures few { IfOk result (λ ending. ending.lines ≤ MAX_LINES) }
+    ensures writing { IfOk result (λ ending. (K.has_failed writer.new
+        || E.has_failed complaints.new) ≡ is_write_fault ending.fault) }
+    ensures reading { IfOk result (λ ending. IfNone ending.fault (S.has_failed reader.new ≡ false)) }
+    ensures ok { IfOk result (λ ending. IfSome ending.fault (λ fault. fault ≢ NoRoom →
+        IfSome (S.remaining reader.old) (λ input. HasCause input MAX_LINES
+        (S.has_failed reader.new) (K.has_failed writer.new || E.has_failed complaints.new)))) }
+    ensures before { IfOk result (λ ending. IfSome (fault_before (S.has_failed reader.old)
+        (K.has_failed writer.old || E.has_failed complaints.old)) (λ fault.
+        IsUnplayed play.entry.machine.now ending fault
+        × (reader.new ≡ reader.old) × (writer.new ≡ writer.old) × (complaints.new ≡ complaints.old))) }
     ensures unbooted { IfErr result (λ fault. fault ≢ NoMemory → boot_fault play.entry.machine.now ≡ Some fault) }
     ensures untouched { OnErr result
         ((reader.new ≡ reader.old) × (writer.new ≡ writer.old) × (complaints.new ≡ complaints.old)) }
@@ -82,11 +99,19 @@ fn play_with_peaks<R: Router + Drop, S: Source, K: Sink, E: Sink>(
     requires ahead { notes.old.buffers.ahead ≡ [] }
     requires gathered { notes.old.buffers.gathered ≡ [] }
     requires sees { SeesPeaks (peaked peaks.old.init) peaks.old.components.items peaks.old.sessions.items run.now.list.now core.old [] }
-    ensures played { IsPlayedFrom (λ _. []) (λ lines. peaks_text run.now.list.now core.old (calls_answered None lines))
-        result (S.remaining reader.old) (K.contents writer.old) (K.contents writer.new) }
+    ensures played { fault_before (S.has_failed reader.old)
+        (K.has_failed writer.old || E.has_failed complaints.old) ≡ None → IsPlayedFrom (λ _. []) (λ lines. peaks_text run.now.list.now core.old (calls_answered None lines))
+        true result (S.remaining reader.old) (S.remaining reader.new)
+        (S.has_failed reader.new) (K.contents writer.old) (K.contents writer.new) }
     ensures few { result.lines ≤ MAX_LINES }
+    ensures writing { (K.has_failed writer.new || E.has_failed complaints.new)
+        ≡ is_write_fault result.fault }
+    ensures reading { IfNone result.fault (S.has_failed reader.new ≡ false) }
+    ensures before { IfSome (fault_before (S.has_failed reader.old)
+        (K.has_failed writer.old || E.has_failed complaints.old)) (λ fault. (result ≡ unplayed fault)
+        × (reader.new ≡ reader.old) × (writer.new ≡ writer.old) × (complaints.new ≡ complaints.old)) }
 {
-    let ending = play_lines(run, core, notes, peaks, reader, writer, complaints);
+    let ending = play_lines(run, core, notes, peaks, b"", reader, writer, complaints);
     close_with_peaks(ending, core, run.list, peaks, writer)
 }
 
@@ -99,8 +124,10 @@ fn close_with_peaks<R: Router + Drop, K: Sink>(
     writer: &mut K,
 ) -> Ending
     requires listed { core.now.entries ≡ entries_of (start_list_of list.now) }
-    ensures { Closes ending result (K.contents writer.old) (K.contents writer.new)
+    ensures closes { Closes ending result (K.contents writer.old) (K.contents writer.new)
         (list_with list.now core.now (peaked peaks.now.init) (peak_at peaks.now.components.items) (found peaks.now.sessions.items)) }
+    ensures failing { IfNone ending.fault (K.has_failed writer.new ≡ is_write_fault result.fault) }
+    ensures stopped { IfSome ending.fault (λ _. (result ≡ ending) × (writer.new ≡ writer.old)) }
 {
     if ending.fault.is_some() {
         return ending;
@@ -120,8 +147,9 @@ fn write_list<R: Router + Drop, K: Sink>(
     writer: &mut K,
 ) -> Result<(), PlayFault>
     requires listed { core.now.entries ≡ entries_of (start_list_of list.now) }
-    ensures { IsWrittenBy result (K.contents writer.old) (K.contents writer.new)
+    ensures written { IsWrittenBy result (K.contents writer.old) (K.contents writer.new)
         (list_with list.now core.now (peaked peaks.now.init) (peak_at peaks.now.components.items) (found peaks.now.sessions.items)) }
+    ensures failing { K.has_failed writer.new ≡ is_write_fault (result_err result) }
 {
     if writer.failed() {
         return Err(PlayFault::WriteFault);

@@ -1,14 +1,18 @@
 //! What one component is told in the whole run, and in a run of its own lines alone.
-ghost use Rattle.std.specs.Prelude.{◌≡◌, ◌≢◌, ◌≤◌, ◌∷◌, ◌++◌, [], ℕ, List, codes, decimal, length, false, true, is_err, IfOk, IfErr, IfNone, OnErr, None, Some};
+ghost use Rattle.std.specs.Prelude.{◌≡◌, ◌≢◌, ◌≤◌, ◌∷◌, ◌++◌, ◌||◌, [], ℕ, List, codes, decimal, length, false, true, is_err, IfOk, IfErr, IfNone, IfSome, OnErr, None, Some};
+ghost use Rattle.std.specs.Result.{result_err};
 ghost use Rattle.own_model.specs.Listed.{start_list_of};
 ghost use Rattle.own_model.specs.StartList.{entries_of};
 ghost use Rattle.init_core.specs.declared.fault.BootFault.TheVariants.{NoMemory};
 ghost use Rattle.scenario.specs.Answer.{answer_text};
 ghost use Rattle.scenario.specs.Gathered.{TellsUnless};
 ghost use Rattle.scenario.specs.Program.{boot_fault};
+ghost use Rattle.scenario.specs.Runs.{HasCause};
+ghost use Rattle.workbench.specs.Faults.{fault_before, is_write_fault, unplayed};
 ghost use Rattle.workbench.specs.Alone.{AreAlike, SeesAlone, alone_behind, alone_sum, alone_tells, alone_told};
 ghost use Rattle.workbench.specs.Played.{calls_answered, told_of_lines};
-ghost use Rattle.workbench.specs.Writes.{Closes, IsPlayed, IsPlayedFrom, IsWrittenBy};
+ghost use Rattle.workbench.specs.Writes.{Closes, IsPlayed, IsPlayedFrom, IsUnplayed, IsWrittenBy};
+ghost use Rattle.workbench.specs.declared.ending.PlayFault.TheVariants.{NoMemory as NoRoom};
 
 use crate::ending::{Ending, PlayFault};
 use crate::machine::Play;
@@ -145,7 +149,8 @@ fn put_side<K: Sink>(
 /// lines its number, the line, and its answer in the whole run and the one alone; and last how many these are, and that they
 /// are the same. They always are: each component's answers are those of its own run. Complaints are written as they come.
 ///
-/// At a fault a part of it is written, from the front. Where no machine is booted, no device is touched.
+/// At a fault what was told by then is written, or where a write failed or the host has no room a part of it, from the front. It
+/// stops as `run` does.
 #[tactic(auto, using(scenario::proofs::TaskLemmas::tasks))]
 pub fn alone<S: Source, K: Sink, E: Sink>(
     alloc: Global,
@@ -155,11 +160,24 @@ pub fn alone<S: Source, K: Sink, E: Sink>(
     writer: &mut K,
     complaints: &mut E,
 ) -> Result<Ending, BootFault>
-    ensures played { IfOk result (λ ending. IsPlayed play.entry.machine.now
-        (alone_told name.now) (alone_behind name.now) ending
-        (S.remaining reader.old) (K.contents writer.old) (K.contents writer.new)) }
+    ensures played { IfOk result (λ ending. fault_before (S.has_failed reader.old)
+        (K.has_failed writer.old || E.has_failed complaints.old) ≡ None →
+        IsPlayed play.entry.machine.now
+        (alone_told name.now) (alone_behind name.now) false ending
+        (S.remaining reader.old) (S.remaining reader.new)
+        (S.has_failed reader.new) (K.contents writer.old) (K.contents writer.new)) }
     ensures alike { AreAlike name.now }
     ensures few { IfOk result (λ ending. ending.lines ≤ MAX_LINES) }
+    ensures writing { IfOk result (λ ending. (K.has_failed writer.new
+        || E.has_failed complaints.new) ≡ is_write_fault ending.fault) }
+    ensures reading { IfOk result (λ ending. IfNone ending.fault (S.has_failed reader.new ≡ false)) }
+    ensures ok { IfOk result (λ ending. IfSome ending.fault (λ fault. fault ≢ NoRoom →
+        IfSome (S.remaining reader.old) (λ input. HasCause input MAX_LINES
+        (S.has_failed reader.new) (K.has_failed writer.new || E.has_failed complaints.new)))) }
+    ensures before { IfOk result (λ ending. IfSome (fault_before (S.has_failed reader.old)
+        (K.has_failed writer.old || E.has_failed complaints.old)) (λ fault.
+        IsUnplayed play.entry.machine.now ending fault
+        × (reader.new ≡ reader.old) × (writer.new ≡ writer.old) × (complaints.new ≡ complaints.old))) }
     ensures unbooted { IfErr result (λ fault. fault ≢ NoMemory → boot_fault play.entry.machine.now ≡ Some fault) }
     ensures untouched { OnErr result
         ((reader.new ≡ reader.old) × (writer.new ≡ writer.old) × (complaints.new ≡ complaints.old)) }
@@ -195,11 +213,19 @@ fn play_beside<R: Router + Drop, Q: Router + Drop, S: Source, K: Sink, E: Sink>(
     requires ahead { notes.old.buffers.ahead ≡ [] }
     requires gathered { notes.old.buffers.gathered ≡ [] }
     requires same { second ≡ core.old }
-    ensures played { IsPlayedFrom
+    ensures played { fault_before (S.has_failed reader.old)
+        (K.has_failed writer.old || E.has_failed complaints.old) ≡ None → IsPlayedFrom
         (λ lines. told_of_lines (alone_tells name.now core.old) None [] 1 lines)
         (λ lines. alone_sum name.now (length (calls_answered (Some name.now) lines)))
-        result (S.remaining reader.old) (K.contents writer.old) (K.contents writer.new) }
+        false result (S.remaining reader.old) (S.remaining reader.new)
+        (S.has_failed reader.new) (K.contents writer.old) (K.contents writer.new) }
     ensures few { result.lines ≤ MAX_LINES }
+    ensures writing { (K.has_failed writer.new || E.has_failed complaints.new)
+        ≡ is_write_fault result.fault }
+    ensures reading { IfNone result.fault (S.has_failed reader.new ≡ false) }
+    ensures before { IfSome (fault_before (S.has_failed reader.old)
+        (K.has_failed writer.old || E.has_failed complaints.old)) (λ fault. (result ≡ unplayed fault)
+        × (reader.new ≡ reader.old) × (writer.new ≡ writer.old) × (complaints.new ≡ complaints.old)) }
 {
     let mut watch = SecondMachine {
         list: run.list,
@@ -209,7 +235,9 @@ fn play_beside<R: Router + Drop, Q: Router + Drop, S: Source, K: Sink, E: Sink>(
         lines: 0,
         difference: None,
     };
-    let ending = play_lines(run, core, notes, &mut watch, reader, writer, complaints);
+    let ending = play_lines(
+        run, core, notes, &mut watch, b"", reader, writer, complaints,
+    );
     close_with_sum(ending, name, watch.lines, watch.difference, writer)
 }
 
@@ -221,8 +249,10 @@ fn close_with_sum<K: Sink>(
     difference: Option<u64>,
     writer: &mut K,
 ) -> Ending
-    ensures { IfNone ending.fault (difference ≡ None) →
+    ensures closes { IfNone ending.fault (difference ≡ None) →
         Closes ending result (K.contents writer.old) (K.contents writer.new) (alone_sum name.now lines) }
+    ensures failing { IfNone ending.fault (K.has_failed writer.new ≡ is_write_fault result.fault) }
+    ensures stopped { IfSome ending.fault (λ _. (result ≡ ending) × (writer.new ≡ writer.old)) }
 {
     if ending.fault.is_some() {
         return ending;
@@ -241,7 +271,9 @@ fn write_sum<K: Sink>(
     difference: Option<u64>,
     writer: &mut K,
 ) -> Result<(), PlayFault>
-    ensures { difference ≡ None → IsWrittenBy result (K.contents writer.old) (K.contents writer.new) (alone_sum name.now lines) }
+    ensures written { difference ≡ None →
+        IsWrittenBy result (K.contents writer.old) (K.contents writer.new) (alone_sum name.now lines) }
+    ensures failing { K.has_failed writer.new ≡ is_write_fault (result_err result) }
 {
     if writer.failed() {
         return Err(PlayFault::WriteFault);

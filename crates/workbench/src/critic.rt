@@ -1,5 +1,10 @@
 //! Who holds answers against what is expected.
-ghost use Rattle.std.specs.Prelude.{◌≡◌, false, OnOk};
+ghost use Rattle.std.specs.Prelude.{◌≡◌, ◌||◌, false, true, not, is_some, IfErr, IfOk, OnOk};
+ghost use Rattle.std.specs.Option.{option_copied};
+ghost use Rattle.std.specs.Str.{bytes_eq};
+ghost use Rattle.workbench.specs.Faults.{Fails};
+ghost use Rattle.workbench.specs.Judging.{awaited_more, is_other, nothing_awaited};
+ghost use Rattle.workbench.specs.declared.ending.PlayFault.TheVariants.{NoMemory as NoRoom};
 
 use crate::complaint::{Complaints, Place};
 use crate::ending::PlayFault;
@@ -18,7 +23,9 @@ pub(crate) struct Critic<'a> {
 
 impl<'a> Critic<'a> {
     /// The critic of a scenario by its name, who expects nothing yet.
-    pub(crate) fn new(alloc: Global, scenario: &'a [u8]) -> Critic<'a> {
+    pub(crate) fn new(alloc: Global, scenario: &'a [u8]) -> Critic<'a>
+        ensures { result.expected ≡ nothing_awaited }
+    {
         Critic {
             alloc,
             expected: Expected::new(alloc),
@@ -27,7 +34,12 @@ impl<'a> Critic<'a> {
     }
 
     /// Expects a log line of the next call.
-    pub(crate) fn expect_line(&mut self, number: u64, text: &[u8]) -> Result<bool, PlayFault> {
+    pub(crate) fn expect_line(&mut self, number: u64, text: &[u8]) -> Result<bool, PlayFault>
+        ensures fault { IfErr result (λ fault. fault ≡ NoRoom) }
+        ensures silent { IfOk result (λ complained. complained ≡ false) }
+        ensures expects { OnOk result
+            (self.new.expected ≡ awaited_more self.old.expected number text.now) }
+    {
         self.expected.add(number, text)?;
         Ok(false)
     }
@@ -43,7 +55,11 @@ impl<'a> Critic<'a> {
         sink: &mut E,
     ) -> Result<bool, PlayFault>
         requires { E.has_failed sink.old ≡ false }
+        ensures judged { IfOk result (λ complained. complained
+            ≡ is_other (option_copied reply.entry) answer.entry self.old.expected) }
+        ensures forgets { self.new.expected ≡ nothing_awaited }
         ensures works { OnOk result (E.has_failed sink.new ≡ false) }
+        ensures failing { Fails result (E.has_failed sink.new) false }
     {
         let judged = match (reply, answer) {
             (_, None) => Ok(false),
@@ -63,7 +79,10 @@ impl<'a> Critic<'a> {
     // Complains where log lines are expected of a call for which no reply is.
     fn judge_silent<E: Sink>(&mut self, number: u64, sink: &mut E) -> Result<bool, PlayFault>
         requires { E.has_failed sink.old ≡ false }
+        ensures judged { IfOk result (λ complained. complained ≡ is_some self.old.expected.first) }
+        ensures keeps { self.new.expected ≡ self.old.expected }
         ensures works { OnOk result (E.has_failed sink.new ≡ false) }
+        ensures failing { Fails result (E.has_failed sink.new) false }
     {
         if self.expected.first().is_none() {
             return Ok(false);
@@ -85,7 +104,11 @@ impl<'a> Critic<'a> {
         sink: &mut E,
     ) -> Result<bool, PlayFault>
         requires { E.has_failed sink.old ≡ false }
+        ensures judged { IfOk result (λ complained. complained
+            ≡ (not (bytes_eq reply.now expected.now) || not (bytes_eq lines.now self.old.expected.lines))) }
+        ensures keeps { self.new.expected ≡ self.old.expected }
         ensures works { OnOk result (E.has_failed sink.new ≡ false) }
+        ensures failing { Fails result (E.has_failed sink.new) false }
     {
         if reply != expected {
             self.complaints
@@ -111,7 +134,10 @@ impl<'a> Critic<'a> {
         sink: &mut E,
     ) -> Result<bool, PlayFault>
         requires { E.has_failed sink.old ≡ false }
+        ensures told { IfOk result (λ complained. complained ≡ true) }
+        ensures keeps { self.new.expected ≡ self.old.expected }
         ensures works { OnOk result (E.has_failed sink.new ≡ false) }
+        ensures failing { Fails result (E.has_failed sink.new) true }
     {
         let reason = fault.reason.to_string(self.alloc)?;
         let place = Place {
@@ -128,7 +154,10 @@ impl<'a> Critic<'a> {
         sink: &mut E,
     ) -> Result<bool, PlayFault>
         requires { E.has_failed sink.old ≡ false }
+        ensures told { IfOk result (λ complained. complained ≡ true) }
+        ensures keeps { self.new.expected ≡ self.old.expected }
         ensures works { OnOk result (E.has_failed sink.new ≡ false) }
+        ensures failing { Fails result (E.has_failed sink.new) false }
     {
         let place = Place {
             line: number,
@@ -140,7 +169,10 @@ impl<'a> Critic<'a> {
     /// Tells an expected log line that no call follows, if there is one.
     pub(crate) fn tell_left_over<E: Sink>(&mut self, sink: &mut E) -> Result<bool, PlayFault>
         requires { E.has_failed sink.old ≡ false }
+        ensures told { IfOk result (λ complained. complained ≡ is_some self.old.expected.first) }
+        ensures keeps { self.new.expected ≡ self.old.expected }
         ensures works { OnOk result (E.has_failed sink.new ≡ false) }
+        ensures failing { Fails result (E.has_failed sink.new) false }
     {
         match self.expected.first() {
             Some(line) => {
@@ -162,7 +194,10 @@ impl<'a> Critic<'a> {
         sink: &mut E,
     ) -> Result<bool, PlayFault>
         requires { E.has_failed sink.old ≡ false }
+        ensures told { IfOk result (λ complained. complained ≡ true) }
+        ensures keeps { self.new.expected ≡ self.old.expected }
         ensures works { OnOk result (E.has_failed sink.new ≡ false) }
+        ensures failing { Fails result (E.has_failed sink.new) false }
     {
         self.complaints.tell(sink, place, words)?;
         Ok(true)

@@ -1,6 +1,8 @@
 //! How a play ends.
 ghost use Rattle.std.specs.Prelude.{◌≡◌};
 ghost use Rattle.workbench.specs.Ending.{status_of};
+ghost use Rattle.workbench.specs.Faults.{line_fault, run_fault};
+ghost use Rattle.workbench.specs.declared.ending.PlayFault.TheVariants.{NoMemory as NoRoom, WriteFault as Unwritten};
 
 use init_core::BootFault;
 use scenario::{DeviceFault, LineFault, RunFault};
@@ -25,6 +27,8 @@ pub enum PlayFault {
 }
 
 impl From<LineFault> for PlayFault {
+    ghost from_gives = { λ fault result. result ≡ line_fault fault };
+
     fn from(fault: LineFault) -> PlayFault {
         match fault {
             LineFault::Read | LineFault::Endless => PlayFault::ReadFault,
@@ -34,6 +38,8 @@ impl From<LineFault> for PlayFault {
 }
 
 impl From<RunFault> for PlayFault {
+    ghost from_gives = { λ fault result. result ≡ run_fault fault };
+
     fn from(fault: RunFault) -> PlayFault {
         match fault {
             RunFault::ReadFault => PlayFault::ReadFault,
@@ -44,18 +50,24 @@ impl From<RunFault> for PlayFault {
 }
 
 impl From<DeviceFault> for PlayFault {
+    ghost from_gives = { λ _ result. result ≡ Unwritten };
+
     fn from(_fault: DeviceFault) -> PlayFault {
         PlayFault::WriteFault
     }
 }
 
 impl From<AllocError> for PlayFault {
+    ghost from_gives = { λ _ result. result ≡ NoRoom };
+
     fn from(_want: AllocError) -> PlayFault {
         PlayFault::NoMemory
     }
 }
 
 impl<T: Drop> From<AllocFailed<T>> for PlayFault {
+    ghost from_gives = { λ _ result. result ≡ NoRoom };
+
     fn from(_want: AllocFailed<T>) -> PlayFault {
         PlayFault::NoMemory
     }
@@ -74,10 +86,11 @@ pub struct Ending {
 
 impl Ending {
     ghost use Rattle.std.specs.Prelude.{◌≡◌, Some};
+    ghost use Rattle.workbench.specs.Faults.{unplayed};
 
     /// A play that stopped before its first line.
     pub(crate) fn before_all(fault: PlayFault) -> Ending
-        ensures { result ≡ record { lines = 0; complaints = 0; fault = Some fault } }
+        ensures { result ≡ unplayed fault }
     {
         Ending {
             lines: 0,

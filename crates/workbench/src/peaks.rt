@@ -248,10 +248,12 @@ impl Peaks {
 }
 
 impl Watch for Peaks {
-    ghost use Rattle.std.specs.Prelude.{[]};
+    ghost use Rattle.std.specs.Prelude.{[], true};
     ghost use Rattle.workbench.specs.Kept.{SeesPeaks, peaked};
 
     ghost tells = { λ _ _ _ _ _. [] };
+
+    ghost takes = { true };
 
     ghost sees = { λ peaks. SeesPeaks (peaked peaks.init) peaks.components.items peaks.sessions.items };
 

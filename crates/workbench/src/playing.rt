@@ -1,14 +1,18 @@
 //! The play: lines of the friendly form are read, answered, told and judged.
-ghost use Rattle.std.specs.Prelude.{◌≡◌, ◌+◌, ◌≤◌, ◌∷◌, ◌++◌, ℕ, List, [], length, take, drop, OnOk, false};
+ghost use Rattle.std.specs.Prelude.{◌≡◌, ◌+◌, ◌≤◌, ◌∷◌, ◌++◌, ◌||◌, ℕ, List, [], length, take, drop, IfSome, IfNone, IfOk, OnOk, None, false};
 ghost use Rattle.std.specs.Option.{option_copied};
 ghost use Rattle.std.specs.Result.{result_err};
 ghost use Rattle.own_model.specs.Listed.{start_list_of};
 ghost use Rattle.own_model.specs.SaidBy.{said_by};
 ghost use Rattle.own_model.specs.StartList.{entries_of};
 ghost use Rattle.own_model.specs.World.{World};
+ghost use Rattle.friendly_lines.specs.Friendly.{said_of};
+ghost use Rattle.scenario.specs.Answer.{AnswersLine};
 ghost use Rattle.scenario.specs.Answered.{after_all, point};
 ghost use Rattle.scenario.specs.Gathered.{TellsUnless};
 ghost use Rattle.workbench.specs.Devices.{AllWork, OutputsWork};
+ghost use Rattle.workbench.specs.Faults.{Fails, fault_before, is_write_fault, line_takes_room, unplayed};
+ghost use Rattle.workbench.specs.Judging.{IsJudged, awaited_after};
 ghost use Rattle.workbench.specs.Played.{call_of, told_of_calls};
 ghost use Rattle.workbench.specs.Plays.{PlaysAll, PlaysNext, line_played};
 ghost use Rattle.workbench.specs.Watching.{Watches};
@@ -18,7 +22,7 @@ use crate::notes::{Desk, Notes};
 use crate::watch::{Heard, Watch};
 use friendly_lines::{Said, read_friendly};
 use pd_core::{Core, Reply, Router};
-use scenario::{Gather, LONGEST_LINE, LineAnswer, MAX_LINES, Next, Run, Sink, Source};
+use scenario::{DeviceFault, Gather, LONGEST_LINE, LineAnswer, MAX_LINES, Next, Run, Sink, Source};
 
 /// What became of the next line.
 #[derive(Clone, Copy, Debug, PartialEq, Eq)]
@@ -36,34 +40,49 @@ pub(crate) struct Tally {
     pub complaints: u64,
 }
 
-/// Plays each line of a scenario in turn, at most `MAX_LINES`: its call is answered, told to `watch`, and held against what is
-/// expected. All that is told is written before each read, and at the end. A device that has failed isn't tried again.
+/// Plays each line of a scenario in turn, at most `MAX_LINES`, behind a front that is told first: its call is answered, told to
+/// `watch`, and held against what is expected. All that is told is written before each read, and at the end. A device that has
+/// failed isn't tried again: also one that had failed before, which is told with the outputs first.
 pub(crate) fn play<R: Router + Drop, W: Watch, S: Source, K: Sink, E: Sink>(
     run: &Run<'_>,
     core: &mut Core<R>,
     notes: &mut Notes<'_>,
     watch: &mut W,
+    front: &[u8],
     reader: &mut S,
     writer: &mut K,
     complaints: &mut E,
 ) -> Ending
     requires listed { core.old.entries ≡ entries_of (start_list_of run.now.list.now) }
     requires fresh { notes.old.buffers.ahead ≡ [] }
-    ensures plays { W.sees watch.old run.now.list.now core.old [] →
-        PlaysAll (W.tells watch.old core.old) (W.sees watch.new run.now.list.now core.old) (option_copied run.now.only)
-        result.fault result.lines core.old core.new notes.old.buffers.gathered
-        (S.remaining reader.old) (K.contents writer.old) (K.contents writer.new) }
+    requires empty { notes.old.buffers.gathered ≡ [] }
+    ensures plays { fault_before (S.has_failed reader.old)
+        (K.has_failed writer.old || E.has_failed complaints.old) ≡ None →
+        W.sees watch.old run.now.list.now core.old [] →
+        PlaysAll (W.tells watch.old core.old) W.takes (W.sees watch.new run.now.list.now core.old)
+        (option_copied run.now.only) result.fault result.lines core.old core.new front.now
+        (S.remaining reader.old) (S.remaining reader.new) (S.has_failed reader.new)
+        (K.contents writer.old) (K.contents writer.new) }
     ensures same { W.tells watch.new ≡ W.tells watch.old }
     ensures held { W.holds watch.new ≡ W.holds watch.old }
     ensures few { result.lines ≤ MAX_LINES }
     ensures listed { core.new.entries ≡ core.old.entries }
+    ensures writing { (K.has_failed writer.new || E.has_failed complaints.new)
+        ≡ is_write_fault result.fault }
+    ensures reading { IfNone result.fault (S.has_failed reader.new ≡ false) }
+    ensures before { IfSome (fault_before (S.has_failed reader.old)
+        (K.has_failed writer.old || E.has_failed complaints.old)) (λ fault. (result ≡ unplayed fault)
+        × (reader.new ≡ reader.old) × (writer.new ≡ writer.old) × (complaints.new ≡ complaints.old)) }
 {
+    if let Some(fault) = failed_before(reader, writer, complaints) {
+        return Ending::before_all(fault);
+    }
     let mut tally = Tally {
         lines: 0,
         complaints: 0,
     };
-    let played = play_if_working(
-        run, core, notes, watch, &mut tally, reader, writer, complaints,
+    let played = play_behind(
+        run, core, notes, watch, front, &mut tally, reader, writer, complaints,
     );
     Ending {
         lines: tally.lines,
@@ -72,12 +91,31 @@ pub(crate) fn play<R: Router + Drop, W: Watch, S: Source, K: Sink, E: Sink>(
     }
 }
 
-// Plays line after line, unless a device has failed before.
-fn play_if_working<R: Router + Drop, W: Watch, S: Source, K: Sink, E: Sink>(
+// The fault of a play on devices of which one had failed before.
+fn failed_before<S: Source, K: Sink, E: Sink>(
+    reader: &S,
+    writer: &K,
+    complaints: &E,
+) -> Option<PlayFault>
+    ensures { result ≡ fault_before (S.has_failed reader.now)
+        (K.has_failed writer.now || E.has_failed complaints.now) }
+{
+    if writer.failed() || complaints.failed() {
+        Some(PlayFault::WriteFault)
+    } else if reader.failed() {
+        Some(PlayFault::ReadFault)
+    } else {
+        None
+    }
+}
+
+// Tells the front, and plays line after line behind it.
+fn play_behind<R: Router + Drop, W: Watch, S: Source, K: Sink, E: Sink>(
     run: &Run<'_>,
     core: &mut Core<R>,
     notes: &mut Notes<'_>,
     watch: &mut W,
+    front: &[u8],
     tally: &mut Tally,
     reader: &mut S,
     writer: &mut K,
@@ -85,26 +123,27 @@ fn play_if_working<R: Router + Drop, W: Watch, S: Source, K: Sink, E: Sink>(
 ) -> Result<(), PlayFault>
     requires listed { core.old.entries ≡ entries_of (start_list_of run.now.list.now) }
     requires fresh { notes.old.buffers.ahead ≡ [] }
+    requires empty { notes.old.buffers.gathered ≡ [] }
     requires few { tally.old.lines ≤ MAX_LINES }
+    requires works { AllWork (S.has_failed reader.old) (K.has_failed writer.old)
+        (E.has_failed complaints.old) }
     ensures plays { W.sees watch.old run.now.list.now core.old [] →
-        PlaysAll (W.tells watch.old core.old) (W.sees watch.new run.now.list.now core.old) (option_copied run.now.only)
-        (result_err result) tally.new.lines core.old core.new notes.old.buffers.gathered
-        (S.remaining reader.old) (K.contents writer.old) (K.contents writer.new) }
+        PlaysAll (W.tells watch.old core.old) W.takes (W.sees watch.new run.now.list.now core.old)
+        (option_copied run.now.only) (result_err result) tally.new.lines core.old core.new front.now
+        (S.remaining reader.old) (S.remaining reader.new) (S.has_failed reader.new)
+        (K.contents writer.old) (K.contents writer.new) }
     ensures same { W.tells watch.new ≡ W.tells watch.old }
     ensures held { W.holds watch.new ≡ W.holds watch.old }
     ensures few { tally.new.lines ≤ MAX_LINES }
     ensures listed { core.new.entries ≡ core.old.entries }
+    ensures writing { (K.has_failed writer.new || E.has_failed complaints.new)
+        ≡ is_write_fault (result_err result) }
+    ensures reading { OnOk result (S.has_failed reader.new ≡ false) }
 {
-    if writer.failed() {
-        return Err(PlayFault::WriteFault);
+    match notes.buffers.gathered.put(writer, front) {
+        Ok(()) => play_all(run, core, notes, watch, tally, reader, writer, complaints),
+        Err(DeviceFault) => Err(PlayFault::WriteFault),
     }
-    if complaints.failed() {
-        return Err(PlayFault::WriteFault);
-    }
-    if reader.failed() {
-        return Err(PlayFault::ReadFault);
-    }
-    play_all(run, core, notes, watch, tally, reader, writer, complaints)
 }
 
 // Plays line after line, and counts them and the complaints.
@@ -122,13 +161,17 @@ fn play_all<R: Router + Drop, W: Watch, S: Source, K: Sink, E: Sink>(
     requires fresh { notes.old.buffers.ahead ≡ [] }
     requires works { AllWork (S.has_failed reader.old) (K.has_failed writer.old) (E.has_failed complaints.old) }
     ensures plays { W.sees watch.old run.now.list.now core.old [] →
-        PlaysAll (W.tells watch.old core.old) (W.sees watch.new run.now.list.now core.old) (option_copied run.now.only)
-        (result_err result) tally.new.lines core.old core.new notes.old.buffers.gathered
-        (S.remaining reader.old) (K.contents writer.old) (K.contents writer.new) }
+        PlaysAll (W.tells watch.old core.old) W.takes (W.sees watch.new run.now.list.now core.old)
+        (option_copied run.now.only) (result_err result) tally.new.lines core.old core.new
+        notes.old.buffers.gathered (S.remaining reader.old) (S.remaining reader.new)
+        (S.has_failed reader.new) (K.contents writer.old) (K.contents writer.new) }
     ensures same { W.tells watch.new ≡ W.tells watch.old }
     ensures held { W.holds watch.new ≡ W.holds watch.old }
     ensures few { tally.new.lines ≤ MAX_LINES }
     ensures listed { core.new.entries ≡ core.old.entries }
+    ensures writing { (K.has_failed writer.new || E.has_failed complaints.new)
+        ≡ is_write_fault (result_err result) }
+    ensures reading { OnOk result (S.has_failed reader.new ≡ false) }
 {
     tally.lines = 0;
     tally.complaints = 0;
@@ -159,6 +202,7 @@ fn close<E: Sink>(
     requires few { tally.old.complaints ≤ MAX_LINES }
     requires works { E.has_failed complaints.old ≡ false }
     ensures lines { tally.new.lines ≡ tally.old.lines }
+    ensures failing { Fails result (E.has_failed complaints.new) false }
 {
     let complained = notes.desk.critic.tell_left_over(complaints)?;
     tally.complaints += u64::from(complained);
@@ -178,8 +222,8 @@ fn play_next<R: Router + Drop, W: Watch, S: Source, K: Sink, E: Sink>(
     requires listed { core.old.entries ≡ entries_of (start_list_of run.now.list.now) }
     requires works { AllWork (S.has_failed reader.old) (K.has_failed writer.old) (E.has_failed complaints.old) }
     ensures next { (start : World) (earlier : List (List ℕ)) → Watches (W.sees watch.old run.now.list.now) start earlier core.old →
-        PlaysNext (W.tells watch.old start) (W.sees watch.new run.now.list.now start) (option_copied run.now.only)
-        notes.old.number earlier result
+        PlaysNext (W.tells watch.old start) W.takes (W.sees watch.new run.now.list.now start)
+        (option_copied run.now.only) notes.old.number earlier result (S.has_failed reader.new)
         (point core.old notes.old.buffers (S.remaining reader.old) (K.contents writer.old))
         (point core.new notes.new.buffers (S.remaining reader.new) (K.contents writer.new)) }
     ensures same { W.tells watch.new ≡ W.tells watch.old }
@@ -187,6 +231,8 @@ fn play_next<R: Router + Drop, W: Watch, S: Source, K: Sink, E: Sink>(
     ensures listed { core.new.entries ≡ core.old.entries }
     ensures works { OnOk result
         (AllWork (S.has_failed reader.new) (K.has_failed writer.new) (E.has_failed complaints.new)) }
+    ensures writing { (K.has_failed writer.new || E.has_failed complaints.new)
+        ≡ is_write_fault (result_err result) }
 {
     match notes.buffers.next_line(reader, writer) {
         Ok(Next::Line(count)) => {
@@ -237,6 +283,8 @@ fn play_ahead<R: Router + Drop, W: Watch, K: Sink, E: Sink>(
     ensures same { W.tells watch.new ≡ W.tells watch.old }
     ensures held { W.holds watch.new ≡ W.holds watch.old }
     ensures works { OnOk result (OutputsWork (K.has_failed writer.new) (E.has_failed complaints.new)) }
+    ensures failing { Fails result (K.has_failed writer.new || E.has_failed complaints.new)
+        (line_takes_room W.takes (take count notes.old.buffers.ahead)) }
 {
     let line = &notes.buffers.ahead.ahead()[..count];
     let judged = play_line(
@@ -280,6 +328,12 @@ fn play_line<R: Router + Drop, W: Watch, K: Sink, E: Sink>(
     ensures same { W.tells watch.new ≡ W.tells watch.old }
     ensures held { W.holds watch.new ≡ W.holds watch.old }
     ensures works { OnOk result (OutputsWork (K.has_failed writer.new) (E.has_failed complaints.new)) }
+    ensures failing { Fails result (K.has_failed writer.new || E.has_failed complaints.new)
+        (line_takes_room W.takes line.now) }
+    ensures judged { IfOk result (IsJudged (option_copied run.now.only) core.old (said_of line.now)
+        desk.old.critic.expected) }
+    ensures expects { OnOk result (desk.new.critic.expected
+        ≡ awaited_after number (said_of line.now) desk.old.critic.expected) }
 {
     match read_friendly(line, &mut desk.room) {
         Ok(Said::Nothing) => Ok(false),
@@ -329,6 +383,8 @@ where
     ensures same { W.tells watch.new ≡ W.tells watch.old }
     ensures held { W.holds watch.new ≡ W.holds watch.old }
     ensures works { OnOk result (K.has_failed writer.new ≡ false) }
+    ensures failing { Fails result (K.has_failed writer.new) W.takes }
+    ensures answered { IfOk result (AnswersLine (option_copied run.now.only) core.old line.now) }
 {
     match run.answer(core, line, reply) {
         Some(answer) => {

@@ -1,15 +1,17 @@
 //! The trace of a scenario: a row of figures for each call.
-ghost use Rattle.std.specs.Prelude.{◌≡◌, ◌≢◌, ◌+◌, ◌<◌, ◌≤◌, ◌∷◌, ◌++◌, [], ⊤, length, decimal, false, IfOk, IfErr, IfSome, OnErr, IfNone, None, Some, drop};
+ghost use Rattle.std.specs.Prelude.{◌≡◌, ◌≢◌, ◌+◌, ◌<◌, ◌≤◌, ◌∷◌, ◌++◌, ◌||◌, [], ⊤, length, decimal, true, false, IfOk, IfErr, IfSome, OnErr, IfNone, None, Some, drop};
 ghost use Rattle.own_model.specs.Listed.{start_list_of};
 ghost use Rattle.own_model.specs.StartList.{entries_of};
 ghost use Rattle.own_model.specs.Transcript.{heard, heard_spoken, state_at};
 ghost use Rattle.init_core.specs.declared.fault.BootFault.TheVariants.{NoMemory};
 ghost use Rattle.pd_core.specs.Call.{model_call};
-ghost use Rattle.scenario.specs.Gathered.{TellsUnless};
 ghost use Rattle.scenario.specs.Program.{boot_fault};
+ghost use Rattle.scenario.specs.Runs.{HasCause};
+ghost use Rattle.workbench.specs.Faults.{fault_before, is_write_fault, unplayed};
 ghost use Rattle.workbench.specs.Played.{told_of_lines};
 ghost use Rattle.workbench.specs.Tracing.{call_text, caller_cells, figures, session_cells, session_of, stranger_cells, trace_header, trace_tells, trace_told};
-ghost use Rattle.workbench.specs.Writes.{IsPlayed, IsPlayedFrom, nothing_told};
+ghost use Rattle.workbench.specs.Writes.{IsPlayed, IsPlayedFrom, IsUnplayed, nothing_told};
+ghost use Rattle.workbench.specs.declared.ending.PlayFault.TheVariants.{NoMemory as NoRoom};
 
 use crate::ending::{Ending, PlayFault};
 use crate::machine::Play;
@@ -36,6 +38,8 @@ pub(crate) struct Tracer {
 impl Watch for Tracer {
     ghost tells = { λ _. trace_tells };
 
+    ghost takes = { true };
+
     ghost sees = { λ _ _ _ _. ⊤ };
 
     fn tell<R: Router + Drop, K: Sink>(
@@ -60,7 +64,8 @@ fn row_of<R: Router + Drop>(
     told: &Heard<'_>,
 ) -> Result<Row, PlayFault>
     requires listed { core.now.entries ≡ entries_of (start_list_of list.now) }
-    ensures { IfOk result (λ row. row
+    ensures fault { IfErr result (λ fault. fault ≡ NoRoom) }
+    ensures value { IfOk result (λ row. row
         ≡ decimal told.now.number ∷ told.now.answer.name.now ∷ call_text told.now.line.now
         ∷ told.now.answer.reply.now ∷ figures core.now (heard core.now.entries told.now.line.now)) }
 {
@@ -88,7 +93,8 @@ fn text_behind<'a>(name: &[u8], line: &'a [u8]) -> &'a [u8]
 
 // Empty cells, of who isn't there.
 fn put_stranger(row: Row) -> Result<Row, PlayFault>
-    ensures { IfOk result (λ all. all ≡ row ++ stranger_cells) }
+    ensures fault { IfErr result (λ fault. fault ≡ NoRoom) }
+    ensures value { IfOk result (λ all. all ≡ row ++ stranger_cells) }
 {
     row.account(None)?.text(b"")?.account(None)
 }
@@ -101,7 +107,8 @@ fn put_caller<R: Router + Drop>(
     call: Call<'_>,
 ) -> Result<Row, PlayFault>
     requires component { component < length core.now.entries }
-    ensures { IfOk result (λ all. all
+    ensures fault { IfErr result (λ fault. fault ≡ NoRoom) }
+    ensures value { IfOk result (λ all. all
         ≡ row ++ caller_cells core.now component (model_call call.entry)) }
 {
     let account = core.account(component);
@@ -117,7 +124,8 @@ fn put_session<R: Router + Drop>(
     selector: Option<u64>,
 ) -> Result<Row, PlayFault>
     requires component { component < length core.now.entries }
-    ensures { IfOk result (λ all. all ≡ row ++ session_cells (state_at core.now.states component) selector) }
+    ensures fault { IfErr result (λ fault. fault ≡ NoRoom) }
+    ensures value { IfOk result (λ all. all ≡ row ++ session_cells (state_at core.now.states component) selector) }
 {
     let Some(selector) = selector else {
         return row.text(b"")?.account(None);
@@ -144,8 +152,9 @@ fn session_of(call: Call<'_>) -> Option<u64>
 /// its line, the component, the call, the reply, and use and limit of RAM and of capabilities after it, of the component and of
 /// the session that the call names. Complaints are written as they come.
 ///
-/// The figures are those of the own state that the call leaves its caller. At a fault a part of the rows is written, from the
-/// front. Where no machine is booted, no device is touched.
+/// The figures are those of the own state that the call leaves its caller. At a fault the rows of the lines that were
+/// played are written, or where a write failed or the host has no room a part of them, from the front. It stops as `run` does, and
+/// for want of room at a call too.
 #[tactic(auto, using(scenario::proofs::TaskLemmas::tasks))]
 pub fn trace<S: Source, K: Sink, E: Sink>(
     alloc: Global,
@@ -154,9 +163,22 @@ pub fn trace<S: Source, K: Sink, E: Sink>(
     writer: &mut K,
     complaints: &mut E,
 ) -> Result<Ending, BootFault>
-    ensures played { IfOk result (λ ending. IsPlayed play.entry.machine.now trace_told nothing_told ending
-        (S.remaining reader.old) (K.contents writer.old) (K.contents writer.new)) }
+    ensures played { IfOk result (λ ending. fault_before (S.has_failed reader.old)
+        (K.has_failed writer.old || E.has_failed complaints.old) ≡ None →
+        IsPlayed play.entry.machine.now trace_told nothing_told true ending
+        (S.remaining reader.old) (S.remaining reader.new)
+        (S.has_failed reader.new) (K.contents writer.old) (K.contents writer.new)) }
     ensures few { IfOk result (λ ending. ending.lines ≤ MAX_LINES) }
+    ensures writing { IfOk result (λ ending. (K.has_failed writer.new
+        || E.has_failed complaints.new) ≡ is_write_fault ending.fault) }
+    ensures reading { IfOk result (λ ending. IfNone ending.fault (S.has_failed reader.new ≡ false)) }
+    ensures ok { IfOk result (λ ending. IfSome ending.fault (λ fault. fault ≢ NoRoom →
+        IfSome (S.remaining reader.old) (λ input. HasCause input MAX_LINES
+        (S.has_failed reader.new) (K.has_failed writer.new || E.has_failed complaints.new)))) }
+    ensures before { IfOk result (λ ending. IfSome (fault_before (S.has_failed reader.old)
+        (K.has_failed writer.old || E.has_failed complaints.old)) (λ fault.
+        IsUnplayed play.entry.machine.now ending fault
+        × (reader.new ≡ reader.old) × (writer.new ≡ writer.old) × (complaints.new ≡ complaints.old))) }
     ensures unbooted { IfErr result (λ fault. fault ≢ NoMemory → boot_fault play.entry.machine.now ≡ Some fault) }
     ensures untouched { OnErr result
         ((reader.new ≡ reader.old) × (writer.new ≡ writer.old) × (complaints.new ≡ complaints.old)) }
@@ -188,25 +210,17 @@ fn trace_on<R: Router + Drop, S: Source, K: Sink, E: Sink>(
     requires all { run.now.only ≡ None }
     requires ahead { notes.old.buffers.ahead ≡ [] }
     requires gathered { notes.old.buffers.gathered ≡ [] }
-    ensures played { IsPlayedFrom (λ lines. trace_header ++ told_of_lines (trace_tells core.old) None [] 1 lines) (λ _. [])
-        result (S.remaining reader.old) (K.contents writer.old) (K.contents writer.new) }
+    ensures played { fault_before (S.has_failed reader.old)
+        (K.has_failed writer.old || E.has_failed complaints.old) ≡ None → IsPlayedFrom (λ lines. trace_header ++ told_of_lines (trace_tells core.old) None [] 1 lines) (λ _. [])
+        true result (S.remaining reader.old) (S.remaining reader.new)
+        (S.has_failed reader.new) (K.contents writer.old) (K.contents writer.new) }
     ensures few { result.lines ≤ MAX_LINES }
+    ensures writing { (K.has_failed writer.new || E.has_failed complaints.new)
+        ≡ is_write_fault result.fault }
+    ensures reading { IfNone result.fault (S.has_failed reader.new ≡ false) }
+    ensures before { IfSome (fault_before (S.has_failed reader.old)
+        (K.has_failed writer.old || E.has_failed complaints.old)) (λ fault. (result ≡ unplayed fault)
+        × (reader.new ≡ reader.old) × (writer.new ≡ writer.old) × (complaints.new ≡ complaints.old)) }
 {
-    match put_header(notes, writer) {
-        Ok(()) => play_lines(run, core, notes, watch, reader, writer, complaints),
-        Err(fault) => Ending::before_all(fault),
-    }
-}
-
-// Gathers the names of the columns.
-fn put_header<K: Sink>(notes: &mut Notes<'_>, writer: &mut K) -> Result<(), PlayFault>
-    ensures ahead { notes.new.buffers.ahead ≡ notes.old.buffers.ahead }
-    ensures told { TellsUnless result (K.contents writer.old) notes.old.buffers.gathered
-        (K.contents writer.new) notes.new.buffers.gathered trace_header }
-{
-    if writer.failed() {
-        return Err(PlayFault::WriteFault);
-    }
-    notes.buffers.gathered.put(writer, HEADER)?;
-    Ok(())
+    play_lines(run, core, notes, watch, HEADER, reader, writer, complaints)
 }

@@ -1,13 +1,16 @@
 //! The run of a scenario in the friendly form: its transcript, as the engine writes it.
-ghost use Rattle.std.specs.Prelude.{◌≡◌, ◌≢◌, ◌≤◌, [], ⊤, IfOk, IfErr, OnErr, Some};
+ghost use Rattle.std.specs.Prelude.{◌≡◌, ◌≢◌, ◌≤◌, ◌||◌, [], ⊤, false, IfNone, IfOk, IfErr, IfSome, OnErr, Some};
 ghost use Rattle.std.specs.Option.{option_copied};
 ghost use Rattle.own_model.specs.AccountList.{account_list_text};
 ghost use Rattle.own_model.specs.Listed.{start_list_of};
 ghost use Rattle.own_model.specs.StartList.{entries_of};
 ghost use Rattle.init_core.specs.declared.fault.BootFault.TheVariants.{NoMemory};
 ghost use Rattle.scenario.specs.Program.{boot_fault};
+ghost use Rattle.scenario.specs.Runs.{HasCause};
+ghost use Rattle.workbench.specs.Faults.{fault_before, is_write_fault, unplayed};
 ghost use Rattle.workbench.specs.Played.{engine_tells};
-ghost use Rattle.workbench.specs.Writes.{Closes, IsPlayed, IsPlayedFrom, list_behind, run_behind, run_told, transcript_of};
+ghost use Rattle.workbench.specs.Writes.{Closes, IsPlayed, IsPlayedFrom, IsUnplayed, list_behind, run_behind, run_told, transcript_of};
+ghost use Rattle.workbench.specs.declared.ending.PlayFault.TheVariants.{NoMemory as NoRoom};
 
 use crate::ending::{Ending, PlayFault};
 use crate::machine::Play;
@@ -46,7 +49,9 @@ impl Watch for Transcript {
 /// asked for and no fault came. Complaints are written as they come.
 ///
 /// What is written is the transcript of the calls that the scenario's lines say, and the account list of the world after them;
-/// at a fault it is a part of these, from the front. Where no machine is booted, no device is touched.
+/// at a fault the transcript of the lines that were played, or where a write failed or the host has no room a part of these, from
+/// the front. It stops for the causes of the engine's run, or for want of room at a line that isn't read or that expects a log
+/// line. A device that had failed before is told, the outputs first, and none is touched then, nor where no machine is booted.
 #[tactic(auto, using(scenario::proofs::TaskLemmas::tasks))]
 pub fn run<S: Source, K: Sink, E: Sink>(
     alloc: Global,
@@ -57,10 +62,23 @@ pub fn run<S: Source, K: Sink, E: Sink>(
     writer: &mut K,
     complaints: &mut E,
 ) -> Result<Ending, BootFault>
-    ensures played { IfOk result (λ ending. IsPlayed play.entry.machine.now
-        (run_told (option_copied only.entry)) (run_behind accounts (option_copied only.entry)) ending
-        (S.remaining reader.old) (K.contents writer.old) (K.contents writer.new)) }
+    ensures played { IfOk result (λ ending. fault_before (S.has_failed reader.old)
+        (K.has_failed writer.old || E.has_failed complaints.old) ≡ None →
+        IsPlayed play.entry.machine.now
+        (run_told (option_copied only.entry)) (run_behind accounts (option_copied only.entry)) false ending
+        (S.remaining reader.old) (S.remaining reader.new)
+        (S.has_failed reader.new) (K.contents writer.old) (K.contents writer.new)) }
     ensures few { IfOk result (λ ending. ending.lines ≤ MAX_LINES) }
+    ensures writing { IfOk result (λ ending. (K.has_failed writer.new
+        || E.has_failed complaints.new) ≡ is_write_fault ending.fault) }
+    ensures reading { IfOk result (λ ending. IfNone ending.fault (S.has_failed reader.new ≡ false)) }
+    ensures ok { IfOk result (λ ending. IfSome ending.fault (λ fault. fault ≢ NoRoom →
+        IfSome (S.remaining reader.old) (λ input. HasCause input MAX_LINES
+        (S.has_failed reader.new) (K.has_failed writer.new || E.has_failed complaints.new)))) }
+    ensures before { IfOk result (λ ending. IfSome (fault_before (S.has_failed reader.old)
+        (K.has_failed writer.old || E.has_failed complaints.old)) (λ fault.
+        IsUnplayed play.entry.machine.now ending fault
+        × (reader.new ≡ reader.old) × (writer.new ≡ writer.old) × (complaints.new ≡ complaints.old))) }
     ensures unbooted { IfErr result (λ fault. fault ≢ NoMemory → boot_fault play.entry.machine.now ≡ Some fault) }
     ensures untouched { OnErr result
         ((reader.new ≡ reader.old) × (writer.new ≡ writer.old) × (complaints.new ≡ complaints.old)) }
@@ -87,13 +105,23 @@ fn run_on<R: Router + Drop, S: Source, K: Sink, E: Sink>(
     requires listed { core.old.entries ≡ entries_of (start_list_of run.now.list.now) }
     requires ahead { notes.old.buffers.ahead ≡ [] }
     requires gathered { notes.old.buffers.gathered ≡ [] }
-    ensures played { IsPlayedFrom (transcript_of (option_copied run.now.only) core.old)
-        (list_behind accounts (option_copied run.now.only) run.now.list.now core.old) result
-        (S.remaining reader.old) (K.contents writer.old) (K.contents writer.new) }
+    ensures played { fault_before (S.has_failed reader.old)
+        (K.has_failed writer.old || E.has_failed complaints.old) ≡ None → IsPlayedFrom (transcript_of (option_copied run.now.only) core.old)
+        (list_behind accounts (option_copied run.now.only) run.now.list.now core.old) false result
+        (S.remaining reader.old) (S.remaining reader.new)
+        (S.has_failed reader.new) (K.contents writer.old) (K.contents writer.new) }
     ensures few { result.lines ≤ MAX_LINES }
+    ensures writing { (K.has_failed writer.new || E.has_failed complaints.new)
+        ≡ is_write_fault result.fault }
+    ensures reading { IfNone result.fault (S.has_failed reader.new ≡ false) }
+    ensures before { IfSome (fault_before (S.has_failed reader.old)
+        (K.has_failed writer.old || E.has_failed complaints.old)) (λ fault. (result ≡ unplayed fault)
+        × (reader.new ≡ reader.old) × (writer.new ≡ writer.old) × (complaints.new ≡ complaints.old)) }
 {
     let mut watch = Transcript;
-    let ending = play_lines(run, core, notes, &mut watch, reader, writer, complaints);
+    let ending = play_lines(
+        run, core, notes, &mut watch, b"", reader, writer, complaints,
+    );
     if accounts {
         close_with_list(ending, core, run.list, writer)
     } else {
@@ -109,7 +137,10 @@ fn close_with_list<R: Router + Drop, K: Sink>(
     writer: &mut K,
 ) -> Ending
     requires listed { core.now.entries ≡ entries_of (start_list_of list.now) }
-    ensures { Closes ending result (K.contents writer.old) (K.contents writer.new) (account_list_text list.now core.now) }
+    ensures closes { Closes ending result (K.contents writer.old) (K.contents writer.new)
+        (account_list_text list.now core.now) }
+    ensures failing { IfNone ending.fault (K.has_failed writer.new ≡ is_write_fault result.fault) }
+    ensures stopped { IfSome ending.fault (λ _. (result ≡ ending) × (writer.new ≡ writer.old)) }
 {
     if ending.fault.is_some() {
         return ending;

@@ -1,9 +1,10 @@
 //! Who is told of each call that is answered.
-ghost use Rattle.std.specs.Prelude.{◌≡◌, ◌∷◌, ◌++◌, ℕ, List, [], false, OnOk};
+ghost use Rattle.std.specs.Prelude.{◌≡◌, ◌∷◌, ◌++◌, ℕ, Bool, List, [], false, OnOk};
 ghost use Rattle.own_model.specs.Listed.{Listed, start_list_of};
 ghost use Rattle.own_model.specs.StartList.{entries_of};
 ghost use Rattle.own_model.specs.World.{World};
 ghost use Rattle.scenario.specs.Gathered.{TellsUnless};
+ghost use Rattle.workbench.specs.Faults.{Fails};
 ghost use Rattle.workbench.specs.Watching.{IsToldOf};
 
 use crate::ending::PlayFault;
@@ -27,6 +28,9 @@ pub(crate) trait Watch {
     // What is told of a call: by the world at the start, the calls that were answered before it, the number of its line, and
     // the engine's line.
     ghost tells: { Self → World → List (List ℕ) → ℕ → List ℕ → List ℕ };
+
+    // Whether what is told of a call, or kept of it, takes memory of the host.
+    ghost takes: { Bool } = { false };
 
     // What it was made with, and keeps.
     ghost holds: { Self → List ℕ } = { λ _. [] };
@@ -54,5 +58,6 @@ pub(crate) trait Watch {
             OnOk result (sees self.new list.now start (earlier ++ heard.now.line.now ∷ [])) }
         ensures same { tells self.new ≡ tells self.old }
         ensures held { holds self.new ≡ holds self.old }
-        ensures works { OnOk result (K.has_failed writer.new ≡ false) };
+        ensures works { OnOk result (K.has_failed writer.new ≡ false) }
+        ensures failing { Fails result (K.has_failed writer.new) takes };
 }

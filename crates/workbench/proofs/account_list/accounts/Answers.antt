@@ -1,16 +1,23 @@
 -- On the machine of the text.
-use Rattle.std.proofs.Common.{[], None}
+use Rattle.std.proofs.Common.{ap, [], None}
 use Rattle.workbench.specs.PeakList.{peaks_text}
 use Rattle.workbench.specs.Played.{calls_answered}
 use Rattle.workbench.proofs.KeptLemmas.{sees_first}
-use Rattle.workbench.proofs.WriteLemmas.{is_played}
+use Rattle.workbench.proofs.WriteLemmas.{ends_for_cause, is_played, unplayed_on, unplayed_with}
 use Rattle.workbench.proofs.account_list.accounts.Goals as goal
 
 pub returns-clause-played : goal.returns-clause-played
-returns-clause-played g c =
-    is_played (λ _ _. []) (λ listed start lines. peaks_text listed start (calls_answered None lines)) c.play_with_peaks.result _ _ _
-    c.in_ok-list.ensures.ok c.in_ok-core.ensures.covered c.in_ok-core.ensures.started c.play_with_peaks.ensures.played
+returns-clause-played g c = λ works.
+    is_played (λ _ _. []) (λ listed start lines. peaks_text listed start (calls_answered None lines)) c.play_with_peaks.result _ _ _ _ _
+    c.in_ok-list.ensures.ok c.in_ok-core.ensures.covered c.in_ok-core.ensures.started (c.play_with_peaks.ensures.played works)
 
 pub play_with_peaks-requires-clause-sees : goal.play_with_peaks-requires-clause-sees
 play_with_peaks-requires-clause-sees g c =
     sees_first c.in_ok-list.list c.in_ok-core.ensures.started c.in_ok-peaks.ensures.init c.in_ok-peaks.ensures.count c.in_ok-peaks.ensures.components c.in_ok-peaks.ensures.sessions
+
+pub returns-clause-ok : goal.returns-clause-ok
+returns-clause-ok g c =
+    ends_for_cause _ _ _ c.play_with_peaks.ensures.played (unplayed_with c.play_with_peaks.result _ _ _ _ _ (ap g.S.Source.has_failed) c.play_with_peaks.ensures.before) c.play_with_peaks.ensures.writing
+
+pub returns-clause-before : goal.returns-clause-before
+returns-clause-before g c = unplayed_on _ c.play_with_peaks.result _ _ _ _ c.in_ok-list.ensures.ok c.in_ok-core.ensures.covered c.play_with_peaks.ensures.before

@@ -1,15 +1,15 @@
 -- On the machine of the text; and what a name is told hangs on its own lines alone.
-use Rattle.std.proofs.Common.{[], length, None, Some}
+use Rattle.std.proofs.Common.{ap, [], length, None, Some}
 use Rattle.workbench.specs.Alone.{alone_sum, alone_tells}
 use Rattle.workbench.specs.Played.{calls_answered, told_of_lines}
 use Rattle.workbench.proofs.AloneLemmas.{are_alike}
-use Rattle.workbench.proofs.WriteLemmas.{is_played}
+use Rattle.workbench.proofs.WriteLemmas.{ends_for_cause, is_played, unplayed_on, unplayed_with}
 use Rattle.workbench.proofs.beside.alone.Goals as goal
 
 pub returns-clause-played : goal.returns-clause-played
-returns-clause-played g c =
-    is_played (λ start lines. told_of_lines (alone_tells c.args.name.now start) None [] 1 lines) (λ _ _ lines. alone_sum c.args.name.now (length (calls_answered (Some c.args.name.now) lines))) c.play_beside.result _ _ _
-    c.in_ok-list.ensures.ok c.in_ok-core.ensures.covered c.in_ok-core.ensures.started c.play_beside.ensures.played
+returns-clause-played g c = λ works.
+    is_played (λ start lines. told_of_lines (alone_tells c.args.name.now start) None [] 1 lines) (λ _ _ lines. alone_sum c.args.name.now (length (calls_answered (Some c.args.name.now) lines))) c.play_beside.result _ _ _ _ _
+    c.in_ok-list.ensures.ok c.in_ok-core.ensures.covered c.in_ok-core.ensures.started (c.play_beside.ensures.played works)
 
 pub returns-clause-alike : goal.returns-clause-alike
 returns-clause-alike g c = are_alike c.args.name.now
@@ -28,3 +28,10 @@ returns-in_err-second-clause-alike g c = are_alike c.args.name.now
 
 pub returns-in_err-reply-clause-alike : goal.returns-in_err-reply-clause-alike
 returns-in_err-reply-clause-alike g c = are_alike c.args.name.now
+
+pub returns-clause-ok : goal.returns-clause-ok
+returns-clause-ok g c =
+    ends_for_cause _ _ _ c.play_beside.ensures.played (unplayed_with c.play_beside.result _ _ _ _ _ (ap g.S.Source.has_failed) c.play_beside.ensures.before) c.play_beside.ensures.writing
+
+pub returns-clause-before : goal.returns-clause-before
+returns-clause-before g c = unplayed_on _ c.play_beside.result _ _ _ _ c.in_ok-list.ensures.ok c.in_ok-core.ensures.covered c.play_beside.ensures.before

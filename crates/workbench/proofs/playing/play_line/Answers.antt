@@ -1,9 +1,11 @@
 -- A line says a call, which is answered and told, or nothing is told.
-use Rattle.std.proofs.Common.{Bool, false, Result, Ok, Err, ap, sym, ◌∙◌}
+use Rattle.std.proofs.Common.{Bool, false, refl, Result, Ok, Err, ap, subst, sym, ◌∙◌}
 use Rattle.std.specs.Option.{option_copied}
 use Rattle.friendly_lines.specs.Says.{says}
 use Rattle.workbench.specs.declared.ending.PlayFault.{PlayFault}
-use Rattle.workbench.proofs.LineLemmas.{call_of-said, judged_told, told_said, told_silent}
+use Rattle.workbench.specs.Judging.{IsJudged}
+use Rattle.workbench.proofs.LineLemmas.{call_of-said, expects_by, judged_call, judged_log, judged_told, judged_unread, on_ok, told_said, told_silent}
+use Rattle.workbench.proofs.FailLemmas.{fails_before, fails_beside, fails_for_room, line_takes, or_none}
 use Rattle.workbench.proofs.playing.play_line.Goals as goal
 
 abbrev silent_ok : Result Bool PlayFault
@@ -36,3 +38,62 @@ pub returns-in-Err-clause-told : goal.returns-in-Err-clause-told
 returns-in-Err-clause-told g c = λ start earlier watches.
     told_silent (option_copied c.args.run.now.only) c.args.line.now (call_of-said c.args.line.now _ c.requires.short c.in-Err.ensures.value)
     c.tell_unread.result (g.W.Watch.tells c.args.watch.now start) earlier c.args.number _ _
+
+-- which faults come of it
+pub returns-in-Ok-Nothing-clause-failing : goal.returns-in-Ok-Nothing-clause-failing
+returns-in-Ok-Nothing-clause-failing g c = or_none _ _ c.requires.works.writes c.requires.works.complains
+
+pub returns-in-Ok-Log-clause-failing : goal.returns-in-Ok-Log-clause-failing
+returns-in-Ok-Log-clause-failing g c =
+    fails_for_room c.expect_line.result _ _ (or_none _ _ c.requires.works.writes c.requires.works.complains)
+    (line_takes g.W.Watch.takes c.args.line.now _ c.requires.short (ap (λ s. says (Ok s)) (sym c.in-Ok-Log.field-0-is) ∙ c.in-Ok-Log.ensures.value) refl) c.expect_line.ensures.fault
+
+pub returns-in-Ok-clause-failing : goal.returns-in-Ok-clause-failing
+returns-in-Ok-clause-failing g c = fails_beside c.judge.result _ _ false _ c.in-Ok.ensures.works c.judge.ensures.failing (λ takes. cc)
+
+pub returns-in-Err-answer_call-clause-failing : goal.returns-in-Err-answer_call-clause-failing
+returns-in-Err-answer_call-clause-failing g c =
+    fails_before (failed c.in-Err-answer_call.fault) _ _ g.W.Watch.takes _ c.requires.works.complains c.in-Err-answer_call.ensures.failing
+    (λ takes. line_takes g.W.Watch.takes c.args.line.now _ c.requires.short (ap (λ s. says (Ok s)) (sym c.in-Ok-Call.field-0-is) ∙ c.in-Ok-Call.ensures.value) takes)
+
+pub returns-in-Err-clause-failing : goal.returns-in-Err-clause-failing
+returns-in-Err-clause-failing g c =
+    fails_beside c.tell_unread.result _ _ _ _ c.requires.works.writes c.tell_unread.ensures.failing
+    (λ takes. line_takes g.W.Watch.takes c.args.line.now _ c.requires.short c.in-Err.ensures.value refl)
+
+-- what is complained of, and what is expected then
+pub returns-in-Ok-Nothing-clause-judged : goal.returns-in-Ok-Nothing-clause-judged
+returns-in-Ok-Nothing-clause-judged g c =
+    subst (λ said. IsJudged (option_copied c.args.run.now.only) c.args.core.now said c.args.desk.now.critic.expected false)
+    (ap (λ s. says (Ok s)) (sym c.in-Ok-Nothing.field-0-is) ∙ c.in-Ok-Nothing.ensures.value) refl
+
+pub returns-in-Ok-Nothing-clause-expects : goal.returns-in-Ok-Nothing-clause-expects
+returns-in-Ok-Nothing-clause-expects g c =
+    expects_by (Ok false) c.args.number c.args.line.now _ _ _ (ap (λ s. says (Ok s)) (sym c.in-Ok-Nothing.field-0-is) ∙ c.in-Ok-Nothing.ensures.value) refl
+
+pub returns-in-Ok-Log-clause-judged : goal.returns-in-Ok-Log-clause-judged
+returns-in-Ok-Log-clause-judged g c =
+    judged_log (option_copied c.args.run.now.only) c.args.core.now c.args.line.now c.args.desk.now.critic.expected c.expect_line.result _
+    (ap (λ s. says (Ok s)) (sym c.in-Ok-Log.field-0-is) ∙ c.in-Ok-Log.ensures.value) c.expect_line.ensures.silent
+
+pub returns-in-Ok-Log-clause-expects : goal.returns-in-Ok-Log-clause-expects
+returns-in-Ok-Log-clause-expects g c =
+    expects_by c.expect_line.result c.args.number c.args.line.now _ _ _ (ap (λ s. says (Ok s)) (sym c.in-Ok-Log.field-0-is) ∙ c.in-Ok-Log.ensures.value) c.expect_line.ensures.expects
+
+pub returns-in-Ok-clause-judged : goal.returns-in-Ok-clause-judged
+returns-in-Ok-clause-judged g c =
+    judged_call (option_copied c.args.run.now.only) c.args.core.now c.args.line.now c.args.desk.now.critic.expected c.judge.result _ _ _
+    (ap (λ s. says (Ok s)) (sym c.in-Ok-Call.field-0-is) ∙ c.in-Ok-Call.ensures.value) c.in-Ok.ensures.answered c.judge.ensures.judged
+
+pub returns-in-Ok-clause-expects : goal.returns-in-Ok-clause-expects
+returns-in-Ok-clause-expects g c =
+    expects_by c.judge.result c.args.number c.args.line.now _ _ _ (ap (λ s. says (Ok s)) (sym c.in-Ok-Call.field-0-is) ∙ c.in-Ok-Call.ensures.value)
+    (on_ok c.judge.result c.judge.ensures.forgets)
+
+pub returns-in-Err-clause-judged : goal.returns-in-Err-clause-judged
+returns-in-Err-clause-judged g c =
+    judged_unread (option_copied c.args.run.now.only) c.args.core.now c.args.line.now c.args.desk.now.critic.expected c.tell_unread.result _ c.in-Err.ensures.value c.tell_unread.ensures.told
+
+pub returns-in-Err-clause-expects : goal.returns-in-Err-clause-expects
+returns-in-Err-clause-expects g c =
+    expects_by c.tell_unread.result c.args.number c.args.line.now _ _ _ c.in-Err.ensures.value (on_ok c.tell_unread.result c.tell_unread.ensures.keeps)

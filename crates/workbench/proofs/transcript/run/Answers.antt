@@ -1,10 +1,18 @@
 -- On the machine of the text.
+use Rattle.std.proofs.Common.{ap}
 use Rattle.std.specs.Option.{option_copied}
 use Rattle.workbench.specs.Writes.{list_behind, transcript_of}
-use Rattle.workbench.proofs.WriteLemmas.{is_played}
+use Rattle.workbench.proofs.WriteLemmas.{ends_for_cause, is_played, unplayed_on, unplayed_with}
 use Rattle.workbench.proofs.transcript.run.Goals as goal
 
 pub returns-clause-played : goal.returns-clause-played
-returns-clause-played g c =
-    is_played (transcript_of (option_copied c.args.only)) (λ listed start lines. list_behind c.args.accounts (option_copied c.args.only) listed start lines) c.run_on.result _ _ _
-    c.in_ok-list.ensures.ok c.in_ok-core.ensures.covered c.in_ok-core.ensures.started c.run_on.ensures.played
+returns-clause-played g c = λ works.
+    is_played (transcript_of (option_copied c.args.only)) (λ listed start lines. list_behind c.args.accounts (option_copied c.args.only) listed start lines) c.run_on.result _ _ _ _ _
+    c.in_ok-list.ensures.ok c.in_ok-core.ensures.covered c.in_ok-core.ensures.started (c.run_on.ensures.played works)
+
+pub returns-clause-ok : goal.returns-clause-ok
+returns-clause-ok g c =
+    ends_for_cause _ _ _ c.run_on.ensures.played (unplayed_with c.run_on.result _ _ _ _ _ (ap g.S.Source.has_failed) c.run_on.ensures.before) c.run_on.ensures.writing
+
+pub returns-clause-before : goal.returns-clause-before
+returns-clause-before g c = unplayed_on _ c.run_on.result _ _ _ _ c.in_ok-list.ensures.ok c.in_ok-core.ensures.covered c.run_on.ensures.before

@@ -3,6 +3,7 @@ use Rattle.std.proofs.Common.{arith, length, refl, ap, subst}
 use Rattle.scenario.specs.Gathered.{Tells}
 use Rattle.scenario.proofs.GatheredLemmas.{Tells-none, told_err}
 use Rattle.workbench.proofs.AloneLemmas.{answered_alike, sees_more, told_both_of, told_none_of}
+use Rattle.workbench.proofs.FailLemmas.{unwritten}
 use Rattle.workbench.proofs.beside.SecondMachineWatch.tell.Goals as goal
 
 pub returns-in_default-clause-told : goal.returns-in_default-clause-told
@@ -35,3 +36,6 @@ returns-clause-seen g c = λ start earlier sees told.
     let same = answered_alike c.args.self.now.name.now start earlier c.args.heard.now.line.now c.args.heard.now.answer c.in-Some.alone sees.leads told.answers c.in-Some.ensures.answered in
     sees_more c.answer.new.core c.saturating_add-self.result c.first_difference-self.result c.args.heard.now.line.now 1 sees c.in-Some.ensures.world (ap length c.in-Some.ensures.answered.0) (λ fits. omega (arith, fits, c.saturating_add-self.ensures))
     (c.first_difference-self.ensures (c.are_same-alike.ensures same.0 same.1 same.2))
+
+pub returns-in_err-put_both-clause-failing : goal.returns-in_err-put_both-clause-failing
+returns-in_err-put_both-clause-failing g c = unwritten _ _ _ c.from_residual.ensures.1 c.in_err-put_both.ensures.failing

@@ -1,9 +1,10 @@
 -- The peaks of accounts, of sessions that are still open, and of those that were just opened.
-use Rattle.std.proofs.Common.{ℕ, ◌≡◌, ◌<◌, length, ap, subst, sym, ◌∙◌, arith}
+use Rattle.std.proofs.Common.{ℕ, ◌≡◌, ◌<◌, length, ap, subst, sym, refl, ◌∙◌, arith}
 use Rattle.std.specs.Option.{option_or}
 use Rattle.scenario.proofs.GatheredLemmas.{Tells-none, told_err}
 use Rattle.workbench.specs.Kept.{begun_by, found, peak_at, peaked, raised_in}
 use Rattle.workbench.specs.Peaks.{session_at}
+use Rattle.workbench.proofs.FailLemmas.{roomless}
 use Rattle.workbench.proofs.KeptLemmas.{sees_more}
 use Rattle.workbench.proofs.peaks.PeaksWatch.tell.Goals as goal
 
@@ -34,3 +35,9 @@ returns-clause-seen g c = λ start earlier sees told.
     ∙ ap (λ o. option_or o (begun_by c.args.list.now core c.args.heard.now.line.now component selector))
     (c.in_ok-raise_sessions.ensures.sessions component selector (inside component within)
     ∙ ap (λ kept. raised_in (session_at component selector core) (found kept component selector)) c.raise_accounts.ensures.sessions))
+
+pub returns-in_err-raise_sessions-clause-failing : goal.returns-in_err-raise_sessions-clause-failing
+returns-in_err-raise_sessions-clause-failing g c = roomless _ _ _ c.from_residual.ensures.1 c.requires.writes refl
+
+pub returns-in_err-keep_opened-clause-failing : goal.returns-in_err-keep_opened-clause-failing
+returns-in_err-keep_opened-clause-failing g c = roomless _ _ _ c.from_residual-in_err-keep_opened.ensures.1 c.requires.writes refl

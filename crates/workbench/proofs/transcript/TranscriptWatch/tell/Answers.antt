@@ -4,6 +4,7 @@ use Rattle.own_model.specs.World.{world_running}
 use Rattle.scenario.specs.Gathered.{Tells}
 use Rattle.scenario.proofs.AnsweringLemmas.{told_answer}
 use Rattle.scenario.proofs.GatheredLemmas.{told_err}
+use Rattle.workbench.proofs.FailLemmas.{unwritten}
 use Rattle.workbench.proofs.transcript.TranscriptWatch.tell.Goals as goal
 
 pub returns-in_err-put_answer-clause-told : goal.returns-in_err-put_answer-clause-told
@@ -20,3 +21,6 @@ returns-clause-told g c = λ start earlier sees told.
     subst (Tells (g.K.Sink.contents c.args.writer.now) c.args.gathered.now (g.K.Sink.contents c.put_answer.new.sink) c.put_answer.new.self)
     (told_answer None (world_running start earlier) c.args.heard.now.line.now (Some c.args.heard.now.answer) (refl, told.answers))
     c.in_ok-put_answer.ensures.told
+
+pub returns-in_err-put_answer-clause-failing : goal.returns-in_err-put_answer-clause-failing
+returns-in_err-put_answer-clause-failing g c = unwritten _ _ _ c.from_residual.ensures.1 c.in_err-put_answer.ensures.failing

@@ -1,0 +1,95 @@
+-- Which faults come, and whether a write has failed then.
+use Rattle.std.proofs.Common.{◌≡◌, Bool, true, false, ◌||◌, List, ℕ, ◌≤◌, length, nat_le, cond, Option, Some, None, Result, Ok, Err, IfErr, IsErrAnd, arith, refl, sym, ◌∙◌, ap}
+use Rattle.std.proofs.lemmas.Bool.Decides.{nat_tests}
+use Rattle.std.specs.Result.{result_err}
+use Rattle.own_model.specs.Transcript.{longest_line}
+use Rattle.friendly_lines.specs.Friendly.{Said, said_of}
+use Rattle.friendly_lines.specs.declared.fault.Fault.{Fault}
+use Rattle.scenario.specs.Next.{is_write_fault as is_unwritten}
+use Rattle.scenario.specs.declared.lines.LineFault.{LineFault}
+use Rattle.scenario.specs.declared.lines.LineFault.TheVariants.{Read, Write, Endless}
+use Rattle.workbench.specs.Devices.{AllWork}
+use Rattle.workbench.specs.Faults.{Fails, fault_before, is_write_fault, line_fault, line_takes_room, takes_room}
+use Rattle.workbench.specs.Plays.{line_played}
+use Rattle.workbench.specs.declared.ending.PlayFault.{PlayFault}
+use Rattle.workbench.specs.declared.ending.PlayFault.TheVariants.{ReadFault, WriteFault, TooManyLines, NoMemory}
+
+-- with none of two failed one of them is
+pub or_none : (a b : Bool) → a ≡ false → b ≡ false → (a || b) ≡ false
+or_none a b first second = rw (first, second) refl
+
+or_first : (a b : Bool) → b ≡ false → (a || b) ≡ a
+or_first true b none = refl
+or_first false b none = none
+
+-- a fault of the complaints, where the writer works
+pub fails_beside : {T : Type 0} (r : Result T PlayFault) (a b takes more : Bool) → a ≡ false → Fails r b takes → (takes ≡ true → more ≡ true) → Fails r (a || b) more
+fails_beside (Ok done) a b takes more works fails wider = rw works fails
+fails_beside (Err ReadFault) a b takes more works fails wider = fails
+fails_beside (Err WriteFault) a b takes more works fails wider = rw works fails
+fails_beside (Err TooManyLines) a b takes more works fails wider = fails
+fails_beside (Err NoMemory) a b takes more works fails wider = (rw works (fails.0), wider fails.1)
+
+-- and of the writer, where the complaints work
+pub fails_before : {T : Type 0} (r : Result T PlayFault) (a b takes more : Bool) → b ≡ false → Fails r a takes → (takes ≡ true → more ≡ true) → Fails r (a || b) more
+fails_before (Ok done) a b takes more works fails wider = or_first a b works ∙ fails
+fails_before (Err ReadFault) a b takes more works fails wider = fails
+fails_before (Err WriteFault) a b takes more works fails wider = or_first a b works ∙ fails
+fails_before (Err TooManyLines) a b takes more works fails wider = fails
+fails_before (Err NoMemory) a b takes more works fails wider = (or_first a b works ∙ fails.0, wider fails.1)
+
+-- want of room alone
+pub fails_for_room : {T : Type 0} (r : Result T PlayFault) (failed takes : Bool) → failed ≡ false → takes ≡ true → IfErr r (λ fault. fault ≡ NoMemory) → Fails r failed takes
+fails_for_room (Ok done) failed takes works room is = works
+fails_for_room (Err fault) failed takes works room is = rw is (works, room)
+
+-- what takes no room fails for want of none
+pub fails_wider : {T : Type 0} (r : Result T PlayFault) (failed takes : Bool) → Fails r failed false → Fails r failed takes
+fails_wider (Ok done) failed takes fails = fails
+fails_wider (Err ReadFault) failed takes fails = fails
+fails_wider (Err WriteFault) failed takes fails = fails
+fails_wider (Err TooManyLines) failed takes fails = fails
+fails_wider (Err NoMemory) failed takes fails = absurd (let e : false ≡ true = fails.1 in cc)
+
+-- a fault that is handed on
+pub unwritten : {T : Type 0} (r : Result T PlayFault) (failed takes : Bool) → IsErrAnd r (λ fault. fault ≡ WriteFault) → failed ≡ true → Fails r failed takes
+unwritten (Ok done) failed takes is fails = absurd is
+unwritten (Err fault) failed takes is fails = rw is fails
+
+pub roomless : {T : Type 0} (r : Result T PlayFault) (failed takes : Bool) → IsErrAnd r (λ fault. fault ≡ NoMemory) → failed ≡ false → takes ≡ true → Fails r failed takes
+roomless (Ok done) failed takes is works room = absurd is
+roomless (Err fault) failed takes is works room = rw is (works, room)
+
+pub roomless_on : {T : Type 0} (r : Result T PlayFault) (failed takes : Bool) {e : PlayFault} → IsErrAnd r (λ fault. fault ≡ e) → e ≡ NoMemory → failed ≡ false → takes ≡ true → Fails r failed takes
+roomless_on (Ok done) failed takes is room works more = absurd is
+roomless_on (Err fault) failed takes is room works more = rw (is, room) (works, more)
+
+-- a write has failed just where the fault says so
+pub fails_writing : {T : Type 0} (r : Result T PlayFault) (failed takes : Bool) → Fails r failed takes → failed ≡ is_write_fault (result_err r)
+fails_writing (Ok done) failed takes fails = fails
+fails_writing (Err ReadFault) failed takes fails = absurd fails
+fails_writing (Err WriteFault) failed takes fails = fails
+fails_writing (Err TooManyLines) failed takes fails = absurd fails
+fails_writing (Err NoMemory) failed takes fails = fails.0
+
+pub line_writing : (r : Result Bool PlayFault) (failed takes : Bool) → Fails r failed takes → failed ≡ is_write_fault (result_err (line_played r))
+line_writing (Ok done) failed takes fails = fails
+line_writing (Err fault) failed takes fails = fails_writing {T = Bool} (Err fault) failed takes fails
+
+pub fault_writing : (T : Type 0) (fault : LineFault) (a b : Bool) → a ≡ is_unwritten {T = T} (Err fault) → b ≡ false → (a || b) ≡ is_write_fault (Some (line_fault fault))
+fault_writing T Read a b fails works = or_first a b works ∙ fails
+fault_writing T Write a b fails works = or_first a b works ∙ fails
+fault_writing T Endless a b fails works = or_first a b works ∙ fails
+
+-- what a line's reading takes
+pub line_takes : (calls : Bool) (line : List ℕ) (said : Result Said Fault) → length line ≤ longest_line → said ≡ said_of line → takes_room calls said ≡ true → line_takes_room calls line ≡ true
+line_takes calls line said short is takes =
+    let fits : nat_le (length line) longest_line ≡ true = grind (arith, nat_tests) in
+    ap (λ b. cond b (takes_room calls (said_of line)) false) fits ∙ ap (takes_room calls) (sym is) ∙ takes
+
+-- devices of which none had failed
+pub all_work : (read_failed write_failed complaint_failed : Bool) → fault_before read_failed (write_failed || complaint_failed) ≡ None → AllWork read_failed write_failed complaint_failed
+all_work false false false none = record { reads = refl; writes = refl; complains = refl }
+all_work true false false none = absurd (let e : Some ReadFault ≡ None = none in cc)
+all_work r true c none = absurd (let e : Some WriteFault ≡ None = none in cc)
+all_work r false true none = absurd (let e : Some WriteFault ≡ None = none in cc)

@@ -1,0 +1,56 @@
+-- What is expected of an answer, and whether it is otherwise.
+use Rattle.std.specs.Prelude.{◌≡◌, ℕ, ◌||◌, Bool, true, false, not, is_some, List, [], ◌∷◌, ◌++◌, Option, Some, None, Result, Ok, Err}
+use Rattle.std.specs.Str.{bytes_eq}
+use Rattle.own_model.specs.World.{World}
+use Rattle.friendly_lines.specs.Friendly.{Said}
+use Rattle.friendly_lines.specs.Friendly.Said.{Nothing, Log, Call}
+use Rattle.friendly_lines.specs.declared.fault.Fault.{Fault}
+use Rattle.scenario.specs.Answer.{AnswersLine}
+use Rattle.scenario.specs.declared.answering.LineAnswer.{LineAnswer}
+
+-- the log lines that the next call is expected to finish, each as it is printed, and the line of the scenario in which the first
+-- of them stands
+pub record Awaited : Type 0 where
+  pub lines : List ℕ
+  pub first : Option ℕ
+
+-- none
+abbrev pub nothing_awaited : Awaited
+nothing_awaited = record { lines = []; first = None }
+
+-- the line in which the first of them stands, once one more is expected in this line
+abbrev pub first_of : Option ℕ → ℕ → ℕ
+first_of None number = number
+first_of (Some first) number = first
+
+-- one more, which stands in this line of the scenario
+abbrev pub awaited_more : Awaited → ℕ → List ℕ → Awaited
+awaited_more awaited number text = record {
+  lines = (awaited.lines ++ text) ++ 10 ∷ [];
+  first = Some (first_of awaited.first number);
+}
+
+-- an answer is otherwise than expected: it has another reply, or other log lines; where no reply is expected log lines are; a
+-- call that was skipped is answered as it may be
+abbrev pub is_other : Option (List ℕ) → Option LineAnswer → Awaited → Bool
+is_other reply None awaited = false
+is_other None (Some answer) awaited = is_some awaited.first
+is_other (Some reply) (Some answer) awaited =
+    not (bytes_eq answer.reply.now reply) || not (bytes_eq answer.lines.now awaited.lines)
+
+-- ---- of a line, by what is read of it
+
+-- what is expected behind the line of this number
+abbrev pub awaited_after : ℕ → Result Said Fault → Awaited → Awaited
+awaited_after number (Ok Nothing) awaited = awaited
+awaited_after number (Ok (Log text)) awaited = awaited_more awaited number text
+awaited_after number (Ok (Call line reply)) awaited = nothing_awaited
+awaited_after number (Err fault) awaited = awaited
+
+-- it is complained of where it isn't read, and of a call where its answer in this world is otherwise than expected
+abbrev pub IsJudged : Option (List ℕ) → World → Result Said Fault → Awaited → Bool → Type 0
+IsJudged only world (Ok Nothing) awaited complained = complained ≡ false
+IsJudged only world (Ok (Log text)) awaited complained = complained ≡ false
+IsJudged only world (Ok (Call line reply)) awaited complained =
+    (answer : Option LineAnswer) × AnswersLine only world line answer × (complained ≡ is_other reply answer awaited)
+IsJudged only world (Err fault) awaited complained = complained ≡ true
