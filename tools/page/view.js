@@ -225,7 +225,12 @@ const Page = (() => {
     });
     return part.append(now, box), part;
   };
-  // The cursor of all timelines stands at a line.
+  // The rows of a line are lit in the scenario.
+  const light = (line) => {
+    for (const it of page.querySelectorAll(".lines .at")) it.classList.remove("at");
+    for (const it of page.querySelectorAll(`.lines [data-line="${line}"]`)) it.classList.add("at");
+  };
+  // The cursor of all timelines, and of the scenario, stands at a line.
   const show = (line) => {
     at = line;
     const x = (600 * (line - 1)) / (Math.max(data.scenario.length, 2) - 1);
@@ -233,6 +238,7 @@ const Page = (() => {
     const told = data.replies[line];
     const now = document.getElementById("now");
     if (now) now.textContent = `${line}: ${data.scenario[line - 1] || ""}` + (told ? `   (${told[0]}: ${told[1]})` : "");
+    light(line);
     if (hooks.select) hooks.select(line);
   };
 
@@ -286,7 +292,7 @@ const Page = (() => {
     return told;
   };
   const drawn = ([kind, text, line]) => {
-    const row = el("div", { class: `row ${kind}`, title: text.length > 90 ? text : null });
+    const row = el("div", { class: `row ${kind}`, "data-line": line, title: text.length > 90 ? text : null });
     if (kind === "call" || kind === "comment") row.append(el("span", { class: "number" }, String(line)));
     row.append(text);
     if (kind === "call") row.addEventListener("click", () => show(line));
@@ -306,11 +312,11 @@ const Page = (() => {
     if (whole) all.forEach((it) => box.append(drawn(it)));
     else {
       part.append(note(`${all.length} rows: those in sight are drawn; a print shows some.`));
-      const inner = el("div", { style: `position:relative;height:${all.length * HIGH}px` });
+      const inner = el("div", { class: "virtual", style: `height:${all.length * HIGH}px` });
       box.append(inner);
       draw = () => {
         const first = Math.max(Math.floor(box.scrollTop / HIGH) - 10, 0);
-        const group = el("div", { style: `position:absolute;left:0;right:0;top:${first * HIGH}px` });
+        const group = el("div", { style: `top:${first * HIGH}px` });
         all.slice(first, first + 60).forEach((it) => group.append(drawn(it)));
         inner.replaceChildren(group);
       };
@@ -324,8 +330,7 @@ const Page = (() => {
       const i = places.get(line) || 0;
       box.scrollTop = Math.max(i * HIGH - 120, 0);
       draw();
-      for (const it of box.querySelectorAll(".at")) it.classList.remove("at");
-      if (whole) [...box.children].filter((_, n) => all[n][2] === line).forEach((it) => it.classList.add("at"));
+      light(line);
       if (!hooks.select) box.scrollIntoView({ block: "nearest" });
     };
     return part.append(box), part;
