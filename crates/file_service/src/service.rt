@@ -4,7 +4,7 @@ ghost use Rattle.own_model.specs.BufferService.{session_request};
 ghost use Rattle.own_model.specs.FileText.{file_reply};
 ghost use Rattle.own_model.specs.FileText.{FileReply as Answered};
 ghost use Rattle.own_model.specs.FileText.FileRequest.{Read, Write};
-ghost use Rattle.own_model.specs.Routes.Service.{Files};
+ghost use Rattle.trade_base.specs.declared.service.Service.TheVariants.{Files};
 ghost use Rattle.own_model.specs.Session.{Labelled, state_at_first};
 ghost use Rattle.own_model.specs.Text.{bytes_of_hex, hex_bytes};
 ghost use Rattle.dataspace_core.specs.Store.{account_in, IsOpenIn};

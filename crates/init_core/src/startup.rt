@@ -3,7 +3,8 @@
 ghost use Rattle.std.specs.Prelude.{◌≡◌, ◌≢◌, ◌+◌, ◌*◌, ◌<◌, ◌≤◌, is_none, is_ok, length, IfOk, IfErr, OnOk, None, Some};
 ghost use Rattle.own_model.specs.Account.{shortage};
 ghost use Rattle.own_model.specs.Listed.{Listed, start_list_of};
-ghost use Rattle.own_model.specs.Listed.Binary.{Script as AScript, LogServer, FileServer, Init as AnInit};
+ghost use Rattle.own_model.specs.Listed.Binary.{Script as AScript, Server as AServer, Init as AnInit};
+ghost use Rattle.trade_base.specs.declared.service.Service.TheVariants.{Log, Files};
 ghost use Rattle.own_model.specs.World.{start_world, IsBalancedFor};
 ghost use Rattle.own_model.specs.StartList.{Boots};
 ghost use Rattle.dataspace_core.specs.Store.{IsOpenIn, account_in, room_in};
@@ -21,7 +22,7 @@ use region_map::RegionMap;
 use server_frame::Server;
 use services::{FileService, LogService};
 use std::alloc::Global;
-use trade_base::{AccountId, Caps, Ram};
+use trade_base::{AccountId, Caps, Ram, Service};
 
 /// The most user regions of a script.
 const REGIONS: usize = 128;
@@ -99,12 +100,8 @@ fn start(
             components.push(script_of(entry, account, reserve, list, alloc)?)?;
             Ok(())
         }
-        Binary::Log => {
-            components.push(log_of(entry, account, list, alloc)?)?;
-            Ok(())
-        }
-        Binary::Files => {
-            components.push(files_of(entry, account, list, alloc)?)?;
+        Binary::Server(service) => {
+            components.push(server_of(service, entry, account, list, alloc)?)?;
             Ok(())
         }
         Binary::Init => {
@@ -154,14 +151,32 @@ fn script_of(
     Ok(Component::script(entry.label(), account, reserve, caps, regions))
 }
 
-/// The log server of an entry on its account, without sessions.
+/// The server of an entry on its account, without sessions.
+fn server_of(
+    service: Service,
+    entry: &Entry,
+    account: AccountId,
+    list: &StartList,
+    alloc: Global,
+) -> Result<Component, BootFault>
+    requires { entry.now.binary ≡ AServer service }
+    ensures made { IfOk result (IsMade list.now entry.now account.0 None) }
+    ensures fault { IfErr result (λ fault. fault ≡ NoMemory) }
+{
+    match service {
+        Service::Log => log_of(entry, account, list, alloc),
+        Service::Files => files_of(entry, account, list, alloc),
+    }
+}
+
+/// The log server of an entry, the same.
 fn log_of(
     entry: &Entry,
     account: AccountId,
     list: &StartList,
     alloc: Global,
 ) -> Result<Component, BootFault>
-    requires { entry.now.binary ≡ LogServer }
+    requires { entry.now.binary ≡ AServer Log }
     ensures made { IfOk result (IsMade list.now entry.now account.0 None) }
     ensures fault { IfErr result (λ fault. fault ≡ NoMemory) }
 {
@@ -176,7 +191,7 @@ fn files_of(
     list: &StartList,
     alloc: Global,
 ) -> Result<Component, BootFault>
-    requires { entry.now.binary ≡ FileServer }
+    requires { entry.now.binary ≡ AServer Files }
     ensures made { IfOk result (IsMade list.now entry.now account.0 None) }
     ensures fault { IfErr result (λ fault. fault ≡ NoMemory) }
 {

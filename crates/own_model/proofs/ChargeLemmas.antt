@@ -6,46 +6,30 @@ use Rattle.std.specs.Prelude.{Option, None, if◌then◌else◌}
 use Rattle.std.specs.Option.{option_map}
 use Rattle.std.specs.FinMap.{get, insert, remove}
 use Rattle.trade_base.specs.Page.{page_of}
-use Rattle.own_model.proofs.BufferKeptLemmas.{all_keep_charges}
 use Rattle.own_model.proofs.ByteLemmas.{length-with_part}
 use Rattle.own_model.proofs.LentKeptLemmas.{lent_selectors, lent_session, lent_opened, lent_closed, none_left, effects_lent, sessions_lent, sessions_with, one_session, gone_lent}
 use Rattle.own_model.proofs.LentLemmas.{is_buffer, buffer_is, buffer_there, no_buffer, only_buffer, buffer_none, lent_still}
 use Rattle.own_model.proofs.NatMapLemmas.{get-empty, get-insert_same, get-insert_other, get-remove_same, before_remove, alike_insert, alike_remove}
 use Rattle.own_model.proofs.NewSelector.{new_selector_free}
+use Rattle.own_model.proofs.ServiceLemmas.{nothing_at_first, serve_charges}
 use Rattle.own_model.proofs.SessionLemmas.{named_there, each_lent}
 use Rattle.own_model.proofs.StepLemmas.{KeptByEffects, KeptByReserve, KeptBySessions}
 use Rattle.own_model.proofs.TableLemmas.{run_keeps}
-use Rattle.own_model.specs.BufferService.{session_request, buffer_ram, buffer_caps}
-use Rattle.own_model.specs.FileService.{IsCharged}
+use Rattle.own_model.specs.BufferService.{buffer_ram, buffer_caps}
 use Rattle.own_model.specs.NatMap.{NatMap}
 use Rattle.own_model.specs.OwnState.{OwnState, Object, NamedBuffer, is_buffer_of, buffer_of, bytes_of_buffer, bytes_named, new_selector, zeros, object_with, session_named}
 use Rattle.own_model.specs.OwnState.Object.{Dataspace, RpcObject, OpenSession, Buffer}
 use Rattle.own_model.specs.OwnStep.{selectors_lent, gone_state}
-use Rattle.own_model.specs.Routes.{Service}
-use Rattle.own_model.specs.Session.{Session, ServiceState, Wish, session_ram, session_caps, state_at_first, new_session, upgraded, served, served_by}
-use Rattle.own_model.specs.Session.ServiceState.{Logging, Filing}
+use Rattle.own_model.specs.Session.{Session, Wish, new_session, upgraded, served}
 use Rattle.own_model.specs.SessionLaws.{RunKeepsCharges}
 use Rattle.own_model.specs.Sound.{AreLent}
-use Rattle.own_model.specs.Use.{UsesItsCharge, UseTheirCharges, state_ram, state_caps}
+use Rattle.own_model.specs.Use.{UsesItsCharge, UseTheirCharges}
 
 -- ---- one session
 
--- nothing is charged for what a server keeps at first
-nothing_at_first : (service : Service) → (state_ram (state_at_first service) ≡ 0) × (state_caps (state_at_first service) ≡ 0)
-nothing_at_first Service.Log = (refl, refl)
-nothing_at_first Service.Files = (refl, refl)
-
+-- a new session uses what it is charged for
 new_charges : (wish : Wish) → UsesItsCharge (new_session wish) None
 new_charges wish = let none = nothing_at_first wish.server.kind in record { ram = omega (arith, none.0); caps = omega (arith, none.1) }
-
--- a session that has served uses what it is charged for
-serve_charges : (state : ServiceState) (buffer : Option (List ℕ)) (x : Session) (request : List ℕ) → x.state ≡ state → UsesItsCharge x buffer →
-    UsesItsCharge (served_by state buffer x request).session (served_by state buffer x request).buffer
-serve_charges (Logging partial) buffer x request is h = record { ram = omega (arith, h.ram, ap state_ram is); caps = omega (arith, h.caps, ap state_caps is) }
-serve_charges (Filing files) buffer x request is h =
-    let before : IsCharged (session_ram + buffer_ram buffer) (session_caps + buffer_caps buffer) files x.account = record { ram = omega (arith, h.ram, ap state_ram is); caps = omega (arith, h.caps, ap state_caps is) } in
-    let after = all_keep_charges session_ram session_caps (session_request request) buffer files x.account before in
-    record { ram = omega (arith, after.ram); caps = omega (arith, after.caps) }
 
 -- a buffer is charged by its length
 by_length : (a b : Option (List ℕ)) → option_map length a ≡ option_map length b → (buffer_ram a ≡ buffer_ram b) × (buffer_caps a ≡ buffer_caps b)

@@ -5,7 +5,7 @@ use Rattle.std.proofs.lemmas.Bool.{eqb-false}
 use Rattle.std.proofs.lemmas.Option.{same_Some}
 use Rattle.std.specs.Prelude.{Option, None}
 use Rattle.std.specs.FinMap.{get, insert}
-use Rattle.own_model.proofs.LimitLemmas.{serve_keeps}
+use Rattle.own_model.proofs.ServiceLemmas.{serve_keeps}
 use Rattle.own_model.proofs.NatMapLemmas.{get-insert_same, get-insert_other, before_remove}
 use Rattle.own_model.proofs.SessionLemmas.{EachNamed, effects_named, reserve_named, each_lent, named_there, gone_named}
 use Rattle.own_model.proofs.TableLemmas.{others_keep}

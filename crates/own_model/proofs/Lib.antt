@@ -45,6 +45,8 @@ pub mod FileRequestLemmas
 pub mod FileChargeLemmas
 pub mod FileServiceLemmas
 pub mod BufferKeptLemmas
+pub mod BufferMadeLemmas
+pub mod ServiceLemmas
 pub mod FileErrorLemmas
 pub mod BufferErrorLemmas
 pub mod FilePlaceLemmas

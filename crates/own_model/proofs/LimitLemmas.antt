@@ -2,14 +2,12 @@
 use Rattle.std.proofs.lemmas.Bool.Decides.{nat_tests}
 use Rattle.std.proofs.Common.{rules, ◌≡◌, ℕ, false, cond, lit≤, Option, Some, None, List, [], ◌∷◌, refl, sym, ap, ◌∙◌, true≢false, arith, set}
 use Rattle.std.proofs.lemmas.List.{set-get_or}
-use Rattle.own_model.proofs.BufferKeptLemmas.{all_keep_limits, all_keep_within}
 use Rattle.std.specs.FinMap.{get, insert}
 use Rattle.own_model.proofs.LentLemmas.{lent_still, total_lent}
 use Rattle.trade_base.specs.declared.refusal.Refusal.{Refusal}
 use Rattle.trade_base.specs.declared.refusal.Refusal.TheVariants.{OutOfCaps}
 use Rattle.own_model.proofs.StepLemmas.{KeptBySessions, KeptByEffects, KeptByReserve, covers, short_of_caps, accepted_size, accepted_block, accepted_growth}
 use Rattle.own_model.specs.Account.{Account, WithinLimits, shortage}
-use Rattle.own_model.specs.BufferService.{session_request}
 use Rattle.own_model.specs.Call.{Call, is_exit}
 use Rattle.own_model.specs.Call.Call.{Capalloc}
 use Rattle.own_model.specs.OwnState.{OwnState, Object, EachSession, new_selector, object_with, buffer_of, bytes_of_buffer}
@@ -18,13 +16,13 @@ use Rattle.own_model.specs.Laws.{ServersStay, StepKeepsLimits, OthersKeepOwnLimi
 use Rattle.own_model.specs.Donation.{raised}
 use Rattle.own_model.specs.Reply.Reply.{Refused}
 use Rattle.own_model.proofs.NewSelector.{new_selector_free}
+use Rattle.own_model.proofs.ServiceLemmas.{IsWithin, serve_keeps, serve_within}
 use Rattle.own_model.proofs.SessionLemmas.{donation_covered, large_enough, effects_each, reserve_each, sessions_each, gone_each}
 use Rattle.own_model.proofs.Totals.{total-empty, total-insert_new, total-insert_same, total-insert_at, total-remove}
 use Rattle.own_model.specs.Limits.{ram_with, caps_with, ram_limits, caps_limits, init_after, inits_after, AreWithinLimits}
 use Rattle.own_model.specs.NatMap.{total}
 use Rattle.own_model.specs.OwnState.Object.{Dataspace, RpcObject, OpenSession, Buffer}
-use Rattle.own_model.specs.Session.{Session, ServiceState, served, served_by}
-use Rattle.own_model.specs.Session.ServiceState.{Logging, Filing}
+use Rattle.own_model.specs.Session.{Session, served}
 use Rattle.own_model.specs.StartList.{Entry, init_at, no_account}
 use Rattle.own_model.proofs.TableLemmas.{step_keeps, others_go_on, goes_on}
 use Rattle.own_model.proofs.ExitLemmas.{by_exit}
@@ -63,15 +61,6 @@ gone_within = record { ram = lit≤ tt; caps = lit≤ tt }
 -- no call overdraws an account
 pub step_within : (entry : Entry) (call : Call) (s : OwnState) → WithinLimits s.account → WithinLimits (own_step entry call s).next.account
 step_within entry call s within = step_keeps (λ t. WithinLimits t.account) s within (effects_within s within) (reserve_within s within) (sessions_within s within) gone_within entry call
-
--- an account of a session is within its limits
-abbrev IsWithin : Session → Type 0
-IsWithin session = WithinLimits session.account
-
--- a session that serves stays within its limits
-serve_within : (state : ServiceState) (buffer : Option (List ℕ)) (x : Session) (request : List ℕ) → IsWithin x → IsWithin (served_by state buffer x request).session
-serve_within (Logging partial) buffer x request within = within
-serve_within (Filing files) buffer x request within = all_keep_within (session_request request) buffer files x.account within
 
 -- no calls do
 pub run_within : (entry : Entry) (calls : List Call) (s : OwnState) → WithinLimits s.account → WithinLimits (own_run entry calls s).account
@@ -130,12 +119,6 @@ adds_nothing s object ram caps = grind (arith, nat_tests, new_selector_free, tot
 -- so calls that are of no session change no limits
 effects_in_all : (s : OwnState) → KeptByEffects (SameInAll s) s
 effects_in_all s = search (rules, adds_nothing, total-remove, counts-with, total-insert_same)
-
--- a session that serves keeps its limits
-pub serve_keeps : (state : ServiceState) (buffer : Option (List ℕ)) (x : Session) (request : List ℕ) →
-    ((served_by state buffer x request).session.account.ram_limit ≡ x.account.ram_limit) × ((served_by state buffer x request).session.account.caps_limit ≡ x.account.caps_limit)
-serve_keeps (Logging partial) buffer x request = (refl, refl)
-serve_keeps (Filing files) buffer x request = all_keep_limits (session_request request) buffer files x.account
 
 -- a request leaves limits, whatever it does to a buffer
 serve_moves : (s : OwnState) (q : ℕ) (x : Session) (request : List ℕ) → get s.selectors q ≡ Some (OpenSession x) → SameInAll s (session_called q (Some x) request s).next

@@ -1,14 +1,17 @@
 -- What own step reads of a list's rules decides as they do.
-use Rattle.std.proofs.Common.{rules, ◌≡◌, ℕ, zero, suc, Bool, true, false, cond, ◌&&◌, ◌==◌, List, [], ◌∷◌, ◌++◌, length, Option, Some, None, refl, sym, ap, ◌∙◌, nat_eq, arith}
-use Rattle.std.specs.Prelude.{position}
-use Rattle.std.specs.List.{position_or_len, starts_with, ends_with}
+use Rattle.std.proofs.Common.{rules, ◌≡◌, ℕ, zero, suc, Bool, true, false, cond, ◌&&◌, ◌||◌, ◌==◌, List, [], ◌∷◌, ◌++◌, length, Option, Some, None, refl, sym, ap, ◌∙◌, nat_eq, arith}
+use Rattle.std.specs.Prelude.{map, position}
+use Rattle.std.specs.List.{list_any, position_or_len, starts_with, ends_with}
 use Rattle.std.specs.Option.{option_and_then, option_map, unwrap_or}
 use Rattle.std.specs.Str.{bytes_eq}
 use Rattle.std.proofs.lemmas.Bool.Decides.{nat_tests}
 use Rattle.std.proofs.lemmas.Slice.Eq.{bytes_eq-Decides}
+use Rattle.trade_base.specs.Service.{service_name, services}
+use Rattle.trade_base.specs.declared.service.Service.{Service}
+use Rattle.own_model.proofs.ServiceLemmas.{none_named}
 use Rattle.own_model.specs.Routes.{Lead, Level, Rule, ServerAt, as_asked, decided, label_with, led_to, provider}
-use Rattle.own_model.specs.Listed.{Binary, Target, Listed, ListedEntry, ListedRule, Way, serves, offers, log_service, file_service, init_entry, way_to, way_by, rules_for, end_of, route_within, server_at, lead_to, lead_of, lead_without, own_rules_asking, own_rules, levels_within, RoutesLeadToProviders}
-use Rattle.own_model.specs.Listed.Binary.{Script, LogServer, FileServer, Init}
+use Rattle.own_model.specs.Listed.{Binary, Target, Listed, ListedEntry, ListedRule, Way, serves, offers, init_entry, way_to, way_by, rules_for, end_of, route_within, server_at, lead_to, lead_of, lead_without, own_rule, own_rule_for, own_rules_asking, own_rules, levels_within, RoutesLeadToProviders}
+use Rattle.own_model.specs.Listed.Binary.{Script, Server, Init}
 use Rattle.own_model.specs.Listed.Target.{Child, AnyChild, Parent}
 use Rattle.own_model.specs.Listed.Way.{Inside, Outside}
 
@@ -20,19 +23,22 @@ none_passes p (x ∷ xs) none = rw (none x, none_passes p xs none) (omega arith)
 position-none : {X : Type 0} (p : X → Bool) (xs : List X) → ((x : X) → p x ≡ false) → position p xs ≡ None
 position-none p xs none = rw (none_passes p xs none) (grind (arith, nat_tests))
 
--- a service that no binary serves is offered by no entry
-serves-none : (binary : Binary) (service : List ℕ) → bytes_eq service log_service ≡ false → bytes_eq service file_service ≡ false → serves binary service ≡ false
-serves-none Script service log file = refl
-serves-none LogServer service log file = log
-serves-none FileServer service log file = file
-serves-none Init service log file = refl
+-- no service has this name
+abbrev IsNone : List ℕ → Type 0
+IsNone asked = list_any (λ service. bytes_eq asked (service_name service)) services ≡ false
+
+-- such a one no binary serves, and no entry offers
+serves-none : (binary : Binary) (asked : List ℕ) → IsNone asked → serves binary asked ≡ false
+serves-none Script asked none = refl
+serves-none (Server service) asked none = none_named asked service none
+serves-none Init asked none = refl
 
 and-false : (b : Bool) → (b && false) ≡ false
 and-false true = refl
 and-false false = refl
 
-offers-none : (init : ℕ) (service : List ℕ) (entry : ListedEntry) → bytes_eq service log_service ≡ false → bytes_eq service file_service ≡ false → offers init service entry ≡ false
-offers-none init service entry log file = rw (serves-none entry.binary service log file, and-false entry.provides) (and-false (entry.home == init))
+offers-none : (init : ℕ) (asked : List ℕ) (entry : ListedEntry) → IsNone asked → offers init asked entry ≡ false
+offers-none init asked entry none = rw (serves-none entry.binary asked none, and-false entry.provides) (and-false (entry.home == init))
 
 same : {A : Type 0} (b : Bool) (x : A) → cond b x x ≡ x
 same true x = refl
@@ -40,11 +46,10 @@ same false x = refl
 
 module _ (entries : List ListedEntry) (init : ℕ) where
   -- no target leads to a child for such a service
-  way-none : (target : Target) (service : List ℕ) → bytes_eq service log_service ≡ false → bytes_eq service file_service ≡ false →
-      lead_without target ≡ lead_of entries (way_to entries init target service)
-  way-none (Child name) service log file = grind (arith, nat_tests, position-none, offers-none, and-false)
-  way-none AnyChild service log file = grind (arith, nat_tests, position-none, offers-none, same)
-  way-none Parent service log file = refl
+  way-none : (target : Target) (asked : List ℕ) → IsNone asked → lead_without target ≡ lead_of entries (way_to entries init target asked)
+  way-none (Child name) asked none = grind (arith, nat_tests, position-none, offers-none, and-false)
+  way-none AnyChild asked none = grind (arith, nat_tests, position-none, offers-none, same)
+  way-none Parent asked none = refl
 
   module _ (target : Target) where
     -- a rule for one service decides as what it comes to
@@ -55,23 +60,43 @@ module _ (entries : List ListedEntry) (init : ℕ) where
     decides_for service asked false true lead way named after = after
     decides_for service asked false false lead way named after = after
 
-    -- a rule for any service decides as what it comes to
-    decides_for_any : (service : List ℕ) (b is_log is_file : Bool) (lead : Lead) (way : Way) → is_log ≡ bytes_eq service log_service → is_file ≡ bytes_eq service file_service → lead ≡ lead_of entries way →
-        cond (is_log && b) (lead_of entries (way_to entries init target log_service))
-        (cond (is_file && b) (lead_of entries (way_to entries init target file_service)) (cond b (lead_without target) lead))
-        ≡ lead_of entries (cond b (way_to entries init target service) way)
-    decides_for_any service false true true lead way log file after = after
-    decides_for_any service false true false lead way log file after = after
-    decides_for_any service false false true lead way log file after = after
-    decides_for_any service false false false lead way log file after = after
-    decides_for_any service true true is_file lead way log file after = grind (arith, nat_tests, bytes_eq-Decides)
-    decides_for_any service true false true lead way log file after = grind (arith, nat_tests, bytes_eq-Decides)
-    decides_for_any service true false false lead way log file after = way-none target service (sym log) (sym file)
-
 -- what a rule asks of the label
 labels_asked : ListedRule → List ℕ → Bool
 labels_asked rule label =
     as_asked (bytes_eq label) rule.label && (as_asked (starts_with nat_eq label) rule.label_prefix && as_asked (ends_with nat_eq label) rule.label_suffix)
+
+-- one more of some ways to the same
+one_more : {A : Type 0} (b any asked : Bool) (to found rest after : A) → (b ≡ true → to ≡ found) → after ≡ cond (any && asked) found rest →
+    cond (b && asked) to after ≡ cond ((b || any) && asked) found rest
+one_more true any true to found rest after same is = same refl
+one_more true true false to found rest after same is = is
+one_more true false false to found rest after same is = is
+one_more false any asked to found rest after same is = is
+
+module _ (entries : List ListedEntry) (init : ℕ) (rule : ListedRule) (asked label : List ℕ) where
+  -- where a rule of any service leads for this one
+  abbrev leads : Lead
+  leads = lead_of entries (way_to entries init rule.target asked)
+
+  -- of its rules, one for each of some services, the one of this service decides, if it is among them
+  decides_among : (among : List Service) (rest : List Rule) →
+      decided (map (λ service. own_rule_for entries init rule (service_name service)) among ++ rest) asked label
+      ≡ cond (list_any (λ service. bytes_eq asked (service_name service)) among && labels_asked rule label) leads (decided rest asked label)
+  unfolding labels_asked
+  decides_among [] rest = refl
+  decides_among (service ∷ among) rest =
+      one_more (bytes_eq asked (service_name service)) (list_any (λ s. bytes_eq asked (service_name s)) among) (labels_asked rule label)
+      (lead_of entries (way_to entries init rule.target (service_name service))) leads (decided rest asked label)
+      (decided (map (λ s. own_rule_for entries init rule (service_name s)) among ++ rest) asked label)
+      (λ is. ap (λ s. lead_of entries (way_to entries init rule.target s)) (sym ((bytes_eq-Decides asked (service_name service)).0 is))) (decides_among among rest)
+
+  -- and where it isn't, the one of every other service
+  decides_any : (any by_label : Bool) (lead : Lead) (way : Way) → list_any (λ service. bytes_eq asked (service_name service)) services ≡ any → lead ≡ lead_of entries way →
+      cond (any && by_label) leads (cond by_label (lead_without rule.target) lead) ≡ lead_of entries (cond by_label (way_to entries init rule.target asked) way)
+  decides_any true true lead way is after = refl
+  decides_any true false lead way is after = after
+  decides_any false true lead way is after = way-none entries init rule.target asked is
+  decides_any false false lead way is after = after
 
 -- by cases on what the first rule asks of the service
 first_decides : (entries : List ListedEntry) (init : ℕ) (rule : ListedRule) (asked : Option (List ℕ)) (service label : List ℕ) (rest : List Rule) (way : Way) →
@@ -80,7 +105,9 @@ first_decides : (entries : List ListedEntry) (init : ℕ) (rule : ListedRule) (a
     ≡ lead_of entries (cond (as_asked (bytes_eq service) asked && labels_asked rule label) (way_to entries init rule.target service) way)
 unfolding labels_asked
 first_decides entries init rule (Some asked) service label rest way after = grind (arith, nat_tests, decides_for, labels_asked, bytes_eq-Decides)
-first_decides entries init rule None service label rest way after = grind (arith, nat_tests, decides_for_any, labels_asked)
+first_decides entries init rule None service label rest way after =
+    decides_among entries init rule service label services (own_rule rule None (lead_without rule.target) ∷ rest)
+    ∙ decides_any entries init rule service label (list_any (λ s. bytes_eq service (service_name s)) services) (labels_asked rule label) (decided rest service label) way refl after
 
 -- so a list's rules lead the way that they decide
 rules_decide : (entries : List ListedEntry) (init : ℕ) (rules : List ListedRule) (service label : List ℕ) →

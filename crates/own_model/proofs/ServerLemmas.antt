@@ -5,6 +5,7 @@ use Rattle.std.specs.Option.{option_map, option_or}
 use Rattle.trade_base.specs.declared.refusal.Refusal.{Refusal}
 use Rattle.own_model.proofs.NatMapLemmas.{before_remove}
 use Rattle.own_model.proofs.NewSelector.{new_selector_free}
+use Rattle.own_model.proofs.ServiceLemmas.{served_there, server_stays, there_by}
 use Rattle.own_model.proofs.SessionLemmas.{EachNamed, after_one, each_lent, effects_named, gone_named, named_there, reserve_named}
 use Rattle.own_model.proofs.TableLemmas.{others_keep}
 use Rattle.own_model.specs.Account.{Account, shortage}
@@ -14,32 +15,17 @@ use Rattle.own_model.specs.OwnState.{OwnState, new_selector, buffer_of, bytes_of
 use Rattle.own_model.specs.OwnState.Object.{OpenSession}
 use Rattle.own_model.specs.OwnStep.{Outcome, own_step, unless, turned_away, opened_by, session_opened, upgraded_by, session_upgraded, session_called, session_closed, selectors_lent}
 use Rattle.own_model.specs.Routes.{Level, ServerAt, label_with, provider}
-use Rattle.own_model.specs.Session.{Labelled, Served, ServiceState, Session, Wish, donation_refusal, given_by, new_session, served, served_by, session_with, upgraded, wish_in, wish_of}
-use Rattle.own_model.specs.Session.ServiceState.{Logging, Filing}
+use Rattle.own_model.specs.Session.{Labelled, Session, Wish, donation_refusal, given_by, new_session, served, session_with, upgraded, wish_in, wish_of}
 use Rattle.own_model.specs.SessionArgs.{Arguments, arguments_of}
 use Rattle.own_model.specs.SessionLaws.{SessionsHaveTheirServers, server_asked}
 use Rattle.own_model.specs.StartList.{Entry}
 
 -- ---- one request
 
--- what a request is answered, of the server at a place
-abbrev pub served_there : ℕ → Served → Served
-served_there server o = record o { session = record o.session { server = server } }
-
-there_by : (server : ℕ) (state : ServiceState) (buffer : Option (List ℕ)) (x : Session) (request : List ℕ) →
-    served_by state buffer (record x { server = server }) request ≡ served_there server (served_by state buffer x request)
-there_by server (Logging partial) buffer x request = refl
-there_by server (Filing files) buffer x request = refl
-
 -- a request is answered alike wherever the server stands
 pub served_anywhere : (server other : ℕ) (account : Account) (kept : Labelled) (buffer : Option (List ℕ)) (request : List ℕ) →
     served buffer (session_with server account kept) request ≡ served_there server (served buffer (session_with other account kept) request)
 served_anywhere server other account kept buffer request = there_by server kept.state buffer (session_with other account kept) request
-
--- and leaves the session with its server
-server_stays : (state : ServiceState) (buffer : Option (List ℕ)) (x : Session) (request : List ℕ) → (served_by state buffer x request).session.server ≡ x.server
-server_stays (Logging partial) buffer x request = refl
-server_stays (Filing files) buffer x request = refl
 
 -- ---- one call
 

@@ -14,11 +14,10 @@ use Rattle.own_model.specs.Account.{Account, credited, parted_with, alloc_refusa
 use Rattle.own_model.specs.Donation.{raised}
 use Rattle.own_model.specs.Amounts.{Amounts}
 use Rattle.own_model.specs.Reserve.{no_reserve}
-use Rattle.own_model.specs.Session.{Session, ServiceState, new_session, upgraded, served, served_by}
-use Rattle.own_model.specs.Session.ServiceState.{Logging, Filing}
+use Rattle.own_model.specs.Session.{Session, new_session, upgraded, served}
 use Rattle.own_model.specs.BufferLaws.{FitsBuffer}
-use Rattle.own_model.specs.BufferService.{session_request}
-use Rattle.own_model.proofs.BufferKeptLemmas.{all_fit, same_fits, none_fits}
+use Rattle.own_model.proofs.BufferKeptLemmas.{none_fits}
+use Rattle.own_model.proofs.ServiceLemmas.{serve_fits}
 use Rattle.own_model.proofs.LentLemmas.{buffer_there, lent_still}
 use Rattle.own_model.proofs.StepLemmas.{KeptBySessions, KeptByEffects, KeptByReserve, valid_some}
 use Rattle.own_model.proofs.TableLemmas.{step_keeps, run_keeps}
@@ -384,11 +383,6 @@ sound_lent s q (Some b) (Some bytes) found fits h =
     (whole_after s.selectors b.selector (Buffer q bytes) h.whole (λ c is. subst IsPages (same_Some bytes c is) (pages_alike b.bytes bytes fits (h.whole b.selector b.bytes there))))
     (λ region. named_resized s.selectors b.selector (Buffer q bytes) b.bytes bytes region there refl fits) h
 sound_lent s q (Some b) None found fits h = sound_dropped b.selector s.account s h
-
--- what a request leaves of a buffer is so long
-serve_fits : (state : ServiceState) (buffer : Option (List ℕ)) (x : Session) (request : List ℕ) → FitsBuffer buffer (served_by state buffer x request).buffer
-serve_fits (Logging partial) buffer x request = same_fits buffer
-serve_fits (Filing files) buffer x request = all_fit (session_request request) buffer files x.account
 
 -- nor do calls of sessions
 pub sessions_sound : (s : OwnState) → IsSound s → KeptBySessions IsSound s

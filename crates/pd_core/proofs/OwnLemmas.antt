@@ -18,7 +18,7 @@ use Rattle.own_model.specs.OwnStep.{Outcome, script_step, unrouted}
 use Rattle.own_model.specs.Region.{Region}
 use Rattle.own_model.specs.Reply.{Reply}
 use Rattle.own_model.specs.Reply.Reply.{Selected, Done}
-use Rattle.own_model.specs.Session.ServiceState.{Logging}
+use Rattle.own_model.specs.Services.ServiceState.{Logging}
 use Rattle.own_model.specs.Use.{object_caps}
 use Rattle.own_model.specs.StartList.{Entry}
 use Rattle.own_model.proofs.NatMapLemmas.{same, get-insert_same, get-insert_other, get-remove_same, get-remove_other, get-picked, picked-insert_some, picked-remove, picked_alike, alike_insert, alike_remove, and_then_alike, after_insert, apart_from_free, none_at, before_remove}

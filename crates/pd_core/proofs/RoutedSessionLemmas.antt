@@ -13,7 +13,8 @@ use Rattle.own_model.specs.OwnState.{new_selector}
 use Rattle.own_model.specs.OwnStep.{own_step, refused, unless, opened_by, session_opened}
 use Rattle.own_model.specs.Reply.{reply_text}
 use Rattle.own_model.specs.Reply.Reply.{Selected, Refused}
-use Rattle.own_model.specs.Routes.{Service, provider, label_with}
+use Rattle.trade_base.specs.declared.service.Service.{Service}
+use Rattle.own_model.specs.Routes.{provider, label_with}
 use Rattle.own_model.specs.Session.{Wish, donation_refusal, state_at_first, wish, wish_in, wish_of, Labelled}
 use Rattle.own_model.specs.SessionArgs.{Arguments, arguments_of}
 use Rattle.own_model.proofs.NewSelector.{new_selector_free}

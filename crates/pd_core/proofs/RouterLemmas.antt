@@ -5,7 +5,8 @@ use Rattle.std.proofs.lemmas.Option.{none-some, same_Some}
 use Rattle.std.proofs.lemmas.List.{get_or-map, get_or_past, length-map}
 use Rattle.std.specs.Option.{option_map}
 use Rattle.trade_base.specs.declared.refusal.Refusal.TheVariants.{ServiceDenied}
-use Rattle.own_model.specs.Routes.{ServerAt, Service, provider}
+use Rattle.trade_base.specs.declared.service.Service.{Service}
+use Rattle.own_model.specs.Routes.{ServerAt, provider}
 use Rattle.own_model.specs.Session.{wish, wish_in, wish_of}
 use Rattle.own_model.specs.SessionArgs.{Arguments, arguments_of}
 use Rattle.dataspace_core.specs.Store.{Store}

@@ -9,7 +9,7 @@ use Rattle.own_model.specs.Call.Call.{Open}
 use Rattle.own_model.specs.NatMap.{NatMap}
 use Rattle.own_model.specs.OwnState.{OwnState, new_selector}
 use Rattle.own_model.specs.OwnState.Object.{OpenSession}
-use Rattle.own_model.specs.Routes.Service.{Log}
+use Rattle.trade_base.specs.declared.service.Service.TheVariants.{Log}
 use Rattle.own_model.proofs.SoundLemmas.{sessions_sound}
 use Rattle.own_model.proofs.UseLemmas.{sessions_use}
 use Rattle.own_model.proofs.LimitLemmas.{sessions_within}

@@ -14,7 +14,8 @@ use Rattle.own_model.specs.Limits.{caps_limits}
 use Rattle.own_model.specs.OwnStep.{Outcome, own_step, refused}
 use Rattle.own_model.specs.Reply.{reply_text, log_text}
 use Rattle.own_model.specs.Reply.Reply.{Refused}
-use Rattle.own_model.specs.Routes.{ServerAt, Service}
+use Rattle.trade_base.specs.declared.service.Service.{Service}
+use Rattle.own_model.specs.Routes.{ServerAt}
 use Rattle.own_model.specs.StartList.{Entry, Kind, no_account}
 use Rattle.own_model.specs.StartList.Kind.{Script as AScriptKind, Server as AServerKind, Init as AnInitKind}
 use Rattle.own_model.specs.Transcript.{nobody, nothing, entry_at, state_at}

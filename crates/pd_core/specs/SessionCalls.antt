@@ -10,7 +10,8 @@ use Rattle.trade_base.specs.declared.refusal.Refusal.{Refusal}
 use Rattle.trade_base.specs.declared.refusal.Refusal.TheVariants.{Gone, InvalidSession, NotAScript}
 use Rattle.own_model.specs.Call.{Call}
 use Rattle.own_model.specs.Reply.{reply_text, log_text}
-use Rattle.own_model.specs.Routes.{ServerAt, Service, provider}
+use Rattle.trade_base.specs.declared.service.Service.{Service}
+use Rattle.own_model.specs.Routes.{ServerAt, provider}
 use Rattle.own_model.specs.World.{outcome_at, with_state}
 use Rattle.cap_space.specs.Space.{with_cap, without_cap, is_buffer}
 use Rattle.own_model.specs.NatMap.{NatMap}

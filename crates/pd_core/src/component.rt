@@ -42,7 +42,7 @@ impl Component {
     ghost use Rattle.trade_base.specs.declared.refusal.Refusal.TheVariants.{NotAScript};
     ghost use Rattle.own_model.specs.OwnState.{new_selector};
     ghost use Rattle.own_model.specs.OwnStep.{own_step};
-    ghost use Rattle.own_model.specs.Routes.Service.{Log as LogKind, Files as FilesKind};
+    ghost use Rattle.trade_base.specs.declared.service.Service.TheVariants.{Log as LogKind, Files as FilesKind};
     ghost use Rattle.own_model.specs.StartList.Kind.{Script as AScript, Server as AServer, Init as AnInit};
     ghost use Rattle.pd_core.specs.Answer.{told, told_of};
     ghost use Rattle.pd_core.specs.Call.{model_call, IsPlain, IsWellFormed};
