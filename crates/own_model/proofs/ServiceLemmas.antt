@@ -22,6 +22,7 @@ use Rattle.own_model.specs.OwnState.{zeros}
 use Rattle.own_model.specs.Services.{IsKept, Served, ServiceState, Session, served_by, state_at_first, state_caps, state_ram}
 use Rattle.own_model.specs.Services.ServiceState.{Logging, Filing}
 use Rattle.own_model.specs.Session.{session_caps, session_ram}
+use Rattle.own_model.specs.Text.{is_name}
 use Rattle.own_model.specs.Use.{UsesItsCharge}
 
 -- ---- names
@@ -38,6 +39,11 @@ rest_false true b none = absurd (true≢false none)
 pub none_named : (asked : List ℕ) (of : Service) → list_any (λ service. bytes_eq asked (service_name service)) services ≡ false → bytes_eq asked (service_name of) ≡ false
 none_named asked service.Log none = first_false (bytes_eq asked (service_name service.Log)) _ none
 none_named asked service.Files none = first_false (bytes_eq asked (service_name service.Files)) _ (rest_false (bytes_eq asked (service_name service.Log)) _ none)
+
+-- each service's name is one that an entry could have
+pub is_named : (of : Service) → is_name (service_name of) ≡ true
+is_named service.Log = refl
+is_named service.Files = refl
 
 -- ---- its server
 

@@ -7,9 +7,7 @@ ghost use Rattle.start_review.specs.Wishes.{is_led_to, is_parent, is_provided, i
 
 use crate::hiding::decides_some;
 use init_core::{Binary, Entry, Rule, StartList, Target, target_child};
-
-/// The services that there are.
-pub(crate) const SERVICES: [&str; 2] = ["LOG", "File_system"];
+use trade_base::SERVICES;
 
 /// How many lists a wish leads through at most.
 pub(crate) const MOST_LISTS: usize = 4;
@@ -193,7 +191,7 @@ pub(crate) fn is_script(binary: Binary) -> bool
 {
     match binary {
         Binary::Script => true,
-        Binary::Log | Binary::Files | Binary::Init => false,
+        Binary::Server(_) | Binary::Init => false,
     }
 }
 
@@ -201,5 +199,7 @@ pub(crate) fn is_script(binary: Binary) -> bool
 pub(crate) fn leads_somewhere(list: &StartList, client: &Entry) -> bool
     ensures { result ≡ leads_somewhere list.now client.now }
 {
-    leads_to(list, b"LOG", None, client) || leads_to(list, b"File_system", None, client)
+    SERVICES
+        .iter()
+        .any(|service| leads_to(list, service.name().as_bytes(), None, client))
 }
