@@ -12,7 +12,7 @@ use Rattle.trade_base.specs.declared.id.AccountId.{AccountId}
 use Rattle.own_model.specs.Account.{Account, Fits, opened, parted_with, shortage}
 use Rattle.own_model.specs.Amounts.{Amounts}
 use Rattle.own_model.specs.Reserve.{no_reserve}
-use Rattle.own_model.proofs.ReserveLemmas.{covered_in_turn}
+use Rattle.own_model.proofs.StepReserveLemmas.{covered_in_turn}
 use Rattle.own_model.proofs.StepLemmas.{covers}
 use Rattle.own_model.specs.Listed.{Listed, ListedEntry, Binary, service_of, kind_of, reserve_by, reserve_of, start_of, start_list_of}
 use Rattle.own_model.specs.Listed.Binary.{Script, Server, Init}

@@ -19,7 +19,7 @@ use Rattle.trade_base.specs.declared.service.Service.{Service}
 use Rattle.own_model.specs.Routes.{ServerAt, label_with, provider}
 use Rattle.own_model.specs.StartList.{AllCovered, Boots, inits_keep, start_state}
 use Rattle.own_model.specs.World.{start_world}
-use Rattle.own_model.proofs.ListedLemmas.{routes_lead}
+use Rattle.own_model.proofs.StartListedLemmas.{routes_lead}
 use Rattle.own_model.proofs.NatMapLemmas.{get-empty, get-insert_same}
 use Rattle.own_model.proofs.Totals.{total-insert_new, total-empty}
 use Rattle.dataspace_core.specs.Store.{Store, fresh_store, root_in, account_in, accounts_in, IsOpenIn, parents_in, room_in, ram_limits_in, caps_limits_in}

@@ -13,7 +13,7 @@ use Rattle.own_model.specs.Reserve.{no_reserve}
 use Rattle.own_model.specs.NatMap.{NatMap}
 use Rattle.own_model.specs.StartList.{Entry, StartEntry}
 use Rattle.own_model.proofs.NatMapLemmas.{apart_from_free, get-insert_same, get-insert_other, each_after_insert}
-use Rattle.own_model.proofs.ReserveLemmas.{parted_in_turn}
+use Rattle.own_model.proofs.StepReserveLemmas.{parted_in_turn}
 use Rattle.own_model.proofs.StepLemmas.{covers}
 use Rattle.own_model.proofs.Totals.{total_at_le}
 use Rattle.cap_space.specs.Space.{Space, fresh_space}
@@ -27,7 +27,7 @@ use Rattle.pd_core.specs.Component.{Place, entry_of, payer_of, reserve_of, amoun
 use Rattle.pd_core.specs.Core.{Heads, IsBelowHead}
 use Rattle.pd_core.specs.Fresh.{start_of, account_at, AreEmpty, IsNewServer, IsFreshReserve, IsFresh, Has, ShareNone}
 use Rattle.pd_core.specs.declared.component.Component.{Component}
-use Rattle.pd_core.proofs.FreshLemmas.{new_server_stays}
+use Rattle.pd_core.proofs.CoreFreshLemmas.{new_server_stays}
 use Rattle.init_core.specs.Boot.{AreThere, Opens}
 
 -- ---- tables that have just booted

@@ -1,7 +1,7 @@
 -- What servers keep for sessions, before and after calls.
 use Rattle.own_model.proofs.ServiceLemmas.{Keeps, kept_after, kept_at_first}
 use Rattle.own_model.proofs.SessionLemmas.{effects_each, reserve_each, sessions_each, gone_each}
-use Rattle.own_model.proofs.TableLemmas.{run_keeps}
+use Rattle.own_model.proofs.StepTableLemmas.{run_keeps}
 use Rattle.own_model.specs.OwnState.{EachSession}
 use Rattle.own_model.specs.SessionLaws.{RunKeepsKept}
 

@@ -35,7 +35,7 @@ use Rattle.sliced_heap.proofs.BesideLemmas.{map_of, whole_share, whole_tags, sta
 use Rattle.sliced_heap.proofs.ShareLemmas.{region_of_block}
 use Rattle.heap_core.proofs.StayLemmas as heap_laws
 use Rattle.pd_core.proofs.LentLemmas.{LendAlike, LendersStay, own_lent, script_lent, others_still, lent_still}
-use Rattle.pd_core.proofs.SettleLemmas.{Settles}
+use Rattle.pd_core.proofs.ScriptSettleLemmas.{Settles}
 
 -- a refused call leaves all as it is
 pub refuses : {call : Call} {refusal : Refusal} {store : Store} {script : Script} {new : Store} {after : Script} (answered : Result Answer Refusal) → IsErrAnd answered (λ y. y ≡ refusal) →

@@ -37,8 +37,8 @@ use Rattle.pd_core.specs.declared.component.Component.{Component}
 use Rattle.pd_core.specs.declared.component.Role.{Role}
 use Rattle.pd_core.specs.declared.component.Role.TheVariants.{Script as AScript, Server as AServer, Init as AnInit, Gone as AGone}
 use Rattle.pd_core.specs.declared.script.Script.{Script}
-use Rattle.pd_core.proofs.WorldLemmas.{refused_goes}
-use Rattle.pd_core.proofs.NamedSessionLemmas.{refused_reply}
+use Rattle.pd_core.proofs.CoreWorldLemmas.{refused_goes}
+use Rattle.pd_core.proofs.SessionNamedLemmas.{refused_reply}
 
 -- ---- what a look-up gives
 

@@ -4,7 +4,7 @@ use Rattle.pd_core.specs.Component.{IsSoundRole}
 use Rattle.pd_core.proofs.ExitCallLemmas.{alone_after, exit_goes, exit_refused_goes}
 use Rattle.pd_core.proofs.ExitLemmas.{alone_child, alone_leaf, alone_unlent, alone_reserve}
 use Rattle.pd_core.proofs.SessionRefusedLemmas.{passed_on}
-use Rattle.pd_core.proofs.WorldLemmas.{role_at}
+use Rattle.pd_core.proofs.CoreWorldLemmas.{role_at}
 use Rattle.pd_core.proofs.exiting.exit.Goals as goal
 
 pub returns-in_err-places : goal.returns-in_err-places

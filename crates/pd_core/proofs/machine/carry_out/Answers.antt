@@ -8,9 +8,9 @@ use Rattle.pd_core.specs.declared.answer.Answer.{Answer}
 use Rattle.pd_core.specs.Answer.{reply_of, told_alone}
 use Rattle.pd_core.specs.Call.{model_call}
 use Rattle.pd_core.specs.Core.{roles_of, sessions_in}
-use Rattle.pd_core.proofs.PlainLemmas.{plain_goes}
-use Rattle.pd_core.proofs.HeldLemmas.{names_open, reserve_apart}
-use Rattle.pd_core.proofs.WorldLemmas.{goes_as, role_at}
+use Rattle.pd_core.proofs.CorePlainLemmas.{plain_goes}
+use Rattle.pd_core.proofs.CoreHeldLemmas.{names_open, reserve_apart}
+use Rattle.pd_core.proofs.CoreWorldLemmas.{goes_as, role_at}
 use Rattle.pd_core.specs.Component.{HasReserveApart, caps_in, IsSoundRole}
 use Rattle.pd_core.specs.Own.{HasSessions}
 use Rattle.pd_core.proofs.machine.carry_out.Goals.{in-Open, in-Upgrade, in-Close, in-Reserve, in-Request, in-Yield, in-Exit}

@@ -6,7 +6,7 @@ use Rattle.dataspace_core.specs.Store.{parents_in, parent_in}
 use Rattle.pd_core.specs.Component.{HasOwnReserve, IsOwnReserve, payer_in, reserve_in}
 use Rattle.pd_core.specs.Exit.{ClosesBoth}
 use Rattle.pd_core.specs.declared.component.Role.TheVariants.{Script as AScript}
-use Rattle.pd_core.proofs.EndLemmas.{reserve_there, reserve_leaf, reserve_unused, closes_both}
+use Rattle.pd_core.proofs.ExitEndLemmas.{reserve_there, reserve_leaf, reserve_unused, closes_both}
 use Rattle.pd_core.proofs.component.Component.end.Goals as goal
 
 -- the reserve is one of its own, and the account is below another
