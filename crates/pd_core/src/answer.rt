@@ -11,7 +11,7 @@ use trade_base::{Caps, Ram, Refusal, Selector};
 
 /// What a call that isn't refused is answered.
 #[derive(Clone, Copy)]
-pub(crate) enum Answer {
+pub(crate) enum Granted {
     /// A new capability has this selector.
     Selected(Selector),
     /// A new region starts at this address.
@@ -49,7 +49,7 @@ pub struct Reserve {
 /// Writes what a call is answered in place of what the reply was. It finishes no log line. Who calls it takes it in, so that an
 /// outcome needn't be put together before it is told.
 #[inline(always)]
-pub(crate) fn tell(outcome: Result<Answer, Refusal>, reply: &mut Reply)
+pub(crate) fn tell(outcome: Result<Granted, Refusal>, reply: &mut Reply)
     ensures { reply.new ≡ told_alone (reply_text (reply_of outcome)) }
 {
     match outcome {
@@ -75,7 +75,7 @@ pub(crate) fn tell_text(text: &[u8], reply: &mut Reply)
     reply.add_text(text);
 }
 
-impl Answer {
+impl Granted {
     ghost use Rattle.std.specs.Prelude.{◌≡◌};
     ghost use Rattle.own_model.specs.Reply.{reply_text};
     ghost use Rattle.pd_core.specs.Answer.{model_answer, told_alone};
@@ -86,11 +86,11 @@ impl Answer {
         ensures { reply.new ≡ told_alone (reply_text (model_answer self)) }
     {
         match self {
-            Answer::Selected(selector) => tell_selector(selector, reply),
-            Answer::Attached(address) => tell_address(address, reply),
-            Answer::Done => tell_text(b"ok", reply),
-            Answer::Quotas(quotas) => quotas.tell(reply),
-            Answer::Reserved(reserve) => reserve.tell(reply),
+            Granted::Selected(selector) => tell_selector(selector, reply),
+            Granted::Attached(address) => tell_address(address, reply),
+            Granted::Done => tell_text(b"ok", reply),
+            Granted::Quotas(quotas) => quotas.tell(reply),
+            Granted::Reserved(reserve) => reserve.tell(reply),
         }
     }
 }

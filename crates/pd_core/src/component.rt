@@ -2,7 +2,7 @@
 
 use crate::answer::refuse;
 use crate::call::Call;
-use crate::label::{LONGEST_NAME, name_of};
+use crate::label::{LONGEST_CLIENT, name_of};
 use crate::script::Script;
 use arrayvec::ArrayVec;
 use cap_space::{Cap, CapSpace};
@@ -31,7 +31,7 @@ pub(crate) enum Role {
 /// A component: its name, under which it opens sessions, and its role.
 #[derive(Drop)]
 pub struct Component {
-    pub(crate) name: ArrayVec<u8, LONGEST_NAME>,
+    pub(crate) name: ArrayVec<u8, LONGEST_CLIENT>,
     pub(crate) role: Role,
 }
 
@@ -283,7 +283,7 @@ impl Component {
 
     /// A script without a session and without a buffer exits: all that it holds goes, its account and its reserve close, and
     /// their limits go back to its init's.
-    pub(crate) fn end(&mut self, memory: &mut Memory)
+    pub(crate) fn leave(&mut self, memory: &mut Memory)
         requires sound { IsSound memory.old self.old }
         requires script { IsScriptRole self.old.role }
         requires none { (selector : ℕ) → session_at (get (caps_of self.old) selector) ≡ None }

@@ -19,6 +19,7 @@ mod session_calls;
 pub use answer::{Quotas, Reserve};
 pub use call::Call;
 pub use component::Component;
+pub use label::{LONGEST_CLIENT, label_of};
 pub use machine::Core;
 pub use router::Router;
 pub use server_frame::Reply;

@@ -6,11 +6,8 @@ ghost use Rattle.init_core.specs.View.{model_binary, model_target};
 ghost use Rattle.start_review.specs.Wishes.{is_led_to, is_parent, is_provided, is_script, is_sought, lead_inside, lead_outward, leads_outward, leads_somewhere, leads_to, leads_within, led_to, reaches};
 
 use crate::hiding::decides_some;
-use init_core::{Binary, Entry, Rule, StartList, Target, target_child};
+use init_core::{Binary, Entry, MOST_LISTS, Rule, StartList, Target, target_child};
 use trade_base::SERVICES;
-
-/// How many lists a wish leads through at most.
-pub(crate) const MOST_LISTS: usize = 4;
 
 /// Whether some entry of an init's list provides a service.
 pub(crate) fn is_provided(list: &StartList, init: usize, service: &[u8]) -> bool

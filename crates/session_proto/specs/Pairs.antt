@@ -5,7 +5,7 @@ use Rattle.std.specs.Str.{bytes_eq}
 use Rattle.own_model.specs.SessionArgs.{Arguments, Pair, Value, ram_of, caps_of, label_of}
 use Rattle.trade_base.specs.declared.id.Ram.{Ram}
 use Rattle.trade_base.specs.declared.id.Caps.{Caps}
-use Rattle.session_proto.specs.declared.args.Found.{Found}
+use Rattle.session_proto.specs.declared.args.Pairs.{Pairs}
 
 -- RAM, capabilities and label, as far as they are known
 pub record Known : Type 0 where
@@ -21,7 +21,7 @@ abbrev pub caps_in : Option Caps → Option ℕ
 caps_in caps = option_map (λ c. c.0) caps
 
 -- the same of what the reader holds
-abbrev pub known : Found → Known
+abbrev pub known : Pairs → Known
 known found = record { ram = ram_in found.ram; caps = caps_in found.caps; label = option_copied found.label }
 
 -- what is known under a key after a pair that has it or not: the first that has it counts

@@ -7,7 +7,7 @@ use Rattle.pd_core.specs.Component.{HasOwnReserve, IsOwnReserve, payer_in, reser
 use Rattle.pd_core.specs.Exit.{ClosesBoth}
 use Rattle.pd_core.specs.declared.component.Role.TheVariants.{Script as AScript}
 use Rattle.pd_core.proofs.ExitEndLemmas.{reserve_there, reserve_leaf, reserve_unused, closes_both}
-use Rattle.pd_core.proofs.component.Component.end.Goals as goal
+use Rattle.pd_core.proofs.component.Component.leave.Goals as goal
 
 -- the reserve is one of its own, and the account is below another
 known : (c : goal.After-close-arg-1) → IsOwnReserve c.args.memory.now c.in-Script.script.account.0 c.in-Script.script.reserve.0 × IsSome (get (parents_in c.args.memory.now) c.in-Script.script.account.0)
