@@ -8,20 +8,11 @@ use Rattle.own_model.specs.OwnState.{OwnState}
 use Rattle.own_model.specs.OwnStep.{Outcome}
 use Rattle.own_model.specs.Reply.{Reply as Modelled, reply_text, log_text}
 use Rattle.own_model.specs.Reply.Reply.{Selected as ModelledSelected, Attached as ModelledAttached, Done as ModelledDone, Quotas as ModelledQuotas, Reserved as ModelledReserved, Refused as ModelledRefused}
+pub use Rattle.server_frame.specs.Quotas.{quotas_account}
 use Rattle.server_frame.specs.Told.{Told as Written}
 use Rattle.pd_core.specs.declared.answer.Granted.{Granted}
 use Rattle.pd_core.specs.declared.answer.Granted.TheVariants.{Selected, Attached, Done, Quotas, Reserved}
-use Rattle.pd_core.specs.declared.answer.Quotas.{Quotas as QuotasTold}
 use Rattle.pd_core.specs.declared.answer.Reserve.{Reserve as ReserveTold}
-
--- the account that has these quotas
-abbrev pub quotas_account : QuotasTold → Account
-quotas_account quotas = record {
-  ram_limit = quotas.ram_limit.0;
-  ram_used = quotas.ram_used.0;
-  caps_limit = quotas.caps_limit.0;
-  caps_used = quotas.caps_used.0;
-}
 
 -- the amounts that are told of a reserve
 abbrev pub reserve_amounts : ReserveTold → Amounts

@@ -11,7 +11,8 @@ ghost use Rattle.own_model.specs.StartList.{init_at};
 ghost use Rattle.pd_core.specs.Answer.{quotas_account, reserve_amounts, CountsLimits};
 ghost use Rattle.pd_core.specs.Core.{Places, world_of, IsCoreAt};
 
-use crate::answer::{Quotas, Reserve};
+use crate::answer::Reserve;
+use server_frame::Quotas;
 use crate::component::{Component, Role};
 use crate::machine::Core;
 use crate::router::Router;

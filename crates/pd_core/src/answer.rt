@@ -1,12 +1,12 @@
 //! The answers to calls, and their texts.
 ghost use Rattle.std.specs.Prelude.{◌≡◌, ◌+◌, ◌≤◌, ◌++◌, length, codes};
-ghost use Rattle.own_model.specs.Reply.{address_text, reply_text};
+ghost use Rattle.own_model.specs.Reply.{address_text, quota_text, reply_text};
 ghost use Rattle.own_model.specs.Reply.Reply.{Selected};
 ghost use Rattle.trade_base.specs.Refusal.{refusal_name};
-ghost use Rattle.pd_core.specs.Answer.{reply_of, told_alone};
+ghost use Rattle.pd_core.specs.Answer.{quotas_account, reply_of, told_alone};
 
 use crate::hex_digits::{MOST_DIGITS, write_hex};
-use server_frame::Reply;
+use server_frame::{Quotas, Reply};
 use trade_base::{Caps, Ram, Refusal, Selector};
 
 /// What a call that isn't refused is answered.
@@ -22,19 +22,6 @@ pub(crate) enum Granted {
     Quotas(Quotas),
     /// What the caller has in reserve.
     Reserved(Reserve),
-}
-
-/// What of an account is used, and its limits.
-#[derive(Clone, Copy)]
-pub struct Quotas {
-    /// Bytes of RAM in use.
-    pub ram_used: Ram,
-    /// The most bytes of RAM that can be in use.
-    pub ram_limit: Ram,
-    /// Capabilities in use.
-    pub caps_used: Caps,
-    /// The most capabilities that can be in use.
-    pub caps_limit: Caps,
 }
 
 /// What a component has in reserve: limits of which nothing is in use.
@@ -89,25 +76,9 @@ impl Granted {
             Granted::Selected(selector) => tell_selector(selector, reply),
             Granted::Attached(address) => tell_address(address, reply),
             Granted::Done => tell_text(b"ok", reply),
-            Granted::Quotas(quotas) => quotas.tell(reply),
+            Granted::Quotas(quotas) => tell_quotas(quotas, reply),
             Granted::Reserved(reserve) => reserve.tell(reply),
         }
-    }
-}
-
-impl Quotas {
-    ghost use Rattle.std.specs.Prelude.{◌≡◌};
-    ghost use Rattle.own_model.specs.Reply.{quota_text};
-    ghost use Rattle.pd_core.specs.Answer.{quotas_account, told_alone};
-
-    /// Writes use and limit of each in place of what the reply was.
-    fn tell(self, reply: &mut Reply)
-        ensures { reply.new ≡ told_alone (quota_text (quotas_account self)) }
-    {
-        tell_text(b"ram ", reply);
-        reply.add_share(self.ram_used.0, self.ram_limit.0);
-        reply.add_text(b" caps ");
-        reply.add_share(u64::from(self.caps_used.0), u64::from(self.caps_limit.0));
     }
 }
 
@@ -125,6 +96,14 @@ impl Reserve {
         reply.add_text(b" caps ");
         reply.add_number(u64::from(self.caps.0));
     }
+}
+
+/// Writes use and limit of each in place of what the reply was.
+fn tell_quotas(quotas: Quotas, reply: &mut Reply)
+    ensures { reply.new ≡ told_alone (quota_text (quotas_account quotas)) }
+{
+    reply.clear();
+    reply.add_quotas(quotas);
 }
 
 /// Writes a new capability's selector in place of what the reply was.

@@ -1,7 +1,7 @@
 //! A script, and its calls: what each does to its account, its capabilities, its regions and the memory.
 
 use crate::accounts::quotas_of;
-use crate::answer::{Granted, Quotas, refuse, tell};
+use crate::answer::{Granted, refuse, tell};
 use crate::bytes::{MOST_BYTES, tell_range};
 use crate::call::Call;
 use cap_space::{Cap, CapSpace};

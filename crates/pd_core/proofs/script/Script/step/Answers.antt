@@ -10,7 +10,7 @@ use Rattle.dataspace_core.specs.Store.{Store, part, account_in}
 use Rattle.server_frame.specs.Told.{Told as Written}
 use Rattle.pd_core.specs.declared.answer.Granted.{Granted}
 use Rattle.pd_core.specs.declared.answer.Granted.TheVariants.{Quotas as QuotasAnswered}
-use Rattle.pd_core.specs.declared.answer.Quotas.{Quotas as QuotasTold}
+use Rattle.server_frame.specs.declared.quotas.Quotas.{Quotas as QuotasTold}
 use Rattle.pd_core.specs.declared.script.Script.{Script}
 use Rattle.pd_core.specs.Answer.{told, told_of, told_alone, reply_of, quotas_account}
 use Rattle.pd_core.specs.Call.{model_call}
