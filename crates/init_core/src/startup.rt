@@ -4,7 +4,6 @@ ghost use Rattle.std.specs.Prelude.{◌≡◌, ◌≢◌, ◌+◌, ◌*◌, ◌<
 ghost use Rattle.own_model.specs.Account.{shortage};
 ghost use Rattle.own_model.specs.Listed.{Listed, start_list_of};
 ghost use Rattle.own_model.specs.Listed.Binary.{Script as AScript, Server as AServer, Init as AnInit};
-ghost use Rattle.trade_base.specs.declared.service.Service.TheVariants.{Log, Files};
 ghost use Rattle.own_model.specs.World.{start_world, IsBalancedFor};
 ghost use Rattle.own_model.specs.StartList.{Boots};
 ghost use Rattle.dataspace_core.specs.Store.{IsOpenIn, account_in, room_in};
@@ -19,8 +18,7 @@ use cap_space::CapSpace;
 use dataspace_core::Memory;
 use pd_core::{Component, Core};
 use region_map::RegionMap;
-use server_frame::Server;
-use services::{FileService, LogService};
+use services::Host;
 use std::alloc::Global;
 use trade_base::{AccountId, Caps, Ram, Service};
 
@@ -163,40 +161,8 @@ fn server_of(
     ensures made { IfOk result (IsMade list.now entry.now account.0 None) }
     ensures fault { IfErr result (λ fault. fault ≡ NoMemory) }
 {
-    match service {
-        Service::Log => log_of(entry, account, list, alloc),
-        Service::Files => files_of(entry, account, list, alloc),
-    }
-}
-
-/// The log server of an entry, the same.
-fn log_of(
-    entry: &Entry,
-    account: AccountId,
-    list: &StartList,
-    alloc: Global,
-) -> Result<Component, BootFault>
-    requires { entry.now.binary ≡ AServer Log }
-    ensures made { IfOk result (IsMade list.now entry.now account.0 None) }
-    ensures fault { IfErr result (λ fault. fault ≡ NoMemory) }
-{
-    let server = Server::boot(alloc, LogService, sessions_of(list), list.pages() as usize)?;
-    Ok(Component::log(entry.label(), account, server))
-}
-
-/// The file server of an entry, the same.
-fn files_of(
-    entry: &Entry,
-    account: AccountId,
-    list: &StartList,
-    alloc: Global,
-) -> Result<Component, BootFault>
-    requires { entry.now.binary ≡ AServer Files }
-    ensures made { IfOk result (IsMade list.now entry.now account.0 None) }
-    ensures fault { IfErr result (λ fault. fault ≡ NoMemory) }
-{
-    let server = Server::boot(alloc, FileService, sessions_of(list), list.pages() as usize)?;
-    Ok(Component::files(entry.label(), account, server))
+    let host = Host::boot(alloc, service, sessions_of(list), list.pages() as usize)?;
+    Ok(Component::server(entry.label(), account, host))
 }
 
 /// The init of an entry on its account. It has started nothing yet.

@@ -136,8 +136,8 @@ impl Component {
         Component::server(name, account, Host::Files(server))
     }
 
-    // A server of a name of at most 140 bytes that is charged on the account.
-    fn server(name: &[u8], account: AccountId, host: Host) -> Component
+    /// A server of any service, of a name of at most 140 bytes, that is charged on the account.
+    pub fn server(name: &[u8], account: AccountId, host: Host) -> Component
         requires { length name.now ≤ 140 }
         ensures entry { (place : Place) → entry_of place result ≡ record {
           name = place.name;
