@@ -11,15 +11,12 @@ pub mod NatMapSums
 pub mod NewSelector
 pub mod SlotLemmas
 pub mod Totals
-
 -- accounts
 pub mod AccountLemmas
-
 -- regions, and the ranges that they hold
 pub mod RegionLemmas
 pub mod RegionApartLemmas
 pub mod RegionRangeLemmas
-
 -- the heap: blocks, chunks, and what a step makes of them
 pub mod HeapBestFitLemmas
 pub mod HeapBlockLemmas
@@ -31,11 +28,9 @@ pub mod HeapPayloadLemmas
 pub mod HeapRangeLemmas
 pub mod HeapSoundLemmas
 pub mod HeapStepLemmas
-
 -- sliced blocks, and their payloads
 pub mod SlicedNewLemmas
 pub mod SlicedPayloadLemmas
-
 -- one call: what it can do to an own state, and what it keeps
 pub mod StepLemmas
 pub mod StepTableLemmas
@@ -47,10 +42,8 @@ pub mod StepReserveLemmas
 pub mod StepShortageLemmas
 pub mod StepSoundLemmas
 pub mod StepUseLemmas
-
 -- the log service
 pub mod LogLemmas
-
 -- the file service: what its requests do to files, and to their account
 pub mod FileChargeLemmas
 pub mod FileErrorLemmas
@@ -61,21 +54,17 @@ pub mod FileRequestLemmas
 pub mod FileServiceLemmas
 pub mod FileShapeLemmas
 pub mod FileTextLemmas
-
 -- requests of a session's buffer
 pub mod BufferErrorLemmas
 pub mod BufferKeptLemmas
 pub mod BufferMadeLemmas
-
 -- buffers among what selectors name
 pub mod LentLemmas
 pub mod LentAloneLemmas
 pub mod LentKeptLemmas
 pub mod LentServedLemmas
-
 -- what is so of each service
 pub mod ServiceLemmas
-
 -- sessions, whichever their service is
 pub mod SessionLemmas
 pub mod SessionAloneLemmas
@@ -85,11 +74,9 @@ pub mod SessionDonationLemmas
 pub mod SessionRouteLemmas
 pub mod SessionServerLemmas
 pub mod SessionSoundLemmas
-
 -- start lists, and where their rules lead
 pub mod StartLemmas
 pub mod StartListedLemmas
-
 -- runs, and what is told of them
 pub mod RunLemmas
 pub mod RunSaidByLemmas

@@ -4,36 +4,30 @@ pub mod ScriptCostLemmas
 pub mod ScriptNameLemmas
 pub mod ScriptOwnLemmas
 pub mod ScriptSettleLemmas
-
 -- its calls on its account and its regions
 pub mod AccountLemmas
 pub mod RegionCallLemmas
-
 -- its calls on its heaps
 pub mod HeapCallLemmas
 pub mod HeapChangeLemmas
 pub mod HeapOutcomeLemmas
 pub mod HeapPlaceLemmas
 pub mod SlicedLemmas
-
 -- its peeks and pokes, and digits
 pub mod BytesLemmas
 pub mod BytesPlaceLemmas
 pub mod HexLemmas
 pub mod HexSpellingLemmas
-
 -- what sessions lend it
 pub mod LentLemmas
 pub mod LentGoneLemmas
 pub mod LentPlaceLemmas
 pub mod LentPokeLemmas
 pub mod LentWriteLemmas
-
 -- components, servers, and the accounts of both
 pub mod ComponentLemmas
 pub mod QuotaLemmas
 pub mod ServerLemmas
-
 -- the core: who has which account, what a call changes, and the world that it leaves
 pub mod CoreChangeLemmas
 pub mod CoreFreshLemmas
@@ -43,12 +37,10 @@ pub mod CoreRoleLemmas
 pub mod CoreRouterLemmas
 pub mod CoreSparesLemmas
 pub mod CoreWorldLemmas
-
 -- calls of a reserve
 pub mod ReserveAsideLemmas
 pub mod ReserveCallLemmas
 pub mod ReserveShiftLemmas
-
 -- calls of sessions
 pub mod SessionBetweenLemmas
 pub mod SessionChangeLemmas
@@ -63,7 +55,6 @@ pub mod SessionServedLemmas
 pub mod SessionStepLemmas
 pub mod SessionTurnLemmas
 pub mod SessionWorldLemmas
-
 -- exits
 pub mod ExitLemmas
 pub mod ExitCallLemmas

@@ -12,11 +12,11 @@ ghost use Rattle.pd_core.specs.Answer.{quotas_account, reserve_amounts, CountsLi
 ghost use Rattle.pd_core.specs.Core.{Places, world_of, IsCoreAt};
 
 use crate::answer::Reserve;
-use server_frame::Quotas;
 use crate::component::{Component, Role};
 use crate::machine::Core;
 use crate::router::Router;
 use dataspace_core::Memory;
+use server_frame::Quotas;
 use trade_base::{AccountId, Caps, Ram, SessionId};
 
 /// The limits and the use of an account.

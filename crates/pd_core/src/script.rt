@@ -130,7 +130,12 @@ impl Script {
     }
 
     /// The same at an address.
-    fn attach_at(&mut self, memory: &Memory, selector: u64, address: u64) -> Result<Granted, Refusal>
+    fn attach_at(
+        &mut self,
+        memory: &Memory,
+        selector: u64,
+        address: u64,
+    ) -> Result<Granted, Refusal>
         requires { IsSoundScript memory.now self.old }
         ensures { Does (ModelledAttachAt selector address) (reply_of result)
             memory.now self.old memory.now self.new }

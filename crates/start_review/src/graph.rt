@@ -4,8 +4,8 @@ use crate::left::{Inits, kept, left_of};
 use crate::tree::{Amount, show_kept, show_reserve};
 use crate::wishes::init_entry;
 use init_core::{Binary, Entry, StartList};
-use trade_base::SERVICES;
 use std::fmt;
+use trade_base::SERVICES;
 
 /// The tree as a graph in DOT: a node a component, by its path, a dotted edge to it from its init, and an edge for the rules that
 /// decide some of a script's wishes for a service.
@@ -69,9 +69,7 @@ fn show_node<W: fmt::Write>(
     show_reserve(f, entry, "\\n")?;
     show_kept(f, inits, number, entry, "\\n")?;
     match binary.service() {
-        Some(service) if entry.provides() => {
-            writeln!(f, "\\nprovides {}\"];", service.name())
-        }
+        Some(service) if entry.provides() => { writeln!(f, "\\nprovides {}\"];", service.name()) }
         _ => writeln!(f, "\"];"),
     }
 }

@@ -2,8 +2,8 @@
 use crate::leads::{Lead, show_indent};
 use crate::left::{Inits, kept, left_of};
 use init_core::{Binary, Entry, StartList};
-use trade_base::SERVICES;
 use std::fmt;
+use trade_base::SERVICES;
 
 /// A start list's machine, what inits keep, each component with what it starts with, below its init, and for each script and service
 /// where an `open` leads, by which rules and under which conditions on the label.

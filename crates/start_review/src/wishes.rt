@@ -196,7 +196,5 @@ pub(crate) fn is_script(binary: Binary) -> bool
 pub(crate) fn leads_somewhere(list: &StartList, client: &Entry) -> bool
     ensures { result ≡ leads_somewhere list.now client.now }
 {
-    SERVICES
-        .iter()
-        .any(|service| leads_to(list, service.name().as_bytes(), None, client))
+    SERVICES.iter().any(|service| leads_to(list, service.name().as_bytes(), None, client))
 }
