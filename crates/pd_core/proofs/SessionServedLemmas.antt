@@ -19,8 +19,8 @@ use Rattle.own_model.specs.Session.{Session as AnOpenSession, Served as ModelSer
 use Rattle.own_model.specs.Sound.{AreLent}
 use Rattle.own_model.proofs.LentLemmas.{buffer_none}
 use Rattle.own_model.proofs.LentServedLemmas.{requests_served}
-use Rattle.own_model.proofs.StepLimitLemmas.{serve_keeps}
-use Rattle.own_model.proofs.SessionServerLemmas.{served_anywhere, served_there}
+use Rattle.own_model.proofs.ServiceLemmas.{serve_keeps, served_there}
+use Rattle.own_model.proofs.SessionServerLemmas.{served_anywhere}
 use Rattle.own_model.proofs.NatMapLemmas.{alike_insert, get-empty, get-insert_same}
 use Rattle.cap_space.specs.Space.{is_buffer}
 use Rattle.cap_space.specs.declared.cap.Cap.TheVariants.{Session}
