@@ -4,7 +4,7 @@ use Rattle.serde_json.specs.View.{view}
 use Rattle.serde_json.specs.declared.value.Value.{Value}
 use Rattle.trade_base.specs.Service.{binary_name}
 use Rattle.trade_base.specs.declared.service.Service.{Service}
-use Rattle.trade_base.proofs.ServiceLemmas.{found_again, is_no_init, is_no_script}
+use Rattle.own_model.proofs.ServiceLemmas.{found_again, is_no_init, is_no_script}
 use Rattle.own_model.specs.Listed.{Binary}
 use Rattle.own_model.specs.Listed.Binary.{Server}
 use Rattle.init_core.specs.Entries.{binary_of, provided_in}

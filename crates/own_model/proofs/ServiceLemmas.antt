@@ -5,7 +5,7 @@ use Rattle.std.proofs.lemmas.Option.{none-some}
 use Rattle.std.specs.List.{list_any}
 use Rattle.std.specs.Prelude.{Option, None}
 use Rattle.std.specs.Str.{bytes_eq}
-use Rattle.trade_base.specs.Service.{service_name, services}
+use Rattle.trade_base.specs.Service.{binary_name, served_by_binary, service_name, services}
 use Rattle.trade_base.specs.declared.service.Service.{Service}
 use Rattle.trade_base.specs.declared.service.Service.TheVariants as service
 use Rattle.own_model.proofs.BufferKeptLemmas.{all_fit, all_keep_charges, all_keep_files, all_keep_limits, all_keep_within, same_fits}
@@ -39,6 +39,20 @@ rest_false true b none = absurd (true≢false none)
 pub none_named : (asked : List ℕ) (of : Service) → list_any (λ service. bytes_eq asked (service_name service)) services ≡ false → bytes_eq asked (service_name of) ≡ false
 none_named asked service.Log none = first_false (bytes_eq asked (service_name service.Log)) _ none
 none_named asked service.Files none = first_false (bytes_eq asked (service_name service.Files)) _ (rest_false (bytes_eq asked (service_name service.Log)) _ none)
+
+-- it is found again by its binary's name
+pub found_again : (of : Service) → served_by_binary (binary_name of) ≡ Some of
+found_again service.Log = refl
+found_again service.Files = refl
+
+-- which is no script's and no init's
+pub is_no_script : (of : Service) → bytes_eq (binary_name of) (codes "script") ≡ false
+is_no_script service.Log = refl
+is_no_script service.Files = refl
+
+pub is_no_init : (of : Service) → bytes_eq (binary_name of) (codes "init") ≡ false
+is_no_init service.Log = refl
+is_no_init service.Files = refl
 
 -- each service's name is one that an entry could have
 pub is_named : (of : Service) → is_name (service_name of) ≡ true

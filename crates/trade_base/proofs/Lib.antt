@@ -3,4 +3,3 @@ pub mod ElsewhereLemmas
 pub mod PageLemmas
 pub mod WordLemmas
 pub mod NumberLemmas
-pub mod ServiceLemmas
