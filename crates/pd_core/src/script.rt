@@ -8,7 +8,7 @@ use cap_space::{Cap, CapSpace};
 use dataspace_core::Memory;
 use heap_core::Heap;
 use region_map::RegionMap;
-use server_frame::Reply;
+use server_frame::{Quotas, Reply};
 use sliced_heap::SlicedHeap;
 use text_codec::decode_hex;
 use trade_base::{AccountId, DsId, Refusal};
