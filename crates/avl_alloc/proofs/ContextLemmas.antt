@@ -12,7 +12,7 @@ use Rattle.avl_alloc.specs.Layout.{Laid, weigh_all, none, whole, sizes_of, bytes
 use Rattle.avl_alloc.specs.Context.{Context, heap_with, start_of, around}
 use Rattle.avl_alloc.proofs.LayoutLemmas.{chunk_there}
 use Rattle.avl_alloc.proofs.WeightLemmas.{weigh-site, weigh-whole, around-parts, within_le, tidy_around, laid_kept, chunks_kept, chunks_long, chunks_apart}
-use Rattle.own_model.proofs.BlockLemmas.{bytes-append}
+use Rattle.own_model.proofs.HeapBlockLemmas.{bytes-append}
 
 -- ---- blocks put end to end
 

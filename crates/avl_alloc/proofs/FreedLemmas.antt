@@ -14,8 +14,8 @@ use Rattle.avl_alloc.proofs.WeightLemmas.{AreLong}
 use Rattle.avl_alloc.proofs.StandLemmas.{gap_some, gap_bytes}
 use Rattle.avl_alloc.proofs.LayoutLemmas.{payload_over, payload_past, payload_is}
 use Rattle.avl_alloc.proofs.TakenLemmas.{StartsUsed, hole_behind, hole_before}
-use Rattle.own_model.proofs.BlockLemmas.{bytes-append}
-use Rattle.own_model.proofs.BlockLemmas.{AreBlocks-before}
+use Rattle.own_model.proofs.HeapBlockLemmas.{bytes-append}
+use Rattle.own_model.proofs.HeapBlockLemmas.{AreBlocks-before}
 
 -- ---- where an address lies
 

@@ -24,7 +24,7 @@ use Rattle.avl_alloc.proofs.StandLemmas.{gap_bytes}
 use Rattle.avl_alloc.proofs.TakenLemmas.{heap_turned}
 use Rattle.avl_alloc.proofs.FreedLemmas.{some_there, used_over, used_some, past_hole, past_is, freed, given_blocks}
 use Rattle.avl_alloc.proofs.CallLemmas.{turn_heap, turn_sound, hole_changes, same_few}
-use Rattle.own_model.proofs.BlockLemmas.{bytes-append}
+use Rattle.own_model.proofs.HeapBlockLemmas.{bytes-append}
 
 -- ---- what a walk's end is not
 

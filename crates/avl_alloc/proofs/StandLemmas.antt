@@ -18,7 +18,7 @@ use Rattle.avl_alloc.proofs.FitLemmas.{holes_counted}
 use Rattle.avl_alloc.proofs.WeightLemmas.{weigh-append, weigh-site}
 use Rattle.avl_alloc.proofs.ContextLemmas.{laid_right, site_open, site_node}
 use Rattle.avl_alloc.proofs.TurnLemmas.{used_none, used_least, outside, narrowed, heap_narrowed, stand_narrowed, turn_then, turn_widened, taken_out, put-node, put-stands, put-new, put_in, rewritten}
-use Rattle.own_model.proofs.BlockLemmas.{bytes-append}
+use Rattle.own_model.proofs.HeapBlockLemmas.{bytes-append}
 
 -- there is room for a node at the place, and further on
 pub stand_node : (fit : BestFit) (w : Words) (at : Context) (place : ℕ) (xs : List Block) (real : ℕ → ℕ) (k p : ℕ) → Stand fit w at place xs → Fits (bytes_of fit) real →

@@ -12,7 +12,7 @@ use Rattle.avl_alloc.specs.Words.{Words}
 use Rattle.avl_alloc.specs.Layout.{AreChunks}
 use Rattle.avl_alloc.specs.Context.{Context, heap_with}
 use Rattle.avl_alloc.proofs.WeightLemmas.{AreLong, all-left, all-right, laid_long}
-use Rattle.own_model.proofs.BlockLemmas.{bytes-append}
+use Rattle.own_model.proofs.HeapBlockLemmas.{bytes-append}
 use Rattle.own_model.proofs.ListLemmas.{all_append}
 
 -- ---- digits

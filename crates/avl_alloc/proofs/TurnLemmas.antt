@@ -17,7 +17,7 @@ use Rattle.avl_tree.proofs.GrowLemmas.{nodes_with}
 use Rattle.avl_alloc.proofs.HoleLemmas.{within_in, within_below, with_word_same, with_word_other, holds_kept, cover_is, rank_there}
 use Rattle.avl_alloc.proofs.WeightLemmas.{weigh-append, weigh-parts, weigh-site, weigh-whole, around-parts, node_whole, tidy_in, laid_long, few_holes, within_mono}
 use Rattle.avl_alloc.proofs.ContextLemmas.{IsOpen, site_open, site_node, IsClear, site_clear, site_turned, sizes_few, laid_even}
-use Rattle.own_model.proofs.BlockLemmas.{bytes-append}
+use Rattle.own_model.proofs.HeapBlockLemmas.{bytes-append}
 
 -- used blocks have no holes
 pub used_none : (f : ℕ → ℕ → ℕ) (p : ℕ) (xs : List Block) → AreUsed xs → weigh none f p xs ≡ 0

@@ -7,7 +7,7 @@ use Rattle.own_model.specs.Account.{Account, credited}
 use Rattle.own_model.specs.HeapWindow.{heap_low, heap_high}
 use Rattle.own_model.specs.NatMap.{NatMap}
 use Rattle.own_model.specs.Region.{Region}
-use Rattle.own_model.proofs.ApartLemmas.{LieApart-fewer}
+use Rattle.own_model.proofs.RegionApartLemmas.{LieApart-fewer}
 use Rattle.own_model.proofs.NatMapLemmas.{before_remove, get-remove_same, get-remove_other, value_at}
 use Rattle.own_model.proofs.Totals.{len-remove_at}
 use Rattle.dataspace_core.specs.Store.{Store, Part, part, account_in, space_at, IsOpenIn, PartBecomes, part_without_space, ram_limits_in}

@@ -10,7 +10,7 @@ use Rattle.own_model.specs.Account.{Account, Fits, charged, credited, opened, pa
 use Rattle.own_model.specs.Donation.{raised}
 use Rattle.own_model.specs.OwnState.{zeros}
 use Rattle.own_model.proofs.NatMapLemmas.{get-empty, get-remove_other, IsSome-insert, IsSome-at, after_insert, each_after_insert, apart_from_free, before_remove, by_insertions}
-use Rattle.own_model.proofs.UseLemmas.{length-zeros}
+use Rattle.own_model.proofs.StepUseLemmas.{length-zeros}
 use Rattle.own_model.proofs.Totals.{total-empty, total-insert_new, total-insert_same, total-remove, total_spare, total_le, len-insert_new, len-total, owed-empty, owed-insert_new, owed-insert_same, owed-remove, owed_nothing, owed_at_le, total_owed_le, total-owed, total_at_le}
 use Rattle.quota_core.specs.Books.{Books, IsOpen, account_at, with_child, with_moved, without_account, ram_limits, caps_limits}
 use Rattle.dataspace_core.proofs.LimitLaws.{fresh_limits}

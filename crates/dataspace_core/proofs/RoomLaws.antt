@@ -10,7 +10,7 @@ use Rattle.own_model.specs.Donation.{raised}
 use Rattle.own_model.specs.NatMap.{NatMap, total}
 use Rattle.own_model.proofs.NatMapLemmas.{same, value_at, apart_from_free, before_remove, get-insert_same, get-insert_other, get-remove_same, get-remove_other}
 use Rattle.own_model.proofs.Totals.{total-insert_new, total-insert_at, total-insert_same, total-remove, total-zero, total_same, total_parted}
-use Rattle.own_model.proofs.KeySums.{measured, measured_or, total-taken, total_keys_le}
+use Rattle.own_model.proofs.NatMapSums.{measured, measured_or, total-taken, total_keys_le}
 use Rattle.dataspace_core.specs.Store.{Store, Part, part, parted_part, raised_part, closed_part, accounts_in, parents_in, room_in, account_in, IsOpenIn, IsChildIn, caps_limits_in, ClosesPart}
 use Rattle.dataspace_core.specs.Room.{inner_weight, inner_accounts, IsOuter, HasRoom, RoomAtFirst, RoomForOneMore, RoomStays, OpensBelow, RoomIsTaken, RoomUnderHead, RoomIsRaised, RoomIsShifted, RoomIsGivenBack, RoomAfterExit}
 use Rattle.dataspace_core.proofs.PartLaws.{account_of-part}

@@ -12,7 +12,7 @@ use Rattle.own_model.specs.HeapWindow.{heap_low, heap_high, pages_of_all}
 use Rattle.own_model.specs.NatMap.{NatMap, total}
 use Rattle.own_model.specs.OwnState.{zeros}
 use Rattle.own_model.specs.Region.{Region, IsPlace}
-use Rattle.own_model.proofs.ApartLemmas.{LieApart-insert}
+use Rattle.own_model.proofs.RegionApartLemmas.{LieApart-insert}
 use Rattle.own_model.proofs.ByteLemmas.{length-zeros}
 use Rattle.own_model.proofs.NatMapLemmas.{none_if, value_at, get-insert_same, get-insert_other}
 use Rattle.own_model.proofs.Totals.{total-insert_new, len-insert_new}

@@ -7,7 +7,7 @@ use Rattle.std.specs.Prelude.{Option, None}
 use Rattle.std.specs.FinMap.{get, insert, remove, len, len-empty, empty}
 use Rattle.std.specs.Option.{option_map, unwrap_or}
 use Rattle.std.specs.Ordering.{nat_cmp}
-use Rattle.own_model.proofs.MovedLemmas.{get-moved_up, get-moved_up_below}
+use Rattle.own_model.proofs.NatMapMovedLemmas.{get-moved_up, get-moved_up_below}
 use Rattle.own_model.specs.NatMap.{NatMap}
 use Rattle.own_model.specs.OwnHeap.{OwnHeap, no_heap}
 use Rattle.own_model.specs.Region.{Region}

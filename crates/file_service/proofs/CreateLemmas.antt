@@ -13,7 +13,7 @@ use Rattle.own_model.specs.HeapStep.{size_taken, with_block, with_chunk}
 use Rattle.own_model.specs.NatMap.{NatMap}
 use Rattle.own_model.specs.OwnHeap.{OwnHeap, chunk_with, offset_of, payload_start}
 use Rattle.own_model.specs.OwnState.{zeros}
-use Rattle.own_model.proofs.BestFitLemmas.{best_is_hole}
+use Rattle.own_model.proofs.HeapBestFitLemmas.{best_is_hole}
 use Rattle.own_model.proofs.ByteLemmas.{length-zeros}
 use Rattle.own_model.proofs.NatMapLemmas.{some_of, get-insert, get-insert_same}
 use Rattle.heap_core.proofs.TakesGrownLemmas.{growth_fits}

@@ -11,7 +11,7 @@ use Rattle.trade_base.proofs.BytesLemmas.{with_bytes-nothing}
 use Rattle.own_model.specs.HeapWindow.{heap_high}
 use Rattle.own_model.proofs.ByteLemmas.{with_part-within}
 use Rattle.own_model.proofs.EntryLemmas.{not_found_in_map}
-use Rattle.own_model.proofs.PayloadLemmas.{payload_holds}
+use Rattle.own_model.proofs.SlicedPayloadLemmas.{payload_holds}
 use Rattle.own_model.specs.NatMap.{NatMap}
 use Rattle.own_model.specs.OwnState.{with_part}
 use Rattle.own_model.specs.Sliced.{sliced_header, block_found}

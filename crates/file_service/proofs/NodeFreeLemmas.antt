@@ -9,8 +9,8 @@ use Rattle.own_model.specs.FileService.{node_size}
 use Rattle.own_model.specs.Growth.{hole_for}
 use Rattle.own_model.specs.OwnHeap.{OwnHeap, payload_start}
 use Rattle.own_model.specs.Region.{Region}
-use Rattle.own_model.proofs.BestFitLemmas.{IsHoleOf, best_is_hole, hole_unused}
-use Rattle.own_model.proofs.BlockLemmas.{hole_within}
+use Rattle.own_model.proofs.HeapBestFitLemmas.{IsHoleOf, best_is_hole, hole_unused}
+use Rattle.own_model.proofs.HeapBlockLemmas.{hole_within}
 use Rattle.own_model.proofs.NatMapLemmas.{get-insert_same, get-insert_other}
 use Rattle.avl_alloc.proofs.LayoutLemmas.{sound_told}
 use Rattle.region_map.specs.Regions.{Regions, heap_attached}

@@ -11,7 +11,7 @@ use Rattle.own_model.specs.BestFit.{chunk_of, used_at}
 use Rattle.own_model.specs.Growth.{shape_given}
 use Rattle.own_model.specs.HeapStep.{without_block}
 use Rattle.own_model.specs.OwnHeap.{OwnHeap, start_of}
-use Rattle.own_model.proofs.BestFitLemmas.{payload_told}
+use Rattle.own_model.proofs.HeapBestFitLemmas.{payload_told}
 use Rattle.region_map.specs.Regions.{Regions}
 use Rattle.dataspace_core.specs.Share.{Share}
 use Rattle.dataspace_core.specs.Store.{Store}

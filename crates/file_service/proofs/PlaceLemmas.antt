@@ -9,10 +9,10 @@ use Rattle.own_model.specs.Growth.{Growth, hole_for, new_hole}
 use Rattle.own_model.specs.Heap.{Hole, AreBlocks, bytes_in}
 use Rattle.own_model.specs.HeapStep.{with_block, with_chunk, without_block}
 use Rattle.own_model.specs.OwnHeap.{OwnHeap, start_of, chunk_with, offset_of, payload_start}
-use Rattle.own_model.proofs.BestFitLemmas.{best_is_hole}
-use Rattle.own_model.proofs.BlockLemmas.{bytes-taken, bytes-given, hole_within, block_size-fits}
+use Rattle.own_model.proofs.HeapBestFitLemmas.{best_is_hole}
+use Rattle.own_model.proofs.HeapBlockLemmas.{bytes-taken, bytes-given, hole_within, block_size-fits}
 use Rattle.own_model.proofs.ListLemmas.{all_at}
-use Rattle.own_model.proofs.ChunkLemmas.{Lies, chunk_from_is, chunk_from-set, chunk_from-append}
+use Rattle.own_model.proofs.HeapChunkLemmas.{Lies, chunk_from_is, chunk_from-set, chunk_from-append}
 use Rattle.avl_alloc.proofs.LayoutLemmas.{sound_told}
 use Rattle.region_map.specs.Regions.{Regions}
 use Rattle.dataspace_core.specs.Store.{Store}

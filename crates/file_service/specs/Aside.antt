@@ -28,7 +28,7 @@ use Rattle.file_service.specs.Furnished.{IsShare, HoldsNodes, is_lent_tag}
 use Rattle.file_service.specs.Index.{AreFiles}
 use Rattle.file_service.specs.Lent.{StandsLent, KeepsBuffer, buffer_key}
 use Rattle.own_model.specs.Session.{Labelled}
-use Rattle.own_model.specs.Session.ServiceState.{Filing}
+use Rattle.own_model.specs.Services.ServiceState.{Filing}
 use Rattle.file_service.specs.Session.{IsSession, value_of}
 use Rattle.file_service.specs.declared.session.FileSession.{FileSession}
 use Rattle.file_service.specs.declared.session.Lent.{Lent}

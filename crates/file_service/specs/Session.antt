@@ -12,7 +12,7 @@ use Rattle.own_model.specs.NatMap.{NatMap}
 use Rattle.own_model.specs.Heap.{header}
 use Rattle.own_model.specs.OwnHeap.{OwnHeap, chunk_with}
 use Rattle.own_model.specs.Session.{Labelled}
-use Rattle.own_model.specs.Session.ServiceState.{Filing}
+use Rattle.own_model.specs.Services.ServiceState.{Filing}
 use Rattle.sliced_heap.specs.Chain.{is_listed}
 use Rattle.file_service.specs.Calls.{HasBytes}
 use Rattle.file_service.specs.Files.{file_at, files_of, link_in, node_at, nodes_from, StandAt}

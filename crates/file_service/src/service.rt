@@ -4,15 +4,16 @@ ghost use Rattle.own_model.specs.BufferService.{session_request};
 ghost use Rattle.own_model.specs.FileText.{file_reply};
 ghost use Rattle.own_model.specs.FileText.{FileReply as Answered};
 ghost use Rattle.own_model.specs.FileText.FileRequest.{Read, Write};
-ghost use Rattle.own_model.specs.Routes.Service.{Files};
+ghost use Rattle.trade_base.specs.declared.service.Service.TheVariants.{Files};
 ghost use Rattle.own_model.specs.Session.{Labelled, state_at_first};
 ghost use Rattle.own_model.specs.Text.{bytes_of_hex, hex_bytes};
 ghost use Rattle.dataspace_core.specs.Store.{account_in, IsOpenIn};
 ghost use Rattle.sliced_heap.specs.Heap.{payer_of};
 ghost use Rattle.file_service.specs.Aside.{lends_aside};
+ghost use Rattle.server_frame.specs.Quotas.{quotas_account};
 ghost use Rattle.server_frame.specs.Session.{service_step};
 ghost use Rattle.server_frame.specs.Told.{nothing_told};
-ghost use Rattle.session_proto.specs.FileReply.{model_reply, account_of};
+ghost use Rattle.session_proto.specs.FileReply.{model_reply};
 ghost use Rattle.file_service.specs.Rooms.{stock_of, AreFurnished, KeepsRooms};
 ghost use Rattle.file_service.specs.Lent.{buffer_key};
 ghost use Rattle.file_service.specs.Session.{HasFiles, IsReady, IsAnswered, IsTold, Serves, done_reply, counted_reply, lent_reply, lent_effect, gone_effect, served_in, session_served};
@@ -21,8 +22,8 @@ use crate::rooms::Rooms;
 use crate::session::FileSession;
 use dataspace_core::Memory;
 use region_map::RegionMap;
-use server_frame::{Effect, Reply, Service};
-use session_proto::{FileError, FileReply, FileRequest, Shares};
+use server_frame::{Effect, Quotas, Reply, Service};
+use session_proto::{FileError, FileReply, FileRequest};
 use sliced_heap::SlicedHeap;
 use text_codec::decode_hex;
 use trade_base::DsId;
@@ -241,14 +242,14 @@ fn write_by<const N: usize>(
 
 impl Rooms {
     /// Use and limits of the account.
-    fn shares(&self, memory: &Memory) -> Shares
+    fn shares(&self, memory: &Memory) -> Quotas
         requires { IsOpenIn memory.now (payer_of self.now.contents) }
-        ensures { account_of result ≡ account_in memory.now (payer_of self.now.contents) }
+        ensures { quotas_account result ≡ account_in memory.now (payer_of self.now.contents) }
     {
         let account = self.contents.account();
         let (ram_used, caps_used) = memory.used(account);
         let (ram_limit, caps_limit) = memory.limits(account);
-        Shares {
+        Quotas {
             ram_used,
             ram_limit,
             caps_used,

@@ -42,7 +42,7 @@ pub(crate) struct Found {
 impl FileSession {
     ghost use Rattle.std.specs.Prelude.{◌≡◌, ◌≤◌, length, None};
     ghost use Rattle.dataspace_core.specs.Share.{Share};
-    ghost use Rattle.own_model.specs.Routes.Service.{Files};
+    ghost use Rattle.trade_base.specs.declared.service.Service.TheVariants.{Files};
     ghost use Rattle.own_model.specs.Session.{state_at_first};
     ghost use Rattle.sliced_heap.specs.Heap.{payer_of};
     ghost use Rattle.sliced_heap.specs.Sliced.{IsLinked};

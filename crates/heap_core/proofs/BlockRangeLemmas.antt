@@ -15,9 +15,9 @@ use Rattle.own_model.specs.NatMap.{NatMap, picked}
 use Rattle.own_model.specs.OwnHeap.{chunk_ranges, range_pages, ranges_of_heap, ranges_of_large}
 use Rattle.own_model.specs.Region.{Region}
 use Rattle.own_model.proofs.EntryLemmas.{value_of_first, value_of_later}
-use Rattle.own_model.proofs.JoinedLemmas.{get-joined}
+use Rattle.own_model.proofs.NatMapJoinedLemmas.{get-joined}
 use Rattle.own_model.proofs.NatMapLemmas.{get-picked_at, get-picked_none}
-use Rattle.own_model.proofs.OwnHeapLemmas.{chunk_map, range_of_bytes}
+use Rattle.own_model.proofs.HeapOwnLemmas.{chunk_map, range_of_bytes}
 use Rattle.avl_alloc.specs.Layout.{heap_of}
 use Rattle.dataspace_core.specs.Share.{Share}
 use Rattle.heap_core.specs.declared.words.Chunk.{Chunk}

@@ -14,7 +14,7 @@ use Rattle.own_model.specs.BestFit.{used_at, chunk_of}
 use Rattle.own_model.specs.Heap.{Block, Used, Hole, AreBlocks}
 use Rattle.own_model.specs.HeapWindow.{heap_high}
 use Rattle.own_model.specs.OwnState.{zeros, with_part}
-use Rattle.own_model.proofs.BlockLemmas.{used_within}
+use Rattle.own_model.proofs.HeapBlockLemmas.{used_within}
 use Rattle.own_model.proofs.ByteLemmas.{length-zeros, with_part-within}
 use Rattle.avl_alloc.specs.declared.best_fit.BlockAddr.{BlockAddr}
 use Rattle.avl_alloc.specs.Layout.{Laid, heap_of, sizes_of}

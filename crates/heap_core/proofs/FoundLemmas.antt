@@ -14,9 +14,9 @@ use Rattle.own_model.specs.Heap as model
 use Rattle.own_model.specs.Heap.{Block, AreBlocks, bytes_in}
 use Rattle.own_model.specs.NatMap.{NatMap}
 use Rattle.own_model.specs.Region.{Region}
-use Rattle.own_model.proofs.BlockLemmas.{used_within}
+use Rattle.own_model.proofs.HeapBlockLemmas.{used_within}
 use Rattle.own_model.proofs.EntryLemmas.{value_of-append}
-use Rattle.own_model.proofs.JoinedLemmas.{from_either, get-joined}
+use Rattle.own_model.proofs.NatMapJoinedLemmas.{from_either, get-joined}
 use Rattle.own_model.proofs.NatMapLemmas.{get-picked, and_then_from}
 use Rattle.avl_alloc.specs.Layout as avl
 use Rattle.region_map.specs.Regions.{Regions}

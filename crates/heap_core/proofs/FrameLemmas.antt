@@ -8,7 +8,7 @@ use Rattle.own_model.specs.BestFit.{used_at, chunk_of}
 use Rattle.own_model.specs.Entries.{value_of}
 use Rattle.own_model.specs.Heap as model
 use Rattle.own_model.specs.Heap.{Block, Used, Hole, AreBlocks, bytes_in}
-use Rattle.own_model.proofs.BlockLemmas.{tail_blocks, used_within}
+use Rattle.own_model.proofs.HeapBlockLemmas.{tail_blocks, used_within}
 use Rattle.avl_alloc.specs.declared.best_fit.BestFit.{BestFit}
 use Rattle.avl_alloc.specs.Layout as avl
 use Rattle.avl_alloc.specs.Layout.{weigh_holes, whole, ChangesHoles}

@@ -15,9 +15,9 @@ use Rattle.own_model.specs.HeapStep.{without_block}
 use Rattle.own_model.specs.NatMap.{NatMap, joined}
 use Rattle.own_model.specs.OwnHeap.{OwnHeap, chunk_with, offset_of, start_of}
 use Rattle.own_model.specs.Region.{Region}
-use Rattle.own_model.proofs.BlockLemmas.{AreBlocks-given}
-use Rattle.own_model.proofs.ChunkLemmas.{Lies, chunk_from_is}
-use Rattle.own_model.proofs.JoinedLemmas.{get-joined}
+use Rattle.own_model.proofs.HeapBlockLemmas.{AreBlocks-given}
+use Rattle.own_model.proofs.HeapChunkLemmas.{Lies, chunk_from_is}
+use Rattle.own_model.proofs.NatMapJoinedLemmas.{get-joined}
 use Rattle.own_model.proofs.NatMapLemmas.{same, get-picked_none, get-remove, picked_alike}
 use Rattle.avl_alloc.specs.declared.best_fit.BestFit.{BestFit}
 use Rattle.avl_alloc.specs.Layout as avl

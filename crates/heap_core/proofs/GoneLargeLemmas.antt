@@ -14,7 +14,7 @@ use Rattle.own_model.specs.Entries.{value_of}
 use Rattle.own_model.specs.HeapStep.{without_large}
 use Rattle.own_model.specs.NatMap.{NatMap, joined}
 use Rattle.own_model.specs.Region.{Region}
-use Rattle.own_model.proofs.JoinedLemmas.{get-joined}
+use Rattle.own_model.proofs.NatMapJoinedLemmas.{get-joined}
 use Rattle.own_model.proofs.NatMapLemmas.{same, get-remove, get-remove_same, get-remove_other, before_remove, picked-remove, picked_alike}
 use Rattle.own_model.proofs.Totals.{len-remove_at}
 use Rattle.avl_alloc.specs.Layout as avl

@@ -12,8 +12,8 @@ use Rattle.own_model.specs.Heap.{AreBlocks, bytes_in}
 use Rattle.own_model.specs.NatMap.{joined}
 use Rattle.own_model.specs.OwnState.{with_part}
 use Rattle.own_model.specs.Region.{Region}
-use Rattle.own_model.proofs.BlockLemmas.{used_within}
-use Rattle.own_model.proofs.JoinedLemmas.{joined-insert_first}
+use Rattle.own_model.proofs.HeapBlockLemmas.{used_within}
+use Rattle.own_model.proofs.NatMapJoinedLemmas.{joined-insert_first}
 use Rattle.own_model.proofs.NatMapLemmas.{same, get-insert, picked_alike}
 use Rattle.avl_alloc.specs.Layout.{heap_of}
 use Rattle.region_map.specs.Regions.{Regions}

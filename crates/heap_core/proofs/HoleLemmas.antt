@@ -11,7 +11,7 @@ use Rattle.trade_base.proofs.BytesLemmas.{length-slice_range}
 use Rattle.own_model.specs.BestFit.{used_at, chunk_of}
 use Rattle.own_model.specs.Heap as model
 use Rattle.own_model.specs.Heap.{Block, Used, Hole, AreBlocks, bytes_in}
-use Rattle.own_model.proofs.BlockLemmas.{tail_blocks}
+use Rattle.own_model.proofs.HeapBlockLemmas.{tail_blocks}
 use Rattle.own_model.proofs.ListLemmas.{all_within}
 use Rattle.avl_alloc.specs.Holes.{heads}
 use Rattle.std.specs.List.{AllByRecursion}

@@ -11,7 +11,7 @@ use Rattle.arrayvec.specs.ArrayVec.{ArrayVec}
 use Rattle.own_model.specs.NatMap.{NatMap}
 use Rattle.own_model.specs.OwnState.{zeros}
 use Rattle.own_model.specs.Region.{Region}
-use Rattle.own_model.proofs.JoinedLemmas.{joined-insert_second}
+use Rattle.own_model.proofs.NatMapJoinedLemmas.{joined-insert_second}
 use Rattle.own_model.proofs.NatMapLemmas.{get-insert_same, get-insert_other, picked-insert_some, picked_alike}
 use Rattle.own_model.proofs.Totals.{len-insert_new}
 use Rattle.avl_alloc.specs.Layout as avl

@@ -11,10 +11,10 @@ use Rattle.trade_base.specs.declared.refusal.Refusal.TheVariants.{PageFault}
 use Rattle.own_model.specs.BestFit.{payload_at, used_at}
 use Rattle.own_model.specs.Region.{Region}
 use Rattle.own_model.specs.Sliced.{block_found, holds_in_payload}
-use Rattle.own_model.proofs.BestFitLemmas.{HasOffset, payload_has, payload_told}
+use Rattle.own_model.proofs.HeapBestFitLemmas.{HasOffset, payload_has, payload_told}
 use Rattle.own_model.proofs.EntryLemmas.{finds_in_map, finds_none_in_map}
 use Rattle.own_model.proofs.NatMapLemmas.{get-picked, get-picked_none}
-use Rattle.own_model.proofs.PayloadLemmas.{payload_holds, payload_tests}
+use Rattle.own_model.proofs.SlicedPayloadLemmas.{payload_holds, payload_tests}
 use Rattle.own_model.specs.Heap.{Block}
 use Rattle.avl_alloc.specs.declared.best_fit.UsedBlock.{UsedBlock}
 use Rattle.avl_alloc.specs.Found.{used_block}

@@ -7,7 +7,7 @@ use Rattle.own_model.specs.Heap as model
 use Rattle.own_model.specs.NatMap.{picked, joined}
 use Rattle.own_model.specs.OwnHeap.{no_heap}
 use Rattle.own_model.specs.Region.{Region}
-use Rattle.own_model.proofs.JoinedLemmas.{get-joined}
+use Rattle.own_model.proofs.NatMapJoinedLemmas.{get-joined}
 use Rattle.own_model.proofs.NatMapLemmas.{none_if, same, get-empty, get-picked_none}
 use Rattle.avl_alloc.specs.Layout as avl
 use Rattle.avl_alloc.specs.Layout.{heap_of, sizes_of}

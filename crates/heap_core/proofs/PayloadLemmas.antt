@@ -8,7 +8,7 @@ use Rattle.own_model.specs.BestFit.{used_at, chunk_of, taken_in, given_in}
 use Rattle.own_model.specs.Entries.{value_of}
 use Rattle.own_model.specs.Heap.{Block, Used, Hole, AreBlocks, Heap}
 use Rattle.own_model.specs.HeapStep.{size_taken}
-use Rattle.own_model.proofs.BlockLemmas.{tail_blocks, used-taken, used-given, hole_at}
+use Rattle.own_model.proofs.HeapBlockLemmas.{tail_blocks, used-taken, used-given, hole_at}
 use Rattle.own_model.proofs.EntryLemmas.{value_of-cons, value_of-append}
 use Rattle.dataspace_core.specs.Store.{Part, bytes_of}
 use Rattle.heap_core.specs.declared.words.Chunk.{Chunk}

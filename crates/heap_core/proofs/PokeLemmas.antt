@@ -10,7 +10,7 @@ use Rattle.trade_base.proofs.ElsewhereLemmas.{range_before, range_after}
 use Rattle.own_model.specs.BestFit.{used_at, chunk_of}
 use Rattle.own_model.specs.Heap as model
 use Rattle.own_model.specs.Heap.{Block, AreBlocks, bytes_in}
-use Rattle.own_model.proofs.BlockLemmas.{used_within}
+use Rattle.own_model.proofs.HeapBlockLemmas.{used_within}
 use Rattle.avl_alloc.specs.Layout as avl
 use Rattle.avl_alloc.specs.Layout.{heap_of, kept_at}
 use Rattle.avl_alloc.proofs.LayoutLemmas.{sound_kept}

@@ -11,7 +11,7 @@ use Rattle.trade_base.proofs.ElsewhereLemmas.{range_before, range_after}
 use Rattle.own_model.specs.BestFit.{used_at}
 use Rattle.own_model.specs.Heap.{Block, Used, Hole, AreBlocks, bytes_in}
 use Rattle.own_model.specs.OwnState.{with_part}
-use Rattle.own_model.proofs.BlockLemmas.{used_within}
+use Rattle.own_model.proofs.HeapBlockLemmas.{used_within}
 use Rattle.heap_core.proofs.PayloadLemmas.{told}
 
 -- two used blocks lie one after the other

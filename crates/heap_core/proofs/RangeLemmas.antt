@@ -17,9 +17,9 @@ use Rattle.own_model.specs.Heap.{Block, AreBlocks, bytes_in}
 use Rattle.own_model.specs.HeapStep.{with_poked}
 use Rattle.own_model.specs.OwnState.{with_part}
 use Rattle.own_model.specs.Region.{Region}
-use Rattle.own_model.proofs.BlockLemmas.{used_within}
+use Rattle.own_model.proofs.HeapBlockLemmas.{used_within}
 use Rattle.own_model.proofs.HeapStepLemmas.{not_both}
-use Rattle.own_model.proofs.JoinedLemmas.{get-joined, joined-insert_second}
+use Rattle.own_model.proofs.NatMapJoinedLemmas.{get-joined, joined-insert_second}
 use Rattle.own_model.proofs.NatMapLemmas.{same, and_then_alike, and_then_from, get-picked, get-picked_at, get-insert_same, get-insert_other, value_at}
 use Rattle.avl_alloc.specs.Layout as avl
 use Rattle.avl_alloc.specs.Layout.{heap_of}

@@ -10,8 +10,8 @@ use Rattle.own_model.specs.Heap as model
 use Rattle.own_model.specs.Heap.{AreBlocks}
 use Rattle.own_model.specs.HeapStep.{size_taken}
 use Rattle.own_model.specs.OwnHeap.{OwnHeap, payload_start}
-use Rattle.own_model.proofs.BlockLemmas.{used-taken}
-use Rattle.own_model.proofs.BestFitLemmas.{best_is_hole, IsHoleOf}
+use Rattle.own_model.proofs.HeapBlockLemmas.{used-taken}
+use Rattle.own_model.proofs.HeapBestFitLemmas.{best_is_hole, IsHoleOf}
 use Rattle.std.specs.List.{AllByRecursion}
 use Rattle.avl_alloc.specs.declared.best_fit.BlockAddr.{BlockAddr}
 use Rattle.avl_alloc.specs.Found.{block_addr}

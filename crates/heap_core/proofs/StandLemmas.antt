@@ -10,7 +10,7 @@ use Rattle.own_model.specs.Entries.{value_of}
 use Rattle.own_model.specs.Heap as model
 use Rattle.own_model.specs.Heap.{Block, AreBlocks, bytes_in}
 use Rattle.own_model.proofs.ListLemmas.{all_within}
-use Rattle.own_model.proofs.BlockLemmas.{used_within}
+use Rattle.own_model.proofs.HeapBlockLemmas.{used_within}
 use Rattle.avl_alloc.specs.Layout as avl
 use Rattle.avl_alloc.specs.Layout.{heap_of, sizes_of, IsChunk, IsSound}
 use Rattle.avl_alloc.proofs.LayoutLemmas.{sound_told, chunk_there}

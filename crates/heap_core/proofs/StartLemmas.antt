@@ -5,7 +5,7 @@ use Rattle.std.proofs.lemmas.Option.{none-some}
 use Rattle.std.specs.Prelude.{Option, None}
 use Rattle.std.specs.FinMap.{get}
 use Rattle.own_model.specs.Region.{Region, holds as holds_range}
-use Rattle.own_model.proofs.BestFitLemmas.{HasOffset, payload_told}
+use Rattle.own_model.proofs.HeapBestFitLemmas.{HasOffset, payload_told}
 use Rattle.own_model.proofs.NatMapLemmas.{some_of}
 use Rattle.region_map.specs.Regions.{Regions, AreSound, heap_found}
 use Rattle.dataspace_core.specs.Store.{Store, part}

@@ -7,7 +7,7 @@ use Rattle.std.specs.FinMap.{get, from_entries, len}
 use Rattle.own_model.specs.HeapWindow.{heap_low, heap_high}
 use Rattle.own_model.specs.NatMap.{NatMap, joined}
 use Rattle.own_model.specs.Region.{Region}
-use Rattle.own_model.proofs.ApartLemmas.{LieApart-empty}
+use Rattle.own_model.proofs.RegionApartLemmas.{LieApart-empty}
 use Rattle.own_model.proofs.NatMapLemmas.{same, none_in_empty, picked_alike}
 use Rattle.avl_alloc.specs.Layout as avl
 use Rattle.avl_alloc.specs.Layout.{heap_of}

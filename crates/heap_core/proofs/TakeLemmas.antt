@@ -14,9 +14,9 @@ use Rattle.own_model.specs.NatMap.{joined}
 use Rattle.own_model.specs.OwnHeap.{payload_start}
 use Rattle.own_model.specs.Growth.{shape_taken}
 use Rattle.own_model.specs.Region.{Region}
-use Rattle.own_model.proofs.BlockLemmas.{AreBlocks-taken, block_size-fits, hole_within}
-use Rattle.own_model.proofs.BestFitLemmas.{best_is_hole, IsHoleOf}
-use Rattle.own_model.proofs.JoinedLemmas.{joined-insert_first}
+use Rattle.own_model.proofs.HeapBlockLemmas.{AreBlocks-taken, block_size-fits, hole_within}
+use Rattle.own_model.proofs.HeapBestFitLemmas.{best_is_hole, IsHoleOf}
+use Rattle.own_model.proofs.NatMapJoinedLemmas.{joined-insert_first}
 use Rattle.own_model.proofs.NatMapLemmas.{same, get-insert, picked_alike}
 use Rattle.avl_alloc.specs.declared.best_fit.BestFit.{BestFit}
 use Rattle.avl_alloc.specs.Layout as avl

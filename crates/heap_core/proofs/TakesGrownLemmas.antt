@@ -11,7 +11,7 @@ use Rattle.own_model.specs.BestFit.{block_size}
 use Rattle.own_model.specs.Growth.{Growth, Shape, growth_of, hole_for, larger_growth, least_growth, new_hole, shape_grown}
 use Rattle.own_model.specs.HeapStep.{with_block}
 use Rattle.own_model.specs.OwnHeap.{OwnHeap}
-use Rattle.own_model.proofs.BestFitLemmas.{new_hole_best}
+use Rattle.own_model.proofs.HeapBestFitLemmas.{new_hole_best}
 use Rattle.region_map.specs.Regions.{Regions}
 use Rattle.dataspace_core.specs.Store.{Store, part, account_in}
 use Rattle.dataspace_core.specs.Share.{share_in}

@@ -12,10 +12,10 @@ use Rattle.trade_base.specs.declared.id.AccountId.{AccountId}
 use Rattle.own_model.specs.Account.{Account, Fits, opened, parted_with, shortage}
 use Rattle.own_model.specs.Amounts.{Amounts}
 use Rattle.own_model.specs.Reserve.{no_reserve}
-use Rattle.own_model.proofs.ReserveLemmas.{covered_in_turn}
+use Rattle.own_model.proofs.StepReserveLemmas.{covered_in_turn}
 use Rattle.own_model.proofs.StepLemmas.{covers}
 use Rattle.own_model.specs.Listed.{Listed, ListedEntry, Binary, service_of, kind_of, reserve_by, reserve_of, start_of, start_list_of}
-use Rattle.own_model.specs.Listed.Binary.{Script, LogServer, FileServer, Init}
+use Rattle.own_model.specs.Listed.Binary.{Script, Server, Init}
 use Rattle.own_model.specs.StartList.{StartEntry, AllCovered, IsCovered, budget, init_at, inits_at_first, inits_keep, start_state, with_started}
 use Rattle.own_model.specs.StartList.Kind.{Script as AScript, Init as AnInit}
 use Rattle.dataspace_core.specs.Store.{Store, IsOpenIn, IsChildIn, account_in, root_in, room_in}
@@ -69,8 +69,7 @@ first_short (Some refusal) start behind some = refl
 -- who isn't an init has no reserve but a script
 init_alone : (binary : Binary) (given : Option Amounts) → kind_of binary ≡ AnInit → reserve_by binary given ≡ no_reserve
 init_alone Script given is = absurd cc
-init_alone LogServer given is = refl
-init_alone FileServer given is = refl
+init_alone (Server service) given is = refl
 init_alone Init given is = refl
 
 more_by_none : (a b : ℕ) → b ≡ 0 → a ≡ a + b
@@ -86,8 +85,7 @@ inits_of_home store components (suc place) init is = inr (place, is)
 -- an entry that is an init has the kind of one
 kind_by_binary : (binary : Binary) → runs_init binary ≡ true → kind_of binary ≡ AnInit
 kind_by_binary Script is = absurd (false≢true is)
-kind_by_binary LogServer is = absurd (false≢true is)
-kind_by_binary FileServer is = absurd (false≢true is)
+kind_by_binary (Server service) is = absurd (false≢true is)
 kind_by_binary Init is = refl
 
 kind_by_test : (entry : Option ListedEntry) → unwrap_or (option_map is_init entry) false ≡ true → unwrap_or (option_map (λ e. kind_of e.binary) entry) AScript ≡ AnInit

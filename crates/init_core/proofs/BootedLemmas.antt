@@ -12,13 +12,14 @@ use Rattle.std.proofs.lemmas.Option.{none-some, same_Some, slice_get-get_or, unw
 use Rattle.trade_base.specs.declared.id.AccountId.{AccountId}
 use Rattle.own_model.specs.Account.{Account, opened}
 use Rattle.own_model.specs.Listed.{Listed, ListedEntry, ListedRule, Binary, Target, Way, asks_for, end_of, init_entry, most_lists, named_provider, offers, only_provider, route_of, route_within, rules_for, server_at, serves, service_at, service_of, start_of, start_list_of, way_by, way_to}
-use Rattle.own_model.specs.Listed.Binary.{Script, LogServer, FileServer, Init}
+use Rattle.own_model.specs.Listed.Binary.{Script, Server, Init}
 use Rattle.own_model.specs.Listed.Target.{Child, AnyChild, Parent}
 use Rattle.own_model.specs.Listed.Way.{Inside, Outside}
-use Rattle.own_model.specs.Routes.{ServerAt, Service, label_with, provider}
+use Rattle.trade_base.specs.declared.service.Service.{Service}
+use Rattle.own_model.specs.Routes.{ServerAt, label_with, provider}
 use Rattle.own_model.specs.StartList.{AllCovered, Boots, inits_keep, start_state}
 use Rattle.own_model.specs.World.{start_world}
-use Rattle.own_model.proofs.ListedLemmas.{routes_lead}
+use Rattle.own_model.proofs.StartListedLemmas.{routes_lead}
 use Rattle.own_model.proofs.NatMapLemmas.{get-empty, get-insert_same}
 use Rattle.own_model.proofs.Totals.{total-insert_new, total-empty}
 use Rattle.dataspace_core.specs.Store.{Store, fresh_store, root_in, account_in, accounts_in, IsOpenIn, parents_in, room_in, ram_limits_in, caps_limits_in}
@@ -89,8 +90,7 @@ nothing_yet {list} {store} {components} {keys} root pages caps places pages_is c
 -- a binary that serves a service is a server's
 serves_some : (binary : Binary) (service : List ℕ) → serves binary service ≡ true → IsSome (service_of binary)
 serves_some Script service serving = absurd (false≢true serving)
-serves_some LogServer service serving = refl
-serves_some FileServer service serving = refl
+serves_some (Server of) service serving = refl
 serves_some Init service serving = absurd (false≢true serving)
 
 both : (a b : Bool) → (a && b) ≡ true → b ≡ true

@@ -7,7 +7,7 @@ use Rattle.std.proofs.lemmas.Bool.Decides.{nat_tests}
 use Rattle.serde_json.specs.Data.{Data, Items}
 use Rattle.serde_json.specs.Find.{get, as_array, as_str}
 use Rattle.own_model.specs.Listed.{Binary, ListedEntry, ListedRule}
-use Rattle.own_model.specs.Listed.Binary.{Script, LogServer, FileServer, Init}
+use Rattle.own_model.specs.Listed.Binary.{Script, Server, Init}
 use Rattle.own_model.specs.Text.{is_name, is_name_byte}
 use Rattle.init_core.specs.Depth.{is_init, runs_init}
 use Rattle.init_core.specs.Entries.{◌>>=◌, Head, Own, Place, SoFar, behind, binary_told, default_route, head_of, is_taken, new_name, nothing_own, object_of, own_of, own_route, own_told, provided, reserve_told, starts_in, value_or}
@@ -96,8 +96,7 @@ pub record StartsOthers (binary : Binary) (deeper : Bool) (met : ℕ) (starts : 
 told_starts : (binary : Binary) (deeper : Bool) (met : ℕ) (config : Option Data) (own : Own) → own_told binary deeper met config ≡ Ok own →
     (own.starts ≡ []) ⊎ StartsOthers binary deeper met own.starts
 told_starts Script deeper met config own is = let same : nothing_own ≡ own = cc in inl (sym (ap (λ (o : Own). o.starts) same))
-told_starts LogServer deeper met config own is = let same : nothing_own ≡ own = cc in inl (sym (ap (λ (o : Own). o.starts) same))
-told_starts FileServer deeper met config own is = let same : nothing_own ≡ own = cc in inl (sym (ap (λ (o : Own). o.starts) same))
+told_starts (Server service) deeper met config own is = let same : nothing_own ≡ own = cc in inl (sym (ap (λ (o : Own). o.starts) same))
 told_starts Init true met (Some d) own is = by_object (is_object d) is where
   by_object : (b : Bool) → let r : Result Own BootFault = if b then own_of met d else Err (BadConfig field.Config) in r ≡ Ok own → (own.starts ≡ []) ⊎ StartsOthers Init true met own.starts
   by_object true given = inr (record { deep = refl; init = refl; few = own_few met d own given })

@@ -22,8 +22,8 @@ use Rattle.pd_core.specs.declared.component.Role.{Role}
 use Rattle.pd_core.specs.declared.component.Role.TheVariants.{Script, Server, Init, Gone}
 use Rattle.pd_core.specs.declared.component.Component.{Component}
 use Rattle.pd_core.proofs.ComponentLemmas.{pays_is}
-use Rattle.pd_core.proofs.HeldLemmas.{init_below, init_pays}
-use Rattle.pd_core.proofs.WorldLemmas.{init_is}
+use Rattle.pd_core.proofs.CoreHeldLemmas.{init_below, init_pays}
+use Rattle.pd_core.proofs.CoreWorldLemmas.{init_is}
 use Rattle.init_core.specs.Boot.{IsInitAt}
 use Rattle.init_core.proofs.StartLemmas.{Beside, account_stays, fresh_open, init_after, start_stays}
 

@@ -6,14 +6,13 @@ use Rattle.std.specs.FinMap.{get}
 use Rattle.std.specs.Option.{option_map, unwrap_or}
 use Rattle.std.proofs.lemmas.Bool.{cases_eq, false≢true}
 use Rattle.std.proofs.lemmas.List.Quantifiers.{all_pairs_push}
-use Rattle.slab.specs.Slab.{Slab}
 use Rattle.own_model.specs.Account.{Account, opened, parted_with, shortage}
 use Rattle.own_model.specs.Amounts.{Amounts}
 use Rattle.own_model.specs.Reserve.{no_reserve}
 use Rattle.own_model.specs.NatMap.{NatMap}
 use Rattle.own_model.specs.StartList.{Entry, StartEntry}
 use Rattle.own_model.proofs.NatMapLemmas.{apart_from_free, get-insert_same, get-insert_other, each_after_insert}
-use Rattle.own_model.proofs.ReserveLemmas.{parted_in_turn}
+use Rattle.own_model.proofs.StepReserveLemmas.{parted_in_turn}
 use Rattle.own_model.proofs.StepLemmas.{covers}
 use Rattle.own_model.proofs.Totals.{total_at_le}
 use Rattle.cap_space.specs.Space.{Space, fresh_space}
@@ -21,13 +20,11 @@ use Rattle.region_map.specs.Regions.{Regions, fresh_regions}
 use Rattle.dataspace_core.specs.Room.{IsOuter}
 use Rattle.dataspace_core.specs.Store.{Store, Part, part, parted_part, IsOpenIn, IsChildIn, accounts_in, account_in, account_of, root_in, parents_in, ram_limits_in, caps_limits_in, opened_part}
 use Rattle.dataspace_core.proofs.PartLaws.{account_of-part, open_in_part, part_open}
-use Rattle.server_frame.specs.declared.server.Session.{Session as Kept}
-use Rattle.services.specs.Host.{HasNoSessions}
 use Rattle.pd_core.specs.Component.{Place, entry_of, payer_of, reserve_of, amounts_in, tables_of, HasNewHeap, IsUnused}
 use Rattle.pd_core.specs.Core.{Heads, IsBelowHead}
 use Rattle.pd_core.specs.Fresh.{start_of, account_at, AreEmpty, IsNewServer, IsFreshReserve, IsFresh, Has, ShareNone}
 use Rattle.pd_core.specs.declared.component.Component.{Component}
-use Rattle.pd_core.proofs.FreshLemmas.{new_server_stays}
+use Rattle.pd_core.proofs.CoreFreshLemmas.{new_server_stays}
 use Rattle.init_core.specs.Boot.{AreThere, Opens}
 
 -- ---- tables that have just booted
@@ -44,17 +41,6 @@ script_empty store pages caps budget space regions machine few covered caps_boot
   heap_most = ap (λ r. r.heap_most) regions_booted ∙ sym (ap (λ r. r.pages) regions_booted);
   pages = ap (λ r. r.pages * 4096) regions_booted ∙ sym machine;
   few = omega (arith, few, ap (λ r. r.pages) regions_booted);
-}
-
--- a server has no sessions, and has room for as many as the machine's capabilities pay for
-pub server_empty : {T : Type 0} (store : Store) (pages caps most : ℕ) (sessions : Slab (Kept T)) (regions : Regions) → ram_limits_in store ≡ pages * 4096 →
-    caps_limits_in store ≡ caps → caps ≤ most * 2 + 1 → sessions.slots ≡ [] → most ≤ sessions.capacity → regions ≡ fresh_regions 0 pages pages → HasNoSessions store sessions regions
-server_empty store pages caps most sessions regions machine all_caps half none places booted = record {
-  none = none;
-  places = omega (arith, all_caps, half, places);
-  no_heap = ap (λ r. r.heap) booted;
-  heap_most = ap (λ r. r.heap_most) booted ∙ sym (ap (λ r. r.pages) booted);
-  pages = ap (λ r. r.pages * 4096) booted ∙ sym machine;
 }
 
 -- ---- accounts open

@@ -3,7 +3,7 @@ use Rattle.std.specs.Prelude.{◌≡◌, ℕ, ◌-◌, ◌*◌, ◌<◌, ◌≤�
 use Rattle.std.specs.List.{slice_get}
 use Rattle.std.specs.Option.{option_map, unwrap_or}
 use Rattle.own_model.specs.Listed.{Binary, ListedEntry}
-use Rattle.own_model.specs.Listed.Binary.{Script, LogServer, FileServer, Init}
+use Rattle.own_model.specs.Listed.Binary.{Script, Server, Init}
 use Rattle.init_core.specs.Entries.{Place, Reads, read_within}
 
 -- a list with room for the names of so many lists within, each with what parts them: the machine's, with three within, has no
@@ -17,8 +17,7 @@ pub record IsWithin (deeper : ℕ) (place : Place) : Type 0 where
 
 abbrev pub runs_init : Binary → Bool
 runs_init Script = false
-runs_init LogServer = false
-runs_init FileServer = false
+runs_init (Server service) = false
 runs_init Init = true
 
 abbrev pub is_init : ListedEntry → Bool

@@ -6,8 +6,9 @@ use Rattle.std.specs.Str.{bytes_eq}
 use Rattle.serde_json.specs.Data.{Data}
 use Rattle.serde_json.specs.Find.{get, as_array, as_str}
 use Rattle.own_model.specs.Amounts.{Amounts}
+use Rattle.trade_base.specs.Service.{served_by_binary}
 use Rattle.own_model.specs.Listed.{Binary, ListedEntry, ListedRule, serves}
-use Rattle.own_model.specs.Listed.Binary.{Script, LogServer, FileServer, Init}
+use Rattle.own_model.specs.Listed.Binary.{Script, Server, Init}
 use Rattle.init_core.specs.declared.fault.BootFault.{BootFault}
 use Rattle.init_core.specs.declared.fault.BootFault.TheVariants.{BadConfig, DuplicateName, UnknownBinary}
 use Rattle.init_core.specs.declared.fault.Field.TheVariants as field
@@ -72,10 +73,8 @@ no_binary (Some name) = UnknownBinary name
 abbrev pub binary_of : List ℕ → Result Binary BootFault
 binary_of text =
     if bytes_eq text (codes "script") then Ok Script
-    else (if bytes_eq text (codes "log") then Ok LogServer
-    else (if bytes_eq text (codes "files") then Ok FileServer
     else (if bytes_eq text (codes "init") then Ok Init
-    else Err (no_binary (name_in text)))))
+    else value_or (no_binary (name_in text)) (option_map Server (served_by_binary text)))
 
 -- what an entry runs
 abbrev pub binary_told : List ℕ → Option Data → Result Binary BootFault
@@ -104,8 +103,7 @@ own_route (Some d) = option_map Some (rules_of d)
 abbrev pub if_script : {A : Type 0} → (Data → Option A) → Binary → Option Data → Option (Option A)
 if_script f binary None = Some None
 if_script f Script (Some d) = option_map Some (f d)
-if_script f LogServer (Some d) = None
-if_script f FileServer (Some d) = None
+if_script f (Server service) (Some d) = None
 if_script f Init (Some d) = None
 
 -- a reserve is given by one of its two members, or by both: without the other that is 0
@@ -157,8 +155,7 @@ config_of false met d = Err (BadConfig field.Config)
 -- an entry of another binary starts nothing, whatever the member is
 abbrev pub own_told : Binary → Bool → ℕ → Option Data → Result Own BootFault
 own_told Script deeper met d = Ok nothing_own
-own_told LogServer deeper met d = Ok nothing_own
-own_told FileServer deeper met d = Ok nothing_own
+own_told (Server service) deeper met d = Ok nothing_own
 own_told Init deeper met d = config_of deeper met d
 
 -- an entry, and the values of the entries that it starts

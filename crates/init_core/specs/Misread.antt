@@ -1,10 +1,8 @@
--- Where the fault of a value that is no start list is; and what a binary's service is called.
+-- Where the fault of a value that is no start list is.
 use Rattle.std.specs.Prelude.{ℕ, List, codes, Option, Some, None, Result, Ok, Err}
 use Rattle.std.specs.Option.{option_and_then}
 use Rattle.std.specs.Result.{result_ok}
 use Rattle.serde_json.specs.Data.{Data}
-use Rattle.own_model.specs.Listed.{Binary, log_service, file_service}
-use Rattle.own_model.specs.Listed.Binary.{Script, LogServer, FileServer, Init}
 use Rattle.init_core.specs.declared.fault.BootFault.{BootFault}
 use Rattle.init_core.specs.declared.fault.BootFault.TheVariants.{BadConfig}
 use Rattle.init_core.specs.declared.fault.Field.TheVariants as field
@@ -29,10 +27,3 @@ place_of_fault (Err misread) = Some misread.entry
 -- the same of the entry whose fault is told, if it is an entry's
 abbrev pub entry_at_fault : Data → Option ℕ
 entry_at_fault d = option_and_then (λ starts. place_of_fault (entries_read starts)) (result_ok (starts_of d))
-
--- the service that a binary can provide
-abbrev pub service_name : Binary → Option (List ℕ)
-service_name Script = None
-service_name LogServer = Some log_service
-service_name FileServer = Some file_service
-service_name Init = None

@@ -7,7 +7,7 @@ use Rattle.own_model.specs.Listed.{ListedRule}
 use Rattle.init_core.specs.Entries as told
 use Rattle.init_core.specs.declared.config.Own.{Own}
 use Rattle.init_core.specs.declared.entry.Binary.{Binary}
-use Rattle.init_core.specs.declared.entry.Binary.TheVariants.{Script, Log, Files, Init}
+use Rattle.init_core.specs.declared.entry.Binary.TheVariants.{Script, Server, Init}
 use Rattle.init_core.specs.declared.head.Head.{Head}
 use Rattle.init_core.specs.declared.reading.Reading.{Reading}
 use Rattle.init_core.specs.declared.routing.Way.{Way}
@@ -33,8 +33,7 @@ told_rule told = record {
 
 abbrev pub model_binary : Binary → listed.Binary
 model_binary Script = listed.Binary.Script
-model_binary Log = listed.Binary.LogServer
-model_binary Files = listed.Binary.FileServer
+model_binary (Server service) = listed.Binary.Server service
 model_binary Init = listed.Binary.Init
 
 -- what a list is told by, of borrowed values

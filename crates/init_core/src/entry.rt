@@ -1,10 +1,9 @@
 //! Entries of a start list, and what they run.
 ghost use Rattle.std.specs.Prelude.{◌≡◌, ◌≤◌, length, Ok};
-ghost use Rattle.std.specs.Option.{option_copied, option_map};
+ghost use Rattle.std.specs.Option.{option_map};
 ghost use Rattle.std.specs.Result.{result_map_both};
-ghost use Rattle.own_model.specs.Listed.{offers, reserve_of, serves};
+ghost use Rattle.own_model.specs.Listed.{offers, reserve_of, serves, service_of};
 ghost use Rattle.init_core.specs.Depth.{is_init};
-ghost use Rattle.init_core.specs.Misread.{service_name};
 ghost use Rattle.init_core.specs.Entries.{binary_of, no_binary};
 ghost use Rattle.init_core.specs.Members.{name_in};
 ghost use Rattle.init_core.specs.View.{model_binary};
@@ -16,17 +15,15 @@ use crate::name::{Label, Name, Path};
 use crate::rule::Rule;
 use pd_core::Reserve;
 use std::marker::Model;
-use trade_base::{Caps, Ram};
+use trade_base::{Caps, Ram, Service};
 
 /// What a component runs.
 #[derive(Clone, Copy, Debug, PartialEq, Eq)]
 pub enum Binary {
     /// A script makes the calls of a scenario.
     Script,
-    /// The log server.
-    Log,
-    /// The file server.
-    Files,
+    /// A server of a service.
+    Server(Service),
     /// An init starts entries of its own.
     Init,
 }
@@ -39,48 +36,45 @@ impl Binary {
         let bytes = text.as_bytes();
         if bytes == b"script".as_slice() {
             Ok(Binary::Script)
-        } else if bytes == b"log".as_slice() {
-            Ok(Binary::Log)
-        } else if bytes == b"files".as_slice() {
-            Ok(Binary::Files)
         } else if bytes == b"init".as_slice() {
             Ok(Binary::Init)
         } else {
-            Err(no_binary(text))
+            match Service::of_binary(text) {
+                Some(service) => Ok(Binary::Server(service)),
+                None => Err(no_binary(text)),
+            }
         }
     }
 
     /// The service that it can provide, if it can provide one.
-    pub fn service(self) -> Option<&'static str>
-        ensures { option_copied result ≡ service_name (model_binary self) }
+    pub fn service(self) -> Option<Service>
+        ensures { result ≡ service_of (model_binary self) }
     {
         match self {
             Binary::Script | Binary::Init => None,
-            Binary::Log => Some("LOG"),
-            Binary::Files => Some("File_system"),
+            Binary::Server(service) => Some(service),
         }
     }
 
     /// Its name, as a start list has it.
+    #[tactic(auto, using(crate::proofs::EntryLemmas::binary_read_back))]
     pub fn as_str(self) -> &'static str
         ensures { binary_of result.now ≡ Ok (model_binary self) }
     {
         match self {
             Binary::Script => "script",
-            Binary::Log => "log",
-            Binary::Files => "files",
+            Binary::Server(service) => service.binary(),
             Binary::Init => "init",
         }
     }
 
     /// Whether a service is this binary's.
-    pub(crate) fn serves(self, service: &[u8]) -> bool
-        ensures { result ≡ serves (model_binary self) service.now }
+    pub(crate) fn serves(self, asked: &[u8]) -> bool
+        ensures { result ≡ serves (model_binary self) asked.now }
     {
         match self {
             Binary::Script | Binary::Init => false,
-            Binary::Log => service == b"LOG".as_slice(),
-            Binary::Files => service == b"File_system".as_slice(),
+            Binary::Server(service) => asked == service.name().as_bytes(),
         }
     }
 }

@@ -26,7 +26,7 @@ pub use laws::{inits_give_their_own, lists_are_listed, quota_faults_are_of_lacks
 pub use list::{StartList, entry_at_fault};
 pub use machine_a::{MACHINE_A, machine_a_is_read};
 pub use name::{Name, Path};
-pub use routing::{route, target_child};
+pub use routing::{MOST_LISTS, route, target_child};
 pub use rule::{Rule, Target};
 pub use startup::boot;
 pub use table::RouteTable;

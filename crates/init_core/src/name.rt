@@ -5,15 +5,13 @@ ghost use Rattle.init_core.specs.Entries.{behind};
 ghost use Rattle.init_core.specs.Members.{name_in};
 
 use arrayvec::ArrayString;
+use pd_core::LONGEST_CLIENT;
 use std::fmt;
 use std::marker::Model;
 use text_codec::{LONGEST_NAME, is_name};
 
 /// The most bytes of a path: four names of 32 bytes, parted by `/`.
 const LONGEST_PATH: usize = 131;
-
-/// The most bytes of a component's label: the same names, parted by ` -> `.
-const LONGEST_LABEL: usize = 140;
 
 /// A name: 1 to 32 letters, digits, `_`, `-` and `.`.
 #[derive(Debug, Drop)]
@@ -145,7 +143,7 @@ impl fmt::Display for Path {
 /// The label under which an entry opens sessions: the names of its path, parted by ` -> `.
 #[derive(Debug, Drop)]
 pub(crate) struct Label {
-    text: ArrayString<LONGEST_LABEL>,
+    text: ArrayString<LONGEST_CLIENT>,
 }
 
 impl Model for Label {

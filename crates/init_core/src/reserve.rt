@@ -38,7 +38,7 @@ fn reserve_ram(binary: Binary, member: Option<&Value>) -> Option<Option<u64>>
     match (member, binary) {
         (None, _) => Some(None),
         (Some(value), Binary::Script) => Some(Some(amount_in(value)?)),
-        (Some(_), Binary::Log | Binary::Files | Binary::Init) => None,
+        (Some(_), Binary::Server(_) | Binary::Init) => None,
     }
 }
 
@@ -50,7 +50,7 @@ fn reserve_caps(binary: Binary, member: Option<&Value>) -> Option<Option<u32>>
     match (member, binary) {
         (None, _) => Some(None),
         (Some(value), Binary::Script) => Some(Some(whole_in(value, 0, u32::MAX)?)),
-        (Some(_), Binary::Log | Binary::Files | Binary::Init) => None,
+        (Some(_), Binary::Server(_) | Binary::Init) => None,
     }
 }
 

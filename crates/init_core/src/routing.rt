@@ -3,19 +3,15 @@ ghost use Rattle.std.specs.Prelude.{◌≡◌, ◌+◌, ◌*◌, ◌<◌, ◌≤
 ghost use Rattle.std.specs.List.{slice_get};
 ghost use Rattle.std.specs.Option.{option_and_then};
 ghost use Rattle.own_model.specs.Listed.{end_of, named_provider, offers, only_provider, route_of, route_within, way_by, way_to};
-ghost use Rattle.own_model.specs.Routes.{label_with};
 ghost use Rattle.init_core.specs.View.{model_target, model_way};
 
 use crate::entry::Entry;
 use crate::list::StartList;
 use crate::rule::{Rule, Target};
-use arrayvec::ArrayVec;
+use pd_core::label_of;
 
 /// How many lists there are at most between a client and the machine, both of theirs among them.
-const MOST_LISTS: usize = 4;
-
-/// The most bytes of a label with the names of all inits above a client before it.
-const LONGEST_LABEL: usize = 208;
+pub const MOST_LISTS: usize = 4;
 
 /// Where a rule leads: to a child or to none, or out of its init.
 #[derive(Clone, Copy, Debug, PartialEq, Eq)]
@@ -61,24 +57,10 @@ fn route_within(
         Way::Outside => if home == 0 {
             None
         } else {
-            let label = label_with(entry.name(), label);
+            let label = label_of(entry.name(), label);
             route_within(list, lists - 1, home - 1, service, label.as_slice())
         },
     }
-}
-
-/// A name, and a label behind it, if there is one.
-fn label_with(name: &[u8], given: &[u8]) -> ArrayVec<u8, LONGEST_LABEL>
-    requires { length name.now + 4 + length given.now ≤ 208 }
-    ensures { result.items ≡ label_with name.now given.now }
-{
-    let mut label = ArrayVec::<u8, LONGEST_LABEL>::new();
-    let _ = label.try_extend_from_slice(name);
-    if !given.is_empty() {
-        let _ = label.try_extend_from_slice(b" -> ");
-        let _ = label.try_extend_from_slice(given);
-    }
-    label
 }
 
 /// The way by the first rule of an init's that matches, also where that leads to none.

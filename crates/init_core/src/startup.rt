@@ -3,7 +3,7 @@
 ghost use Rattle.std.specs.Prelude.{◌≡◌, ◌≢◌, ◌+◌, ◌*◌, ◌<◌, ◌≤◌, is_none, is_ok, length, IfOk, IfErr, OnOk, None, Some};
 ghost use Rattle.own_model.specs.Account.{shortage};
 ghost use Rattle.own_model.specs.Listed.{Listed, start_list_of};
-ghost use Rattle.own_model.specs.Listed.Binary.{Script as AScript, LogServer, FileServer, Init as AnInit};
+ghost use Rattle.own_model.specs.Listed.Binary.{Script as AScript, Server as AServer, Init as AnInit};
 ghost use Rattle.own_model.specs.World.{start_world, IsBalancedFor};
 ghost use Rattle.own_model.specs.StartList.{Boots};
 ghost use Rattle.dataspace_core.specs.Store.{IsOpenIn, account_in, room_in};
@@ -18,10 +18,9 @@ use cap_space::CapSpace;
 use dataspace_core::Memory;
 use pd_core::{Component, Core};
 use region_map::RegionMap;
-use server_frame::Server;
-use services::{FileService, LogService};
+use services::Host;
 use std::alloc::Global;
-use trade_base::{AccountId, Caps, Ram};
+use trade_base::{AccountId, Caps, Ram, Service};
 
 /// The most user regions of a script.
 const REGIONS: usize = 128;
@@ -99,12 +98,8 @@ fn start(
             components.push(script_of(entry, account, reserve, list, alloc)?)?;
             Ok(())
         }
-        Binary::Log => {
-            components.push(log_of(entry, account, list, alloc)?)?;
-            Ok(())
-        }
-        Binary::Files => {
-            components.push(files_of(entry, account, list, alloc)?)?;
+        Binary::Server(service) => {
+            components.push(server_of(service, entry, account, list, alloc)?)?;
             Ok(())
         }
         Binary::Init => {
@@ -154,34 +149,20 @@ fn script_of(
     Ok(Component::script(entry.label(), account, reserve, caps, regions))
 }
 
-/// The log server of an entry on its account, without sessions.
-fn log_of(
+/// The server of an entry on its account, without sessions.
+fn server_of(
+    service: Service,
     entry: &Entry,
     account: AccountId,
     list: &StartList,
     alloc: Global,
 ) -> Result<Component, BootFault>
-    requires { entry.now.binary ≡ LogServer }
+    requires { entry.now.binary ≡ AServer service }
     ensures made { IfOk result (IsMade list.now entry.now account.0 None) }
     ensures fault { IfErr result (λ fault. fault ≡ NoMemory) }
 {
-    let server = Server::boot(alloc, LogService, sessions_of(list), list.pages() as usize)?;
-    Ok(Component::log(entry.label(), account, server))
-}
-
-/// The file server of an entry, the same.
-fn files_of(
-    entry: &Entry,
-    account: AccountId,
-    list: &StartList,
-    alloc: Global,
-) -> Result<Component, BootFault>
-    requires { entry.now.binary ≡ FileServer }
-    ensures made { IfOk result (IsMade list.now entry.now account.0 None) }
-    ensures fault { IfErr result (λ fault. fault ≡ NoMemory) }
-{
-    let server = Server::boot(alloc, FileService, sessions_of(list), list.pages() as usize)?;
-    Ok(Component::files(entry.label(), account, server))
+    let host = Host::boot(alloc, service, sessions_of(list), list.pages() as usize)?;
+    Ok(Component::server(entry.label(), account, host))
 }
 
 /// The init of an entry on its account. It has started nothing yet.

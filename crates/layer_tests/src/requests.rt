@@ -1,7 +1,8 @@
 //! The texts of requests and of their replies.
 
 use server_frame::Reply;
-use session_proto::{FileError, FileReply, FileRequest, LogReply, LogRequest, Shares};
+use server_frame::Quotas;
+use session_proto::{FileError, FileReply, FileRequest, LogReply, LogRequest};
 use std::alloc::{AllocError, Global};
 use std::test::Fail;
 use trade_base::{Caps, Ram};
@@ -177,7 +178,7 @@ fn replies_are_written(rt: HostRuntime) -> Result<(), Fail> {
         reply.write(&mut told);
         assert_eq!(rt; told.text(), want);
     }
-    let shares = Shares {
+    let shares = Quotas {
         ram_used: Ram(20480),
         ram_limit: Ram(32768),
         caps_used: Caps(3),

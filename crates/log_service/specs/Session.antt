@@ -4,7 +4,7 @@ use Rattle.std.specs.List.{flat_map}
 use Rattle.own_model.specs.LogService.{labelled, written}
 use Rattle.own_model.specs.Reply.{log_text}
 use Rattle.own_model.specs.Session.{Labelled}
-use Rattle.own_model.specs.Session.ServiceState.{Logging}
+use Rattle.own_model.specs.Services.ServiceState.{Logging}
 use Rattle.dataspace_core.specs.Share.{Share}
 use Rattle.sliced_heap.specs.Heap.{payer_of}
 use Rattle.sliced_heap.specs.Sliced.{IsLinked}

@@ -2,7 +2,7 @@
 ghost use Rattle.std.specs.Prelude.{◌≡◌, [], None};
 ghost use Rattle.own_model.specs.LogService.{log_served};
 ghost use Rattle.own_model.specs.Session.{Labelled};
-ghost use Rattle.own_model.specs.Session.ServiceState.{Logging};
+ghost use Rattle.own_model.specs.Services.ServiceState.{Logging};
 ghost use Rattle.log_service.specs.Session.{lines_text, as_kept, IsSession};
 ghost use Rattle.server_frame.proofs.LentLaws.{lends_nothing};
 ghost use Rattle.server_frame.specs.Session.{service_step};

@@ -5,10 +5,10 @@ use Rattle.std.proofs.lemmas.Bool.Decides.{nat_tests}
 use Rattle.std.proofs.lemmas.List.Sums.{sum_by_push}
 use Rattle.trade_base.specs.Bytes.{with_bytes}
 use Rattle.trade_base.proofs.BytesLemmas.{length-with_bytes}
-use Rattle.own_model.proofs.BlockLemmas.{bytes-taken, bytes-given}
+use Rattle.own_model.proofs.HeapBlockLemmas.{bytes-taken, bytes-given}
 use Rattle.own_model.proofs.FileListLemmas.{sum-rewritten, sum-without}
 use Rattle.own_model.proofs.FileRequestLemmas.{KeptByRequests, requests_keep, grown}
-use Rattle.own_model.proofs.OwnHeapLemmas.{chunk_bytes-set}
+use Rattle.own_model.proofs.HeapOwnLemmas.{chunk_bytes-set}
 use Rattle.own_model.proofs.StepLemmas.{covers, accepted_growth}
 use Rattle.own_model.specs.Account.{Account, WithinLimits, charged}
 use Rattle.own_model.specs.BestFit.{Spot, chunk_of, given_in}

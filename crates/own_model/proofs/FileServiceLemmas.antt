@@ -10,7 +10,7 @@ use Rattle.std.specs.Str.{bytes_eq}
 use Rattle.std.specs.List.{AllByRecursion}
 use Rattle.std.specs.Option.{option_or}
 use Rattle.trade_base.specs.Bytes.{with_bytes}
-use Rattle.own_model.proofs.BestFitLemmas.{IsHoleOf}
+use Rattle.own_model.proofs.HeapBestFitLemmas.{IsHoleOf}
 use Rattle.own_model.proofs.FileListLemmas.{found_holds, all_rewritten, finds_rewritten, unlike_rewritten, all_without, unlike_without, finds_without, unlike_push}
 use Rattle.own_model.proofs.FileRequestLemmas.{KeptByRequests, requests_keep, grown, with_content, without_file}
 use Rattle.own_model.proofs.FileShapeLemmas.{used, node_by, used_taken, not_used, taken_fits, shape_taken_is, best_is, shape_grown_is, new_hole_is, new_hole_fits, used_grown, used_given, shape_given_is}

@@ -6,8 +6,8 @@ use Rattle.std.proofs.lemmas.Bool.Decides.{nat_tests}
 use Rattle.std.proofs.lemmas.List.{get_or-set_same, get_or-set_other, get_or_append_left, get_or_past}
 use Rattle.std.proofs.lemmas.Option.{none-some}
 use Rattle.std.specs.Prelude.{Option, None}
-use Rattle.own_model.proofs.BestFitLemmas.{IsHoleOf, best_is_hole, hole_unused}
-use Rattle.own_model.proofs.BlockLemmas.{hole_at, used-taken, used-given, bytes-taken, bytes-given, AreBlocks-taken, AreBlocks-given, block_size-fits}
+use Rattle.own_model.proofs.HeapBestFitLemmas.{IsHoleOf, best_is_hole, hole_unused}
+use Rattle.own_model.proofs.HeapBlockLemmas.{hole_at, used-taken, used-given, bytes-taken, bytes-given, AreBlocks-taken, AreBlocks-given, block_size-fits}
 use Rattle.own_model.proofs.ListLemmas.{all_within, all_set, all_append, all_then}
 use Rattle.own_model.proofs.StepLemmas.{accepted_growth, growth_fits}
 use Rattle.own_model.specs.Account.{Account}

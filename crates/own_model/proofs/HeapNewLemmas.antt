@@ -8,12 +8,12 @@ use Rattle.std.specs.FinMap.{get}
 use Rattle.trade_base.specs.Page.{page_of, is_valid_size}
 use Rattle.trade_base.specs.declared.refusal.Refusal.{Refusal}
 use Rattle.trade_base.specs.declared.refusal.Refusal.TheVariants.{InvalidSize}
-use Rattle.own_model.proofs.BestFitLemmas.{IsHoleOf, hole_unused}
-use Rattle.own_model.proofs.BlockLemmas.{hole_within}
+use Rattle.own_model.proofs.HeapBestFitLemmas.{IsHoleOf, hole_unused}
+use Rattle.own_model.proofs.HeapBlockLemmas.{hole_within}
 use Rattle.own_model.proofs.HeapRangeLemmas.{gap_place}
 use Rattle.own_model.proofs.HeapSoundLemmas.{HasGrown, has_grown, best_of_sound}
 use Rattle.own_model.proofs.HeapStepLemmas.{chunk_is, chunk_with-is, offset_of-is, no_large, used_of, payload_within_range, payload_some, heap_range, heap_lies, not_both}
-use Rattle.own_model.proofs.MachineLemmas.{machine_gap}
+use Rattle.own_model.proofs.SlicedNewLemmas.{machine_gap}
 use Rattle.own_model.proofs.NatMapLemmas.{get-insert_same, some_of}
 use Rattle.own_model.proofs.StepLemmas.{covers, valid_some, accepted_size, accepted_growth, size_tested}
 use Rattle.own_model.specs.Account.{shortage, alloc_refusal}

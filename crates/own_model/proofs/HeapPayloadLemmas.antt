@@ -6,14 +6,14 @@ use Rattle.std.proofs.lemmas.Option.{none-some}
 use Rattle.std.specs.Prelude.{None}
 use Rattle.std.specs.Option.{option_map}
 use Rattle.std.specs.FinMap.{get, remove}
-use Rattle.own_model.proofs.BestFitLemmas.{used_apart}
-use Rattle.own_model.proofs.CallLemmas.{found_block}
-use Rattle.own_model.proofs.ChunkLemmas.{starts_differ}
+use Rattle.own_model.proofs.HeapBestFitLemmas.{used_apart}
+use Rattle.own_model.proofs.StepBytesLemmas.{found_block}
+use Rattle.own_model.proofs.HeapChunkLemmas.{starts_differ}
 use Rattle.own_model.proofs.EntryLemmas.{finds_in_map, finds_none_in_map}
 use Rattle.own_model.proofs.HeapStepLemmas.{IsWithin, IsUsed, payload_within_range, payload_used, large_within, small_within, chunk_in_map, chunk_is, heap_range, heap_lies}
 use Rattle.own_model.proofs.NatMapLemmas.{before_remove, get-remove_same}
-use Rattle.own_model.proofs.OwnHeapLemmas.{range_of_bytes, large_range, chunk_map}
-use Rattle.own_model.proofs.PayloadLemmas.{own_range, range_of_sliced, above_user, payload_tests, payload_holds}
+use Rattle.own_model.proofs.HeapOwnLemmas.{range_of_bytes, large_range, chunk_map}
+use Rattle.own_model.proofs.SlicedPayloadLemmas.{own_range, range_of_sliced, above_user, payload_tests, payload_holds}
 use Rattle.own_model.specs.BestFit.{chunk_of, used_at}
 use Rattle.own_model.specs.Call.Call.{Del}
 use Rattle.own_model.specs.HeapWindow.{heap_low, heap_high, largest_machine}

@@ -11,8 +11,8 @@ use Rattle.std.specs.FinMap.{get, insert, remove, empty, entries, get-entries, g
 use Rattle.own_model.proofs.EntryLemmas.{value_of-cons, value_of_later}
 use Rattle.own_model.proofs.NatMapLemmas.{natmaps, same, get-empty, get-insert_other, before_remove, by_insertions, get-picked, picked-insert_some, picked-insert_alike, get-picked_at, and_then_from}
 use Rattle.own_model.proofs.Totals.{total-insert_new, total-picked}
-use Rattle.own_model.proofs.JoinedLemmas.{from_either, get-joined, joined_free}
-use Rattle.own_model.proofs.OwnHeapLemmas.{range_of_bytes, chunk_map, heap_some, large_range}
+use Rattle.own_model.proofs.NatMapJoinedLemmas.{from_either, get-joined, joined_free}
+use Rattle.own_model.proofs.HeapOwnLemmas.{range_of_bytes, chunk_map, heap_some, large_range}
 use Rattle.own_model.specs.Entries.{value_of}
 use Rattle.own_model.specs.OwnHeap.{ranges_of_large, ranges_of_heap}
 use Rattle.own_model.specs.NatMap.{NatMap, moved_down, picked, total}

@@ -7,16 +7,16 @@ use Rattle.std.proofs.Math.Seq.{get_or-append_seam}
 use Rattle.std.specs.Prelude.{None}
 use Rattle.std.specs.FinMap.{get, insert}
 use Rattle.trade_base.specs.Page.{page_of}
-use Rattle.own_model.proofs.ApartLemmas.{LieApart-fewer, LieApart-insert}
-use Rattle.own_model.proofs.BlockLemmas.{hole_at, bytes-taken, bytes-given}
-use Rattle.own_model.proofs.BestFitLemmas.{IsHoleOf, best_is_hole}
+use Rattle.own_model.proofs.RegionApartLemmas.{LieApart-fewer, LieApart-insert}
+use Rattle.own_model.proofs.HeapBlockLemmas.{hole_at, bytes-taken, bytes-given}
+use Rattle.own_model.proofs.HeapBestFitLemmas.{IsHoleOf, best_is_hole}
 use Rattle.own_model.proofs.ListLemmas.{all_then}
 use Rattle.own_model.proofs.ByteLemmas.{length-zeros}
 use Rattle.own_model.proofs.HeapRangeLemmas.{gap_place, gap_open}
 use Rattle.own_model.proofs.HeapStepLemmas.{heap_lies, heap_taken, heap_given, heap_poked, heap_with_large, heap_without_large, heap_with_chunk}
-use Rattle.own_model.proofs.JoinedLemmas.{joined-insert_second, joined_before, KeysApart-insert_second}
+use Rattle.own_model.proofs.NatMapJoinedLemmas.{joined-insert_second, joined_before, KeysApart-insert_second}
 use Rattle.own_model.proofs.NatMapLemmas.{get-empty, value_at}
-use Rattle.own_model.proofs.OwnHeapLemmas.{range_of_bytes, ranges-set, ranges-chunk, ranges-large, ranges-without}
+use Rattle.own_model.proofs.HeapOwnLemmas.{range_of_bytes, ranges-set, ranges-chunk, ranges-large, ranges-without}
 use Rattle.own_model.proofs.StepLemmas.{accepted_growth, growth_fits, valid_some}
 use Rattle.own_model.specs.Account.{Account, alloc_refusal}
 use Rattle.own_model.specs.BestFit.{Spot, block_size, chunk_of, given_in}

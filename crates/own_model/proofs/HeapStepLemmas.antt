@@ -9,15 +9,15 @@ use Rattle.std.specs.Prelude.{Option, None, IsSome}
 use Rattle.std.specs.Cmp.{nat_cmp_total}
 use Rattle.std.specs.Option.{option_map, option_or}
 use Rattle.std.specs.FinMap.{get, insert, remove, get-from_entries}
-use Rattle.own_model.proofs.BlockLemmas.{used_within, hole_within, used-taken, used-given, bytes-taken, bytes-given, AreBlocks-taken, AreBlocks-given, block_size-fits}
-use Rattle.own_model.proofs.BestFitLemmas.{IsHoleOf}
-use Rattle.own_model.proofs.ChunkLemmas.{Lies, chunk_there, starts_differ, chunk_from_is, chunk_from_lies, chunk_from-append, chunk_from_past, chunk_from-set}
+use Rattle.own_model.proofs.HeapBlockLemmas.{used_within, hole_within, used-taken, used-given, bytes-taken, bytes-given, AreBlocks-taken, AreBlocks-given, block_size-fits}
+use Rattle.own_model.proofs.HeapBestFitLemmas.{IsHoleOf}
+use Rattle.own_model.proofs.HeapChunkLemmas.{Lies, chunk_there, starts_differ, chunk_from_is, chunk_from_lies, chunk_from-append, chunk_from_past, chunk_from-set}
 use Rattle.own_model.proofs.ListLemmas.{all_within, all_set, all_append}
 use Rattle.own_model.proofs.ByteLemmas.{length-zeros, length-with_part}
 use Rattle.own_model.proofs.EntryLemmas.{KeysDiffer-append}
-use Rattle.own_model.proofs.JoinedLemmas.{get-joined_first, get-joined_apart, joined_free}
+use Rattle.own_model.proofs.NatMapJoinedLemmas.{get-joined_first, get-joined_apart, joined_free}
 use Rattle.own_model.proofs.NatMapLemmas.{get-picked, before_remove, each_after_insert, apart_from_free, get-insert, get-remove, get-insert_other}
-use Rattle.own_model.proofs.OwnHeapLemmas.{range_of_bytes, large_range, chunk_map, chunk_ranges-set, chunk_ranges-append, chunk_map-append}
+use Rattle.own_model.proofs.HeapOwnLemmas.{range_of_bytes, large_range, chunk_map, chunk_ranges-set, chunk_ranges-append, chunk_map-append}
 use Rattle.own_model.specs.BestFit.{Spot, block_size, chunk_of, used_at, taken_in, given_in}
 use Rattle.own_model.specs.Entries.{KeysDiffer}
 use Rattle.own_model.specs.Growth.{most_chunks, least_large}
@@ -28,7 +28,7 @@ use Rattle.own_model.specs.NatMap.{NatMap}
 use Rattle.own_model.specs.OwnHeap.{OwnHeap, start_of, chunk_ranges, ranges_of_heap, range_pages, ranges_of_large, chunk_from, chunk_with, offset_of}
 use Rattle.own_model.specs.OwnState.{OwnState, zeros, heap_ranges}
 use Rattle.own_model.specs.Sliced.{ranges_of_blocks}
-use Rattle.own_model.proofs.ApartLemmas.{LieApart-fewer}
+use Rattle.own_model.proofs.RegionApartLemmas.{LieApart-fewer}
 use Rattle.own_model.specs.Region.{Region, overlap}
 use Rattle.own_model.specs.Sound.{LieApart, IsHeap, IsLarge, IsSound}
 

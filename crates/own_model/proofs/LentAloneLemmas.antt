@@ -10,7 +10,7 @@ use Rattle.own_model.proofs.LentLemmas.{lent_still}
 use Rattle.own_model.proofs.LentKeptLemmas.{one_session}
 use Rattle.own_model.proofs.NatMapLemmas.{get-empty, get-insert_same, get-insert_other, get-remove_other, apart_from_free, IsSome-at}
 use Rattle.own_model.proofs.NewSelector.{new_selector_free}
-use Rattle.own_model.proofs.PayloadLemmas.{region_parts}
+use Rattle.own_model.proofs.SlicedPayloadLemmas.{region_parts}
 use Rattle.own_model.proofs.RegionLemmas.{left_without}
 use Rattle.own_model.proofs.SessionLemmas.{named_there}
 use Rattle.own_model.specs.Account.{shortage, alloc_refusal}

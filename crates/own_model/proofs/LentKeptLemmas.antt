@@ -8,7 +8,7 @@ use Rattle.own_model.proofs.NatMapLemmas.{get-empty, get-insert_same, get-insert
 use Rattle.own_model.proofs.SessionLemmas.{named_there}
 use Rattle.own_model.proofs.NewSelector.{new_selector_free}
 use Rattle.own_model.proofs.StepLemmas.{KeptByEffects, KeptBySessions}
-use Rattle.own_model.proofs.TableLemmas.{run_keeps}
+use Rattle.own_model.proofs.StepTableLemmas.{run_keeps}
 use Rattle.own_model.specs.NatMap.{NatMap}
 use Rattle.own_model.specs.OwnState.{OwnState, Object, NamedBuffer, is_buffer_of, buffer_of, bytes_of_buffer, new_selector, zeros, object_with, session_named}
 use Rattle.own_model.specs.OwnState.Object.{Dataspace, RpcObject, OpenSession, Buffer}

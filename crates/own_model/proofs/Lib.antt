@@ -1,67 +1,83 @@
+-- maps, lists, sums and bytes: nothing of the machine
+pub mod ByteLemmas
+pub mod EntryLemmas
+pub mod HexLemmas
+pub mod HexReadBackLemmas
+pub mod ListLemmas
 pub mod NatMapLemmas
+pub mod NatMapJoinedLemmas
+pub mod NatMapMovedLemmas
+pub mod NatMapSums
+pub mod NewSelector
 pub mod SlotLemmas
 pub mod Totals
-pub mod KeySums
-pub mod NewSelector
-pub mod EntryLemmas
-pub mod ListLemmas
-pub mod MovedLemmas
-pub mod JoinedLemmas
-pub mod BlockLemmas
-pub mod BestFitLemmas
-pub mod OwnHeapLemmas
-pub mod ChunkLemmas
-pub mod HeapStepLemmas
-pub mod HeapRangeLemmas
+-- accounts
+pub mod AccountLemmas
+-- regions, and the ranges that they hold
 pub mod RegionLemmas
-pub mod StepLemmas
-pub mod RunLemmas
-pub mod RunningLemmas
-pub mod UseLemmas
-pub mod ApartLemmas
-pub mod HeapSoundLemmas
-pub mod SoundLemmas
-pub mod RangeLemmas
+pub mod RegionApartLemmas
+pub mod RegionRangeLemmas
+-- the heap: blocks, chunks, and what a step makes of them
+pub mod HeapBestFitLemmas
+pub mod HeapBlockLemmas
+pub mod HeapChunkLemmas
 pub mod HeapGapLemmas
-pub mod PayloadLemmas
-pub mod HeapPayloadLemmas
-pub mod MachineLemmas
 pub mod HeapNewLemmas
-pub mod TableLemmas
-pub mod ExitLemmas
-pub mod CallLemmas
-pub mod ByteLemmas
-pub mod LimitLemmas
-pub mod BalanceLemmas
-pub mod ShortageLemmas
-pub mod StartLemmas
-pub mod ReadBackLemmas
-pub mod HexLemmas
-pub mod SessionArgsLemmas
+pub mod HeapOwnLemmas
+pub mod HeapPayloadLemmas
+pub mod HeapRangeLemmas
+pub mod HeapSoundLemmas
+pub mod HeapStepLemmas
+-- sliced blocks, and their payloads
+pub mod SlicedNewLemmas
+pub mod SlicedPayloadLemmas
+-- one call: what it can do to an own state, and what it keeps
+pub mod StepLemmas
+pub mod StepTableLemmas
+pub mod StepBalanceLemmas
+pub mod StepBytesLemmas
+pub mod StepExitLemmas
+pub mod StepLimitLemmas
+pub mod StepReserveLemmas
+pub mod StepShortageLemmas
+pub mod StepSoundLemmas
+pub mod StepUseLemmas
+-- the log service
 pub mod LogLemmas
-pub mod FileListLemmas
-pub mod FileShapeLemmas
-pub mod FileRequestLemmas
+-- the file service: what its requests do to files, and to their account
 pub mod FileChargeLemmas
-pub mod FileServiceLemmas
-pub mod BufferKeptLemmas
 pub mod FileErrorLemmas
-pub mod BufferErrorLemmas
+pub mod FileListLemmas
 pub mod FilePlaceLemmas
 pub mod FileReadLemmas
+pub mod FileRequestLemmas
+pub mod FileServiceLemmas
+pub mod FileShapeLemmas
 pub mod FileTextLemmas
+-- requests of a session's buffer
+pub mod BufferErrorLemmas
+pub mod BufferKeptLemmas
+pub mod BufferMadeLemmas
+-- buffers among what selectors name
 pub mod LentLemmas
-pub mod SessionLemmas
-pub mod LentKeptLemmas
-pub mod ChargeLemmas
-pub mod DonationLemmas
-pub mod SessionSoundLemmas
-pub mod ReserveLemmas
-pub mod RouteLemmas
-pub mod AloneLemmas
-pub mod ServerLemmas
 pub mod LentAloneLemmas
+pub mod LentKeptLemmas
 pub mod LentServedLemmas
-pub mod ListedLemmas
-pub mod SaidByLemmas
-pub mod AccountLemmas
+-- what is so of each service
+pub mod ServiceLemmas
+-- sessions, whichever their service is
+pub mod SessionLemmas
+pub mod SessionAloneLemmas
+pub mod SessionArgsLemmas
+pub mod SessionChargeLemmas
+pub mod SessionDonationLemmas
+pub mod SessionRouteLemmas
+pub mod SessionServerLemmas
+pub mod SessionSoundLemmas
+-- start lists, and where their rules lead
+pub mod StartLemmas
+pub mod StartListedLemmas
+-- runs, and what is told of them
+pub mod RunLemmas
+pub mod RunSaidByLemmas
+pub mod RunningLemmas

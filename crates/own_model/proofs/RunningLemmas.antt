@@ -4,7 +4,7 @@ use Rattle.std.proofs.lemmas.List.{get_or-set_same, get_or-set_other, get_or_pas
 use Rattle.std.proofs.lemmas.Bool.{cases_lt}
 use Rattle.std.proofs.lemmas.Bool.Decides.{nat_tests}
 use Rattle.own_model.proofs.RunLemmas.{own_run-append, own_part-append}
-use Rattle.own_model.proofs.ExitLemmas.{gone_left}
+use Rattle.own_model.proofs.StepExitLemmas.{gone_left}
 use Rattle.own_model.specs.Laws.{InitsOverLast}
 use Rattle.own_model.specs.Call.{Call}
 use Rattle.own_model.specs.OwnState.{OwnState}

@@ -1,29 +1,17 @@
 -- How routes and sessions are stored as parts of a model's value.
 use Rattle.std.specs.Prelude.{◌≡◌, ◌⊎◌, ℕ, List, Option, Some, None}
-use Rattle.std.proofs.Common.{zero, suc, refl, inl, inr}
+use Rattle.std.proofs.Common.{refl}
 use Rattle.std.specs.Coded.{Coded, code_by, coded×, coded⊎, coded_ℕ, coded_list, coded_option}
+use Rattle.trade_base.specs.declared.service.Service.{Service}
 use Rattle.own_model.specs.Account.{Account, coded_account}
 use Rattle.own_model.specs.FileService.{File, Files}
 use Rattle.own_model.specs.Growth.{Shape}
 use Rattle.own_model.specs.OwnHeap.{coded_shape}
-use Rattle.own_model.specs.Routes.{Lead, Level, Rule, ServerAt, Service}
+use Rattle.own_model.specs.Routes.{Lead, Level, Rule, ServerAt}
 use Rattle.own_model.specs.Routes.Lead.{To, Nowhere, Outward}
-use Rattle.own_model.specs.Session.{Session, ServiceState}
-use Rattle.own_model.specs.Session.ServiceState.{Logging, Filing}
+use Rattle.own_model.specs.Services.{Session, ServiceState, service_back, service_from, service_number, state_back, state_from, state_parts}
 
 -- a kind of server is stored as a number
-abbrev pub service_number : Service → ℕ
-service_number Service.Log = 0
-service_number Service.Files = 1
-
-abbrev pub service_from : ℕ → Service
-service_from zero = Service.Log
-service_from (suc n) = Service.Files
-
-abbrev pub service_back : (s : Service) → service_from (service_number s) ≡ s
-service_back Service.Log = refl
-service_back Service.Files = refl
-
 abbrev pub coded_service : Coded Service
 coded_service = code_by ℕ coded_ℕ service_number service_from service_back
 
@@ -93,18 +81,6 @@ coded_files =
     (λ _. refl)
 
 -- what a server keeps is stored as the line that isn't finished yet, or as the files
-abbrev pub state_parts : ServiceState → List ℕ ⊎ Files
-state_parts (Logging partial) = inl partial
-state_parts (Filing files) = inr files
-
-abbrev pub state_from : List ℕ ⊎ Files → ServiceState
-state_from (inl partial) = Logging partial
-state_from (inr files) = Filing files
-
-abbrev pub state_back : (s : ServiceState) → state_from (state_parts s) ≡ s
-state_back (Logging partial) = refl
-state_back (Filing files) = refl
-
 abbrev pub coded_state : Coded ServiceState
 coded_state = code_by (List ℕ ⊎ Files) (coded⊎ (coded_list coded_ℕ) coded_files) state_parts state_from state_back
 

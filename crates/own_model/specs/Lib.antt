@@ -41,6 +41,7 @@ pub mod FileService
 pub mod BufferService
 pub mod FileRows
 pub mod Routes
+pub mod Services
 pub mod Session
 pub mod BufferRows
 pub mod Donated

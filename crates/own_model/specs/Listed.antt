@@ -1,20 +1,21 @@
 -- A start list as its text tells it, and where its rules lead.
-use Rattle.std.specs.Prelude.{◌≡◌, ℕ, ◌&&◌, ◌==◌, zero, suc, Bool, false, List, [], ◌∷◌, ◌++◌, map, position, count_by, codes, nat_eq, if◌then◌else◌, Option, Some, None}
+use Rattle.std.specs.Prelude.{◌≡◌, ℕ, ◌&&◌, ◌==◌, zero, suc, Bool, false, List, [], ◌∷◌, ◌++◌, map, position, count_by, nat_eq, if◌then◌else◌, Option, Some, None}
 use Rattle.std.specs.List.{starts_with, ends_with, slice_get}
 use Rattle.std.specs.Option.{option_and_then, option_map, unwrap_or}
 use Rattle.std.specs.Str.{bytes_eq}
+use Rattle.trade_base.specs.Service.{service_name, services}
+use Rattle.trade_base.specs.declared.service.Service.{Service}
 use Rattle.own_model.specs.Amounts.{Amounts}
 use Rattle.own_model.specs.Reserve.{no_reserve}
 use Rattle.own_model.specs.Routes as routes
-use Rattle.own_model.specs.Routes.{Lead, Level, Rule, ServerAt, Service, as_asked, label_with}
+use Rattle.own_model.specs.Routes.{Lead, Level, Rule, ServerAt, as_asked, label_with}
 use Rattle.own_model.specs.Routes.Lead.{To, Nowhere, Outward}
 use Rattle.own_model.specs.StartList.{Kind, StartEntry, StartList}
 
 -- what a component runs
 pub data Binary : Type 0 where
   Script : Binary
-  LogServer : Binary
-  FileServer : Binary
+  Server : Service → Binary
   Init : Binary
 
 -- where a rule leads: to the child of a name, to any child, or out of this init
@@ -73,18 +74,11 @@ most_lists = 4
 
 -- ---- which child a route leads to
 
-abbrev pub log_service : List ℕ
-log_service = codes "LOG"
-
-abbrev pub file_service : List ℕ
-file_service = codes "File_system"
-
 -- whether a service is the one of a binary
 abbrev pub serves : Binary → List ℕ → Bool
-serves Script service = false
-serves LogServer service = bytes_eq service log_service
-serves FileServer service = bytes_eq service file_service
-serves Init service = false
+serves Script asked = false
+serves (Server service) asked = bytes_eq asked (service_name service)
+serves Init asked = false
 
 -- an entry of an init's list provides a service
 abbrev pub offers : ℕ → List ℕ → ListedEntry → Bool
@@ -150,8 +144,7 @@ route_of list client service label =
 -- the kind of service that a binary can provide
 abbrev pub service_of : Binary → Option Service
 service_of Script = None
-service_of LogServer = Some Service.Log
-service_of FileServer = Some Service.Files
+service_of (Server service) = Some service
 service_of Init = None
 
 abbrev pub service_at : List ListedEntry → ℕ → Option Service
@@ -190,12 +183,12 @@ own_rule rule service to = record {
 abbrev pub own_rule_for : List ListedEntry → ℕ → ListedRule → List ℕ → Rule
 own_rule_for entries init rule service = own_rule rule (Some service) (lead_of entries (way_to entries init rule.target service))
 
--- a rule of any service is one for each service that is provided, and one for every other service
+-- a rule of any service is one for each service that there is, and one for every other
 abbrev pub own_rules_asking : List ListedEntry → ℕ → ListedRule → Option (List ℕ) → List Rule
 own_rules_asking entries init rule (Some service) = own_rule_for entries init rule service ∷ []
 own_rules_asking entries init rule None =
-    own_rule_for entries init rule log_service ∷ own_rule_for entries init rule file_service
-    ∷ own_rule rule None (lead_without rule.target) ∷ []
+    map (λ service. own_rule_for entries init rule (service_name service)) services
+    ++ own_rule rule None (lead_without rule.target) ∷ []
 
 abbrev pub own_rules : List ListedEntry → ℕ → List ListedRule → List Rule
 own_rules entries init [] = []
@@ -213,15 +206,13 @@ levels_within (suc lists) list entry =
 
 abbrev pub kind_of : Binary → Kind
 kind_of Script = Kind.Script
-kind_of LogServer = Kind.Server
-kind_of FileServer = Kind.Server
+kind_of (Server service) = Kind.Server
 kind_of Init = Kind.Init
 
 -- a script has the reserve that the list gives it, and else an empty one; who is no script has none
 abbrev pub reserve_by : Binary → Option Amounts → Amounts
 reserve_by Script given = unwrap_or given no_reserve
-reserve_by LogServer given = no_reserve
-reserve_by FileServer given = no_reserve
+reserve_by (Server service) given = no_reserve
 reserve_by Init given = no_reserve
 
 abbrev pub reserve_of : ListedEntry → Amounts

@@ -2,13 +2,9 @@
 use Rattle.std.specs.Prelude.{ℕ, ◌&&◌, Bool, true, List, [], ◌∷◌, ◌++◌, codes, nat_eq, if◌then◌else◌, Option, Some, None}
 use Rattle.std.specs.List.{starts_with, ends_with}
 use Rattle.std.specs.Str.{bytes_eq}
+use Rattle.trade_base.specs.declared.service.Service.{Service}
 
--- the kinds of servers, each of one service
-pub data Service : Type 0 where
-  Log : Service
-  Files : Service
-
--- a server: its kind, and its place among the entries
+-- a server: its kind, which is its service, and its place among the entries
 pub record ServerAt : Type 0 where
   pub kind : Service
   pub place : ℕ

@@ -5,41 +5,10 @@ use Rattle.trade_base.specs.declared.refusal.Refusal.{Refusal}
 use Rattle.trade_base.specs.declared.refusal.Refusal.TheVariants.{BadArgs, ServiceDenied, InsufficientRamQuota, InsufficientCapQuota}
 use Rattle.own_model.specs.Account.{Account, shortage, charged, opened}
 use Rattle.own_model.specs.Donation.{raised}
-use Rattle.own_model.specs.BufferService.{BufferServed, text_served}
-use Rattle.own_model.specs.FileService.{Files, AreFiles, no_files}
-use Rattle.own_model.specs.LogService.{LogServed, IsPartial, labelled, log_served}
-use Rattle.own_model.specs.Reply.{LogLine}
-use Rattle.own_model.specs.Routes.{Level, ServerAt, Service, label_with, provider}
+use Rattle.own_model.specs.Routes.{Level, ServerAt, label_with, provider}
+pub use Rattle.own_model.specs.Services.{ServiceState, Session, IsKept, service_of, state_at_first, Served, served_by}
 use Rattle.own_model.specs.SessionArgs.{Arguments, arguments_of}
 use Rattle.own_model.specs.Sliced.{sliced_size}
-
--- what a server keeps for a session: the log server the line that isn't finished yet, the file server the files
-pub data ServiceState : Type 0 where
-  Logging : List ℕ → ServiceState
-  Filing : Files → ServiceState
-
--- a session: its label, its account, of which all is what its client donated, what its server keeps for it, and the place of
--- that server among the entries
-pub record Session : Type 0 where
-  pub label : List ℕ
-  pub account : Account
-  pub state : ServiceState
-  pub server : ℕ
-
--- what is true of it: a line that isn't finished yet is shorter than the longest, and has no newline; files are as files are
-abbrev pub IsKept : ServiceState → Type 0
-IsKept (Logging partial) = IsPartial partial
-IsKept (Filing files) = AreFiles files
-
--- the kind of server that keeps this
-abbrev pub service_of : ServiceState → Service
-service_of (Logging partial) = Service.Log
-service_of (Filing files) = Service.Files
-
--- what a server keeps at first
-abbrev pub state_at_first : Service → ServiceState
-state_at_first Service.Log = Logging []
-state_at_first Service.Files = Filing no_files
 
 -- ---- donations
 
@@ -112,35 +81,6 @@ abbrev pub upgraded : Session → ℕ → ℕ → Session
 upgraded session ram caps = record session { account = raised session.account ram caps }
 
 -- ---- requests
-
--- what a request is answered, the lines that it finished, and after it the session, and its buffer's bytes, if it has one then
-pub record Served : Type 0 where
-  pub reply : List ℕ
-  pub lines : List LogLine
-  pub session : Session
-  pub buffer : Option (List ℕ)
-
--- a request of a log leaves the account, and a buffer, which no log has
-abbrev pub logged_by : Option (List ℕ) → Session → LogServed → Served
-logged_by buffer session o = record {
-  reply = o.reply;
-  lines = labelled session.label o.lines;
-  session = record session { state = Logging o.partial };
-  buffer = buffer;
-}
-
--- a request of files or of the buffer changes the session's account, and finishes no lines
-abbrev pub filed_by : Session → BufferServed → Served
-filed_by session o = record {
-  reply = o.reply;
-  lines = [];
-  session = record session { account = o.account; state = Filing o.files };
-  buffer = o.buffer;
-}
-
-abbrev pub served_by : ServiceState → Option (List ℕ) → Session → List ℕ → Served
-served_by (Logging partial) buffer session request = logged_by buffer session (log_served partial request)
-served_by (Filing files) buffer session request = filed_by session (text_served buffer files session.account request)
 
 -- what a request of a session does, by the bytes of the session's buffer, if it has one
 abbrev pub served : Option (List ℕ) → Session → List ℕ → Served

@@ -6,9 +6,8 @@ use Rattle.own_model.specs.Heap.{bytes_in}
 use Rattle.own_model.specs.NatMap.{total}
 use Rattle.own_model.specs.OwnHeap.{OwnHeap}
 use Rattle.own_model.specs.OwnState.{OwnState, Object, buffer_of, bytes_of_buffer}
-use Rattle.own_model.specs.FileService.{files_ram, files_caps}
-use Rattle.own_model.specs.Session.{Session, ServiceState, session_ram, session_caps}
-use Rattle.own_model.specs.Session.ServiceState.{Logging, Filing}
+use Rattle.own_model.specs.Services.{Session, state_ram, state_caps}
+use Rattle.own_model.specs.Session.{session_ram, session_caps}
 use Rattle.own_model.specs.Sliced.{block_size}
 use Rattle.own_model.specs.OwnState.Object.{Dataspace, RpcObject, OpenSession, Buffer}
 
@@ -25,15 +24,6 @@ object_caps (Dataspace bytes) = 1
 object_caps RpcObject = 1
 object_caps (OpenSession session) = 0
 object_caps (Buffer session bytes) = 0
-
--- what a server charges to a session for what it keeps: for files, and for no line
-abbrev pub state_ram : ServiceState → ℕ
-state_ram (Logging partial) = 0
-state_ram (Filing files) = files_ram files
-
-abbrev pub state_caps : ServiceState → ℕ
-state_caps (Logging partial) = 0
-state_caps (Filing files) = files_caps files
 
 -- a session's account uses what a session is charged for: itself, what its server keeps, and its buffer
 pub record UsesItsCharge (session : Session) (buffer : Option (List ℕ)) : Type 0 where

@@ -2,7 +2,8 @@
 ghost use Rattle.std.specs.Prelude.{◌≡◌, codes, Some, None};
 ghost use Rattle.own_model.specs.Account.{opened};
 ghost use Rattle.own_model.specs.Laws.{BootsBalanced};
-ghost use Rattle.own_model.specs.Routes.{Service, provider};
+ghost use Rattle.trade_base.specs.declared.service.Service.TheVariants.{Log, Files};
+ghost use Rattle.own_model.specs.Routes.{provider};
 ghost use Rattle.own_model.specs.Listed.{levels_within, most_lists};
 ghost use Rattle.own_model.specs.MachineA.{alice, machine_a};
 ghost use Rattle.own_model.specs.Rows.{start_of_a};
@@ -25,9 +26,9 @@ pub fn machine_a_boots()
 /// Machine A's routes lead each of the two services to its server, whatever the label, and no other service anywhere.
 pub fn services_are_routed()
     ensures log { provider (levels_within most_lists machine_a alice) (codes "LOG") (codes "main")
-        ≡ Some (record { kind = Service.Log; place = 0 }) }
+        ≡ Some (record { kind = Log; place = 0 }) }
     ensures files { provider (levels_within most_lists machine_a alice) (codes "File_system")
-        (codes "main") ≡ Some (record { kind = Service.Files; place = 1 }) }
+        (codes "main") ≡ Some (record { kind = Files; place = 1 }) }
     ensures others { provider (levels_within most_lists machine_a alice) (codes "Nic")
         (codes "main")
         ≡ None }

@@ -29,9 +29,9 @@ use Rattle.region_map.specs.Regions.{Regions, all_detached}
 use Rattle.dataspace_core.specs.Store.{Part, account_of, part_with_space, part_without_space, charged_part, credited_part, bytes_of}
 use Rattle.pd_core.specs.Own.{Sessions, object_of, selector_of, regions_of, own_of, Lent, key_at}
 use Rattle.pd_core.specs.Sound.{rpc_weight, buffer_at, IsScript}
-use Rattle.pd_core.proofs.NameLemmas.{is_named, named_is}
-use Rattle.pd_core.proofs.OwnLemmas.{before, object_is, has_bytes, names_object, grows, shrinks}
-use Rattle.pd_core.proofs.SettleLemmas.{Settles, same_window}
+use Rattle.pd_core.proofs.ScriptNameLemmas.{is_named, named_is}
+use Rattle.pd_core.proofs.ScriptOwnLemmas.{before, object_is, has_bytes, names_object, grows, shrinks}
+use Rattle.pd_core.proofs.ScriptSettleLemmas.{Settles, same_window}
 
 -- what is taken as a dataspace is that dataspace's capability
 pub taken_dataspace : (o : Option Cap) (ds : DsId) → Some ds ≡ dataspace_of o → o ≡ Some (Dataspace ds)

@@ -18,8 +18,8 @@ use Rattle.own_model.specs.Place.{Place, in_dataspace, in_payload, in_block, fou
 use Rattle.own_model.specs.Sliced.{block_found}
 use Rattle.own_model.specs.Region.{resolved}
 use Rattle.own_model.specs.Reply.Reply.{Bytes, Done}
-use Rattle.own_model.proofs.CallLemmas.{peeks, pokes}
-use Rattle.own_model.proofs.RangeLemmas.{range_fits, with_part-within}
+use Rattle.own_model.proofs.StepBytesLemmas.{peeks, pokes}
+use Rattle.own_model.proofs.RegionRangeLemmas.{range_fits, with_part-within}
 use Rattle.own_model.proofs.RegionLemmas.{resolved_renamed, resolved_facts}
 use Rattle.own_model.proofs.NatMapLemmas.{some_of}
 use Rattle.cap_space.specs.Space.{Space}
@@ -27,9 +27,9 @@ use Rattle.region_map.specs.Regions.{Regions}
 use Rattle.dataspace_core.specs.Store.{Part, bytes_of, part_with_bytes}
 use Rattle.pd_core.specs.Own.{Sessions, selector_of, regions_of, own_of, range_refusal, Lent}
 use Rattle.pd_core.specs.Sound.{IsScript}
-use Rattle.pd_core.proofs.NameLemmas.{Names, IsOwn, is_named}
-use Rattle.pd_core.proofs.OwnLemmas.{all_sessions, before, names_object, rewrites}
-use Rattle.pd_core.proofs.SettleLemmas.{Settles}
+use Rattle.pd_core.proofs.ScriptNameLemmas.{Names, IsOwn, is_named}
+use Rattle.pd_core.proofs.ScriptOwnLemmas.{all_sessions, before, names_object, rewrites}
+use Rattle.pd_core.proofs.ScriptSettleLemmas.{Settles}
 
 -- what refuses a range refuses a call that looks at the count and then at what is found
 ranges_refused : (b : OwnState) (step : Option Place → Outcome) (rename : ℕ × ℕ → Option (ℕ × ℕ)) → step None ≡ refused b PageFault → (refusal : Refusal) (count : Option Refusal) (region sliced block : Option (ℕ × ℕ)) →

@@ -9,7 +9,7 @@ use Rattle.dataspace_core.specs.Room.{HasRoom}
 use Rattle.dataspace_core.proofs.LimitLaws.{accounts_after}
 use Rattle.dataspace_core.proofs.PartLaws.{account_of-part, open_in_part, part_open}
 use Rattle.dataspace_core.proofs.RoomLaws.{room_stays}
-use Rattle.own_model.proofs.RouteLemmas.{routes_alike}
+use Rattle.own_model.proofs.SessionRouteLemmas.{routes_alike}
 use Rattle.pd_core.specs.Call.{model_call, IsPlain}
 use Rattle.pd_core.specs.declared.call.Call.{Call}
 use Rattle.own_model.specs.OwnStep.{own_step, script_step}
@@ -26,7 +26,7 @@ use Rattle.std.proofs.lemmas.Option.{none-some}
 use Rattle.pd_core.specs.declared.component.Role.{Role}
 use Rattle.pd_core.specs.declared.component.Role.TheVariants.{Script as AScript, Server as AServer, Init as AnInit, Gone as AGone}
 use Rattle.pd_core.specs.declared.component.Component.{Component}
-use Rattle.pd_core.proofs.AsideLemmas.{outcome_with, stands_aside}
+use Rattle.pd_core.proofs.ReserveAsideLemmas.{outcome_with, stands_aside}
 use Rattle.pd_core.proofs.ServerLemmas.{is_server}
 use Rattle.cap_space.specs.declared.cap.Cap.{Cap}
 use Rattle.std.proofs.lemmas.Bool.{cases_eq}

@@ -34,12 +34,12 @@ use Rattle.pd_core.specs.Sound.{session_at}
 use Rattle.pd_core.specs.declared.component.Component.{Component}
 use Rattle.pd_core.specs.declared.component.Role.{Role}
 use Rattle.pd_core.specs.declared.component.Role.TheVariants.{Script as AScript, Server as AServer, Init as AnInit, Gone as AGone}
-use Rattle.pd_core.proofs.PlainLemmas.{unlisted}
+use Rattle.pd_core.proofs.CorePlainLemmas.{unlisted}
 use Rattle.pd_core.proofs.ExitLemmas.{IsAlone, closes_reserve, world_alone, core_alone, homes_alone, leads_alone, kind_of_script}
 use Rattle.pd_core.proofs.ExitWorldLemmas.{closed_at_first, closed_more, gone_world, exit_outcome}
 use Rattle.pd_core.proofs.ComponentLemmas.{a_script}
 use Rattle.pd_core.proofs.QuotaLemmas.{found_in, session_at_place}
-use Rattle.pd_core.proofs.WorldLemmas.{one_of, length-entries, entries_at, refused_goes, role_at}
+use Rattle.pd_core.proofs.CoreWorldLemmas.{one_of, length-entries, entries_at, refused_goes, role_at}
 
 -- ---- a script as the world sees it
 

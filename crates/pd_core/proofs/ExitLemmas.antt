@@ -31,13 +31,13 @@ use Rattle.pd_core.specs.Sound.{session_at, buffer_at}
 use Rattle.pd_core.specs.declared.component.Component.{Component}
 use Rattle.pd_core.specs.declared.component.Role.{Role}
 use Rattle.pd_core.specs.declared.component.Role.TheVariants.{Script as AScript, Server as AServer, Init as AnInit, Gone as AGone}
-use Rattle.pd_core.proofs.ChangeLemmas.{ChangesCore, Follows, core_after, homes_after}
+use Rattle.pd_core.proofs.CoreChangeLemmas.{ChangesCore, Follows, core_after, homes_after}
 use Rattle.pd_core.proofs.ComponentLemmas.{a_script, pays_is, pays_script}
 use Rattle.dataspace_core.proofs.RoomLaws.{room_after_exit}
-use Rattle.pd_core.proofs.HeldLemmas.{names_none, same_place, same_reserve, not_place, no_place, no_reserve_place, no_reserve_session, init_pays, session_no_init, reserve_no_init, reserve_no_head, place_outer, pays_alone, script_inits, held_by, client_pays}
-use Rattle.pd_core.proofs.HomeLemmas.{inits_gain}
-use Rattle.pd_core.proofs.RoleLemmas.{Leaves, role_left, rows_left}
-use Rattle.pd_core.proofs.WorldLemmas.{same_leads, SameFaces, face_set, entries_at, world_changed, role_at, role_set, role_kept}
+use Rattle.pd_core.proofs.CoreHeldLemmas.{names_none, same_place, same_reserve, not_place, no_place, no_reserve_place, no_reserve_session, init_pays, session_no_init, reserve_no_init, reserve_no_head, place_outer, pays_alone, script_inits, held_by, client_pays}
+use Rattle.pd_core.proofs.ExitHomeLemmas.{inits_gain}
+use Rattle.pd_core.proofs.CoreRoleLemmas.{Leaves, role_left, rows_left}
+use Rattle.pd_core.proofs.CoreWorldLemmas.{same_leads, SameFaces, face_set, entries_at, world_changed, role_at, role_set, role_kept}
 
 -- ---- a role that is a script's
 

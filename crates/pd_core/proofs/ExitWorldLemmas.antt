@@ -17,9 +17,9 @@ use Rattle.own_model.specs.StartList.{Entry, init_at}
 use Rattle.own_model.specs.StartList.Kind.{Script as AScript}
 use Rattle.own_model.specs.Transcript.{nothing, entry_at, state_at}
 use Rattle.own_model.specs.World.{World, outcome_at, with_state}
-use Rattle.own_model.proofs.BalanceLemmas.{world_on, world_exited}
-use Rattle.own_model.proofs.ExitLemmas.{alike_on, exits_done}
-use Rattle.own_model.proofs.LimitLemmas.{limits_move}
+use Rattle.own_model.proofs.StepBalanceLemmas.{world_on, world_exited}
+use Rattle.own_model.proofs.StepExitLemmas.{alike_on, exits_done}
+use Rattle.own_model.proofs.StepLimitLemmas.{limits_move}
 use Rattle.own_model.proofs.NatMapLemmas.{get-remove_same, get-remove_other}
 use Rattle.own_model.proofs.Totals.{total-zero, total_same}
 use Rattle.pd_core.specs.Exit.{HasClosed, HasClosedAt}

@@ -34,7 +34,7 @@ use Rattle.pd_core.specs.Own.{Sessions, own_of, own_at}
 use Rattle.pd_core.specs.Sound.{IsSoundScript}
 use Rattle.pd_core.specs.declared.script.Script.{Script}
 use Rattle.pd_core.proofs.HeapCallLemmas.{Owns, Ends, Alone, own_in, parts, finishes_parts}
-use Rattle.pd_core.proofs.OwnLemmas.{all_sessions}
+use Rattle.pd_core.proofs.ScriptOwnLemmas.{all_sessions}
 use Rattle.pd_core.specs.Does.{Does}
 use Rattle.pd_core.proofs.SlicedLemmas.{same_gap}
 use Rattle.pd_core.proofs.HeapChangeLemmas.{alone_in_place, alone_attached, alone_detached}

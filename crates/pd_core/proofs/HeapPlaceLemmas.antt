@@ -14,7 +14,7 @@ use Rattle.own_model.specs.Place.Place.{InBlock}
 use Rattle.own_model.specs.Region.{Region, resolved}
 use Rattle.own_model.specs.Reply.Reply.{Bytes, Done}
 use Rattle.own_model.specs.Sliced.{block_found}
-use Rattle.own_model.proofs.CallLemmas.{found_block, peeks_block, pokes_block}
+use Rattle.own_model.proofs.StepBytesLemmas.{found_block, peeks_block, pokes_block}
 use Rattle.own_model.proofs.HeapStepLemmas.{not_both, payload_some, payload_within_range, heap_lies}
 use Rattle.own_model.proofs.Totals.{len-insert_at}
 use Rattle.cap_space.specs.Space.{Space}
@@ -34,7 +34,7 @@ use Rattle.pd_core.specs.Own.{Sessions, selector_of, own_of}
 use Rattle.sliced_heap.proofs.ShareLemmas.{region_of_block}
 use Rattle.pd_core.proofs.BytesLemmas.{renamed_is}
 use Rattle.pd_core.proofs.HeapCallLemmas.{Owns, Ends, Alone, own_in}
-use Rattle.pd_core.proofs.OwnLemmas.{all_sessions}
+use Rattle.pd_core.proofs.ScriptOwnLemmas.{all_sessions}
 use Rattle.heap_core.proofs.RangeLemmas.{payload_poked, payload_read}
 use Rattle.heap_core.proofs.BlockRangeLemmas.{blocks_are_regions as heap_blocks_are_regions}
 use Rattle.sliced_heap.proofs.WindowLemmas.{IsPut, is_put, blocks_in_place, tagged}

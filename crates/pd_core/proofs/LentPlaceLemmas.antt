@@ -6,7 +6,7 @@ use Rattle.std.specs.Option.{option_map, option_and_then, unwrap_or}
 use Rattle.std.specs.FinMap.{get}
 use Rattle.own_model.specs.NatMap.{NatMap, picked, total}
 use Rattle.own_model.specs.Session.{Labelled}
-use Rattle.own_model.proofs.KeySums.{owed_once}
+use Rattle.own_model.proofs.NatMapSums.{owed_once}
 use Rattle.own_model.proofs.NatMapLemmas.{get-picked}
 use Rattle.own_model.proofs.Totals.{total-picked, total-add, total_same, total_owed_le}
 use Rattle.cap_space.specs.declared.cap.Cap.{Cap}
@@ -15,7 +15,7 @@ use Rattle.server_frame.specs.Frame.{Row}
 use Rattle.pd_core.specs.Component.{caps_in, lent_by, NamesItsSessions}
 use Rattle.pd_core.specs.Sound.{session_at, buffer_at, session_weight, lent_weight, IsOne}
 use Rattle.pd_core.specs.declared.component.Role.{Role}
-use Rattle.pd_core.proofs.NameLemmas.{buffer_key}
+use Rattle.pd_core.proofs.ScriptNameLemmas.{buffer_key}
 
 -- what counts the sessions alone, those that lend, and the buffers
 abbrev pub alone_weight : Cap → ℕ

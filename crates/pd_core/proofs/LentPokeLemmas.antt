@@ -20,8 +20,8 @@ use Rattle.pd_core.specs.Sound.{buffer_at, AreOthers, IsLawful, IsSoundScript, I
 use Rattle.pd_core.specs.declared.script.Script.{Script}
 use Rattle.pd_core.proofs.LentLemmas.{object_lent}
 use Rattle.pd_core.proofs.LentWriteLemmas.{same_books, other_stays, put_there}
-use Rattle.pd_core.proofs.NameLemmas.{IsLent, lent_key, buffer_key}
-use Rattle.pd_core.proofs.OwnLemmas.{object_is}
+use Rattle.pd_core.proofs.ScriptNameLemmas.{IsLent, lent_key, buffer_key}
+use Rattle.pd_core.proofs.ScriptOwnLemmas.{object_is}
 use Rattle.pd_core.proofs.ScriptLemmas.{heaps_elsewhere, script_stays, own_stays_but_lent}
 use Rattle.pd_core.proofs.SessionOwnLemmas.{lawful_step}
 

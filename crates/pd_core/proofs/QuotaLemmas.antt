@@ -30,10 +30,10 @@ use Rattle.pd_core.specs.Core.{Places, init_in, inits_of, roles_of, rows_at, ses
 use Rattle.pd_core.specs.Exit.{HasSelectorsTo}
 use Rattle.pd_core.specs.SessionCalls.{named_in}
 use Rattle.pd_core.specs.Sound.{session_at}
-use Rattle.pd_core.proofs.ClientServerLemmas.{its as named_row}
+use Rattle.pd_core.proofs.SessionBetweenLemmas.{its as named_row}
 use Rattle.pd_core.proofs.SessionRefusedLemmas.{no_space}
 use Rattle.pd_core.proofs.SessionWorldLemmas.{Names, named_two, named_cap, host_within}
-use Rattle.pd_core.proofs.WorldLemmas.{entries_at, role_at}
+use Rattle.pd_core.proofs.CoreWorldLemmas.{entries_at, role_at}
 use Rattle.pd_core.specs.declared.component.Component.{Component}
 use Rattle.pd_core.specs.declared.component.Role.{Role}
 use Rattle.pd_core.specs.declared.component.Role.TheVariants.{Script as AScript, Server as AServer, Init as AnInit, Gone as AGone}

@@ -26,9 +26,9 @@ use Rattle.region_map.specs.Regions.{Regions, attached, detached}
 use Rattle.dataspace_core.specs.Store.{Part, bytes_of}
 use Rattle.pd_core.specs.Own.{Sessions, Lent, object_of, selector_of, regions_of, own_of, sized_at, key_at}
 use Rattle.pd_core.specs.Sound.{buffer_at, AreNamed, IsScript}
-use Rattle.pd_core.proofs.NameLemmas.{named_is}
-use Rattle.pd_core.proofs.OwnLemmas.{all_sessions, before, object_is, has_bytes, remaps}
-use Rattle.pd_core.proofs.SettleLemmas.{Settles}
+use Rattle.pd_core.proofs.ScriptNameLemmas.{named_is}
+use Rattle.pd_core.proofs.ScriptOwnLemmas.{all_sessions, before, object_is, has_bytes, remaps}
+use Rattle.pd_core.proofs.ScriptSettleLemmas.{Settles}
 use Rattle.pd_core.proofs.AccountLemmas.{refuses}
 
 -- what a look-up finds is the dataspace of a capability that has bytes, with the pages of these

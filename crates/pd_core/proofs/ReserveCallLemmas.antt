@@ -30,11 +30,11 @@ use Rattle.pd_core.specs.Sound.{session_weight, IsSoundScript}
 use Rattle.pd_core.specs.declared.component.Component.{Component}
 use Rattle.pd_core.specs.declared.component.Role.TheVariants.{Script as AScript}
 use Rattle.pd_core.specs.declared.script.Script.{Script}
-use Rattle.pd_core.proofs.CostLemmas.{placed_with_reserve}
-use Rattle.pd_core.proofs.HeldLemmas.{names_open, no_reserve_place, owned_open, place_outer, reserve_outer}
+use Rattle.pd_core.proofs.ScriptCostLemmas.{placed_with_reserve}
+use Rattle.pd_core.proofs.CoreHeldLemmas.{names_open, no_reserve_place, owned_open, place_outer, reserve_outer}
 use Rattle.pd_core.proofs.SessionOwnLemmas.{is_step}
-use Rattle.pd_core.proofs.ShiftLemmas.{Shifts, UsesAsMuch, own_shifted, sessions_same, inits_rest, shift_change}
-use Rattle.pd_core.proofs.WorldLemmas.{goes, refused_goes, stays_goes, role_at, same_inits}
+use Rattle.pd_core.proofs.ReserveShiftLemmas.{Shifts, UsesAsMuch, own_shifted, sessions_same, inits_rest, shift_change}
+use Rattle.pd_core.proofs.CoreWorldLemmas.{goes, refused_goes, stays_goes, role_at, same_inits}
 
 module _ (places : Places) {store : Store} (components : List Component) {i : ℕ} (d : Component) (core : IsCore store components) (here : i < length components) (script : Script) (is : (get_or components i d).role ≡ AScript script) where
   abbrev caller : Component

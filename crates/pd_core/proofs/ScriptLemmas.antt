@@ -25,7 +25,7 @@ use Rattle.sliced_heap.specs.Sliced.{block_regions}
 use Rattle.sliced_heap.specs.Laws.{HeapStays}
 use Rattle.sliced_heap.proofs.ShareLemmas.{shown_block}
 use Rattle.sliced_heap.proofs.HeapLaws.{map_stays_for_payer, heap_stays, heap_stays_elsewhere}
-use Rattle.pd_core.specs.declared.answer.Answer.{Answer}
+use Rattle.pd_core.specs.declared.answer.Granted.{Granted}
 use Rattle.pd_core.specs.Answer.{reply_of}
 use Rattle.pd_core.specs.Does.{Does, DoesBeside}
 use Rattle.pd_core.specs.Own.{Sessions, own_of, own_at, part_at, own_heap_at, sliced_at, lent_in}
@@ -35,10 +35,10 @@ use Rattle.sliced_heap.proofs.BesideLemmas.{map_of, whole_share, whole_tags, sta
 use Rattle.sliced_heap.proofs.ShareLemmas.{region_of_block}
 use Rattle.heap_core.proofs.StayLemmas as heap_laws
 use Rattle.pd_core.proofs.LentLemmas.{LendAlike, LendersStay, own_lent, script_lent, others_still, lent_still}
-use Rattle.pd_core.proofs.SettleLemmas.{Settles}
+use Rattle.pd_core.proofs.ScriptSettleLemmas.{Settles}
 
 -- a refused call leaves all as it is
-pub refuses : {call : Call} {refusal : Refusal} {store : Store} {script : Script} {new : Store} {after : Script} (answered : Result Answer Refusal) → IsErrAnd answered (λ y. y ≡ refusal) →
+pub refuses : {call : Call} {refusal : Refusal} {store : Store} {script : Script} {new : Store} {after : Script} (answered : Result Granted Refusal) → IsErrAnd answered (λ y. y ≡ refusal) →
     IsSoundScript store script → new ≡ store → after ≡ script → ((sessions : Sessions) → refused (own_at sessions store script) refusal ≡ script_step call (own_at sessions store script)) →
     Does call (reply_of answered) store script new after
 refuses {call} {refusal} {store} {script} {new} {after} answered err sound memory same is =

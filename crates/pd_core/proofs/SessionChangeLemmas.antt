@@ -37,15 +37,15 @@ use Rattle.pd_core.specs.declared.component.Role.{Role}
 use Rattle.pd_core.specs.declared.component.Role.TheVariants.{Script as AScript, Gone}
 use Rattle.pd_core.specs.declared.script.Script.{Script}
 use Rattle.pd_core.specs.Call.{is_of_reserve}
-use Rattle.pd_core.proofs.AsideLemmas.{outcome_with, stands_aside}
-use Rattle.pd_core.proofs.ChangeLemmas.{ChangesCore, Follows}
+use Rattle.pd_core.proofs.ReserveAsideLemmas.{outcome_with, stands_aside}
+use Rattle.pd_core.proofs.CoreChangeLemmas.{ChangesCore, Follows}
 use Rattle.pd_core.proofs.ComponentLemmas.{account_open, pays_is, pays_server}
-use Rattle.pd_core.proofs.HeldLemmas.{names_open, same_place, no_place, no_reserve_place, no_reserve_session, same_session, not_session, init_pays, reserve_pays, pays_alone, script_inits, held_by}
-use Rattle.pd_core.proofs.NameLemmas.{buffer_key, lent_aside}
-use Rattle.pd_core.proofs.RoleLemmas.{Leaves, role_left, rows_left}
+use Rattle.pd_core.proofs.CoreHeldLemmas.{names_open, same_place, no_place, no_reserve_place, no_reserve_session, same_session, not_session, init_pays, reserve_pays, pays_alone, script_inits, held_by}
+use Rattle.pd_core.proofs.ScriptNameLemmas.{buffer_key, lent_aside}
+use Rattle.pd_core.proofs.CoreRoleLemmas.{Leaves, role_left, rows_left}
 use Rattle.pd_core.proofs.ServerLemmas.{is_serving, enough_places, sound_server}
 use Rattle.pd_core.proofs.SessionOwnLemmas.{is_step}
-use Rattle.pd_core.proofs.WorldLemmas.{SameFaces, goes, places_kept, place_of, role_at, same_inits}
+use Rattle.pd_core.proofs.CoreWorldLemmas.{SameFaces, goes, places_kept, place_of, role_at, same_inits}
 
 -- ---- between whom it is, and what it changes
 

@@ -9,10 +9,10 @@ use Rattle.own_model.specs.Call.Call.{Open}
 use Rattle.own_model.specs.NatMap.{NatMap}
 use Rattle.own_model.specs.OwnState.{OwnState, new_selector}
 use Rattle.own_model.specs.OwnState.Object.{OpenSession}
-use Rattle.own_model.specs.Routes.Service.{Log}
-use Rattle.own_model.proofs.SoundLemmas.{sessions_sound}
-use Rattle.own_model.proofs.UseLemmas.{sessions_use}
-use Rattle.own_model.proofs.LimitLemmas.{sessions_within}
+use Rattle.trade_base.specs.declared.service.Service.TheVariants.{Log}
+use Rattle.own_model.proofs.StepSoundLemmas.{sessions_sound}
+use Rattle.own_model.proofs.StepUseLemmas.{sessions_use}
+use Rattle.own_model.proofs.StepLimitLemmas.{sessions_within}
 use Rattle.own_model.specs.OwnStep.{Outcome, entry_step, session_opened}
 use Rattle.own_model.specs.Reply.Reply.{Selected}
 use Rattle.own_model.specs.Session.{Wish, wish, new_session, donation_refusal, Labelled}
@@ -30,12 +30,12 @@ use Rattle.pd_core.specs.Own.{Sessions, HasSessions, own_at, own_of, own_heap_at
 use Rattle.pd_core.specs.Sessions.{AgreeBut}
 use Rattle.pd_core.specs.Sound.{rpc_weight, session_weight, buffer_at, AreOthers, IsLawful, IsSoundScript}
 use Rattle.pd_core.specs.declared.script.Script.{Script}
-use Rattle.pd_core.proofs.OwnLemmas.{same_new_selector}
+use Rattle.pd_core.proofs.ScriptOwnLemmas.{same_new_selector}
 use Rattle.pd_core.proofs.LentLemmas.{LendAlike}
 use Rattle.pd_core.proofs.SessionOwnLemmas.{TurnsTables, AreCounted, lawful_whichever}
 use Rattle.pd_core.proofs.SessionStepLemmas.{ChangesTwo, some_sessions, some_are_open, some_same, own_put, opens_own}
 use Rattle.pd_core.proofs.SessionScriptLemmas.{own_still, sound_still}
-use Rattle.pd_core.proofs.NamedSessionLemmas.{limit_within}
+use Rattle.pd_core.proofs.SessionNamedLemmas.{limit_within}
 
 -- each selector that names a session of the server under this entry names an open one
 abbrev pub NamesOpen : Script → NatMap (Row Labelled) → ℕ → Type 0

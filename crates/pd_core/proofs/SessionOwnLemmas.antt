@@ -21,9 +21,9 @@ use Rattle.own_model.specs.Use.{object_size, object_caps}
 use Rattle.own_model.proofs.NatMapLemmas.{some_of, get-picked}
 use Rattle.own_model.proofs.RegionLemmas.{left_without}
 use Rattle.own_model.proofs.Totals.{total_same, total-picked}
-use Rattle.own_model.proofs.SoundLemmas.{step_sound}
-use Rattle.own_model.proofs.UseLemmas.{run_uses}
-use Rattle.own_model.proofs.LimitLemmas.{step_within}
+use Rattle.own_model.proofs.StepSoundLemmas.{step_sound}
+use Rattle.own_model.proofs.StepUseLemmas.{run_uses}
+use Rattle.own_model.proofs.StepLimitLemmas.{step_within}
 use Rattle.cap_space.specs.declared.cap.Cap.{Cap}
 use Rattle.cap_space.specs.declared.cap.Cap.TheVariants.{Dataspace, RpcObject, Session, Buffer}
 use Rattle.cap_space.specs.Space.{Space}
@@ -32,7 +32,7 @@ use Rattle.dataspace_core.specs.Store.{Part, account_of}
 use Rattle.pd_core.specs.Own.{Sessions, object_of, selector_of, regions_of, own_of, Lent, key_at}
 use Rattle.pd_core.specs.Sound.{rpc_weight, session_weight, buffer_at, IsOne, AreNamed, IsLawful, IsScript}
 use Rattle.pd_core.specs.Sessions.{IsLentAt}
-use Rattle.pd_core.proofs.NameLemmas.{is_named, buffer_key, regions_alike, attached_alike, Names}
+use Rattle.pd_core.proofs.ScriptNameLemmas.{is_named, buffer_key, regions_alike, attached_alike, Names}
 
 -- ---- which sessions there are makes no difference to what is lawful
 

@@ -26,7 +26,7 @@ use Rattle.cap_space.specs.declared.cap.Cap.TheVariants.{Dataspace, RpcObject, S
 use Rattle.dataspace_core.specs.Store.{Store, Part}
 use Rattle.server_frame.specs.Told.{Told}
 use Rattle.pd_core.specs.Answer.{told_alone, reply_of}
-use Rattle.pd_core.specs.declared.answer.Answer.{Answer}
+use Rattle.pd_core.specs.declared.answer.Granted.{Granted}
 use Rattle.pd_core.specs.Component.{Place, entry_of, own_in}
 use Rattle.pd_core.specs.Core.{Places, roles_of, sessions_in, IsCore}
 use Rattle.pd_core.specs.Exit.{refusal_of}
@@ -37,8 +37,8 @@ use Rattle.pd_core.specs.declared.component.Component.{Component}
 use Rattle.pd_core.specs.declared.component.Role.{Role}
 use Rattle.pd_core.specs.declared.component.Role.TheVariants.{Script as AScript, Server as AServer, Init as AnInit, Gone as AGone}
 use Rattle.pd_core.specs.declared.script.Script.{Script}
-use Rattle.pd_core.proofs.WorldLemmas.{refused_goes}
-use Rattle.pd_core.proofs.NamedSessionLemmas.{refused_reply}
+use Rattle.pd_core.proofs.CoreWorldLemmas.{refused_goes}
+use Rattle.pd_core.proofs.SessionNamedLemmas.{refused_reply}
 
 -- ---- what a look-up gives
 
@@ -143,7 +143,7 @@ module _ (places : Places) {store : Store} (components : List Component) {i : �
       refused_goes places components i d (Open service text) refusal core here (unasked S store (places i) caller caller.role script service text refusal it is)
 
 -- what a call that is refused gives back
-pub passed_on : {places : Places} {call : Call} {i : ℕ} {store store' : Store} {components components' : List Component} (refusal : Refusal) (r : Result Answer Refusal) → IsErrAnd r (λ y. y ≡ refusal) →
+pub passed_on : {places : Places} {call : Call} {i : ℕ} {store store' : Store} {components components' : List Component} (refusal : Refusal) (r : Result Granted Refusal) → IsErrAnd r (λ y. y ≡ refusal) →
     Goes places call i (told_alone (reply_text (Refused refusal))) store components store' components' → Goes places call i (told_alone (reply_text (reply_of r))) store components store' components'
 passed_on {places} {call} {i} {store} {store'} {components} {components'} refusal r is =
     subst (λ o. Goes places call i (told_alone (reply_text o)) store components store' components') (sym (refused_reply r refusal is))

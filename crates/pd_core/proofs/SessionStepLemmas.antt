@@ -34,7 +34,7 @@ use Rattle.dataspace_core.specs.Store.{Part, account_of}
 use Rattle.pd_core.specs.Own.{Sessions, HasSessions, object_of, selector_of, regions_of, own_of, Lent}
 use Rattle.pd_core.specs.Sessions.{IsLentAt, HoldsLent}
 use Rattle.pd_core.specs.Sound.{buffer_at, lent_from, IsOne, AreNamed, IsLawful}
-use Rattle.pd_core.proofs.NameLemmas.{is_named, named_is}
+use Rattle.pd_core.proofs.ScriptNameLemmas.{is_named, named_is}
 use Rattle.pd_core.proofs.SessionOwnLemmas.{TurnsTables, regions_after, regions_turn, lent_names, lawful_step, lawful_whichever}
 
 -- ---- sessions with another one

@@ -18,7 +18,7 @@ use Rattle.pd_core.specs.Sessions.{IsLentAt}
 use Rattle.pd_core.specs.Sound.{rpc_weight, session_weight, lent_weight, buffer_at, IsOne}
 use Rattle.pd_core.specs.declared.script.Script.{Script}
 use Rattle.pd_core.proofs.LentLemmas.{buffer_is}
-use Rattle.pd_core.proofs.NameLemmas.{Names}
+use Rattle.pd_core.proofs.ScriptNameLemmas.{Names}
 use Rattle.pd_core.proofs.SessionOwnLemmas.{TurnsTables, regions_same, lent_names}
 
 -- a script after a call of a session under a selector: its account, its heaps and its places stay; two selectors change, and the

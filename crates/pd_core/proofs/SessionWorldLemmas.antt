@@ -37,16 +37,16 @@ use Rattle.pd_core.specs.declared.component.Component.{Component}
 use Rattle.pd_core.specs.declared.component.Role.{Role}
 use Rattle.pd_core.specs.declared.component.Role.TheVariants.{Script as AScript, Gone as AGone}
 use Rattle.pd_core.specs.declared.script.Script.{Script}
-use Rattle.pd_core.proofs.AsideLemmas.{refused_aside}
-use Rattle.pd_core.proofs.PlainLemmas.{face_is}
+use Rattle.pd_core.proofs.ReserveAsideLemmas.{refused_aside}
+use Rattle.pd_core.proofs.CorePlainLemmas.{face_is}
 use Rattle.pd_core.proofs.ServerLemmas.{server_of_row, lent_paid}
-use Rattle.pd_core.proofs.ClientServerLemmas.{its as its_row, under, holds_lent, its_lent, lent_alike, are_others, names_session, row_alone, raise_moves, changes_written, script_sound}
+use Rattle.pd_core.proofs.SessionBetweenLemmas.{its as its_row, under, holds_lent, its_lent, lent_alike, are_others, names_session, row_alone, raise_moves, changes_written, script_sound}
 use Rattle.pd_core.proofs.SessionChangeLemmas.{AreTwo, ReplacesTwo, KeepsBut, session_goes, two_places}
-use Rattle.pd_core.proofs.NamedSessionLemmas.{upgrades_done, upgrade_unread, upgrade_refused}
+use Rattle.pd_core.proofs.SessionNamedLemmas.{upgrades_done, upgrade_unread, upgrade_refused}
 use Rattle.pd_core.proofs.SessionOwnLemmas.{is_step, regions_same}
 use Rattle.pd_core.proofs.SessionTurnLemmas.{turns_same}
 use Rattle.pd_core.proofs.SessionRefusedLemmas.{named_script}
-use Rattle.pd_core.proofs.WorldLemmas.{face_of, face_set, place_of, refused_goes, role_at, role_set, role_kept}
+use Rattle.pd_core.proofs.CoreWorldLemmas.{face_of, face_set, place_of, refused_goes, role_at, role_set, role_kept}
 
 -- a role with a session serves
 serving_role : (store : Store) (role : Role) (id : ℕ) (row : Row Labelled) → get (rows_in store role) id ≡ Some row → IsSome (served_by role)

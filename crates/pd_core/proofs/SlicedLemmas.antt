@@ -45,7 +45,7 @@ use Rattle.sliced_heap.proofs.BesideLemmas.{map_of, standing, whole_standing, sl
 use Rattle.heap_core.proofs.StayLemmas.{heap_stays}
 use Rattle.heap_core.proofs.BlockRangeLemmas.{blocks_are_regions as heap_blocks_are_regions}
 use Rattle.pd_core.proofs.LentLemmas.{LendAlike, LendersStay, own_lent, script_lent, others_still, lent_still}
-use Rattle.pd_core.proofs.OwnLemmas.{slices}
+use Rattle.pd_core.proofs.ScriptOwnLemmas.{slices}
 use Rattle.pd_core.specs.Does.{Does}
 use Rattle.pd_core.proofs.ScriptLemmas.{at_heap, block_there, is_region}
 

@@ -8,27 +8,18 @@ use Rattle.own_model.specs.OwnState.{OwnState}
 use Rattle.own_model.specs.OwnStep.{Outcome}
 use Rattle.own_model.specs.Reply.{Reply as Modelled, reply_text, log_text}
 use Rattle.own_model.specs.Reply.Reply.{Selected as ModelledSelected, Attached as ModelledAttached, Done as ModelledDone, Quotas as ModelledQuotas, Reserved as ModelledReserved, Refused as ModelledRefused}
+pub use Rattle.server_frame.specs.Quotas.{quotas_account}
 use Rattle.server_frame.specs.Told.{Told as Written}
-use Rattle.pd_core.specs.declared.answer.Answer.{Answer}
-use Rattle.pd_core.specs.declared.answer.Answer.TheVariants.{Selected, Attached, Done, Quotas, Reserved}
-use Rattle.pd_core.specs.declared.answer.Quotas.{Quotas as QuotasTold}
+use Rattle.pd_core.specs.declared.answer.Granted.{Granted}
+use Rattle.pd_core.specs.declared.answer.Granted.TheVariants.{Selected, Attached, Done, Quotas, Reserved}
 use Rattle.pd_core.specs.declared.answer.Reserve.{Reserve as ReserveTold}
-
--- the account that has these quotas
-abbrev pub quotas_account : QuotasTold → Account
-quotas_account quotas = record {
-  ram_limit = quotas.ram_limit.0;
-  ram_used = quotas.ram_used.0;
-  caps_limit = quotas.caps_limit.0;
-  caps_used = quotas.caps_used.0;
-}
 
 -- the amounts that are told of a reserve
 abbrev pub reserve_amounts : ReserveTold → Amounts
 reserve_amounts reserve = record { ram = reserve.ram.0; caps = reserve.caps.0 }
 
 -- the model's word for an answer
-abbrev pub model_answer : Answer → Modelled
+abbrev pub model_answer : Granted → Modelled
 model_answer (Selected selector) = ModelledSelected selector.0
 model_answer (Attached address) = ModelledAttached address
 model_answer Done = ModelledDone
@@ -36,12 +27,12 @@ model_answer (Quotas quotas) = ModelledQuotas (quotas_account quotas)
 model_answer (Reserved reserve) = ModelledReserved (reserve_amounts reserve)
 
 -- and for what a call gives back
-abbrev pub reply_of : Result Answer Refusal → Modelled
+abbrev pub reply_of : Result Granted Refusal → Modelled
 reply_of (Ok answer) = model_answer answer
 reply_of (Err refusal) = ModelledRefused refusal
 
 -- the outcome of a call that gives this back and leaves this own state: no call finishes a log line yet
-abbrev pub outcome_of : Result Answer Refusal → OwnState → Outcome
+abbrev pub outcome_of : Result Granted Refusal → OwnState → Outcome
 outcome_of result next = record { reply = reply_of result; lines = []; next = next }
 
 -- an outcome that is told: the text of the reply, that of the log lines, and the own state

@@ -10,7 +10,8 @@ use Rattle.own_model.specs.OwnHeap.{no_heap}
 use Rattle.own_model.specs.OwnState.{OwnState}
 use Rattle.own_model.specs.OwnStep.{gone_state}
 use Rattle.own_model.specs.Reserve.{no_reserve}
-use Rattle.own_model.specs.Routes.{Level, Service}
+use Rattle.trade_base.specs.declared.service.Service.{Service}
+use Rattle.own_model.specs.Routes.{Level}
 use Rattle.own_model.specs.StartList.{Entry, Kind}
 use Rattle.own_model.specs.StartList.Kind.{Script as AScript, Server as AServer, Init as AnInit}
 use Rattle.own_model.specs.Session.{Labelled}

@@ -10,7 +10,8 @@ use Rattle.trade_base.specs.declared.refusal.Refusal.{Refusal}
 use Rattle.trade_base.specs.declared.refusal.Refusal.TheVariants.{Gone, InvalidSession, NotAScript}
 use Rattle.own_model.specs.Call.{Call}
 use Rattle.own_model.specs.Reply.{reply_text, log_text}
-use Rattle.own_model.specs.Routes.{ServerAt, Service, provider}
+use Rattle.trade_base.specs.declared.service.Service.{Service}
+use Rattle.own_model.specs.Routes.{ServerAt, provider}
 use Rattle.own_model.specs.World.{outcome_at, with_state}
 use Rattle.cap_space.specs.Space.{with_cap, without_cap, is_buffer}
 use Rattle.own_model.specs.NatMap.{NatMap}
@@ -20,7 +21,7 @@ use Rattle.region_map.specs.Regions.{all_detached}
 use Rattle.dataspace_core.specs.Store.{Store, root_in, IsChildIn}
 use Rattle.server_frame.specs.Told.{Told}
 use Rattle.pd_core.specs.Answer.{told_alone, reply_of}
-use Rattle.pd_core.specs.declared.answer.Answer.{Answer}
+use Rattle.pd_core.specs.declared.answer.Granted.{Granted}
 use Rattle.pd_core.specs.Component.{Pays, script_in, service_of, caps_in}
 use Rattle.pd_core.specs.Core.{Places, Roles, roles_of, world_of, IsCore}
 use Rattle.pd_core.specs.Sound.{session_at}
@@ -133,5 +134,5 @@ pub record Goes (places : Places) (call : Call) (i : ℕ) (reply : Told) (old : 
   pub leads : (all : Places) (leads : Leads) → Agrees all leads old before → Agrees all leads new after
 
 -- so does one that is answered alone
-abbrev pub GoesWith : Places → Call → ℕ → Result Answer Refusal → Store → List Component → Store → List Component → Type 0
+abbrev pub GoesWith : Places → Call → ℕ → Result Granted Refusal → Store → List Component → Store → List Component → Type 0
 GoesWith places call i result old before new after = Goes places call i (told_alone (reply_text (reply_of result))) old before new after

@@ -11,11 +11,12 @@ ghost use Rattle.own_model.specs.StartList.{init_at};
 ghost use Rattle.pd_core.specs.Answer.{quotas_account, reserve_amounts, CountsLimits};
 ghost use Rattle.pd_core.specs.Core.{Places, world_of, IsCoreAt};
 
-use crate::answer::{Quotas, Reserve};
+use crate::answer::Reserve;
 use crate::component::{Component, Role};
 use crate::machine::Core;
 use crate::router::Router;
 use dataspace_core::Memory;
+use server_frame::Quotas;
 use trade_base::{AccountId, Caps, Ram, SessionId};
 
 /// The limits and the use of an account.

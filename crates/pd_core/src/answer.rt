@@ -1,17 +1,17 @@
 //! The answers to calls, and their texts.
 ghost use Rattle.std.specs.Prelude.{◌≡◌, ◌+◌, ◌≤◌, ◌++◌, length, codes};
-ghost use Rattle.own_model.specs.Reply.{address_text, reply_text};
+ghost use Rattle.own_model.specs.Reply.{address_text, quota_text, reply_text};
 ghost use Rattle.own_model.specs.Reply.Reply.{Selected};
 ghost use Rattle.trade_base.specs.Refusal.{refusal_name};
-ghost use Rattle.pd_core.specs.Answer.{reply_of, told_alone};
+ghost use Rattle.pd_core.specs.Answer.{quotas_account, reply_of, told_alone};
 
 use crate::hex_digits::{MOST_DIGITS, write_hex};
-use server_frame::Reply;
+use server_frame::{Quotas, Reply};
 use trade_base::{Caps, Ram, Refusal, Selector};
 
 /// What a call that isn't refused is answered.
 #[derive(Clone, Copy)]
-pub(crate) enum Answer {
+pub(crate) enum Granted {
     /// A new capability has this selector.
     Selected(Selector),
     /// A new region starts at this address.
@@ -22,19 +22,6 @@ pub(crate) enum Answer {
     Quotas(Quotas),
     /// What the caller has in reserve.
     Reserved(Reserve),
-}
-
-/// What of an account is used, and its limits.
-#[derive(Clone, Copy)]
-pub struct Quotas {
-    /// Bytes of RAM in use.
-    pub ram_used: Ram,
-    /// The most bytes of RAM that can be in use.
-    pub ram_limit: Ram,
-    /// Capabilities in use.
-    pub caps_used: Caps,
-    /// The most capabilities that can be in use.
-    pub caps_limit: Caps,
 }
 
 /// What a component has in reserve: limits of which nothing is in use.
@@ -49,7 +36,7 @@ pub struct Reserve {
 /// Writes what a call is answered in place of what the reply was. It finishes no log line. Who calls it takes it in, so that an
 /// outcome needn't be put together before it is told.
 #[inline(always)]
-pub(crate) fn tell(outcome: Result<Answer, Refusal>, reply: &mut Reply)
+pub(crate) fn tell(outcome: Result<Granted, Refusal>, reply: &mut Reply)
     ensures { reply.new ≡ told_alone (reply_text (reply_of outcome)) }
 {
     match outcome {
@@ -75,7 +62,7 @@ pub(crate) fn tell_text(text: &[u8], reply: &mut Reply)
     reply.add_text(text);
 }
 
-impl Answer {
+impl Granted {
     ghost use Rattle.std.specs.Prelude.{◌≡◌};
     ghost use Rattle.own_model.specs.Reply.{reply_text};
     ghost use Rattle.pd_core.specs.Answer.{model_answer, told_alone};
@@ -86,28 +73,12 @@ impl Answer {
         ensures { reply.new ≡ told_alone (reply_text (model_answer self)) }
     {
         match self {
-            Answer::Selected(selector) => tell_selector(selector, reply),
-            Answer::Attached(address) => tell_address(address, reply),
-            Answer::Done => tell_text(b"ok", reply),
-            Answer::Quotas(quotas) => quotas.tell(reply),
-            Answer::Reserved(reserve) => reserve.tell(reply),
+            Granted::Selected(selector) => tell_selector(selector, reply),
+            Granted::Attached(address) => tell_address(address, reply),
+            Granted::Done => tell_text(b"ok", reply),
+            Granted::Quotas(quotas) => tell_quotas(quotas, reply),
+            Granted::Reserved(reserve) => reserve.tell(reply),
         }
-    }
-}
-
-impl Quotas {
-    ghost use Rattle.std.specs.Prelude.{◌≡◌};
-    ghost use Rattle.own_model.specs.Reply.{quota_text};
-    ghost use Rattle.pd_core.specs.Answer.{quotas_account, told_alone};
-
-    /// Writes use and limit of each in place of what the reply was.
-    fn tell(self, reply: &mut Reply)
-        ensures { reply.new ≡ told_alone (quota_text (quotas_account self)) }
-    {
-        tell_text(b"ram ", reply);
-        reply.add_share(self.ram_used.0, self.ram_limit.0);
-        reply.add_text(b" caps ");
-        reply.add_share(u64::from(self.caps_used.0), u64::from(self.caps_limit.0));
     }
 }
 
@@ -125,6 +96,14 @@ impl Reserve {
         reply.add_text(b" caps ");
         reply.add_number(u64::from(self.caps.0));
     }
+}
+
+/// Writes use and limit of each in place of what the reply was.
+fn tell_quotas(quotas: Quotas, reply: &mut Reply)
+    ensures { reply.new ≡ told_alone (quota_text (quotas_account quotas)) }
+{
+    reply.clear();
+    reply.add_quotas(quotas);
 }
 
 /// Writes a new capability's selector in place of what the reply was.

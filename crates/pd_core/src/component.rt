@@ -2,7 +2,7 @@
 
 use crate::answer::refuse;
 use crate::call::Call;
-use crate::label::{LONGEST_NAME, name_of};
+use crate::label::{LONGEST_CLIENT, name_of};
 use crate::script::Script;
 use arrayvec::ArrayVec;
 use cap_space::{Cap, CapSpace};
@@ -31,7 +31,7 @@ pub(crate) enum Role {
 /// A component: its name, under which it opens sessions, and its role.
 #[derive(Drop)]
 pub struct Component {
-    pub(crate) name: ArrayVec<u8, LONGEST_NAME>,
+    pub(crate) name: ArrayVec<u8, LONGEST_CLIENT>,
     pub(crate) role: Role,
 }
 
@@ -42,7 +42,7 @@ impl Component {
     ghost use Rattle.trade_base.specs.declared.refusal.Refusal.TheVariants.{NotAScript};
     ghost use Rattle.own_model.specs.OwnState.{new_selector};
     ghost use Rattle.own_model.specs.OwnStep.{own_step};
-    ghost use Rattle.own_model.specs.Routes.Service.{Log as LogKind, Files as FilesKind};
+    ghost use Rattle.trade_base.specs.declared.service.Service.TheVariants.{Log as LogKind, Files as FilesKind};
     ghost use Rattle.own_model.specs.StartList.Kind.{Script as AScript, Server as AServer, Init as AnInit};
     ghost use Rattle.pd_core.specs.Answer.{told, told_of};
     ghost use Rattle.pd_core.specs.Call.{model_call, IsPlain, IsWellFormed};
@@ -136,8 +136,8 @@ impl Component {
         Component::server(name, account, Host::Files(server))
     }
 
-    // A server of a name of at most 140 bytes that is charged on the account.
-    fn server(name: &[u8], account: AccountId, host: Host) -> Component
+    /// A server of any service, of a name of at most 140 bytes, that is charged on the account.
+    pub fn server(name: &[u8], account: AccountId, host: Host) -> Component
         requires { length name.now ≤ 140 }
         ensures entry { (place : Place) → entry_of place result ≡ record {
           name = place.name;
@@ -283,7 +283,7 @@ impl Component {
 
     /// A script without a session and without a buffer exits: all that it holds goes, its account and its reserve close, and
     /// their limits go back to its init's.
-    pub(crate) fn end(&mut self, memory: &mut Memory)
+    pub(crate) fn leave(&mut self, memory: &mut Memory)
         requires sound { IsSound memory.old self.old }
         requires script { IsScriptRole self.old.role }
         requires none { (selector : ℕ) → session_at (get (caps_of self.old) selector) ≡ None }

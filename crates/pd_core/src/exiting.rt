@@ -6,7 +6,7 @@ ghost use Rattle.pd_core.specs.Exit.{ClosesTo, IsScriptRole};
 ghost use Rattle.pd_core.specs.SessionCalls.{AreAtHome, GoesWith};
 ghost use Rattle.pd_core.specs.declared.component.Component.{Component as AnyComponent};
 
-use crate::answer::Answer;
+use crate::answer::Granted;
 use crate::component::Component;
 use crate::session_calls::close;
 use dataspace_core::Memory;
@@ -19,7 +19,7 @@ pub(crate) fn exit(
     memory: &mut Memory,
     components: &mut [Component],
     caller: usize,
-) -> Result<Answer, Refusal>
+) -> Result<Granted, Refusal>
     requires { IsCoreAt caller memory.old components.old }
     ensures { (places : Places) → AreAtHome places memory.old components.old →
         GoesWith places ModelledExit caller result
@@ -27,8 +27,8 @@ pub(crate) fn exit(
 {
     let places = components[caller].places()?;
     close_all(memory, components, caller, places);
-    components[caller].end(memory);
-    Ok(Answer::Done)
+    components[caller].leave(memory);
+    Ok(Granted::Done)
 }
 
 // The sessions of a script go that are named by so many selectors, from the first on.

@@ -16,9 +16,10 @@ mod router;
 mod script;
 mod session_calls;
 
-pub use answer::{Quotas, Reserve};
+pub use answer::Reserve;
 pub use call::Call;
 pub use component::Component;
+pub use label::{LONGEST_CLIENT, label_of};
 pub use machine::Core;
 pub use router::Router;
-pub use server_frame::Reply;
+pub use server_frame::{Quotas, Reply};

@@ -3,7 +3,7 @@ ghost use Rattle.own_model.specs.Call.Call.{Reserve as ModelledReserve, Request 
 ghost use Rattle.pd_core.specs.Core.{Places, IsCoreAt};
 ghost use Rattle.pd_core.specs.SessionCalls.{GoesWith};
 
-use crate::answer::Answer;
+use crate::answer::Granted;
 use crate::component::{Component, Role};
 use dataspace_core::Memory;
 use session_proto::SessionArgs;
@@ -15,7 +15,7 @@ pub(crate) fn reserve(
     memory: &Memory,
     components: &[Component],
     caller: usize,
-) -> Result<Answer, Refusal>
+) -> Result<Granted, Refusal>
     requires { IsCoreAt caller memory.now components.now }
     ensures { (places : Places) → GoesWith places ModelledReserve caller result
         memory.now components.now memory.now components.now }
@@ -24,7 +24,7 @@ pub(crate) fn reserve(
     let Role::Script(_) = &component.role else {
         return Err(component.refusal());
     };
-    Ok(Answer::Reserved(component.reserve(memory)))
+    Ok(Granted::Reserved(component.reserve(memory)))
 }
 
 /// Limits move from the reserve of the component at a place to its account, by the text of arguments, or why not:
@@ -35,7 +35,7 @@ pub(crate) fn request(
     components: &[Component],
     caller: usize,
     text: &[u8],
-) -> Result<Answer, Refusal>
+) -> Result<Granted, Refusal>
     requires { IsCoreAt caller memory.old components.now }
     ensures { (places : Places) → GoesWith places (ModelledRequest text.now) caller result
         memory.old components.now memory.new components.now }
@@ -46,7 +46,7 @@ pub(crate) fn request(
     };
     let more = SessionArgs::read(text)?;
     memory.shift(script.reserve, script.account, more.ram(), more.caps())?;
-    Ok(Answer::Done)
+    Ok(Granted::Done)
 }
 
 /// Limits move from the account of the component at a place to its reserve, by the text of arguments, or why not:
@@ -58,7 +58,7 @@ pub(crate) fn give(
     components: &[Component],
     caller: usize,
     text: &[u8],
-) -> Result<Answer, Refusal>
+) -> Result<Granted, Refusal>
     requires { IsCoreAt caller memory.old components.now }
     ensures { (places : Places) → GoesWith places (ModelledYield text.now) caller result
         memory.old components.now memory.new components.now }
@@ -69,5 +69,5 @@ pub(crate) fn give(
     };
     let more = SessionArgs::read(text)?;
     memory.shift(script.account, script.reserve, more.ram(), more.caps())?;
-    Ok(Answer::Done)
+    Ok(Granted::Done)
 }

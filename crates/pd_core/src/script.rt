@@ -1,14 +1,14 @@
 //! A script, and its calls: what each does to its account, its capabilities, its regions and the memory.
 
 use crate::accounts::quotas_of;
-use crate::answer::{Answer, Quotas, refuse, tell};
+use crate::answer::{Granted, refuse, tell};
 use crate::bytes::{MOST_BYTES, tell_range};
 use crate::call::Call;
 use cap_space::{Cap, CapSpace};
 use dataspace_core::Memory;
 use heap_core::Heap;
 use region_map::RegionMap;
-use server_frame::Reply;
+use server_frame::{Quotas, Reply};
 use sliced_heap::SlicedHeap;
 use text_codec::decode_hex;
 use trade_base::{AccountId, DsId, Refusal};
@@ -64,24 +64,24 @@ impl Script {
             Call::Del(address) => self.del_block(memory, address),
             Call::Snew(bytes) => self.snew(memory, bytes),
             Call::Sdel(address) => self.sdel(memory, address),
-            Call::Quota => Ok(Answer::Quotas(self.quota(memory))),
+            Call::Quota => Ok(Granted::Quotas(self.quota(memory))),
             _ => unreachable!(),
         };
         tell(outcome, reply);
     }
 
     /// A dataspace under a new selector, or why not: `InvalidSize`, then `OutOfRam`, then `OutOfCaps`.
-    fn alloc(&mut self, memory: &mut Memory, bytes: u64) -> Result<Answer, Refusal>
+    fn alloc(&mut self, memory: &mut Memory, bytes: u64) -> Result<Granted, Refusal>
         requires { IsSoundScript memory.old self.old }
         ensures { Does (ModelledAlloc bytes) (reply_of result)
             memory.old self.old memory.new self.new }
     {
         let space = memory.alloc(self.account, bytes)?;
-        Ok(Answer::Selected(self.caps.insert(Cap::Dataspace(space))))
+        Ok(Granted::Selected(self.caps.insert(Cap::Dataspace(space))))
     }
 
     /// The dataspace that the selector names goes with its regions, or `InvalidCap` where it names none.
-    pub(crate) fn free(&mut self, memory: &mut Memory, selector: u64) -> Result<Answer, Refusal>
+    pub(crate) fn free(&mut self, memory: &mut Memory, selector: u64) -> Result<Granted, Refusal>
         requires { IsSoundScript memory.old self.old }
         ensures { Does (ModelledFree selector) (reply_of result)
             memory.old self.old memory.new self.new }
@@ -91,21 +91,21 @@ impl Script {
         };
         self.regions.detach_all(space);
         memory.free(space);
-        Ok(Answer::Done)
+        Ok(Granted::Done)
     }
 
     /// An RPC object under a new selector, or `OutOfCaps`.
-    fn capalloc(&mut self, memory: &mut Memory) -> Result<Answer, Refusal>
+    fn capalloc(&mut self, memory: &mut Memory) -> Result<Granted, Refusal>
         requires { IsSoundScript memory.old self.old }
         ensures { Does ModelledCapalloc (reply_of result)
             memory.old self.old memory.new self.new }
     {
         memory.charge_cap(self.account)?;
-        Ok(Answer::Selected(self.caps.insert(Cap::RpcObject)))
+        Ok(Granted::Selected(self.caps.insert(Cap::RpcObject)))
     }
 
     /// The RPC object that the selector names goes, or `InvalidCap` where it names none.
-    pub(crate) fn capfree(&mut self, memory: &mut Memory, selector: u64) -> Result<Answer, Refusal>
+    pub(crate) fn capfree(&mut self, memory: &mut Memory, selector: u64) -> Result<Granted, Refusal>
         requires { IsSoundScript memory.old self.old }
         ensures { Does (ModelledCapfree selector) (reply_of result)
             memory.old self.old memory.new self.new }
@@ -114,40 +114,45 @@ impl Script {
             return Err(Refusal::InvalidCap);
         }
         memory.credit_cap(self.account);
-        Ok(Answer::Done)
+        Ok(Granted::Done)
     }
 
     /// The dataspace that a selector names is attached at the first gap, or why not: `InvalidCap`, then
     /// `TooManyRegions`, then `RegionConflict`.
-    fn attach(&mut self, memory: &Memory, selector: u64) -> Result<Answer, Refusal>
+    fn attach(&mut self, memory: &Memory, selector: u64) -> Result<Granted, Refusal>
         requires { IsSoundScript memory.now self.old }
         ensures { Does (ModelledAttach selector) (reply_of result)
             memory.now self.old memory.now self.new }
     {
         let (space, pages) = self.dataspace(memory, selector)?;
         let address = self.regions.attach(space, pages)?;
-        Ok(Answer::Attached(address))
+        Ok(Granted::Attached(address))
     }
 
     /// The same at an address.
-    fn attach_at(&mut self, memory: &Memory, selector: u64, address: u64) -> Result<Answer, Refusal>
+    fn attach_at(
+        &mut self,
+        memory: &Memory,
+        selector: u64,
+        address: u64,
+    ) -> Result<Granted, Refusal>
         requires { IsSoundScript memory.now self.old }
         ensures { Does (ModelledAttachAt selector address) (reply_of result)
             memory.now self.old memory.now self.new }
     {
         let (space, pages) = self.dataspace(memory, selector)?;
         let address = self.regions.attach_at(space, pages, address)?;
-        Ok(Answer::Attached(address))
+        Ok(Granted::Attached(address))
     }
 
     /// The region that starts at an address goes, or `PageFault` where none does.
-    fn detach(&mut self, memory: &Memory, address: u64) -> Result<Answer, Refusal>
+    fn detach(&mut self, memory: &Memory, address: u64) -> Result<Granted, Refusal>
         requires { IsSoundScript memory.now self.old }
         ensures { Does (ModelledDetach address) (reply_of result)
             memory.now self.old memory.now self.new }
     {
         self.regions.detach(address)?;
-        Ok(Answer::Done)
+        Ok(Granted::Done)
     }
 
     /// So many bytes from an address on are told, or why not: `InvalidSize` where they are none or more than 1,024, then
@@ -167,7 +172,7 @@ impl Script {
     /// The bytes that a text of hexadecimal digits stands for are put from an address on, or why not, as with `peek`. They may be
     /// put into what a session lends. It stands alone, since who takes it in would clear its buffer at each call.
     #[inline(never)]
-    fn poke(&self, memory: &mut Memory, address: u64, hex: &[u8]) -> Result<Answer, Refusal>
+    fn poke(&self, memory: &mut Memory, address: u64, hex: &[u8]) -> Result<Granted, Refusal>
         requires hex { IsSome (bytes_of_hex hex.now) }
         requires sound { IsSoundScript memory.old self.now }
         ensures { DoesPoke address (bytes_in hex.now) (reply_of result)
@@ -179,48 +184,48 @@ impl Script {
         let bytes = &mut buffer[..count];
         decode_hex(hex, bytes);
         memory.write(space, offset, bytes);
-        Ok(Answer::Done)
+        Ok(Granted::Done)
     }
 
     /// A block of the heap for so many bytes, or why not: `InvalidSize`, then, where the heap has to grow and has no room for
     /// a chunk more, `TooManyChunks`, then `OutOfRam`, then `OutOfCaps`.
-    fn new_block(&mut self, memory: &mut Memory, bytes: u64) -> Result<Answer, Refusal>
+    fn new_block(&mut self, memory: &mut Memory, bytes: u64) -> Result<Granted, Refusal>
         requires { IsSoundScript memory.old self.old }
         ensures { Does (ModelledNew bytes) (reply_of result)
             memory.old self.old memory.new self.new }
     {
         let address = self.heap.alloc(memory, &mut self.regions, bytes)?;
-        Ok(Answer::Attached(address))
+        Ok(Granted::Attached(address))
     }
 
     /// The block of the heap whose payload starts at an address goes, or `PageFault` where none does.
-    fn del_block(&mut self, memory: &mut Memory, address: u64) -> Result<Answer, Refusal>
+    fn del_block(&mut self, memory: &mut Memory, address: u64) -> Result<Granted, Refusal>
         requires { IsSoundScript memory.old self.old }
         ensures { Does (ModelledDel address) (reply_of result)
             memory.old self.old memory.new self.new }
     {
         self.heap.free(memory, &mut self.regions, address)?;
-        Ok(Answer::Done)
+        Ok(Granted::Done)
     }
 
     /// A sliced block for so many bytes, or why not: `InvalidSize`, then `OutOfRam`, then `OutOfCaps`.
-    fn snew(&mut self, memory: &mut Memory, bytes: u64) -> Result<Answer, Refusal>
+    fn snew(&mut self, memory: &mut Memory, bytes: u64) -> Result<Granted, Refusal>
         requires { IsSoundScript memory.old self.old }
         ensures { Does (ModelledSnew bytes) (reply_of result)
             memory.old self.old memory.new self.new }
     {
         let address = self.sliced.alloc(memory, &mut self.regions, bytes)?;
-        Ok(Answer::Attached(address))
+        Ok(Granted::Attached(address))
     }
 
     /// The sliced block whose payload starts at an address goes, or `PageFault` where none does.
-    fn sdel(&mut self, memory: &mut Memory, address: u64) -> Result<Answer, Refusal>
+    fn sdel(&mut self, memory: &mut Memory, address: u64) -> Result<Granted, Refusal>
         requires { IsSoundScript memory.old self.old }
         ensures { Does (ModelledSdel address) (reply_of result)
             memory.old self.old memory.new self.new }
     {
         self.sliced.free(memory, &mut self.regions, address)?;
-        Ok(Answer::Done)
+        Ok(Granted::Done)
     }
 
     /// The use and the limits of the account.

@@ -4,7 +4,7 @@ ghost use Rattle.own_model.specs.Call.Call.{CallSession as ModelledCallSession, 
 ghost use Rattle.pd_core.specs.Core.{Places, IsCoreAt};
 ghost use Rattle.pd_core.specs.SessionCalls.{Agrees, Goes, GoesWith};
 
-use crate::answer::{Answer, refuse};
+use crate::answer::{Granted, refuse};
 use crate::component::{Component, Role};
 use crate::label::label_of;
 use crate::router::Router;
@@ -21,7 +21,7 @@ pub(crate) fn close(
     components: &mut [Component],
     caller: usize,
     selector: u64,
-) -> Result<Answer, Refusal>
+) -> Result<Granted, Refusal>
     requires { IsCoreAt caller memory.old components.old }
     ensures { (places : Places) → GoesWith places (ModelledClose selector) caller result
         memory.old components.old memory.new components.new }
@@ -35,7 +35,7 @@ pub(crate) fn close(
     if let Some(space) = lent {
         components[caller].drop_buffer(space);
     }
-    Ok(Answer::Done)
+    Ok(Granted::Done)
 }
 
 /// More is donated for the session that a selector of the component at a place names, or why not: `NotAScript`, then `Gone`,
@@ -47,7 +47,7 @@ pub(crate) fn upgrade(
     caller: usize,
     selector: u64,
     text: &[u8],
-) -> Result<Answer, Refusal>
+) -> Result<Granted, Refusal>
     requires { IsCoreAt caller memory.old components.old }
     ensures { (places : Places)
         → GoesWith places (ModelledUpgrade selector text.now) caller result
@@ -59,7 +59,7 @@ pub(crate) fn upgrade(
         unreachable!()
     };
     host.raise(memory, session, more.ram(), more.caps())?;
-    Ok(Answer::Done)
+    Ok(Granted::Done)
 }
 
 /// A request of the session that a selector of the component at a place names is answered, and the lines that it finishes
@@ -108,7 +108,7 @@ pub(crate) fn open<R: Router>(
     caller: usize,
     service: &[u8],
     text: &[u8],
-) -> Result<Answer, Refusal>
+) -> Result<Granted, Refusal>
     requires at { IsCoreAt caller memory.old components.old }
     requires routes { Agrees (R.places routes.now) (R.leads routes.now) memory.old components.old }
     ensures { GoesWith (R.places routes.now) (ModelledOpen service.now text.now) caller result
@@ -128,5 +128,5 @@ pub(crate) fn open<R: Router>(
         unreachable!()
     };
     let session = host.open(memory, account, &label, args.ram(), args.caps())?;
-    Ok(Answer::Selected(components[caller].keep_session(entry, session)))
+    Ok(Granted::Selected(components[caller].keep_session(entry, session)))
 }

@@ -3,7 +3,7 @@ use Rattle.std.proofs.Common.{ℕ, ◌≤◌, List, [], ◌∷◌, refl, arith}
 use Rattle.own_model.specs.NatMap.{NatMap}
 use Rattle.own_model.specs.Region.{Region}
 use Rattle.own_model.specs.Sound.{LieApart}
-use Rattle.own_model.proofs.ApartLemmas.{LieApart-empty, LieApart-insert}
+use Rattle.own_model.proofs.RegionApartLemmas.{LieApart-empty, LieApart-insert}
 use Rattle.own_model.proofs.HeapGapLemmas.{ends_before}
 use Rattle.region_map.specs.declared.row.Row.{Row}
 use Rattle.region_map.specs.Rows.{region_of, tag_of, end_of, map_of, AreInOrder, IsTable}

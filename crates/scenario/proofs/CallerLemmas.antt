@@ -7,7 +7,7 @@ use Rattle.init_core.proofs.ListLemmas.{same_entry}
 use Rattle.init_core.specs.Depth.{is_init, runs_init}
 use Rattle.own_model.specs.Call.{Spoken}
 use Rattle.own_model.specs.Listed.{Binary, Listed, ListedEntry, kind_of, start_list_of}
-use Rattle.own_model.specs.Listed.Binary.{Script, LogServer, FileServer, Init}
+use Rattle.own_model.specs.Listed.Binary.{Script, Server, Init}
 use Rattle.own_model.specs.StartList.{entries_of}
 use Rattle.own_model.specs.Transcript.{entry_at, heard_call, heard_of}
 use Rattle.own_model.specs.Transcript.Heard.{Stranger, Caller}
@@ -16,14 +16,12 @@ module _ (says : Spoken) (component : ℕ) where
   -- by what an entry runs
   init_heard : (binary : Binary) → runs_init binary ≡ true → heard_of (kind_of binary) says component ≡ Stranger says.name
   init_heard Script is = absurd (true≢false (sym is))
-  init_heard LogServer is = absurd (true≢false (sym is))
-  init_heard FileServer is = absurd (true≢false (sym is))
+  init_heard (Server service) is = absurd (true≢false (sym is))
   init_heard Init is = refl
 
   other_heard : (binary : Binary) → runs_init binary ≡ false → heard_of (kind_of binary) says component ≡ Caller (record { component = component; call = says.call })
   other_heard Script is = refl
-  other_heard LogServer is = refl
-  other_heard FileServer is = refl
+  other_heard (Server service) is = refl
   other_heard Init is = absurd (true≢false is)
 
   module _ (list : Listed) where

@@ -6,7 +6,7 @@ use Rattle.own_model.specs.SaidBy.{said_by}
 use Rattle.own_model.specs.Text.{lines_of}
 use Rattle.own_model.specs.Transcript.{told_after, calls_of, state_at, state_after}
 use Rattle.own_model.specs.World.{World, IsBalanced, IsBalancedFor, world_running}
-use Rattle.own_model.proofs.BalanceLemmas.{lines_balanced, lines_balanced_for}
+use Rattle.own_model.proofs.StepBalanceLemmas.{lines_balanced, lines_balanced_for}
 use Rattle.own_model.proofs.RunningLemmas.{Tracks-none, told_after-running, length-states_running, states_running-at}
 use Rattle.scenario.specs.Answered.{told_of_all, after_all}
 use Rattle.scenario.specs.Lines.{longest_read, AreReadable}

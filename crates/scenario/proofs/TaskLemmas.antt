@@ -7,7 +7,7 @@ use Rattle.own_model.specs.StartList.{StartList, Boots, entries_of}
 use Rattle.own_model.specs.Transcript.{told_after}
 use Rattle.own_model.specs.AccountList.{account_list_text}
 use Rattle.own_model.specs.World.{World, start_world, world_running}
-use Rattle.own_model.proofs.BalanceLemmas.{totals, lines_balanced}
+use Rattle.own_model.proofs.StepBalanceLemmas.{totals, lines_balanced}
 use Rattle.own_model.proofs.StartLemmas.{start_balanced_for}
 use Rattle.init_core.specs.Boot.{quota_fault}
 use Rattle.init_core.specs.StartText.{list_in}

@@ -9,7 +9,7 @@ use Rattle.own_model.specs.Account.{Account, shortage}
 use Rattle.own_model.proofs.NatMapLemmas.{same, get-empty, picked-empty}
 use Rattle.own_model.specs.Sliced.{sliced_header}
 use Rattle.own_model.specs.Moved.{moved_up}
-use Rattle.own_model.proofs.MovedLemmas.{same_moved, get-moved_up, get-moved_up_below}
+use Rattle.own_model.proofs.NatMapMovedLemmas.{same_moved, get-moved_up, get-moved_up_below}
 use Rattle.own_model.specs.NatMap.{picked}
 use Rattle.region_map.specs.Regions.{Regions}
 use Rattle.quota_core.specs.Books.{Books}

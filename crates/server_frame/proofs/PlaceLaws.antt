@@ -10,7 +10,7 @@ use Rattle.own_model.specs.Account.{Account, opened}
 use Rattle.own_model.specs.NatMap.{NatMap, total}
 use Rattle.own_model.proofs.NatMapLemmas.{get-remove_other, before_remove}
 use Rattle.own_model.proofs.Totals.{len-total, total_owed_le, total_times_le}
-use Rattle.own_model.proofs.KeySums.{measured_or, total-taken, owed_once}
+use Rattle.own_model.proofs.NatMapSums.{measured_or, total-taken, owed_once}
 use Rattle.quota_core.specs.SlabMap.{map_of}
 use Rattle.quota_core.proofs.SlabMap.{get-map_of, len-map_of}
 use Rattle.region_map.specs.Regions.{Regions}

@@ -1,4 +1,5 @@
 pub mod Written
+pub mod Quotas
 pub mod Lent
 pub mod Told
 pub mod Session

@@ -1,9 +1,11 @@
 //! What a call is answered: finished log lines, and the text of a reply.
 ghost use Rattle.std.specs.Prelude.{◌≡◌, ◌+◌, ◌*◌, ◌≤◌, [], ◌++◌, length, decimal, IfOk};
-ghost use Rattle.own_model.specs.Reply.{hex_text, log_text, share_text};
+ghost use Rattle.own_model.specs.Reply.{hex_text, log_text, quota_text, share_text};
+ghost use Rattle.server_frame.specs.Quotas.{quotas_account};
 ghost use Rattle.server_frame.specs.Told.{nothing_told};
 
 use crate::bounded_bytes::BoundedBytes;
+use crate::quotas::Quotas;
 use std::alloc::Global;
 use std::marker::Model;
 use trade_base::NoMemory;
@@ -111,6 +113,22 @@ impl Reply {
         self.text.add_number(used);
         self.text.add(b"/");
         self.text.add_number(limit);
+    }
+
+    /// Appends to the text use and limit of RAM and of capabilities, for which there is room.
+    pub fn add_quotas(&mut self, quotas: Quotas)
+        requires { length self.old.text + 100 ≤ LONGEST_TEXT }
+        ensures { self.new ≡ record self.old {
+          text = self.old.text ++ quota_text (quotas_account quotas);
+        } }
+    {
+        self.add_text(b"ram ");
+        self.add_share(quotas.ram_used.0, quotas.ram_limit.0);
+        self.add_text(b" caps ");
+        self.add_share(
+            u64::from(quotas.caps_used.0),
+            u64::from(quotas.caps_limit.0),
+        );
     }
 
     /// Appends to the text bytes in hexadecimal digits of small letters, which still fit.

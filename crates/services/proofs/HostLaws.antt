@@ -1,6 +1,6 @@
 -- Laws for callers: what is so of a server, whichever its service is.
 use Rattle.std.proofs.Common.{◌≡◌, ◌≢◌, ℕ, ◌+◌, ◌*◌, ◌≤◌, Bool, Some, false, is_some, refl, sym, ap, subst, ◌∙◌, arith}
-use Rattle.std.specs.Prelude.{Option, None, List, IsSome, IfSome}
+use Rattle.std.specs.Prelude.{Option, None, List, [], IsSome, IfSome}
 use Rattle.std.specs.Option.{option_map}
 use Rattle.std.specs.FinMap.{get, empty}
 use Rattle.slab.specs.Slab.{Slab, ContainsKey}
@@ -12,7 +12,7 @@ use Rattle.own_model.specs.Session.{Labelled}
 use Rattle.own_model.proofs.NatMapLemmas.{same}
 use Rattle.quota_core.specs.SlabMap.{map_of}
 use Rattle.quota_core.proofs.SlabMap.{get-map_of, get-map_of_at, ContainsKey-map_of, map_of-empty}
-use Rattle.region_map.specs.Regions.{Regions}
+use Rattle.region_map.specs.Regions.{Regions, fresh_regions}
 use Rattle.dataspace_core.specs.Room.{HasRoom}
 use Rattle.dataspace_core.specs.Store.{Store, part, space_at, account_in, ram_limits_in, caps_limits_in, IsOpenIn, IsChildIn}
 use Rattle.server_frame.specs.Frame.{Row, AtRow, row_of, IsNoSession}
@@ -176,6 +176,17 @@ module _ (store store' : Store) (host : Host) (stays : (id : ℕ) (row : Row Lab
   works_still limits works = let table = table_of host in server_stays table.kept table.sessions store store' table.map works limits session_stays
 
 -- ---- a new server
+
+-- one that has booted has no sessions, and has room for as many as the machine's capabilities pay for
+pub new_host : {T : Type 0} (store : Store) (pages most : ℕ) (sessions : Slab (Session T)) (regions : Regions) → sessions.slots ≡ [] → most ≤ sessions.capacity → regions ≡ fresh_regions 0 pages pages →
+    ram_limits_in store ≡ pages * 4096 → caps_limits_in store ≤ most * 2 + 1 → HasNoSessions store sessions regions
+new_host store pages most sessions regions none places booted machine half = record {
+  none = none;
+  places = omega (arith, half, places);
+  no_heap = ap (λ (r : Regions). r.heap) booted;
+  heap_most = ap (λ (r : Regions). r.heap_most) booted ∙ sym (ap (λ (r : Regions). r.pages) booted);
+  pages = ap (λ (r : Regions). r.pages * 4096) booted ∙ sym machine;
+}
 
 module _ (store : Store) (host : Host) (new : IsNew store host) where
   -- it works

@@ -3,7 +3,8 @@ use Rattle.std.specs.Prelude.{◌≡◌, ◌≢◌, ℕ, ◌+◌, ◌*◌, ◌<�
 use Rattle.std.specs.FinMap.{get, empty}
 use Rattle.slab.specs.Slab.{Slab, ContainsKey, slab_len}
 use Rattle.own_model.specs.NatMap.{NatMap}
-use Rattle.own_model.specs.Routes.{Service}
+use Rattle.trade_base.specs.declared.service.Service.{Service}
+use Rattle.trade_base.specs.declared.service.Service.TheVariants as service
 use Rattle.own_model.specs.Session.{Labelled, donation_refusal}
 use Rattle.region_map.specs.Regions.{Regions}
 use Rattle.dataspace_core.specs.Share.{Share}
@@ -19,8 +20,8 @@ use Rattle.services.specs.declared.host.Host.TheVariants.{Log, Files}
 
 -- the service that it serves
 abbrev pub service_of : Host → Service
-service_of (Log server) = Service.Log
-service_of (Files server) = Service.Files
+service_of (Log server) = service.Log
+service_of (Files server) = service.Files
 
 -- what a server keeps: its sessions and its map; and of what its service keeps for a session what that is to its client, what it
 -- lends it, and what is true of it

@@ -1,11 +1,11 @@
 //! A server of one of the services.
-ghost use Rattle.std.specs.Prelude.{◌≡◌, ◌≤◌, length, is_some, IfOk, OnOk, OnErr};
+ghost use Rattle.std.specs.Prelude.{◌≡◌, ◌+◌, ◌*◌, ◌≤◌, length, is_some, IfOk, OnOk, OnErr};
 ghost use Rattle.std.specs.FinMap.{get, insert, remove};
 ghost use Rattle.std.specs.Result.{result_err};
 ghost use Rattle.own_model.specs.Account.{shortage};
 ghost use Rattle.own_model.specs.Donation.{raised};
 ghost use Rattle.own_model.specs.Session.{donation_refusal, state_at_first};
-ghost use Rattle.dataspace_core.specs.Store.{Store, account_in, RaisesPart, ClosesPart};
+ghost use Rattle.dataspace_core.specs.Store.{Store, account_in, ram_limits_in, caps_limits_in, RaisesPart, ClosesPart};
 ghost use Rattle.server_frame.specs.Frame.{AtRow, row_served, OpensSession, ServesSession};
 ghost use Rattle.server_frame.specs.Lent.{key_of};
 ghost use Rattle.server_frame.specs.Session.{service_step};
@@ -15,7 +15,8 @@ use dataspace_core::Memory;
 use file_service::FileService;
 use log_service::LogService;
 use server_frame::{Effect, LONGEST_LABEL, Reply, Server};
-use trade_base::{AccountId, Caps, DsId, Ram, Refusal, SessionId};
+use std::alloc::Global;
+use trade_base::{AccountId, Caps, DsId, NoMemory, Ram, Refusal, Service, SessionId};
 
 /// A server, whichever its service is. Its calls are those of `Server`.
 #[derive(Drop)]
@@ -27,7 +28,34 @@ pub enum Host {
 }
 
 impl Host {
-    ghost use Rattle.services.specs.Host.{service_of, rows_of, Admits, HasSession, Serves, StaysServer};
+    ghost use Rattle.services.specs.Host.{service_of, rows_of, Admits, HasSession, IsNew, Serves, StaysServer};
+
+    /// A server of a service without sessions, with places for so many, on a machine of so many pages, or `NoMemory` where the
+    /// host has no room for its tables.
+    #[tactic(auto, using(crate::proofs::HostLaws::new_host))]
+    pub fn boot(
+        alloc: Global,
+        service: Service,
+        sessions: usize,
+        pages: usize,
+    ) -> Result<Host, NoMemory>
+        requires { pages ≤ 4096 }
+        ensures service { IfOk result (λ host. service_of host ≡ service) }
+        ensures new { IfOk result (λ host. (store : Store) →
+            ram_limits_in store ≡ pages * 4096 → caps_limits_in store ≤ sessions * 2 + 1 →
+            IsNew store host) }
+    {
+        match service {
+            Service::Log => {
+                let server = Server::boot(alloc, LogService, sessions, pages)?;
+                Ok(Host::Log(server))
+            }
+            Service::Files => {
+                let server = Server::boot(alloc, FileService, sessions, pages)?;
+                Ok(Host::Files(server))
+            }
+        }
+    }
 
     /// Whether a session is open.
     pub fn is_open(&self, id: SessionId) -> bool

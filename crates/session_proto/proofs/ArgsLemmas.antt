@@ -5,7 +5,7 @@ use Rattle.std.specs.Option.{option_map, option_and_then}
 use Rattle.std.specs.Str.{bytes_eq}
 use Rattle.own_model.specs.SessionArgs.{Arguments, Pair, Value, pair_of, pieces_of, each, value_under, ram_of, caps_of, label_of}
 use Rattle.own_model.proofs.SessionArgsLemmas.{made}
-use Rattle.session_proto.specs.Found.{Known, known_with, all_known, with_pair}
+use Rattle.session_proto.specs.Pairs.{Known, known_with, all_known, with_pair}
 use Rattle.session_proto.specs.Pieces.{pieces_after}
 
 -- ---- one key

@@ -1,12 +1,11 @@
 -- The file service's replies, as the model's words.
 use Rattle.std.specs.Prelude.{ℕ, ◌+◌, ◌*◌, length}
-use Rattle.own_model.specs.Account.{Account}
 use Rattle.own_model.specs.FileText as model
+use Rattle.server_frame.specs.Quotas.{quotas_account}
 use Rattle.session_proto.specs.declared.file_reply.FileError.{FileError}
 use Rattle.session_proto.specs.declared.file_reply.FileError.TheVariants.{BadRequest, BadName, Exists, NotFound, Gap, TooLong, End, TooManyChunks, OutOfRam, OutOfCaps, InvalidSize, NoBuffer, BadRange}
 use Rattle.session_proto.specs.declared.file_reply.FileReply.{FileReply}
 use Rattle.session_proto.specs.declared.file_reply.FileReply.TheVariants.{Done, Count, Bytes, Named, Quotas, Lent, Refused}
-use Rattle.session_proto.specs.declared.file_reply.Shares.{Shares}
 
 abbrev pub model_error : FileError → model.FileError
 model_error BadRequest = model.FileError.BadRequest
@@ -23,21 +22,12 @@ model_error InvalidSize = model.FileError.InvalidSize
 model_error NoBuffer = model.FileError.NoBuffer
 model_error BadRange = model.FileError.BadRange
 
--- use and limits, as the account that has them
-abbrev pub account_of : Shares → Account
-account_of shares = record {
-  ram_limit = shares.ram_limit.0;
-  ram_used = shares.ram_used.0;
-  caps_limit = shares.caps_limit.0;
-  caps_used = shares.caps_used.0;
-}
-
 abbrev pub model_reply : FileReply → model.FileReply
 model_reply Done = model.FileReply.Done
 model_reply (Count count) = model.FileReply.Count count
 model_reply (Bytes bytes) = model.FileReply.Bytes bytes.now
 model_reply (Named name) = model.FileReply.Named name.now
-model_reply (Quotas shares) = model.FileReply.Quotas (account_of shares)
+model_reply (Quotas quotas) = model.FileReply.Quotas (quotas_account quotas)
 model_reply Lent = model.FileReply.Lent
 model_reply (Refused e) = model.FileReply.Refused (model_error e)
 
@@ -47,6 +37,6 @@ room_for Done = 2
 room_for (Count count) = 23
 room_for (Bytes bytes) = 3 + 2 * length bytes.now
 room_for (Named name) = 3 + length name.now
-room_for (Quotas shares) = 103
+room_for (Quotas quotas) = 103
 room_for Lent = 7
 room_for (Refused e) = 24

@@ -1,5 +1,5 @@
 pub mod View
-pub mod Found
+pub mod Pairs
 pub mod Pieces
 pub mod LogReply
 pub mod File

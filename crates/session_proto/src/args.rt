@@ -5,7 +5,7 @@ ghost use Rattle.std.specs.Option.{option_map, option_copied};
 ghost use Rattle.trade_base.specs.declared.refusal.Refusal.TheVariants.{BadArgs};
 ghost use Rattle.own_model.specs.SessionArgs.{arguments_of, ram_of, caps_of, label_of};
 ghost use Rattle.session_proto.specs.View.{model_pair, model_value};
-ghost use Rattle.session_proto.specs.Found.{ram_in, caps_in, known, known_after, with_pair, told};
+ghost use Rattle.session_proto.specs.Pairs.{ram_in, caps_in, known, known_after, with_pair, told};
 
 use crate::pair::{Pair, Value, read_pair};
 use crate::text::{is_blank, split_piece};
@@ -13,7 +13,7 @@ use std::marker::Model;
 use trade_base::{Caps, Ram, Refusal, read_amount, read_number};
 
 /// The most bytes of a label.
-const LONGEST_LABEL: usize = 64;
+const LONGEST_GIVEN: usize = 64;
 
 /// What a session is given, and the label that it is asked for with.
 #[derive(Drop)]
@@ -70,7 +70,7 @@ impl<'a> SessionArgs<'a> {
 fn read_arguments(text: &[u8]) -> Option<SessionArgs<'_>>
     ensures { result ≡ arguments_of text.now }
 {
-    let mut found = Found {
+    let mut found = Pairs {
         ram: None,
         caps: None,
         label: None,
@@ -89,18 +89,18 @@ fn read_arguments(text: &[u8]) -> Option<SessionArgs<'_>>
 
 /// What the pairs so far have told: for each key the value of its first pair.
 #[derive(Clone, Copy)]
-struct Found<'a> {
+struct Pairs<'a> {
     ram: Option<Ram>,
     caps: Option<Caps>,
     label: Option<&'a [u8]>,
 }
 
-impl<'a> Found<'a> {
+impl<'a> Pairs<'a> {
     /// With one pair more. It is `None` where that is the first with its key, and has no value for it.
-    fn with(self, pair: Pair<'a>) -> Option<Found<'a>>
+    fn with(self, pair: Pair<'a>) -> Option<Pairs<'a>>
         ensures { option_map known result ≡ with_pair (known self.entry) (model_pair pair.entry) }
     {
-        Some(Found {
+        Some(Pairs {
             ram: ram_with(self.ram, pair)?,
             caps: caps_with(self.caps, pair)?,
             label: label_with(self.label, pair)?,
@@ -180,7 +180,7 @@ fn read_label(value: Value<'_>) -> Option<&[u8]>
     ensures { option_copied result ≡ label_of (Some (model_value value.entry)) }
 {
     match value {
-        Value::Quoted(text) if text.len() <= LONGEST_LABEL => Some(text),
+        Value::Quoted(text) if text.len() <= LONGEST_GIVEN => Some(text),
         _ => None,
     }
 }

@@ -1,11 +1,9 @@
 //! The file service's replies.
 ghost use Rattle.std.specs.Prelude.{◌≡◌, ◌+◌, ◌*◌, ◌≤◌, ◌++◌, length};
 ghost use Rattle.own_model.specs.FileText.{file_reply, bytes_reply, error_name};
-ghost use Rattle.own_model.specs.Reply.{quota_text};
-ghost use Rattle.session_proto.specs.FileReply.{model_reply, model_error, room_for, account_of};
+ghost use Rattle.session_proto.specs.FileReply.{model_reply, model_error, room_for};
 
-use server_frame::Reply;
-use trade_base::{Caps, Ram};
+use server_frame::{Quotas, Reply};
 
 /// Why a request is refused.
 #[derive(Clone, Copy, Debug, PartialEq, Eq)]
@@ -61,15 +59,6 @@ impl FileError {
     }
 }
 
-/// What is used of an account, and its limits.
-#[derive(Clone, Copy)]
-pub struct Shares {
-    pub ram_used: Ram,
-    pub ram_limit: Ram,
-    pub caps_used: Caps,
-    pub caps_limit: Caps,
-}
-
 /// A reply to a request.
 #[derive(Clone, Copy)]
 pub enum FileReply<'a> {
@@ -82,7 +71,7 @@ pub enum FileReply<'a> {
     /// A file's name.
     Named(&'a [u8]),
     /// Use and limit of the session's account.
-    Quotas(Shares),
+    Quotas(Quotas),
     /// A buffer was made, whose selector is still to follow.
     Lent,
     /// It is refused.
@@ -107,9 +96,9 @@ impl<'a> FileReply<'a> {
                 reply.add_text(b"OK ");
                 reply.add_text(name);
             }
-            FileReply::Quotas(shares) => {
+            FileReply::Quotas(quotas) => {
                 reply.add_text(b"OK ");
-                add_shares(reply, shares);
+                reply.add_quotas(quotas);
             }
             FileReply::Lent => reply.add_text(b"OK cap "),
             FileReply::Refused(error) => {
@@ -132,19 +121,4 @@ fn add_bytes(reply: &mut Reply, bytes: &[u8])
         reply.add_text(b"OK ");
         reply.add_hex(bytes);
     }
-}
-
-/// Appends use and limit of RAM and of capabilities.
-fn add_shares(reply: &mut Reply, shares: Shares)
-    requires { length reply.old.text + 100 ≤ 2100 }
-    ensures { reply.new
-        ≡ record reply.old { text = reply.old.text ++ quota_text (account_of shares) } }
-{
-    reply.add_text(b"ram ");
-    reply.add_share(shares.ram_used.0, shares.ram_limit.0);
-    reply.add_text(b" caps ");
-    reply.add_share(
-        u64::from(shares.caps_used.0),
-        u64::from(shares.caps_limit.0),
-    );
 }

@@ -12,5 +12,5 @@ mod text;
 
 pub use args::SessionArgs;
 pub use file::FileRequest;
-pub use file_reply::{FileError, FileReply, Shares};
+pub use file_reply::{FileError, FileReply};
 pub use log::{LogReply, LogRequest};

@@ -9,9 +9,9 @@ use Rattle.own_model.specs.HeapWindow.{heap_low, heap_high, heap_gap, largest_ma
 use Rattle.own_model.specs.NatMap.{NatMap, joined}
 use Rattle.own_model.specs.Region.{Region, IsPlace}
 use Rattle.own_model.specs.Sound.{LieApart}
-use Rattle.own_model.proofs.JoinedLemmas.{get-joined}
+use Rattle.own_model.proofs.NatMapJoinedLemmas.{get-joined}
 use Rattle.own_model.proofs.NatMapLemmas.{same, get-picked, get-insert_same, get-insert_other, get-remove_same, get-remove_other, before_remove}
-use Rattle.own_model.proofs.ApartLemmas.{LieApart-insert, LieApart-fewer}
+use Rattle.own_model.proofs.RegionApartLemmas.{LieApart-insert, LieApart-fewer}
 use Rattle.own_model.proofs.HeapGapLemmas.{first_gap_stands}
 use Rattle.own_model.proofs.RegionLemmas.{AreAlike, place, free_place}
 use Rattle.region_map.specs.Regions.{Regions}

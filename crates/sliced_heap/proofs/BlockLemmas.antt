@@ -12,7 +12,7 @@ use Rattle.own_model.specs.Region.{Region}
 use Rattle.own_model.specs.Sliced.{sliced_header as header, block_size, block_pages, block_found, holds_in_payload}
 use Rattle.own_model.proofs.NatMapLemmas.{get-picked, and_then_from}
 use Rattle.own_model.proofs.EntryLemmas.{finds_in_map, finds_none_in_map}
-use Rattle.own_model.proofs.MovedLemmas.{get-moved_up, get-moved_up_below}
+use Rattle.own_model.proofs.NatMapMovedLemmas.{get-moved_up, get-moved_up_below}
 use Rattle.dataspace_core.specs.Share.{Share}
 use Rattle.sliced_heap.specs.Sliced.{block_regions, payload_of, sliced_of, IsLinked}
 use Rattle.sliced_heap.specs.Heap.{HoldsAddress, NoneHolds, HoldsRange}

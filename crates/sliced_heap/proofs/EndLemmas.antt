@@ -13,7 +13,7 @@ use Rattle.own_model.specs.Region.{Region}
 use Rattle.own_model.specs.Moved.{moved_up}
 use Rattle.own_model.specs.Sliced.{sliced_header as header, block_size}
 use Rattle.own_model.proofs.NatMapLemmas.{same, get-empty, get-remove_same, get-remove_other, before_remove, picked-empty, none_if}
-use Rattle.own_model.proofs.MovedLemmas.{same_moved, get-moved_up, get-moved_up_below}
+use Rattle.own_model.proofs.NatMapMovedLemmas.{same_moved, get-moved_up, get-moved_up_below}
 use Rattle.own_model.proofs.Totals.{total-empty, total-remove, len-remove_at}
 use Rattle.region_map.specs.Regions.{Regions}
 use Rattle.dataspace_core.specs.Store.{Store, part, account_in}

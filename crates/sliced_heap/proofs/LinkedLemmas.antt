@@ -11,7 +11,7 @@ use Rattle.own_model.specs.Region.{Region}
 use Rattle.own_model.specs.Moved.{moved_up}
 use Rattle.own_model.specs.Sliced.{sliced_header as header}
 use Rattle.own_model.proofs.NatMapLemmas.{same, after_insert, get-insert_same, get-insert_other, get-remove_same, get-remove_other, before_remove, get-picked, get-picked_at, and_then_alike, picked_alike, picked-insert_some, picked-remove}
-use Rattle.own_model.proofs.MovedLemmas.{moved_up-insert, moved_up-remove}
+use Rattle.own_model.proofs.NatMapMovedLemmas.{moved_up-insert, moved_up-remove}
 use Rattle.dataspace_core.specs.Store.{Part}
 use Rattle.dataspace_core.specs.Share.{Share}
 use Rattle.sliced_heap.specs.Chain.{link_to, is_listed, IsChain}

@@ -1,11 +1,14 @@
 -- Which faults the engine tells of an entry's value.
 use Rattle.std.proofs.Common.{◌≡◌, ℕ, true, false, Bool, List, codes, Option, Some, None, Result, Ok, Err, refl}
 use Rattle.std.specs.Prelude.{IfErr, if◌then◌else◌}
+use Rattle.std.specs.Option.{option_map}
 use Rattle.std.specs.Str.{bytes_eq}
 use Rattle.serde_json.specs.Data.{Data}
 use Rattle.serde_json.specs.Find.{as_str, get}
 use Rattle.own_model.specs.Listed.{Binary, ListedEntry}
-use Rattle.own_model.specs.Listed.Binary.{Script, LogServer, FileServer, Init}
+use Rattle.own_model.specs.Listed.Binary.{Script, Server, Init}
+use Rattle.trade_base.specs.Service.{served_by_binary}
+use Rattle.trade_base.specs.declared.service.Service.{Service}
 use Rattle.init_core.specs.declared.fault.BootFault.{BootFault}
 use Rattle.init_core.specs.declared.fault.BootFault.TheVariants.{BadConfig, BadJson, DuplicateName, NoMemory, QuotaExceeded, UnknownBinary}
 use Rattle.init_core.specs.declared.fault.Field.{Field}
@@ -67,9 +70,10 @@ unless true binary r is = done
 unless false binary r is = is
 
 binary_of_fault : (text : List ℕ) → Fails OfEntry (binary_of text)
-binary_of_fault text =
-    unless (bytes_eq text (codes "script")) Script _ (unless (bytes_eq text (codes "log")) LogServer _
-    (unless (bytes_eq text (codes "files")) FileServer _ (unless (bytes_eq text (codes "init")) Init _ (record { fault = no_binary_fault (name_in text) }))))
+binary_of_fault text = unless (bytes_eq text (codes "script")) Script _ (unless (bytes_eq text (codes "init")) Init _ (by_service (served_by_binary text))) where
+  by_service : (found : Option Service) → Fails OfEntry (value_or (no_binary (name_in text)) (option_map Server found))
+  by_service (Some service) = done
+  by_service None = record { fault = no_binary_fault (name_in text) }
 
 binary_fault : (name : List ℕ) (told : Option Data) → Fails OfEntry (binary_told name told)
 binary_fault name None = binary_of_fault name
@@ -95,8 +99,7 @@ config_fault false met d = record { fault = refl }
 
 own_told_fault : (binary : Binary) (deeper : Bool) (met : ℕ) (d : Option Data) → Fails OfEntry (own_told binary deeper met d)
 own_told_fault Script deeper met d = done
-own_told_fault LogServer deeper met d = done
-own_told_fault FileServer deeper met d = done
+own_told_fault (Server service) deeper met d = done
 own_told_fault Init deeper met d = config_fault deeper met d
 
 -- what is read of an entry has one of these faults

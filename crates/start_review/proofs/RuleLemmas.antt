@@ -1,12 +1,15 @@
 -- Where the engine reads no rule of a value.
-use Rattle.std.proofs.Common.{◌≡◌, ℕ, true, false, Bool, List, codes, is_some, not, Option, Some, None, refl, sym, ap, ◌∙◌}
+use Rattle.std.proofs.Common.{◌≡◌, ℕ, true, false, cond, Bool, List, codes, is_some, not, Option, Some, None, refl, sym, ap, ◌∙◌}
 use Rattle.std.specs.Prelude.{if◌then◌else◌}
 use Rattle.std.specs.Option.{option_and_then, option_map, option_or}
 use Rattle.serde_json.specs.Data.{Data, Members, null, boolean, number, string, array, object}
 use Rattle.serde_json.specs.Find.{get}
+use Rattle.trade_base.specs.Service.{service_name}
+use Rattle.trade_base.specs.declared.service.Service.{Service}
+use Rattle.own_model.proofs.ServiceLemmas.{is_named}
 use Rattle.own_model.specs.Listed.{ListedRule, Target}
 use Rattle.own_model.specs.Listed.Target.{Child, AnyChild, Parent}
-use Rattle.init_core.specs.Members.{is_object, is_true, name_of, text_if_told}
+use Rattle.init_core.specs.Members.{is_object, is_true, name_in, name_of, text_if_told}
 use Rattle.init_core.specs.Rules.{rule_of, service_asked, target_named}
 use Rattle.start_review.specs.RuleFaults.{Bad, FaultsAreTheEngines, member_fault, rule_fault, service_fault, target_fault, text_fault}
 
@@ -102,3 +105,9 @@ or_else f a b o x y is first second = ap (option_map f) is ∙ mapped_or f a b �
 
 pub fault_of_object : (d : Data) → true ≡ is_object d → member_fault d ≡ rule_fault d
 fault_of_object d is = rw (← is) refl
+
+-- ---- names of services
+
+-- each is read as a name
+pub service_is_named : (service : Service) → name_in (service_name service) ≡ Some (service_name service)
+service_is_named service = ap (λ b. cond b (Some (service_name service)) None) (is_named service)

@@ -1,14 +1,17 @@
 -- Which entries an entry starts.
-use Rattle.std.proofs.Common.{◌≡◌, ℕ, ◌+◌, nat_le, length, subst, true, false, Bool, List, [], codes, Option, Some, None, Result, Ok, Err, refl, sym, ap, ◌∙◌}
+use Rattle.std.proofs.Common.{◌≡◌, ℕ, ◌+◌, nat_le, length, subst, true, false, true≢false, Bool, List, [], codes, Option, Some, None, Result, Ok, Err, refl, sym, ap, ◌∙◌}
 use Rattle.std.specs.Prelude.{if◌then◌else◌}
 use Rattle.std.specs.Option.{option_and_then, option_map, option_or, unwrap_or}
 use Rattle.std.specs.Result.{IfOk, result_ok}
 use Rattle.std.specs.Str.{bytes_eq}
+use Rattle.std.proofs.lemmas.Bool.{false_from_ne_true}
 use Rattle.std.proofs.lemmas.Slice.Eq.{bytes_eq-Decides}
 use Rattle.serde_json.specs.Data.{Data, Items}
 use Rattle.serde_json.specs.Find.{as_array, as_str, get}
 use Rattle.own_model.specs.Listed.{Binary, ListedRule}
-use Rattle.own_model.specs.Listed.Binary.{Script, LogServer, FileServer, Init}
+use Rattle.own_model.specs.Listed.Binary.{Script, Server, Init}
+use Rattle.trade_base.specs.Service.{served_by_binary}
+use Rattle.trade_base.specs.declared.service.Service.{Service}
 use Rattle.init_core.specs.declared.fault.BootFault.{BootFault}
 use Rattle.init_core.specs.declared.fault.BootFault.TheVariants.{BadConfig}
 use Rattle.init_core.specs.declared.fault.Field.TheVariants as field
@@ -34,19 +37,23 @@ object_is d entry is = by_object (is_object d) is where
 -- the text of an init's binary is its name
 binary_is : (text : List ℕ) (binary : Binary) → binary_of text ≡ Ok binary → bytes_eq (codes "init") text ≡ runs_init binary
 binary_is text binary is =
-    go (bytes_eq text (codes "script")) (bytes_eq text (codes "log")) (bytes_eq text (codes "files")) (bytes_eq text (codes "init")) refl refl refl refl is
+    go (bytes_eq text (codes "script")) (bytes_eq text (codes "init")) (served_by_binary text) refl refl is
   where
     same_text : (word : List ℕ) → bytes_eq text word ≡ true → bytes_eq (codes "init") text ≡ bytes_eq (codes "init") word
     same_text word eq = ap (bytes_eq (codes "init")) ((bytes_eq-Decides text word).0 eq)
 
-    go : (a b c d : Bool) → bytes_eq text (codes "script") ≡ a → bytes_eq text (codes "log") ≡ b → bytes_eq text (codes "files") ≡ c → bytes_eq text (codes "init") ≡ d
-        → let r : Result Binary BootFault = if a then Ok Script else (if b then Ok LogServer else (if c then Ok FileServer else (if d then Ok Init else Err (no_binary (name_in text))))) in
+    not_init : bytes_eq text (codes "init") ≡ false → bytes_eq (codes "init") text ≡ false
+    not_init other =
+        false_from_ne_true (bytes_eq (codes "init") text) (λ same.
+        true≢false (sym ((bytes_eq-Decides text (codes "init")).1 (sym ((bytes_eq-Decides (codes "init") text).0 same))) ∙ other))
+
+    go : (a b : Bool) (found : Option Service) → bytes_eq text (codes "script") ≡ a → bytes_eq text (codes "init") ≡ b
+        → let r : Result Binary BootFault = if a then Ok Script else (if b then Ok Init else value_or (no_binary (name_in text)) (option_map Server found)) in
         r ≡ Ok binary → bytes_eq (codes "init") text ≡ runs_init binary
-    go true b c d is_a is_b is_c is_d given = let same : Script ≡ binary = cc in same_text (codes "script") is_a ∙ ap runs_init same
-    go false true c d is_a is_b is_c is_d given = let same : LogServer ≡ binary = cc in same_text (codes "log") is_b ∙ ap runs_init same
-    go false false true d is_a is_b is_c is_d given = let same : FileServer ≡ binary = cc in same_text (codes "files") is_c ∙ ap runs_init same
-    go false false false true is_a is_b is_c is_d given = let same : Init ≡ binary = cc in same_text (codes "init") is_d ∙ ap runs_init same
-    go false false false false is_a is_b is_c is_d given = cc
+    go true b found is_a is_b given = let same : Script ≡ binary = cc in same_text (codes "script") is_a ∙ ap runs_init same
+    go false true found is_a is_b given = let same : Init ≡ binary = cc in same_text (codes "init") is_b ∙ ap runs_init same
+    go false false (Some service) is_a is_b given = let same : Server service ≡ binary = cc in not_init is_b ∙ ap runs_init same
+    go false false None is_a is_b given = cc
 
 name_text : (given : Option Data) (name : List ℕ) → option_and_then name_of given ≡ Some name → option_and_then as_str given ≡ Some name
 name_text None name is = cc
@@ -104,8 +111,7 @@ own_values init config = if init then starts_in config else []
 
 told_starts : (binary : Binary) (deeper : Bool) (met : ℕ) (config : Option Data) (own : Own) → own_told binary deeper met config ≡ Ok own → own.starts ≡ own_values (runs_init binary) config
 told_starts Script deeper met config own is = let same : nothing_own ≡ own = cc in sym (ap (λ o. o.starts) same)
-told_starts LogServer deeper met config own is = let same : nothing_own ≡ own = cc in sym (ap (λ o. o.starts) same)
-told_starts FileServer deeper met config own is = let same : nothing_own ≡ own = cc in sym (ap (λ o. o.starts) same)
+told_starts (Server service) deeper met config own is = let same : nothing_own ≡ own = cc in sym (ap (λ o. o.starts) same)
 told_starts Init true met (Some d) own is = by_object (is_object d) is where
   by_object : (b : Bool) → let r : Result Own BootFault = if b then own_of met d else Err (BadConfig field.Config) in r ≡ Ok own → own.starts ≡ elements_in (get (codes "start") d)
   by_object true given = own_starts met d own given

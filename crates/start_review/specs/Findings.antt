@@ -3,8 +3,10 @@ use Rattle.std.specs.Prelude.{ℕ, ◌+◌, ◌%◌, ◌==◌, ◌&&◌, Bool, n
 use Rattle.std.specs.List.{enumerate_from, list_any}
 use Rattle.std.specs.Option.{option_map}
 use Rattle.std.specs.Str.{bytes_eq}
-use Rattle.own_model.specs.Listed.{Binary, Listed, ListedEntry, ListedRule, Target, file_service, log_service, reserve_of}
-use Rattle.own_model.specs.Listed.Binary.{Script, LogServer, FileServer, Init}
+use Rattle.trade_base.specs.Service.{service_name, services}
+use Rattle.trade_base.specs.declared.service.Service.{Service}
+use Rattle.own_model.specs.Listed.{Binary, Listed, ListedEntry, ListedRule, Target, reserve_of}
+use Rattle.own_model.specs.Listed.Binary.{Script, Server, Init}
 use Rattle.own_model.specs.Listed.Target.{Child, AnyChild, Parent}
 use Rattle.start_review.specs.Hiding.{decides_some, hides}
 use Rattle.start_review.specs.Left.{budget_of}
@@ -59,12 +61,15 @@ abbrev pub strays_if_provided : List ListedEntry → ℕ → List ListedRule →
 strays_if_provided entries init before rule service =
     if is_provided entries init service then strays entries init before rule service else None
 
+-- of one of the services that there are
+abbrev pub strays_of : List ListedEntry → ℕ → Part → List ListedRule → ListedRule → Service → List Finding
+strays_of entries init part before rule service = told part (strays_if_provided entries init before rule (service_name service))
+
 -- of the service that a rule asks for, or of each
 abbrev pub stray_findings : List ListedEntry → ℕ → Part → List ListedRule → ListedRule → Option (List ℕ) → List Finding
 stray_findings entries init part before rule (Some service) = told part (strays entries init before rule service)
 stray_findings entries init part before rule None =
-    told part (strays_if_provided entries init before rule log_service)
-    ++ told part (strays_if_provided entries init before rule file_service)
+    flat_map (strays_of entries init part before rule) services
 
 -- that its child isn't there, or else for which services it strays
 abbrev pub target_findings : List ListedEntry → ℕ → Part → List ListedRule → ListedRule → Option Remark → List Finding
@@ -117,8 +122,7 @@ unreached list service number = if is_led_to list service number then None else 
 -- of a script its means, and of a server whether it is reached
 abbrev pub use_findings : Listed → Part → ℕ × ListedEntry → Binary → List Finding
 use_findings list part entry Script = told part (low_ram list entry.1) ++ told part (low_caps list entry.1)
-use_findings list part entry LogServer = told part (unreached list log_service entry.0)
-use_findings list part entry FileServer = told part (unreached list file_service entry.0)
+use_findings list part entry (Server service) = told part (unreached list (service_name service) entry.0)
 use_findings list part entry Init = []
 
 -- of the rules of an entry's own route, if it has one

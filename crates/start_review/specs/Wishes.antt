@@ -1,8 +1,9 @@
 -- Where the wishes of scripts lead.
 use Rattle.std.specs.Prelude.{ℕ, ◌==◌, ◌&&◌, ◌||◌, zero, suc, Bool, true, false, List, take, if◌then◌else◌, Option, Some, None}
 use Rattle.std.specs.List.{enumerate_from, list_any}
-use Rattle.own_model.specs.Listed.{Binary, Listed, ListedEntry, ListedRule, Target, end_of, file_service, init_entry, log_service, most_lists, offers, rules_for, way_to}
-use Rattle.own_model.specs.Listed.Binary.{Script, LogServer, FileServer, Init}
+use Rattle.trade_base.specs.Service.{service_name, services}
+use Rattle.own_model.specs.Listed.{Binary, Listed, ListedEntry, ListedRule, Target, end_of, init_entry, most_lists, offers, rules_for, way_to}
+use Rattle.own_model.specs.Listed.Binary.{Script, Server, Init}
 use Rattle.own_model.specs.Listed.Target.{Child, AnyChild, Parent}
 use Rattle.start_review.specs.Hiding.{decides_some}
 
@@ -66,8 +67,7 @@ leads_to list service sought entry = leads_within most_lists list service sought
 
 abbrev pub is_script : Binary → Bool
 is_script Script = true
-is_script LogServer = false
-is_script FileServer = false
+is_script (Server service) = false
 is_script Init = false
 
 -- an entry is a script's, and wishes of it for a service lead to a child
@@ -80,4 +80,4 @@ is_led_to list service child = list_any (reaches list service child) list.entrie
 
 -- some wish of a client leads to a server
 abbrev pub leads_somewhere : Listed → ListedEntry → Bool
-leads_somewhere list client = leads_to list log_service None client || leads_to list file_service None client
+leads_somewhere list client = list_any (λ service. leads_to list (service_name service) None client) services

@@ -1,7 +1,7 @@
 //! What a start list says that its writer can hardly have meant, in the order of its parts: the rules of the machine's default
 //! route, and each entry with its own route and the default route of what it starts.
 ghost use Rattle.std.specs.Prelude.{◌≡◌, ◌<◌, ◌++◌, IfOk, OnOk, None, Some};
-ghost use Rattle.init_core.specs.Members.{name_in};
+ghost use Rattle.trade_base.specs.Service.{service_name};
 ghost use Rattle.init_core.specs.View.{model_target};
 ghost use Rattle.start_review.specs.Findings.{entry_findings, findings_of, has_name, hidden, low_caps, low_ram, misled, no_child, pages_findings, part_pages, part_reserve, route_findings, rule_findings, rules_findings, stray_findings, strays, strays_if_provided, told, unreached, use_findings};
 ghost use Rattle.start_review.specs.Steps.{part_of};
@@ -14,6 +14,7 @@ use crate::part::{About, Owner};
 use crate::wishes::{before, is_led_to, is_provided, leads_somewhere};
 use init_core::{Binary, Entry, Name, Rule, StartList, Target, target_child};
 use std::alloc::{AllocError, Global};
+use trade_base::{SERVICES, Service};
 
 /// The least RAM in bytes that pays for a session.
 const SESSION_RAM: u64 = 4096;
@@ -122,14 +123,10 @@ fn tell_use(
             tell(found, alloc, list, about, low_ram(list, entry))?;
             tell(found, alloc, list, about, low_caps(list, entry))
         }
-        Binary::Log => tell(found, alloc, list, about, unreached(list, b"LOG", number)),
-        Binary::Files => tell(
-            found,
-            alloc,
-            list,
-            about,
-            unreached(list, b"File_system", number),
-        ),
+        Binary::Server(service) => {
+            let remark = unreached(list, service.name().as_bytes(), number);
+            tell(found, alloc, list, about, remark)
+        }
         Binary::Init => Ok(()),
     }
 }
@@ -309,26 +306,27 @@ fn tell_all_strays(
         ≡ found.old.items ++ stray_findings list.now.entries init
         (part_of list.now.entries about) earlier.now rule.now None) }
 {
-    let logs = strays_if_provided(list, init, earlier, rule, "LOG");
-    tell(found, alloc, list, about, logs)?;
-    let files = strays_if_provided(list, init, earlier, rule, "File_system");
-    tell(found, alloc, list, about, files)
+    for place in 0..SERVICES.len() {
+        let remark = strays_if_provided(list, init, earlier, rule, SERVICES[place]);
+        tell(found, alloc, list, about, remark)?;
+    }
+    Ok(())
 }
 
 // Whether a rule of any service leads to no child for a service that some entry of its list provides.
+#[tactic(auto, using(crate::proofs::RuleLemmas::service_is_named))]
 fn strays_if_provided(
     list: &StartList,
     init: usize,
     earlier: &[Rule],
     rule: &Rule,
-    service: &str,
+    service: Service,
 ) -> Option<Remark>
-    requires { name_in service.now ≡ Some service.now }
     ensures { result
-        ≡ strays_if_provided list.now.entries init earlier.now rule.now service.now }
+        ≡ strays_if_provided list.now.entries init earlier.now rule.now (service_name service) }
 {
-    match Name::read(service) {
-        Some(name) if is_provided(list, init, service.as_bytes()) => {
+    match Name::read(service.name()) {
+        Some(name) if is_provided(list, init, name.as_bytes()) => {
             strays(list, init, earlier, rule, &name)
         }
         _ => None,

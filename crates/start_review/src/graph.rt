@@ -2,9 +2,10 @@
 use crate::leads::Lead;
 use crate::left::{Inits, kept, left_of};
 use crate::tree::{Amount, show_kept, show_reserve};
-use crate::wishes::{SERVICES, init_entry};
+use crate::wishes::init_entry;
 use init_core::{Binary, Entry, StartList};
 use std::fmt;
+use trade_base::SERVICES;
 
 /// The tree as a graph in DOT: a node a component, by its path, a dotted edge to it from its init, and an edge for the rules that
 /// decide some of a script's wishes for a service.
@@ -56,7 +57,7 @@ fn show_node<W: fmt::Write>(
     let binary = entry.binary();
     let shape = match binary {
         Binary::Script => "ellipse",
-        Binary::Log | Binary::Files => "box",
+        Binary::Server(_) => "box",
         Binary::Init => "folder",
     };
     write!(
@@ -68,7 +69,7 @@ fn show_node<W: fmt::Write>(
     show_reserve(f, entry, "\\n")?;
     show_kept(f, inits, number, entry, "\\n")?;
     match binary.service() {
-        Some(service) if entry.provides() => writeln!(f, "\\nprovides {service}\"];"),
+        Some(service) if entry.provides() => { writeln!(f, "\\nprovides {}\"];", service.name()) }
         _ => writeln!(f, "\"];"),
     }
 }
@@ -85,7 +86,7 @@ fn show_edges<W: fmt::Write>(
     }
     if entry.binary() == Binary::Script {
         for service in &SERVICES {
-            Lead::new(list, entry, service, true).show_all(f)?;
+            Lead::new(list, entry, service.name(), true).show_all(f)?;
         }
     }
     Ok(())

@@ -1,8 +1,8 @@
 //! Where a script's wishes for a service lead, rule by rule, through the lists around it.
 use crate::hiding::{asks_no_label, asks_service, decides_some};
 use crate::quoted::Quoted;
-use crate::wishes::{MOST_LISTS, before, init_entry, is_parent, provider, rules_of};
-use init_core::{Entry, Rule, StartList};
+use crate::wishes::{before, init_entry, is_parent, provider, rules_of};
+use init_core::{Entry, MOST_LISTS, Rule, StartList};
 use std::fmt;
 
 /// Some of a client's wishes for a service, by the rules that decided so far: one of its own list, and then one for each init

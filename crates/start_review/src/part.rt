@@ -3,13 +3,10 @@ ghost use Rattle.std.specs.Prelude.{◌≡◌, ◌≤◌, IfOk};
 ghost use Rattle.std.specs.List.{slice_get};
 ghost use Rattle.start_review.specs.Steps.{part_of, place_in, rule_at, rule_part, steps_above, steps_to, steps_within};
 
-use init_core::{Entry, Name, StartList};
+use init_core::{Entry, MOST_LISTS, Name, StartList};
 use std::alloc::{AllocError, Global};
 use std::fmt;
 use std::marker::Model;
-
-/// How many lists there are at most around an entry.
-const MOST_LISTS: usize = 4;
 
 /// A step to an entry: its place in its list, and its name where it has one.
 #[derive(Debug, Drop)]

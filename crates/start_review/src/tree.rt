@@ -1,9 +1,9 @@
 //! The components of a start list, and where their wishes for sessions lead, as text.
 use crate::leads::{Lead, show_indent};
 use crate::left::{Inits, kept, left_of};
-use crate::wishes::SERVICES;
 use init_core::{Binary, Entry, StartList};
 use std::fmt;
+use trade_base::SERVICES;
 
 /// A start list's machine, what inits keep, each component with what it starts with, below its init, and for each script and service
 /// where an `open` leads, by which rules and under which conditions on the label.
@@ -31,7 +31,7 @@ impl fmt::Display for Tree<'_> {
             show_entry(f, &inits, number, entry)?;
             if entry.binary() == Binary::Script {
                 for service in &SERVICES {
-                    Lead::new(list, entry, service, false).show_all(f)?;
+                    Lead::new(list, entry, service.name(), false).show_all(f)?;
                 }
             }
         }
@@ -73,7 +73,7 @@ fn show_entry<W: fmt::Write>(
     show_kept(f, inits, number, entry, ", ")?;
     if let Some(service) = binary.service() {
         if entry.provides() {
-            write!(f, ", provides {service}")?;
+            write!(f, ", provides {}", service.name())?;
         } else {
             write!(f, ", provides nothing")?;
         }

@@ -6,13 +6,8 @@ ghost use Rattle.init_core.specs.View.{model_binary, model_target};
 ghost use Rattle.start_review.specs.Wishes.{is_led_to, is_parent, is_provided, is_script, is_sought, lead_inside, lead_outward, leads_outward, leads_somewhere, leads_to, leads_within, led_to, reaches};
 
 use crate::hiding::decides_some;
-use init_core::{Binary, Entry, Rule, StartList, Target, target_child};
-
-/// The services that there are.
-pub(crate) const SERVICES: [&str; 2] = ["LOG", "File_system"];
-
-/// How many lists a wish leads through at most.
-pub(crate) const MOST_LISTS: usize = 4;
+use init_core::{Binary, Entry, MOST_LISTS, Rule, StartList, Target, target_child};
+use trade_base::SERVICES;
 
 /// Whether some entry of an init's list provides a service.
 pub(crate) fn is_provided(list: &StartList, init: usize, service: &[u8]) -> bool
@@ -193,7 +188,7 @@ pub(crate) fn is_script(binary: Binary) -> bool
 {
     match binary {
         Binary::Script => true,
-        Binary::Log | Binary::Files | Binary::Init => false,
+        Binary::Server(_) | Binary::Init => false,
     }
 }
 
@@ -201,5 +196,5 @@ pub(crate) fn is_script(binary: Binary) -> bool
 pub(crate) fn leads_somewhere(list: &StartList, client: &Entry) -> bool
     ensures { result ≡ leads_somewhere list.now client.now }
 {
-    leads_to(list, b"LOG", None, client) || leads_to(list, b"File_system", None, client)
+    SERVICES.iter().any(|service| leads_to(list, service.name().as_bytes(), None, client))
 }

@@ -1,12 +1,14 @@
-//! The words that every layer shares: units, the numbers of things, refusals, and page rounding.
+//! The words that every layer shares: units, the numbers of things, refusals, services, and page rounding.
 #![tactic(auto)]
 
 mod amount;
 mod id;
 mod page;
 mod refusal;
+mod service;
 
 pub use amount::{read_amount, read_number};
 pub use id::{AccountId, Caps, DsId, Ram, Selector, SessionId};
 pub use page::{PAGE, page_round, page_rounding_is_least};
 pub use refusal::{NoMemory, Refusal};
+pub use service::{SERVICES, Service};

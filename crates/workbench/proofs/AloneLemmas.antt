@@ -14,7 +14,7 @@ use Rattle.own_model.specs.Transcript.Heard.{NoCall, Stranger, Caller}
 use Rattle.own_model.specs.World.{World, world_running}
 use Rattle.own_model.specs.Running.{told_now}
 use Rattle.own_model.proofs.RunningLemmas.{states_running-at}
-use Rattle.own_model.proofs.SaidByLemmas.{pieces_stand_alone, state_stands_alone}
+use Rattle.own_model.proofs.RunSaidByLemmas.{pieces_stand_alone, state_stands_alone}
 use Rattle.scenario.specs.Answer.{AnswersLine, IsAnswer, answer_text, answered_name, answered_reply, finished_lines}
 use Rattle.scenario.specs.Answered.{after_all}
 use Rattle.scenario.specs.declared.answering.LineAnswer.{LineAnswer}

@@ -7,7 +7,7 @@ use Rattle.std.specs.Option.{option_map}
 use Rattle.std.specs.Str.{bytes_eq}
 use Rattle.own_model.specs.Call.{Call, Spoken}
 use Rattle.own_model.specs.Listed.{Binary, Listed, ListedEntry, kind_of, start_list_of, start_of}
-use Rattle.own_model.specs.Listed.Binary.{Script, LogServer, FileServer, Init}
+use Rattle.own_model.specs.Listed.Binary.{Script, Server, Init}
 use Rattle.own_model.specs.StartList.{Entry, StartEntry, entries_of}
 use Rattle.own_model.specs.Transcript.{entry_at, heard_call, heard_of, heard_spoken, nobody}
 use Rattle.init_core.specs.Depth.{is_init, runs_init}
@@ -18,10 +18,8 @@ heard_binary : (binary : Binary) (is : Bool) → runs_init binary ≡ is → (sa
     heard_of (kind_of binary) says component ≡ heard_as says.name says.call (cond is None (Some component))
 heard_binary Script true is says component = absurd (true≢false (sym is))
 heard_binary Script false is says component = refl
-heard_binary LogServer true is says component = absurd (true≢false (sym is))
-heard_binary LogServer false is says component = refl
-heard_binary FileServer true is says component = absurd (true≢false (sym is))
-heard_binary FileServer false is says component = refl
+heard_binary (Server service) true is says component = absurd (true≢false (sym is))
+heard_binary (Server service) false is says component = refl
 heard_binary Init true is says component = refl
 heard_binary Init false is says component = absurd (true≢false is)
 

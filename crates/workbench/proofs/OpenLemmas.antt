@@ -7,7 +7,7 @@ use Rattle.std.specs.FinMap.{get, insert, remove}
 use Rattle.trade_base.specs.declared.refusal.Refusal.{Refusal}
 use Rattle.own_model.proofs.NatMapLemmas.{get-empty, get-insert_same, get-insert_other, get-remove_same, get-remove_other}
 use Rattle.own_model.proofs.StepLemmas.{KeptByEffects}
-use Rattle.own_model.proofs.TableLemmas.{others_keep}
+use Rattle.own_model.proofs.StepTableLemmas.{others_keep}
 use Rattle.own_model.specs.Account.{shortage}
 use Rattle.own_model.specs.Call.{Call, is_of_session}
 use Rattle.own_model.specs.Call.Call.{Alloc, Free, Attach, AttachAt, Detach, Peek, Poke, Capalloc, Capfree, New, Del, Snew, Sdel, Quota, Reserve, Request, Yield, Open, Upgrade, CallSession, Close, Exit}

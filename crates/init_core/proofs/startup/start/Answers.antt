@@ -63,27 +63,16 @@ returns-in_ok-push-in-Script-clause-started c =
     (sym c.in_ok-account.ensures.covered) c.in_ok-account.ensures.opened (sym c.in_ok-reserve-in-Script.ensures.covered) c.in_ok-reserve-in-Script.ensures.opened
     c.in_ok-script_of-in-Script.ensures.made)
 
-pub returns-in_ok-push-in-Log-clause-started : goal.returns-in_ok-push-in-Log-clause-started
-returns-in_ok-push-in-Log-clause-started c =
+pub returns-in_ok-push-in-Server-clause-started : goal.returns-in_ok-push-in-Server-clause-started
+returns-in_ok-push-in-Server-clause-started c =
     let entry = c.index-entries-place.result in
     let is = subst (λ (xs : List ListedEntry). entry ≡ get_or xs c.args.place entry) c.entries.ensures c.index-entries-place.is in
     let init = init_next c.requires.so_far c.requires.place is c.home.result c.index-init.result.now c.home.ensures.home c.home.ensures.value c.index-init.ensures in
-    let none = ap (λ b. reserve_by b entry.reserve) (sym c.in-Log.ensures) in
+    let none = ap (λ b. reserve_by b entry.reserve) (sym c.in-Server.ensures) in
     subst (λ (p : List Component × List AccountId). HasStarted c.args.list.now c.open_for.new.memory p.0 p.1 (c.args.place + 1))
-    (λ j. (sym {A = List Component} c.in_ok-push-in-Log.ensures.items j, sym {A = List AccountId} c.in_ok-push.ensures.items j))
-    (alone_started c.index-init.result.now.0 c.requires.so_far c.requires.place is init c.in_ok-account.account c.in_ok-log_of-in-Log.field-0 c.ram.ensures c.caps.ensures none
-    (sym c.in_ok-account.ensures.covered) c.in_ok-account.ensures.opened c.in_ok-log_of-in-Log.ensures.made)
-
-pub returns-in_ok-push-in-Files-clause-started : goal.returns-in_ok-push-in-Files-clause-started
-returns-in_ok-push-in-Files-clause-started c =
-    let entry = c.index-entries-place.result in
-    let is = subst (λ (xs : List ListedEntry). entry ≡ get_or xs c.args.place entry) c.entries.ensures c.index-entries-place.is in
-    let init = init_next c.requires.so_far c.requires.place is c.home.result c.index-init.result.now c.home.ensures.home c.home.ensures.value c.index-init.ensures in
-    let none = ap (λ b. reserve_by b entry.reserve) (sym c.in-Files.ensures) in
-    subst (λ (p : List Component × List AccountId). HasStarted c.args.list.now c.open_for.new.memory p.0 p.1 (c.args.place + 1))
-    (λ j. (sym {A = List Component} c.in_ok-push-in-Files.ensures.items j, sym {A = List AccountId} c.in_ok-push.ensures.items j))
-    (alone_started c.index-init.result.now.0 c.requires.so_far c.requires.place is init c.in_ok-account.account c.in_ok-files_of-in-Files.field-0 c.ram.ensures c.caps.ensures none
-    (sym c.in_ok-account.ensures.covered) c.in_ok-account.ensures.opened c.in_ok-files_of-in-Files.ensures.made)
+    (λ j. (sym {A = List Component} c.in_ok-push-in-Server.ensures.items j, sym {A = List AccountId} c.in_ok-push.ensures.items j))
+    (alone_started c.index-init.result.now.0 c.requires.so_far c.requires.place is init c.in_ok-account.account c.in_ok-server_of-in-Server.field-0 c.ram.ensures c.caps.ensures none
+    (sym c.in_ok-account.ensures.covered) c.in_ok-account.ensures.opened c.in_ok-server_of-in-Server.ensures.made)
 
 pub returns-in_ok-push-in-Init-clause-started : goal.returns-in_ok-push-in-Init-clause-started
 returns-in_ok-push-in-Init-clause-started c =

@@ -1,5 +1,5 @@
 -- Other lines make no call of the name's component.
-use Rattle.own_model.proofs.SaidByLemmas.{pieces_are_told, pieces_stand_alone, state_stands_alone}
+use Rattle.own_model.proofs.RunSaidByLemmas.{pieces_are_told, pieces_stand_alone, state_stands_alone}
 use Rattle.own_model.proofs.answers.lines_stand_alone.Goals as goal
 
 pub returns-clause-told : goal.returns-clause-told

@@ -1,6 +1,6 @@
 -- Each call's outcome is a refusal or what the call does.
-use Rattle.own_model.proofs.TableLemmas.{refused_in_order, refused_leaves}
-use Rattle.own_model.proofs.ShortageLemmas.{refused_with_reason}
+use Rattle.own_model.proofs.StepTableLemmas.{refused_in_order, refused_leaves}
+use Rattle.own_model.proofs.StepShortageLemmas.{refused_with_reason}
 use Rattle.own_model.proofs.calls.calls_are_refused_in_order.Goals as goal
 
 pub returns-clause-order : goal.returns-clause-order

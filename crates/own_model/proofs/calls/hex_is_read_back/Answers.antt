@@ -1,5 +1,5 @@
 -- Each byte is read from its two digits.
-use Rattle.own_model.proofs.ReadBackLemmas.{hex_read}
+use Rattle.own_model.proofs.HexReadBackLemmas.{hex_read}
 use Rattle.own_model.proofs.calls.hex_is_read_back.Goals as goal
 
 pub returns : goal.returns

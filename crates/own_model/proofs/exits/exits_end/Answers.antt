@@ -1,5 +1,5 @@
 -- Who is gone is turned away before its call is looked at.
-use Rattle.own_model.proofs.ExitLemmas.{exits_done, gone_turned, gone_stays, exits_end_all, exits_alone}
+use Rattle.own_model.proofs.StepExitLemmas.{exits_done, gone_turned, gone_stays, exits_end_all, exits_alone}
 use Rattle.own_model.proofs.exits.exits_end.Goals as goal
 
 pub returns-clause-done : goal.returns-clause-done

@@ -1,6 +1,6 @@
 -- Payloads of the heap are found until they are given back.
 use Rattle.own_model.proofs.HeapPayloadLemmas.{heap_payload_found, heap_payload_gone}
-use Rattle.own_model.proofs.PayloadLemmas.{block_fits}
+use Rattle.own_model.proofs.SlicedPayloadLemmas.{block_fits}
 use Rattle.own_model.proofs.heap.heap_payloads_are_found.Goals as goal
 
 pub returns-clause-fit : goal.returns-clause-fit

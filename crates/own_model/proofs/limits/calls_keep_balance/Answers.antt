@@ -1,5 +1,5 @@
 -- A call leaves all limits as they are and overdraws no account.
-use Rattle.own_model.proofs.BalanceLemmas.{step_balanced, lines_balanced, limits_fit, step_balanced_for, lines_balanced_for}
+use Rattle.own_model.proofs.StepBalanceLemmas.{step_balanced, lines_balanced, limits_fit, step_balanced_for, lines_balanced_for}
 use Rattle.own_model.proofs.limits.calls_keep_balance.Goals as goal
 
 pub returns-clause-call : goal.returns-clause-call

@@ -1,5 +1,5 @@
 -- Nothing that a call can do overdraws an account, and limits are only moved.
-use Rattle.own_model.proofs.LimitLemmas.{limits_left, limits_stay, step_within, step_all_within, run_within}
+use Rattle.own_model.proofs.StepLimitLemmas.{limits_left, limits_stay, step_within, step_all_within, run_within}
 use Rattle.own_model.proofs.limits.calls_keep_limits.Goals as goal
 
 pub returns-clause-same : goal.returns-clause-same

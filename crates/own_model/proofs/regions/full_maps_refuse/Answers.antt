@@ -1,5 +1,5 @@
 -- What the selector names is looked at first, and then how many regions there are.
-use Rattle.own_model.proofs.SoundLemmas.{full_refuses, unnamed_refused}
+use Rattle.own_model.proofs.StepSoundLemmas.{full_refuses, unnamed_refused}
 use Rattle.own_model.proofs.regions.full_maps_refuse.Goals as goal
 
 pub returns-clause-full : goal.returns-clause-full

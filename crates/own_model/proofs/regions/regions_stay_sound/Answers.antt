@@ -1,5 +1,5 @@
 -- Who starts has no regions, and nothing that a call can do makes them unsound.
-use Rattle.own_model.proofs.SoundLemmas.{start_sound, step_sound, run_sound}
+use Rattle.own_model.proofs.StepSoundLemmas.{start_sound, step_sound, run_sound}
 use Rattle.own_model.proofs.regions.regions_stay_sound.Goals as goal
 
 pub returns-clause-start : goal.returns-clause-start

@@ -1,5 +1,5 @@
 -- Only requests and yields move limits between an account and a reserve.
-use Rattle.own_model.proofs.ReserveLemmas.{others_kept, limits_moved}
+use Rattle.own_model.proofs.StepReserveLemmas.{others_kept, limits_moved}
 use Rattle.own_model.proofs.reserves.reserves_are_kept.Goals as goal
 
 pub returns-clause-others : goal.returns-clause-others

@@ -1,5 +1,5 @@
 -- Each call counts what it adds to the limits of the session that a selector names.
-use Rattle.own_model.proofs.DonationLemmas.{limits_donated, closes_returned}
+use Rattle.own_model.proofs.SessionDonationLemmas.{limits_donated, closes_returned}
 use Rattle.own_model.proofs.sessions.closes_return_donations.Goals as goal
 
 pub returns-clause-limits : goal.returns-clause-limits

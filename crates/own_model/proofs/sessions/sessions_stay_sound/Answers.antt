@@ -1,6 +1,6 @@
 -- What holds of a new session, and of one that is upgraded or has served, holds of each.
 use Rattle.own_model.proofs.SessionSoundLemmas.{run_kept}
-use Rattle.own_model.proofs.ChargeLemmas.{run_charges}
+use Rattle.own_model.proofs.SessionChargeLemmas.{run_charges}
 use Rattle.own_model.proofs.StartLemmas.{start_alone}
 use Rattle.own_model.proofs.sessions.sessions_stay_sound.Goals as goal
 

@@ -1,5 +1,5 @@
 -- Payloads lie apart, and above the user window.
-use Rattle.own_model.proofs.PayloadLemmas.{payload_fits, payload_is_found, payload_is_gone}
+use Rattle.own_model.proofs.SlicedPayloadLemmas.{payload_fits, payload_is_found, payload_is_gone}
 use Rattle.own_model.proofs.sliced.payloads_are_found.Goals as goal
 
 pub returns-clause-fit : goal.returns-clause-fit

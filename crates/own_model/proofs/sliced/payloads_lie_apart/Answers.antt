@@ -1,5 +1,5 @@
 -- What stands in the heap window lies apart, header and payload together.
-use Rattle.own_model.proofs.PayloadLemmas.{payload_within, payloads_apart}
+use Rattle.own_model.proofs.SlicedPayloadLemmas.{payload_within, payloads_apart}
 use Rattle.own_model.proofs.sliced.payloads_lie_apart.Goals as goal
 
 pub returns-clause-window : goal.returns-clause-window

@@ -4,7 +4,7 @@ use Rattle.own_model.specs.World.{account_by}
 use Rattle.pd_core.specs.Component.{kind_of, own, IsSoundRole}
 use Rattle.pd_core.specs.Core.{init_in, roles_of, sessions_in}
 use Rattle.pd_core.specs.declared.component.Component.{Component}
-use Rattle.pd_core.proofs.WorldLemmas.{role_read}
+use Rattle.pd_core.proofs.CoreWorldLemmas.{role_read}
 use Rattle.pd_core.proofs.QuotaLemmas.{account_at_place, limits_at_place}
 use Rattle.pd_core.proofs.accounts.component_quotas.Goals as goal
 

@@ -5,8 +5,8 @@ use Rattle.pd_core.specs.Core.{roles_of, sessions_in}
 use Rattle.pd_core.specs.declared.component.Component.{Component}
 use Rattle.std.specs.Prelude.{IfSome}
 use Rattle.dataspace_core.specs.Store.{IsOpenIn}
-use Rattle.pd_core.proofs.HeldLemmas.{reserve_open}
-use Rattle.pd_core.proofs.WorldLemmas.{role_read}
+use Rattle.pd_core.proofs.CoreHeldLemmas.{reserve_open}
+use Rattle.pd_core.proofs.CoreWorldLemmas.{role_read}
 use Rattle.pd_core.proofs.QuotaLemmas.{reserve_at_place}
 use Rattle.pd_core.proofs.accounts.component_reserve.Goals as goal
 

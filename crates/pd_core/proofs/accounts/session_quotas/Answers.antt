@@ -6,7 +6,7 @@ use Rattle.std.specs.FinMap.{get}
 use Rattle.own_model.specs.Session.{Session as AnOpenSession, Labelled}
 use Rattle.server_frame.specs.Frame.{Row}
 use Rattle.pd_core.specs.Component.{rows_of, IsSoundRole}
-use Rattle.pd_core.proofs.WorldLemmas.{role_read}
+use Rattle.pd_core.proofs.CoreWorldLemmas.{role_read}
 use Rattle.pd_core.specs.Core.{roles_of, sessions_in}
 use Rattle.pd_core.specs.SessionCalls.{named_in}
 use Rattle.pd_core.specs.Sessions.{row_session}

@@ -4,7 +4,7 @@ use Rattle.pd_core.specs.Component.{IsSoundRole}
 use Rattle.pd_core.proofs.ExitCallLemmas.{alone_after, exit_goes, exit_refused_goes}
 use Rattle.pd_core.proofs.ExitLemmas.{alone_child, alone_leaf, alone_unlent, alone_reserve}
 use Rattle.pd_core.proofs.SessionRefusedLemmas.{passed_on}
-use Rattle.pd_core.proofs.WorldLemmas.{role_at}
+use Rattle.pd_core.proofs.CoreWorldLemmas.{role_at}
 use Rattle.pd_core.proofs.exiting.exit.Goals as goal
 
 pub returns-in_err-places : goal.returns-in_err-places
@@ -13,8 +13,8 @@ returns-in_err-places c = λ places at_home.
     passed_on refusal c.from_residual.result c.from_residual.ensures.1
     (exit_refused_goes places c.args.components.now c.index-components-caller.result c.requires.core c.requires.caller refusal c.in_err-places.ensures.told)
 
-pub end-requires : goal.end-requires
-end-requires c =
+pub leave-requires : goal.leave-requires
+leave-requires c =
     let places = c.in_ok-places.ensures in
     let closes = c.close_all.ensures in
     let e = c.index-components-caller-2.result in
@@ -32,5 +32,5 @@ end-requires c =
 pub returns : goal.returns
 returns c =
     let places = c.in_ok-places.ensures in
-    let ended = c.end.ensures in
+    let ended = c.leave.ensures in
     exit_goes c.index-components-caller.result c.index-components-caller-2.result c.requires.core c.requires.caller places.told places.within c.close_all.ensures ended.gone ended.closes ended.machine ended.caps

@@ -1,7 +1,7 @@
 -- A digit is written in each turn, before those of the turns before.
 use Rattle.std.proofs.Common.{◌-◌, refl, ◌∙◌, arith, length-set}
-use Rattle.own_model.proofs.ReadBackLemmas.{positive_power}
-use Rattle.pd_core.proofs.SpellingLemmas.{spelled_first, room_after, spelled_next, spelled_last}
+use Rattle.own_model.proofs.HexReadBackLemmas.{positive_power}
+use Rattle.pd_core.proofs.HexSpellingLemmas.{spelled_first, room_after, spelled_next, spelled_last}
 use Rattle.pd_core.proofs.hex_digits.write_hex.Goals as goal
 
 pub loop-rest-init : goal.loop-rest-init

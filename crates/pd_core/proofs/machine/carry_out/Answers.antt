@@ -4,13 +4,13 @@ use Rattle.std.proofs.lemmas.Grind.{common_steps}
 use Rattle.own_model.specs.Call.{is_exit}
 use Rattle.trade_base.specs.declared.refusal.Refusal.{Refusal}
 use Rattle.own_model.specs.Reply.{reply_text}
-use Rattle.pd_core.specs.declared.answer.Answer.{Answer}
+use Rattle.pd_core.specs.declared.answer.Granted.{Granted}
 use Rattle.pd_core.specs.Answer.{reply_of, told_alone}
 use Rattle.pd_core.specs.Call.{model_call}
 use Rattle.pd_core.specs.Core.{roles_of, sessions_in}
-use Rattle.pd_core.proofs.PlainLemmas.{plain_goes}
-use Rattle.pd_core.proofs.HeldLemmas.{names_open, reserve_apart}
-use Rattle.pd_core.proofs.WorldLemmas.{goes_as, role_at}
+use Rattle.pd_core.proofs.CorePlainLemmas.{plain_goes}
+use Rattle.pd_core.proofs.CoreHeldLemmas.{names_open, reserve_apart}
+use Rattle.pd_core.proofs.CoreWorldLemmas.{goes_as, role_at}
 use Rattle.pd_core.specs.Component.{HasReserveApart, caps_in, IsSoundRole}
 use Rattle.pd_core.specs.Own.{HasSessions}
 use Rattle.pd_core.proofs.machine.carry_out.Goals.{in-Open, in-Upgrade, in-Close, in-Reserve, in-Request, in-Yield, in-Exit}
@@ -49,7 +49,7 @@ returns-in-CallSession g c = goes_as (ap model_call c.in-CallSession.is) refl (c
 pub returns : goal.returns
 returns g c =
     let places = g.R.Router.places c.args.routes.now in
-    let told : (answered : Result Answer Refusal) → c.match-call.outcome ≡ answered → c.tell.new.reply ≡ told_alone (reply_text (reply_of answered))
+    let told : (answered : Result Granted Refusal) → c.match-call.outcome ≡ answered → c.tell.new.reply ≡ told_alone (reply_text (reply_of answered))
     = λ answered is. c.tell.ensures ∙ ap (λ o. told_alone (reply_text (reply_of o))) is in
     elim c.match-call.branch [
       | in-Open w ↦ rw (w.memory-is, w.components-is) (goes_as (ap model_call w.in-Open.is) (told _ w.outcome-is) w.open-outcome.ensures)

@@ -9,7 +9,7 @@ use Rattle.pd_core.specs.SessionCalls.{Goes}
 use Rattle.std.specs.Option.{option_or}
 use Rattle.pd_core.specs.Exit.{refusal_of}
 use Rattle.pd_core.specs.declared.component.Component.{Component}
-use Rattle.pd_core.proofs.PlainLemmas.{unlisted}
+use Rattle.pd_core.proofs.CorePlainLemmas.{unlisted}
 use Rattle.pd_core.proofs.ReserveCallLemmas.{from_reserve, request_unread, request_short, request_goes}
 use Rattle.pd_core.proofs.SessionRefusedLemmas.{no_script_goes, passed_on, arguments_are}
 use Rattle.pd_core.proofs.reserves.request.Goals as goal

@@ -9,10 +9,10 @@ use Rattle.std.specs.Option.{option_or}
 use Rattle.trade_base.specs.declared.refusal.Refusal.TheVariants.{NotAScript}
 use Rattle.pd_core.specs.Exit.{refusal_of}
 use Rattle.pd_core.specs.declared.component.Component.{Component}
-use Rattle.pd_core.proofs.HeldLemmas.{reserve_open}
+use Rattle.pd_core.proofs.CoreHeldLemmas.{reserve_open}
 use Rattle.pd_core.proofs.ReserveCallLemmas.{told_goes}
 use Rattle.pd_core.proofs.SessionRefusedLemmas.{no_script_goes}
-use Rattle.pd_core.proofs.WorldLemmas.{role_read}
+use Rattle.pd_core.proofs.CoreWorldLemmas.{role_read}
 use Rattle.pd_core.proofs.reserves.reserve.Goals as goal
 
 pub returns-in_default : goal.returns-in_default

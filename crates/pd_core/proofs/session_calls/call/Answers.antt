@@ -4,12 +4,12 @@ use Rattle.std.specs.Prelude.{IsSome}
 use Rattle.own_model.specs.Call.Call.{CallSession}
 use Rattle.pd_core.specs.Component.{served_by}
 use Rattle.pd_core.specs.SessionCalls.{Goes}
-use Rattle.pd_core.proofs.PlainLemmas.{unlisted}
+use Rattle.pd_core.proofs.CorePlainLemmas.{unlisted}
 use Rattle.pd_core.proofs.ServerLemmas.{is_server, serving_as, as_it_is, host_serves_in, component_stays}
 use Rattle.pd_core.proofs.SessionRefusedLemmas.{call_asks, unnamed_goes}
 use Rattle.pd_core.proofs.SessionWorldLemmas.{its as named_role, Names, named_two, named_cap, host_within, host_serves}
-use Rattle.pd_core.proofs.ServedSessionLemmas.{nothing_goes, has_left, has_room, made_goes, given_named, given_goes}
-use Rattle.pd_core.proofs.WorldLemmas.{role_at}
+use Rattle.pd_core.proofs.SessionServedLemmas.{nothing_goes, has_left, has_room, made_goes, given_named, given_goes}
+use Rattle.pd_core.proofs.CoreWorldLemmas.{role_at}
 use Rattle.pd_core.proofs.session_calls.call.Goals as goal
 
 pub returns-in-Err : goal.returns-in-Err

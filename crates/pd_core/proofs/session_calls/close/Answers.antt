@@ -3,10 +3,10 @@ use Rattle.std.proofs.Common.{rules, get_or, set, length-set, refl, sym, subst, 
 use Rattle.std.specs.Prelude.{IsSome}
 use Rattle.own_model.specs.Call.Call.{Close}
 use Rattle.pd_core.specs.Component.{served_by}
-use Rattle.pd_core.proofs.PlainLemmas.{unlisted}
+use Rattle.pd_core.proofs.CorePlainLemmas.{unlisted}
 use Rattle.pd_core.proofs.SessionRefusedLemmas.{close_asks, unnamed_goes, passed_on, unchanged}
 use Rattle.pd_core.proofs.SessionWorldLemmas.{Names, named_two, named_cap, host_within, host_read, host_serves}
-use Rattle.pd_core.proofs.ClosedSessionLemmas.{closed_goes, lent_named, ended_goes}
+use Rattle.pd_core.proofs.SessionClosedLemmas.{closed_goes, lent_named, ended_goes}
 use Rattle.services.proofs.HostLaws.{has_session}
 use Rattle.pd_core.proofs.ServerLemmas.{is_server, serving_as, as_it_is, host_serves_in, component_stays}
 use Rattle.pd_core.proofs.session_calls.close.Goals as goal

@@ -4,13 +4,13 @@ use Rattle.std.specs.Prelude.{IsSome}
 use Rattle.trade_base.specs.declared.refusal.Refusal.TheVariants.{ServiceDenied}
 use Rattle.own_model.specs.Call.Call.{Open}
 use Rattle.own_model.specs.Routes.{label_with}
-use Rattle.pd_core.proofs.RouterLemmas.{denied_wish}
+use Rattle.pd_core.proofs.CoreRouterLemmas.{denied_wish}
 use Rattle.pd_core.proofs.SessionRefusedLemmas.{no_script_goes, unasked_goes, unread_wish, passed_on, unchanged, arguments_are}
 use Rattle.pd_core.specs.Component.{served_by}
 use Rattle.pd_core.proofs.ServerLemmas.{is_server, serving_as, as_it_is}
 use Rattle.pd_core.proofs.SessionWorldLemmas.{host_within}
-use Rattle.pd_core.proofs.WorldLemmas.{role_at}
-use Rattle.pd_core.proofs.RoutedSessionLemmas.{IsLed, led_two, led_refused, led_admits, led_selector, led_opened}
+use Rattle.pd_core.proofs.CoreWorldLemmas.{role_at}
+use Rattle.pd_core.proofs.SessionRoutedLemmas.{IsLed, led_two, led_refused, led_admits, led_selector, led_opened}
 use Rattle.pd_core.proofs.session_calls.open.Goals as goal
 
 pub returns-in_default : goal.returns-in_default

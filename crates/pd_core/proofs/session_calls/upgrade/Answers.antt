@@ -7,7 +7,7 @@ use Rattle.pd_core.specs.Component.{served_by}
 use Rattle.pd_core.proofs.ServerLemmas.{is_server, serving_as, as_it_is, host_serves_in, component_stays}
 use Rattle.pd_core.proofs.SessionRefusedLemmas.{upgrade_asks, unnamed_goes, passed_on, unchanged, arguments_are}
 use Rattle.pd_core.proofs.SessionWorldLemmas.{Names, named_two, named_cap, host_within, host_serves, unread_goes, short_goes, upgrade_goes}
-use Rattle.pd_core.proofs.WorldLemmas.{role_at}
+use Rattle.pd_core.proofs.CoreWorldLemmas.{role_at}
 use Rattle.pd_core.proofs.session_calls.upgrade.Goals as goal
 
 pub returns-in_err-entry : goal.returns-in_err-entry

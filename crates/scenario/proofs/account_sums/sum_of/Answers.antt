@@ -1,6 +1,6 @@
 -- Past the last selector there is no session, so all limits are added up.
 use Rattle.std.proofs.Common.{arith}
-use Rattle.own_model.proofs.KeySums.{total_below}
+use Rattle.own_model.proofs.NatMapSums.{total_below}
 use Rattle.own_model.specs.Limits.{ram_with, caps_with}
 use Rattle.own_model.specs.Transcript.{state_at}
 use Rattle.scenario.proofs.account_sums.sum_of.Goals as goal

@@ -1,6 +1,6 @@
 -- The limits of what so many selectors name are added up, and each session's fit 64 bits.
 use Rattle.std.proofs.Common.{◌≡◌, ◌+◌, ◌*◌, ◌^◌, ◌≤◌}
-use Rattle.own_model.proofs.KeySums.{sum_below}
+use Rattle.own_model.proofs.NatMapSums.{sum_below}
 use Rattle.own_model.specs.Limits.{ram_with, caps_with}
 use Rattle.own_model.specs.StartList.{init_at}
 use Rattle.own_model.specs.Transcript.{state_at}

@@ -1,7 +1,7 @@
 -- A pair is taken in, or makes no arguments.
 use Rattle.std.proofs.Common.{ap, sym, ◌∙◌}
 use Rattle.std.specs.Option.{option_copied, option_and_then}
-use Rattle.session_proto.specs.Found.{known}
+use Rattle.session_proto.specs.Pairs.{known}
 use Rattle.session_proto.proofs.ArgsLemmas.{arguments_from, pair_taken}
 use Rattle.session_proto.proofs.args.read_arguments.Goals as goal
 

@@ -2,7 +2,7 @@
 use Rattle.std.proofs.Common.{◌≡◌, ◌+◌, length}
 use Rattle.own_model.specs.SessionArgs.{arguments_of}
 use Rattle.std.specs.Option.{option_copied, option_map_or}
-use Rattle.session_proto.specs.Found.{known}
+use Rattle.session_proto.specs.Pairs.{known}
 use Rattle.session_proto.proofs.ArgsLemmas.{arguments_from}
 use Rattle.session_proto.proofs.args.read_arguments.Given as goal
 

@@ -3,7 +3,7 @@ use Rattle.std.proofs.Common.{rules, arith, ◌≡◌, [], refl, true≢false, s
 use Rattle.std.specs.Prelude.{map}
 use Rattle.std.specs.FinMap.{len}
 use Rattle.own_model.specs.OwnHeap.{OwnHeap}
-use Rattle.own_model.specs.Session.ServiceState.{Filing}
+use Rattle.own_model.specs.Services.ServiceState.{Filing}
 use Rattle.heap_core.specs.Heap.{heap_in}
 use Rattle.sliced_heap.specs.Sliced.{sliced_of}
 use Rattle.file_service.specs.Files.{StandAt, file_at, link_in, nodes_from}

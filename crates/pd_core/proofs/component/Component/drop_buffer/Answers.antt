@@ -1,5 +1,5 @@
 -- The buffer is a script's.
-use Rattle.pd_core.proofs.BufferLemmas.{drops}
+use Rattle.pd_core.proofs.LentGoneLemmas.{drops}
 use Rattle.pd_core.proofs.component.Component.drop_buffer.Goals as goal
 
 pub returns : goal.returns

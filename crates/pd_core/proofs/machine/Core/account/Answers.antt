@@ -5,7 +5,7 @@ use Rattle.own_model.specs.Transcript.{state_at}
 use Rattle.own_model.specs.World.{World, account_at}
 use Rattle.pd_core.specs.Answer.{quotas_account, CountsLimits}
 use Rattle.pd_core.specs.Core.{world_of}
-use Rattle.pd_core.proofs.WorldLemmas.{core_at}
+use Rattle.pd_core.proofs.CoreWorldLemmas.{core_at}
 use Rattle.pd_core.proofs.machine.Core.account.Goals as goal
 
 pub component_quotas-requires : goal.component_quotas-requires

@@ -6,7 +6,7 @@ use Rattle.own_model.specs.World.{World}
 use Rattle.pd_core.specs.Component.{own}
 use Rattle.pd_core.specs.Core.{init_in, inits_of, roles_of, sessions_in}
 use Rattle.pd_core.specs.declared.component.Component.{Component}
-use Rattle.pd_core.proofs.WorldLemmas.{length-entries}
+use Rattle.pd_core.proofs.CoreWorldLemmas.{length-entries}
 use Rattle.pd_core.proofs.machine.Core.count.Goals as goal
 
 pub returns-clause-entries : goal.returns-clause-entries

@@ -2,7 +2,7 @@
 use Rattle.std.proofs.Common.{ap, subst, sym, ◌∙◌}
 use Rattle.pd_core.specs.Core.{world_of, IsCore}
 use Rattle.pd_core.specs.SessionCalls.{Agrees}
-use Rattle.pd_core.proofs.FreshLemmas.{fresh_core, fresh_world}
+use Rattle.pd_core.proofs.CoreFreshLemmas.{fresh_core, fresh_world}
 use Rattle.pd_core.proofs.machine.Core.from_parts.Goals as goal
 
 pub invariant_of-result : goal.invariant_of-result

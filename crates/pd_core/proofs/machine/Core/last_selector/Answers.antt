@@ -4,7 +4,7 @@ use Rattle.std.specs.FinMap.{get}
 use Rattle.own_model.specs.Transcript.{state_at}
 use Rattle.own_model.specs.World.{World}
 use Rattle.pd_core.specs.Core.{world_of}
-use Rattle.pd_core.proofs.WorldLemmas.{place_within}
+use Rattle.pd_core.proofs.CoreWorldLemmas.{place_within}
 use Rattle.pd_core.proofs.QuotaLemmas.{none_at_place}
 use Rattle.pd_core.proofs.machine.Core.last_selector.Goals as goal
 

@@ -3,7 +3,7 @@ use Rattle.std.proofs.Common.{ap, ◌∙◌}
 use Rattle.own_model.specs.Transcript.{state_at}
 use Rattle.own_model.specs.World.{World}
 use Rattle.pd_core.specs.Core.{world_of}
-use Rattle.pd_core.proofs.WorldLemmas.{core_at}
+use Rattle.pd_core.proofs.CoreWorldLemmas.{core_at}
 use Rattle.pd_core.proofs.machine.Core.reserve.Goals as goal
 
 pub component_reserve-requires : goal.component_reserve-requires

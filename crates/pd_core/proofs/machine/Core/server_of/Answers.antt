@@ -13,7 +13,7 @@ use Rattle.pd_core.specs.SessionCalls.{named_in}
 use Rattle.pd_core.specs.Sessions.{row_session}
 use Rattle.pd_core.specs.declared.component.Component.{Component}
 use Rattle.pd_core.proofs.QuotaLemmas.{found_in, session_at_place, served_where}
-use Rattle.pd_core.proofs.WorldLemmas.{core_at, place_within}
+use Rattle.pd_core.proofs.CoreWorldLemmas.{core_at, place_within}
 use Rattle.pd_core.proofs.machine.Core.server_of.Goals as goal
 
 pub bounds-components-component : goal.bounds-components-component

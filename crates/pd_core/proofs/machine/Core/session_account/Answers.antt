@@ -7,7 +7,7 @@ use Rattle.own_model.specs.Session.{Session as AnOpenSession}
 use Rattle.own_model.specs.Transcript.{state_at}
 use Rattle.own_model.specs.World.{World}
 use Rattle.pd_core.specs.Core.{world_of}
-use Rattle.pd_core.proofs.WorldLemmas.{core_at}
+use Rattle.pd_core.proofs.CoreWorldLemmas.{core_at}
 use Rattle.pd_core.proofs.machine.Core.session_account.Goals as goal
 
 pub session_quotas-requires : goal.session_quotas-requires

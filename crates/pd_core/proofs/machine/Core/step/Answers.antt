@@ -6,12 +6,12 @@ use Rattle.std.specs.Vec.{with_items}
 use Rattle.std.specs.List.{flat_map}
 use Rattle.own_model.specs.Reply.{reply_text, log_text}
 use Rattle.own_model.specs.World.{IsBalanced, IsBalancedFor, outcome_at, with_state}
-use Rattle.own_model.proofs.BalanceLemmas.{step_balanced, step_balanced_for}
+use Rattle.own_model.proofs.StepBalanceLemmas.{step_balanced, step_balanced_for}
 use Rattle.pd_core.specs.Call.{model_call}
 use Rattle.pd_core.specs.Core.{IsCore, world_of}
 use Rattle.pd_core.specs.SessionCalls.{Agrees}
 use Rattle.pd_core.specs.declared.component.Component.{Component}
-use Rattle.pd_core.proofs.WorldLemmas.{core_at, same_many}
+use Rattle.pd_core.proofs.CoreWorldLemmas.{core_at, same_many}
 use Rattle.pd_core.proofs.machine.Core.step.Goals as goal
 
 -- components that are lent come back as they are then, where they are as many

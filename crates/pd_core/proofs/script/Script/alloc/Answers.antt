@@ -4,7 +4,7 @@ use Rattle.own_model.proofs.NatMapLemmas.{apart_from_free}
 use Rattle.dataspace_core.specs.Store.{part}
 use Rattle.dataspace_core.proofs.PartLaws.{open_in_part}
 use Rattle.dataspace_core.proofs.PartLemmas.{part-fresh}
-use Rattle.pd_core.proofs.SettleLemmas.{settled}
+use Rattle.pd_core.proofs.ScriptSettleLemmas.{settled}
 use Rattle.pd_core.proofs.AccountLemmas.{alloc_refused, alloc_settles, alloc_fits, has_place}
 use Rattle.pd_core.proofs.ScriptLemmas.{finishes, refuses}
 use Rattle.pd_core.proofs.script.Script.alloc.Goals as goal

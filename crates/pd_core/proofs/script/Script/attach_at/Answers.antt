@@ -1,7 +1,7 @@
 -- A dataspace is attached.
 use Rattle.std.proofs.Common.{refl, ap, arith}
 use Rattle.dataspace_core.proofs.PartLaws.{becomes_same}
-use Rattle.pd_core.proofs.SettleLemmas.{settled}
+use Rattle.pd_core.proofs.ScriptSettleLemmas.{settled}
 use Rattle.pd_core.proofs.RegionCallLemmas.{some_pages, attach_at_unnamed, attach_at_refused, attach_at_settles}
 use Rattle.pd_core.proofs.ScriptLemmas.{finishes, refuses}
 use Rattle.pd_core.proofs.script.Script.attach_at.Goals as goal

@@ -2,7 +2,7 @@
 use Rattle.std.proofs.Common.{refl}
 use Rattle.dataspace_core.specs.Store.{part}
 use Rattle.dataspace_core.proofs.PartLaws.{open_in_part}
-use Rattle.pd_core.proofs.SettleLemmas.{settled}
+use Rattle.pd_core.proofs.ScriptSettleLemmas.{settled}
 use Rattle.pd_core.proofs.AccountLemmas.{capalloc_refused, capalloc_settles, cap_fits, has_place}
 use Rattle.pd_core.proofs.ScriptLemmas.{finishes, refuses}
 use Rattle.pd_core.proofs.script.Script.capalloc.Goals as goal

@@ -4,7 +4,7 @@ use Rattle.std.specs.Prelude.{Err}
 use Rattle.trade_base.specs.declared.refusal.Refusal.TheVariants.{InvalidCap}
 use Rattle.dataspace_core.specs.Store.{part}
 use Rattle.dataspace_core.proofs.PartLaws.{open_in_part}
-use Rattle.pd_core.proofs.SettleLemmas.{settled}
+use Rattle.pd_core.proofs.ScriptSettleLemmas.{settled}
 use Rattle.pd_core.proofs.AccountLemmas.{found_rpc, has_spare, capfree_refused, capfree_settles}
 use Rattle.pd_core.proofs.ScriptLemmas.{finishes, refuses}
 use Rattle.pd_core.proofs.script.Script.capfree.Goals as goal

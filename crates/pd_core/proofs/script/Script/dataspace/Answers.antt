@@ -5,7 +5,7 @@ use Rattle.dataspace_core.specs.Store.{part}
 use Rattle.dataspace_core.proofs.PartLaws.{paid_in_part}
 use Rattle.pd_core.specs.Own.{lent_in, sized_at}
 use Rattle.pd_core.specs.Sound.{buffer_at}
-use Rattle.pd_core.proofs.OwnLemmas.{has_bytes, pages_are}
+use Rattle.pd_core.proofs.ScriptOwnLemmas.{has_bytes, pages_are}
 use Rattle.pd_core.proofs.script.Script.dataspace.Goals as goal
 
 pub pages-requires : goal.pages-requires

@@ -1,7 +1,7 @@
 -- A region goes.
 use Rattle.std.proofs.Common.{refl, ap}
 use Rattle.dataspace_core.proofs.PartLaws.{becomes_same}
-use Rattle.pd_core.proofs.SettleLemmas.{settled}
+use Rattle.pd_core.proofs.ScriptSettleLemmas.{settled}
 use Rattle.pd_core.proofs.RegionCallLemmas.{detach_refused, detach_settles}
 use Rattle.pd_core.proofs.ScriptLemmas.{finishes, refuses}
 use Rattle.pd_core.proofs.script.Script.detach.Goals as goal

@@ -3,7 +3,7 @@ use Rattle.std.proofs.Common.{ap, subst, ◌∙◌}
 use Rattle.trade_base.specs.declared.id.AccountId.{AccountId}
 use Rattle.dataspace_core.specs.Store.{account_in, parent_in, AreRelatedIn}
 use Rattle.dataspace_core.proofs.PartLaws.{open_in_part}
-use Rattle.pd_core.proofs.EndLemmas.{clears_after, unused, was_related, same_caps}
+use Rattle.pd_core.proofs.ExitEndLemmas.{clears_after, unused, was_related, same_caps}
 use Rattle.pd_core.proofs.script.Script.end.Goals as goal
 
 pub close-requires-clause-unused : goal.close-requires-clause-unused

@@ -1,5 +1,5 @@
 -- The sliced blocks go, and the chunks and large blocks stay where they stand until they go.
-use Rattle.pd_core.proofs.EndLemmas.{heap_left, clears}
+use Rattle.pd_core.proofs.ExitEndLemmas.{heap_left, clears}
 use Rattle.pd_core.proofs.script.Script.end_heaps.Goals as goal
 
 pub end-requires-2 : goal.end-requires-2

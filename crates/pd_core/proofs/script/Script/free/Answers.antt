@@ -4,8 +4,8 @@ use Rattle.std.specs.Prelude.{Err}
 use Rattle.trade_base.specs.declared.refusal.Refusal.TheVariants.{InvalidCap}
 use Rattle.dataspace_core.specs.Store.{part_without_space}
 use Rattle.dataspace_core.proofs.PartLaws.{paid_in_part}
-use Rattle.pd_core.proofs.OwnLemmas.{has_bytes, for_payer}
-use Rattle.pd_core.proofs.SettleLemmas.{settled}
+use Rattle.pd_core.proofs.ScriptOwnLemmas.{has_bytes, for_payer}
+use Rattle.pd_core.proofs.ScriptSettleLemmas.{settled}
 use Rattle.pd_core.proofs.AccountLemmas.{taken_dataspace, free_refused, free_settles}
 use Rattle.pd_core.proofs.ScriptLemmas.{finishes, refuses}
 use Rattle.pd_core.proofs.script.Script.free.Goals as goal

@@ -6,7 +6,7 @@ use Rattle.dataspace_core.specs.Store.{Exists, space_at}
 use Rattle.pd_core.specs.Answer.{told, told_of, told_alone}
 use Rattle.pd_core.specs.Own.{own_at}
 use Rattle.pd_core.proofs.BytesLemmas.{few, few_bytes, peek_refused}
-use Rattle.pd_core.proofs.PlaceLemmas.{found_there, found_fits, peek_found}
+use Rattle.pd_core.proofs.BytesPlaceLemmas.{found_there, found_fits, peek_found}
 use Rattle.pd_core.proofs.script.Script.peek.Goals as goal
 
 pub tell_range-requires-clause-exists : goal.tell_range-requires-clause-exists

@@ -4,7 +4,7 @@ use Rattle.own_model.specs.Call.Call.{Poke}
 use Rattle.dataspace_core.specs.Store.{Exists, part, space_at, part_with_bytes, PartBecomes}
 use Rattle.pd_core.specs.Call.{bytes_in}
 use Rattle.pd_core.proofs.BytesLemmas.{few, poke_refused}
-use Rattle.pd_core.proofs.PlaceLemmas.{found_there, found_fits, poke_finishes}
+use Rattle.pd_core.proofs.BytesPlaceLemmas.{found_there, found_fits, poke_finishes}
 use Rattle.pd_core.proofs.HexLemmas.{half_is, bytes_small}
 use Rattle.pd_core.proofs.ScriptLemmas.{refuses}
 use Rattle.pd_core.proofs.script.Script.poke.Goals as goal

@@ -1,6 +1,6 @@
 -- A dataspace or an RPC object is taken out, and nothing else is there.
 use Rattle.std.proofs.Common.{Some, sym, ap, ◌∙◌}
-use Rattle.pd_core.proofs.ReleaseLemmas.{free_takes_out, capfree_takes_out}
+use Rattle.pd_core.proofs.ExitReleaseLemmas.{free_takes_out, capfree_takes_out}
 use Rattle.pd_core.proofs.script.Script.release.Goals as goal
 
 pub returns-in-Some-Dataspace-clause-gone : goal.returns-in-Some-Dataspace-clause-gone

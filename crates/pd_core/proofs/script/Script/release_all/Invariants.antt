@@ -1,5 +1,5 @@
 -- What is left is behind the places that were passed.
-use Rattle.pd_core.proofs.ReleaseLemmas.{ReleasesTo}
+use Rattle.pd_core.proofs.ExitReleaseLemmas.{ReleasesTo}
 use Rattle.pd_core.proofs.script.Script.release_all.Given as goal
 
 abbrev pub invariant-loop-place : goal.invariant-loop-place

@@ -8,9 +8,9 @@ use Rattle.own_model.specs.Reply.{reply_text}
 use Rattle.own_model.specs.Reply.Reply.{Quotas}
 use Rattle.dataspace_core.specs.Store.{Store, part, account_in}
 use Rattle.server_frame.specs.Told.{Told as Written}
-use Rattle.pd_core.specs.declared.answer.Answer.{Answer}
-use Rattle.pd_core.specs.declared.answer.Answer.TheVariants.{Quotas as QuotasAnswered}
-use Rattle.pd_core.specs.declared.answer.Quotas.{Quotas as QuotasTold}
+use Rattle.pd_core.specs.declared.answer.Granted.{Granted}
+use Rattle.pd_core.specs.declared.answer.Granted.TheVariants.{Quotas as QuotasAnswered}
+use Rattle.server_frame.specs.declared.quotas.Quotas.{Quotas as QuotasTold}
 use Rattle.pd_core.specs.declared.script.Script.{Script}
 use Rattle.pd_core.specs.Answer.{told, told_of, told_alone, reply_of, quotas_account}
 use Rattle.pd_core.specs.Call.{model_call}
@@ -27,7 +27,7 @@ record Tells (made : Call) (said : Written) (old : Store) (before : Script) (new
   keeps : Keeps old before new after
   others : SparesOthers before.account.0 before.caps.caps old new
 
-tells : {made call : Call} {said : Written} {given answered : Result Answer Refusal} {old : Store} {before : Script} {new : Store} {after : Script} →
+tells : {made call : Call} {said : Written} {given answered : Result Granted Refusal} {old : Store} {before : Script} {new : Store} {after : Script} →
     made ≡ call → said ≡ told_alone (reply_text (reply_of given)) → given ≡ answered → DoesBeside (SparesOthers before.account.0 before.caps.caps old new) call (reply_of answered) old before new after → Tells made said old before new after
 tells {made} {call} {said} {given} {answered} {old} {before} {new} {after} is said_is given_is does = record {
   outcome = λ sessions ready.

@@ -1,0 +1,24 @@
+-- The services of servers: the one table of their names.
+use Rattle.std.specs.Prelude.{List, ℕ, [], ◌∷◌, codes, Option}
+use Rattle.std.specs.List.{find}
+use Rattle.std.specs.Str.{bytes_eq}
+use Rattle.trade_base.specs.declared.service.Service.{Service}
+use Rattle.trade_base.specs.declared.service.Service.TheVariants.{Log, Files}
+
+-- every service
+abbrev pub services : List Service
+services = Log ∷ Files ∷ []
+
+-- the name by which clients ask for it
+abbrev pub service_name : Service → List ℕ
+service_name Log = codes "LOG"
+service_name Files = codes "File_system"
+
+-- the name of the binary that serves it
+abbrev pub binary_name : Service → List ℕ
+binary_name Log = codes "log"
+binary_name Files = codes "files"
+
+-- the service of a binary's name, if it is one's
+abbrev pub served_by_binary : List ℕ → Option Service
+served_by_binary name = find (λ service. bytes_eq name (binary_name service)) services
