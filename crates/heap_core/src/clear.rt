@@ -6,8 +6,8 @@ ghost use Rattle.dataspace_core.specs.Store.{Exists, space_at, with_bytes_at};
 use dataspace_core::Memory;
 use trade_base::DsId;
 
-/// How many zeros are written at once.
-const BLANK: usize = 1024;
+/// Zeros, of which so many are written at once.
+static BLANK: [u8; 1024] = [0; 1024];
 
 /// Writes zeros over `count` bytes of a dataspace from `offset` on. Nothing else changes.
 pub fn clear(memory: &mut Memory, ds: DsId, offset: u64, count: u64)
@@ -16,11 +16,10 @@ pub fn clear(memory: &mut Memory, ds: DsId, offset: u64, count: u64)
     requires short { offset + count < 2 ^ 64 }
     ensures { memory.new ≡ with_bytes_at memory.old ds.0 offset (zeros count) }
 {
-    let blank = [0; BLANK];
     let mut done = 0;
     while done < count {
-        let piece = (count - done).min(BLANK as u64);
-        memory.write(ds, offset + done, &blank[..piece as usize]);
+        let piece = (count - done).min(BLANK.len() as u64);
+        memory.write(ds, offset + done, &BLANK[..piece as usize]);
         done += piece;
     }
 }

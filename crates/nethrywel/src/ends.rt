@@ -55,7 +55,7 @@ impl Played {
 fn tell_fault(rt: &HostRuntime, scenario: &str, lines: u64, fault: PlayFault) {
     let _ = match fault {
         PlayFault::ReadFault | PlayFault::TooManyLines => {
-            eprintln!(rt; "{scenario}:{}: {fault}", lines + 1)
+            eprintln!(rt; "{scenario}:{}: {fault}", lines.saturating_add(1))
         }
         PlayFault::WriteFault | PlayFault::NoMemory => eprintln!(rt; "run: {fault}"),
     };
