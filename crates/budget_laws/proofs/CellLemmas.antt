@@ -1,11 +1,10 @@
 -- What a cell's bounds say of the needs that made it.
 use Rattle.std.proofs.lemmas.Bool.Decides.{nat_tests}
-use Rattle.std.proofs.lemmas.Bool.{ltb-true, ltb-false, cases_lt}
-use Rattle.std.proofs.Common.{arith, rules, ◌≡◌, ℕ, ◌<◌, ◌≤◌, ◌&&◌, Bool, true, false, cond, List, [], ◌∷◌, nat_lt, nat_le, min, refl, sym, ap, ◌∙◌, true≢false, subst}
+use Rattle.std.proofs.Common.{arith, ◌≡◌, ℕ, ◌<◌, ◌≤◌, ◌&&◌, Bool, true, false, List, [], ◌∷◌, nat_lt, nat_le, refl, sym, ◌∙◌, true≢false, subst}
 use Rattle.std.specs.List.{AllByRecursion}
 use Rattle.std.specs.Prelude.{if◌then◌else◌, Option, Some, None, max, not}
 use Rattle.own_model.specs.Amounts.{Amounts}
-use Rattle.budget_laws.specs.Need.{Need, Cell, covers_ram, covers_caps, lesser, narrowed, cell_by, IsBelow, HasRam, HasCaps, IsIn, ComesOutAlike, greatest_choice}
+use Rattle.budget_laws.specs.Need.{Need, Cell, covers_ram, covers_caps, lesser, narrowed, cell_by, IsBelow, HasRam, IsIn, ComesOutAlike, greatest_choice}
 
 -- below the lesser of two is below both
 below_first : (x n : ℕ) (other : Option ℕ) → IsBelow x (lesser n other) → x < n

@@ -1,15 +1,15 @@
 -- What a test says of an account under other limits.
 use Rattle.std.proofs.lemmas.Bool.Decides.{nat_tests}
-use Rattle.std.proofs.Common.{arith, ◌≡◌, ℕ, ◌+◌, ◌<◌, ◌≤◌, ◌⊎◌, inl, inr, Bool, true, false, cond, List, [], ◌∷◌, nat_lt, nat_le, refl, sym, ap, ◌∙◌, true≢false, subst}
+use Rattle.std.proofs.Common.{arith, ◌≡◌, ℕ, ◌+◌, ◌≤◌, ◌⊎◌, inl, inr, Bool, true, false, cond, [], ◌∷◌, nat_lt, nat_le, refl, sym, ap, ◌∙◌, true≢false}
 use Rattle.std.specs.List.{AllByRecursion}
-use Rattle.std.specs.Prelude.{if◌then◌else◌, Option, Some, None, is_none}
+use Rattle.std.specs.Prelude.{Option, Some, None, is_none}
 use Rattle.trade_base.specs.declared.refusal.Refusal.{Refusal}
-use Rattle.trade_base.specs.declared.refusal.Refusal.TheVariants.{OutOfRam, OutOfCaps, TooManyChunks}
+use Rattle.trade_base.specs.declared.refusal.Refusal.TheVariants.{OutOfRam, OutOfCaps}
 use Rattle.own_model.specs.Account.{Account, shortage}
 use Rattle.own_model.specs.Amounts.{Amounts}
 use Rattle.own_model.specs.Growth.{Shape, least_growth, larger_growth, growth_of}
 use Rattle.budget_laws.proofs.CellLemmas.{Leads}
-use Rattle.budget_laws.specs.Need.{Need, limited, need_of, covers_ram, covers_caps, ComesOutAlike}
+use Rattle.budget_laws.specs.Need.{limited, need_of, covers_ram, covers_caps, ComesOutAlike}
 use Rattle.budget_laws.specs.Test.{Test, test_of, tested_where, larger_test, growth_tests}
 
 -- a refusal for want of RAM or of capabilities

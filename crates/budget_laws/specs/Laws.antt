@@ -1,12 +1,12 @@
 -- The laws of budgets, as statements.
-use Rattle.std.specs.Prelude.{◌≡◌, ℕ, ◌<◌, ◌≤◌, ◌||◌, true, nat_lt, List, None}
+use Rattle.std.specs.Prelude.{◌≡◌, ◌<◌, ◌≤◌, ◌||◌, true, nat_lt, List, None}
 use Rattle.std.specs.List.{AllByRecursion}
 use Rattle.own_model.specs.Amounts.{Amounts, no_amounts}
 use Rattle.own_model.specs.Call.{Call}
 use Rattle.own_model.specs.OwnState.{OwnState}
 use Rattle.own_model.specs.OwnStep.{own_run}
 use Rattle.own_model.specs.StartList.{Entry}
-use Rattle.budget_laws.specs.Need.{Cell, HasRam, IsIn, ComesOutAlike, budgeted, needs, cell, greatest_choice}
+use Rattle.budget_laws.specs.Need.{HasRam, IsIn, ComesOutAlike, budgeted, needs, cell, greatest_choice}
 use Rattle.budget_laws.specs.Want.{answers, in_want}
 
 -- a budget is in the cell of another exactly where each test along the other's run comes out alike
