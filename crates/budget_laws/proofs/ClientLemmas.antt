@@ -586,11 +586,11 @@ same_of_client entry q session calls base one own_one other own_other had ample 
     (alike.told, alike.brings, alike.left)
 
 pub client_within : ClientWantInACell
-client_within entry q session calls base one own_one other own_other had ample none has =
+client_within entry q session calls base one own_one other own_other had ample few has =
     within_by one other (each entry q session calls base one own_one other own_other had) (here entry q session calls base one own_one other own_other had) (there entry q session calls base one own_one other own_other had)
-    (want_alike entry q session calls base one own_one other own_other had ample) (want_decides entry q session calls base one own_one other own_other had ample) none has
+    (want_alike entry q session calls base one own_one other own_other had ample) (want_decides entry q session calls base one own_one other own_other had ample) few has
 
 pub client_below : ClientWantBelowACell
-client_below entry q session calls base one own_one other own_other had ample none less chosen =
+client_below entry q session calls base one own_one other own_other had ample few less chosen =
     below_by one other (each entry q session calls base one own_one other own_other had) (here entry q session calls base one own_one other own_other had) (there entry q session calls base one own_one other own_other had)
-    (want_alike entry q session calls base one own_one other own_other had ample) (want_decides entry q session calls base one own_one other own_other had ample) none less chosen
+    (want_alike entry q session calls base one own_one other own_other had ample) (want_decides entry q session calls base one own_one other own_other had ample) few less chosen

@@ -10,3 +10,4 @@ mod SessionRunLemmas
 mod SelectorLemmas
 mod CarryLemmas
 mod ClientLemmas
+mod StretchLemmas

@@ -1,7 +1,6 @@
 -- Runs under two budgets.
 use Rattle.std.proofs.Common.{arith, ◌≡◌, ◌<◌, ◌≤◌, ◌⊎◌, inl, inr, Bool, true, List, [], ◌∷◌, map, nat_lt, refl, sym, ap, ◌∙◌, ◌||◌}
 use Rattle.std.specs.List.{AllByRecursion}
-use Rattle.std.specs.Prelude.{None}
 use Rattle.own_model.specs.Amounts.{Amounts, no_amounts}
 use Rattle.own_model.specs.Call.{Call}
 use Rattle.own_model.specs.Call.Call.{Request}
@@ -16,7 +15,7 @@ use Rattle.budget_laws.proofs.EachLemmas.{of_first, of_second, of_both, of_mappe
 use Rattle.budget_laws.proofs.StepLemmas.{Moved, own_agrees}
 use Rattle.budget_laws.proofs.WantLemmas.{or_left, or_right, within_by, below_by}
 use Rattle.budget_laws.specs.Laws.{SameAnswersInACell, WantInACell, WantBelowACell}
-use Rattle.budget_laws.specs.Need.{Need, HasRam, budgeted, need_of, needs, ComesOutAlike, cell, greatest_choice}
+use Rattle.budget_laws.specs.Need.{Need, HasRam, IsBelow, budgeted, need_of, needs, ComesOutAlike, cell, greatest_choice}
 use Rattle.budget_laws.specs.Test.{tests}
 use Rattle.budget_laws.specs.Want.{but_limits, answers, is_short, wants, in_want}
 
@@ -99,14 +98,14 @@ module _ (entry : Entry) (calls : List Call) (s : OwnState) (one other : Amounts
   decides : AllByRecursion (Leads one other) each → AllByRecursion (ComesOutAlike one other) each ⊎ (there ≡ true)
   decides led = run_decides one other entry calls (budgeted one s) (budgeted other s) (first_moved one other entry s) led
 
-  within : (cell entry calls one s).caps_below ≡ None → HasRam (cell entry calls one s) other.ram → there ≡ (here || nat_lt other.caps (cell entry calls one s).caps_from)
-  within none has = within_by one other each here there alike decides none has
+  within : IsBelow other.caps (cell entry calls one s).caps_below → HasRam (cell entry calls one s) other.ram → there ≡ (here || nat_lt other.caps (cell entry calls one s).caps_from)
+  within few has = within_by one other each here there alike decides few has
 
-  below : (cell entry calls one s).caps_below ≡ None → other.ram < (cell entry calls one s).ram_from → greatest_choice one each ≤ other.ram → there ≡ true
-  below none less chosen = below_by one other each here there alike decides none less chosen
+  below : IsBelow other.caps (cell entry calls one s).caps_below → other.ram < (cell entry calls one s).ram_from → greatest_choice one each ≤ other.ram → there ≡ true
+  below few less chosen = below_by one other each here there alike decides few less chosen
 
 pub want_within : WantInACell
-want_within entry calls s one other none has = within entry calls s one other none has
+want_within entry calls s one other few has = within entry calls s one other few has
 
 pub want_below : WantBelowACell
-want_below entry calls s one other none less chosen = below entry calls s one other none less chosen
+want_below entry calls s one other few less chosen = below entry calls s one other few less chosen

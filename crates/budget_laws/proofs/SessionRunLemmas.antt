@@ -1,7 +1,6 @@
 -- What reaches a session, under two donations.
 use Rattle.std.proofs.Common.{arith, ◌≡◌, ℕ, ◌+◌, ◌<◌, ◌≤◌, ◌⊎◌, inl, inr, Bool, true, false, List, [], ◌∷◌, nat_lt, refl, sym, ap, ◌∙◌, subst, ◌||◌}
 use Rattle.std.specs.List.{AllByRecursion}
-use Rattle.std.specs.Prelude.{None}
 use Rattle.own_model.proofs.ListLemmas.{all_then}
 use Rattle.own_model.specs.Account.{Account}
 use Rattle.own_model.specs.Amounts.{Amounts, no_amounts}
@@ -13,7 +12,7 @@ use Rattle.budget_laws.proofs.EachLemmas.{of_first, of_second, of_both, of_mappe
 use Rattle.budget_laws.proofs.ServeLemmas.{serves, serve_decides}
 use Rattle.budget_laws.proofs.TestLemmas.{IsAlike, IsLed, alike_of, alike_to, led_of}
 use Rattle.budget_laws.proofs.WantLemmas.{or_left, or_right, within_by, below_by}
-use Rattle.budget_laws.specs.Need.{Need, HasRam, ComesOutAlike, need_of, greatest_choice}
+use Rattle.budget_laws.specs.Need.{Need, HasRam, IsBelow, ComesOutAlike, need_of, greatest_choice}
 use Rattle.budget_laws.specs.Request.{request_tests, donating, tells_short}
 use Rattle.budget_laws.specs.RequestLaws.{Reaches, session_after, needs_of_one, session_needs, session_cell, session_run, AreTold, OneAlike, AllAlike, one_in_want, session_in_want, SameAnswersOfSession, SessionWantInACell, SessionWantBelowACell}
 use Rattle.budget_laws.specs.RequestLaws.Reaches.{Asked, Raised}
@@ -155,14 +154,14 @@ module _ (all : List Reaches) (session : Session) (one other : Amounts) where
   decides : AllByRecursion (Leads one other) each → AllByRecursion (ComesOutAlike one other) each ⊎ (there ≡ true)
   decides led = session_decides one other all (donating one session) (donating other session) (first_donated one other session) led
 
-  within : (session_cell all one session).caps_below ≡ None → HasRam (session_cell all one session) other.ram → there ≡ (here || nat_lt other.caps (session_cell all one session).caps_from)
-  within none has = within_by one other each here there alike decides none has
+  within : IsBelow other.caps (session_cell all one session).caps_below → HasRam (session_cell all one session) other.ram → there ≡ (here || nat_lt other.caps (session_cell all one session).caps_from)
+  within few has = within_by one other each here there alike decides few has
 
-  below : (session_cell all one session).caps_below ≡ None → other.ram < (session_cell all one session).ram_from → greatest_choice one each ≤ other.ram → there ≡ true
-  below none less chosen = below_by one other each here there alike decides none less chosen
+  below : IsBelow other.caps (session_cell all one session).caps_below → other.ram < (session_cell all one session).ram_from → greatest_choice one each ≤ other.ram → there ≡ true
+  below few less chosen = below_by one other each here there alike decides few less chosen
 
 pub session_within : SessionWantInACell
-session_within all session one other none has = within all session one other none has
+session_within all session one other few has = within all session one other few has
 
 pub session_below : SessionWantBelowACell
-session_below all session one other none less chosen = below all session one other none less chosen
+session_below all session one other few less chosen = below all session one other few less chosen

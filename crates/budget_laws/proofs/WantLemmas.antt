@@ -1,10 +1,9 @@
 -- Want by the needs of one run: whoever makes the run.
 use Rattle.std.proofs.Common.{arith, ◌≡◌, ◌<◌, ◌≤◌, ◌⊎◌, inl, inr, Bool, true, false, List, nat_lt, refl, sym, ◌∙◌, true≢false, ◌||◌}
 use Rattle.std.specs.List.{AllByRecursion}
-use Rattle.std.specs.Prelude.{None}
 use Rattle.own_model.specs.Amounts.{Amounts}
 use Rattle.budget_laws.proofs.CellLemmas.{Leads, in_cell_of, in_cell_to, leads_within, leads_below, begins_within, in_by_parts, enough_in}
-use Rattle.budget_laws.specs.Need.{Need, HasRam, IsIn, ComesOutAlike, cell_by, greatest_choice}
+use Rattle.budget_laws.specs.Need.{Need, IsBelow, HasRam, IsIn, ComesOutAlike, cell_by, greatest_choice}
 
 -- one of two is so
 pub or_left : (a b : Bool) → a ≡ true → (a || b) ≡ true
@@ -30,16 +29,16 @@ module _ (one other : Amounts) (each : List Need) (here there : Bool) (alike : A
   by_caps true enough short = short ∙ sym (or_right here true refl)
   by_caps false enough short = alike (in_cell_of one other each (enough refl)) ∙ same_or here false refl
 
-  pub within_by : (cell_by one each).caps_below ≡ None → HasRam (cell_by one each) other.ram → there ≡ (here || nat_lt other.caps (cell_by one each).caps_from)
-  within_by none has =
-      elim (in_or_want (leads_within one other each none has)) [
+  pub within_by : IsBelow other.caps (cell_by one each).caps_below → HasRam (cell_by one each) other.ram → there ≡ (here || nat_lt other.caps (cell_by one each).caps_from)
+  within_by few has =
+      elim (in_or_want (leads_within one other each few has)) [
         | inl is ↦ alike (in_cell_of one other each is) ∙ same_or here (nat_lt other.caps (cell_by one each).caps_from) (enough_in one other each is)
-        | inr short ↦ by_caps (nat_lt other.caps (cell_by one each).caps_from) (in_by_parts one other each none has) short
+        | inr short ↦ by_caps (nat_lt other.caps (cell_by one each).caps_from) (in_by_parts one other each few has) short
       ]
 
-  pub below_by : (cell_by one each).caps_below ≡ None → other.ram < (cell_by one each).ram_from → greatest_choice one each ≤ other.ram → there ≡ true
-  below_by none less chosen =
-      elim (in_or_want (leads_below one other each none chosen (omega (arith, less, begins_within one each)))) [
+  pub below_by : IsBelow other.caps (cell_by one each).caps_below → other.ram < (cell_by one each).ram_from → greatest_choice one each ≤ other.ram → there ≡ true
+  below_by few less chosen =
+      elim (in_or_want (leads_below one other each few chosen (omega (arith, less, begins_within one each)))) [
         | inr short ↦ short
         | inl is ↦ absurd (omega (arith, less, is.ram.enough))
       ]

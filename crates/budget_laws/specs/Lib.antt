@@ -6,3 +6,4 @@ pub mod Request
 pub mod RequestLaws
 pub mod Opened
 pub mod Rows
+pub mod Stretches

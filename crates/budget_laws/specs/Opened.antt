@@ -15,7 +15,7 @@ use Rattle.own_model.specs.Reply.Reply.{Told}
 use Rattle.own_model.specs.Session.{Session, Wish, new_session}
 use Rattle.own_model.specs.SessionArgs.{Arguments, arguments_of}
 use Rattle.own_model.specs.StartList.{Entry}
-use Rattle.budget_laws.specs.Need.{HasRam, IsIn, limited, greatest_choice}
+use Rattle.budget_laws.specs.Need.{HasRam, IsBelow, IsIn, limited, greatest_choice}
 use Rattle.budget_laws.specs.Request.{donating}
 use Rattle.budget_laws.specs.RequestLaws.{Reaches, AreTold, session_needs, session_cell, session_in_want}
 use Rattle.budget_laws.specs.RequestLaws.Reaches.{Asked, Raised}
@@ -128,13 +128,13 @@ SameAnswersOfClient =
     × (but_limits_of q (own_run entry calls (donated_to q session own_other other s))
     ≡ but_limits_of q (own_run entry calls (donated_to q session own_one one s)))
 
--- and where the run has capabilities enough, the session is in want as it is by all that the run brings to it: within the RAM of
--- the cell where the run is, and where the donation's capabilities are fewer than were ever needed
+-- and a session, with a donation whose capabilities are below all that the run was refused, is in want by all that its own run brings to
+-- it: within the RAM of the cell where the one run is, and where its capabilities are fewer than were ever needed
 abbrev pub ClientWantInACell : Type 0
 ClientWantInACell =
     (entry : Entry) (q : ℕ) (session : Session) (calls : List Call) (s : OwnState) (one own_one other own_other : Amounts) →
     HadAsMuch entry one own_one other own_other s → IsAmple entry q one other calls (donated_to q session own_one one s) →
-    (session_cell (reaching entry q calls (donated_to q session own_one one s)) one session).caps_below ≡ None →
+    IsBelow other.caps (session_cell (reaching entry q calls (donated_to q session own_one one s)) one session).caps_below →
     HasRam (session_cell (reaching entry q calls (donated_to q session own_one one s)) one session) other.ram →
     session_in_want (reaching entry q calls (donated_to q session own_other other s)) (donating other session)
     ≡ (session_in_want (reaching entry q calls (donated_to q session own_one one s)) (donating one session)
@@ -145,7 +145,7 @@ abbrev pub ClientWantBelowACell : Type 0
 ClientWantBelowACell =
     (entry : Entry) (q : ℕ) (session : Session) (calls : List Call) (s : OwnState) (one own_one other own_other : Amounts) →
     HadAsMuch entry one own_one other own_other s → IsAmple entry q one other calls (donated_to q session own_one one s) →
-    (session_cell (reaching entry q calls (donated_to q session own_one one s)) one session).caps_below ≡ None →
+    IsBelow other.caps (session_cell (reaching entry q calls (donated_to q session own_one one s)) one session).caps_below →
     other.ram < (session_cell (reaching entry q calls (donated_to q session own_one one s)) one session).ram_from →
     greatest_choice one (session_needs one (reaching entry q calls (donated_to q session own_one one s)) (donating one session)) ≤ other.ram →
     session_in_want (reaching entry q calls (donated_to q session own_other other s)) (donating other session) ≡ true

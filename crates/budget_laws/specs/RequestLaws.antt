@@ -1,11 +1,11 @@
 -- The laws of a session's requests by its donation, as statements.
-use Rattle.std.specs.Prelude.{◌≡◌, ℕ, ◌||◌, Bool, true, false, List, [], ◌∷◌, ◌++◌, map, Option, None, nat_lt, ◌<◌, ◌≤◌}
+use Rattle.std.specs.Prelude.{◌≡◌, ℕ, ◌||◌, Bool, true, false, List, [], ◌∷◌, ◌++◌, map, Option, nat_lt, ◌<◌, ◌≤◌}
 use Rattle.own_model.specs.Account.{Account}
 use Rattle.own_model.specs.Amounts.{Amounts, no_amounts}
 use Rattle.own_model.specs.FileText.{file_reply}
 use Rattle.own_model.specs.FileText.FileReply.{Quotas}
 use Rattle.own_model.specs.Session.{Session, Served, served, upgraded}
-use Rattle.budget_laws.specs.Need.{Need, Cell, HasRam, IsIn, limited, need_of, cell_by, greatest_choice}
+use Rattle.budget_laws.specs.Need.{Need, Cell, HasRam, IsBelow, IsIn, limited, need_of, cell_by, greatest_choice}
 use Rattle.budget_laws.specs.Request.{request_tests, donating, tells_short}
 
 -- what reaches a session: a request, by the bytes of the session's buffer then, if it has one, or more of a donation
@@ -74,19 +74,19 @@ SameAnswersOfSession =
     AllAlike all (donating one session) (donating other session)
     × (donating no_amounts (session_run all (donating other session)) ≡ donating no_amounts (session_run all (donating one session)))
 
--- where a session's run has capabilities enough, a donation with RAM of the run's cell is in want where the run is, and where its
--- capabilities are fewer than were ever needed, and nowhere else
+-- a donation with RAM of a run's cell, and with capabilities below all that the run was refused, is in want where the run is, and
+-- where its capabilities are fewer than were ever needed, and nowhere else
 abbrev pub SessionWantInACell : Type 0
 SessionWantInACell =
-    (all : List Reaches) (session : Session) (one other : Amounts) → (session_cell all one session).caps_below ≡ None →
+    (all : List Reaches) (session : Session) (one other : Amounts) → IsBelow other.caps (session_cell all one session).caps_below →
     HasRam (session_cell all one session) other.ram →
     session_in_want all (donating other session)
     ≡ (session_in_want all (donating one session) || nat_lt other.caps (session_cell all one session).caps_from)
 
--- and each donation below the run's cell, from the greatest need of a choice on that passed in it, is in want
+-- and each such donation below the run's cell, from the greatest need of a choice on that passed in it, is in want
 abbrev pub SessionWantBelowACell : Type 0
 SessionWantBelowACell =
-    (all : List Reaches) (session : Session) (one other : Amounts) → (session_cell all one session).caps_below ≡ None →
+    (all : List Reaches) (session : Session) (one other : Amounts) → IsBelow other.caps (session_cell all one session).caps_below →
     other.ram < (session_cell all one session).ram_from →
     greatest_choice one (session_needs one all (donating one session)) ≤ other.ram →
     session_in_want all (donating other session) ≡ true
