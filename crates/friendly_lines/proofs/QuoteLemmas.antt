@@ -1,9 +1,10 @@
 -- What stands within quotes, byte by byte.
-use Rattle.std.proofs.Common.{◌≡◌, ℕ, ◌+◌, ◌<◌, ◌≤◌, ◌&&◌, Bool, true, false, cond, not, nat_eq, List, [], ◌∷◌, length, drop, get_or, Option, Some, None, IfSome, refl, sym, ap, ◌∙◌, arith, suc, add-one, drop-cons}
+use Rattle.std.proofs.Common.{◌≡◌, ℕ, ◌+◌, ◌<◌, ◌≤◌, ◌&&◌, Bool, true, false, cond, not, nat_eq, List, [], ◌∷◌, length, drop, get_or, slice_index, Option, Some, None, IfSome, refl, sym, ap, ◌∙◌, arith, suc, add-one, drop-cons}
 use Rattle.std.specs.Option.{option_map, option_or}
 use Rattle.std.proofs.lemmas.Bool.Decides.{nat_tests}
 use Rattle.std.proofs.lemmas.List.{drop_all}
-use Rattle.friendly_lines.specs.Quotes.{after_byte, after_text, closing, is_outside, is_quote, last_outside}
+use Rattle.friendly_lines.specs.Quotes.{after_byte, after_text, closing, first_outside, is_outside, is_quote, last_outside}
+use Rattle.friendly_lines.specs.Words.{is_blank}
 use Rattle.friendly_lines.specs.declared.quotes.Quoting.{Quoting}
 use Rattle.friendly_lines.specs.declared.quotes.Quoting.TheVariants.{Outside}
 
@@ -45,6 +46,32 @@ pub closing_end : (text : List ℕ) (escaped : Bool) (i : ℕ) → length text �
 closing_end text escaped i past = rw (drop_all i text past) refl
 
 pub ruleset closes = (closing_step, closing_start, closing_end)
+
+-- ---- the first place outside of quotes
+
+pub first_step : (test : List ℕ → Bool) (text : List ℕ) (at : Quoting) (i b : ℕ) → i < length text → get_or text i 0 ≡ b →
+    option_map (λ n. i + n) (first_outside test at (drop i text))
+    ≡ cond (is_outside at && test (drop i text)) (Some i) (option_map (λ n. (i + 1) + n) (first_outside test (after_byte at b) (drop (i + 1) text)))
+first_step test text at i b within is =
+    rw (byte_at text i b within is)
+    (elim (is_outside at && test (b ∷ drop (i + 1) text)) as (λ t. option_map (λ n. i + n) (cond t (Some 0) (option_map (λ n. 1 + n) (first_outside test (after_byte at b) (drop (i + 1) text))))
+    ≡ cond t (Some i) (option_map (λ n. (i + 1) + n) (first_outside test (after_byte at b) (drop (i + 1) text)))) [
+      | true ↦ let e : i + 0 ≡ i = omega arith in ap Some e
+      | false ↦ one_further i (first_outside test (after_byte at b) (drop (i + 1) text))
+    ])
+
+pub first_start : (test : List ℕ → Bool) (text : List ℕ) (at : Quoting) → first_outside test at text ≡ option_map (λ n. 0 + n) (first_outside test at text)
+first_start test text at = no_further (first_outside test at text)
+
+pub first_end : (test : List ℕ → Bool) (text : List ℕ) (at : Quoting) (i : ℕ) → length text ≤ i → option_map (λ n. i + n) (first_outside test at (drop i text)) ≡ None
+first_end test text at i past = rw (drop_all i text past) refl
+
+-- no blank begins a text that has no byte
+pub no_blank : (text : List ℕ) → length text ≡ 0 → is_blank (slice_index text 0) ≡ false
+no_blank [] none = refl
+no_blank (b ∷ bs) none = absurd (omega (arith, none))
+
+pub ruleset firsts = (first_step, first_start, first_end, no_blank)
 
 -- ---- marks outside of quotes
 

@@ -8,6 +8,7 @@ mod line;
 mod parts;
 mod quotes;
 mod reading;
+mod requests;
 mod signs;
 mod words;
 
@@ -15,4 +16,4 @@ pub use expected::meets;
 pub use fault::{Fault, Reason};
 pub use laws::calls_are_calls;
 pub use line::Line;
-pub use reading::{Said, read_friendly};
+pub use reading::{Said, end_of, read_friendly};
