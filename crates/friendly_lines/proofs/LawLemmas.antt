@@ -3,7 +3,7 @@ use Rattle.std.proofs.Common.{◌≡◌, ℕ, ◌+◌, ◌-◌, ◌||◌, Bool, 
 use Rattle.std.specs.List.{starts_with}
 use Rattle.std.specs.Option.{option_map_or, option_or, unwrap_or}
 use Rattle.own_model.specs.Call.{spoken}
-use Rattle.friendly_lines.specs.Friendly.{Said, call_part, expects_bad_line, fault_behind, fault_in, reply_part, said_of, said_of_both, said_of_call, said_of_line, said_of_signs, said_of_text, signs_of, without_comment, without_return}
+use Rattle.friendly_lines.specs.Friendly.{Said, call_part, expects_bad_line, fault_behind, fault_in, no_call, reply_part, said_of, said_of_both, said_of_call, said_of_line, said_of_signs, said_of_text, signs_of, without_comment, without_return}
 use Rattle.friendly_lines.specs.Friendly.Said.{Nothing, Log, Call}
 use Rattle.friendly_lines.specs.Laws.{CallsAreCalls, IsCallOrExpected}
 use Rattle.friendly_lines.specs.Parts.{parts_of, spelled}
@@ -25,10 +25,10 @@ of_held l expected holds line reply is =
     let replies : expected ≡ reply = cc in
     subst (λ r. IsCallOrExpected line r) replies (subst (λ x. IsCallOrExpected x expected) lines holds)
 
-of_line : (column : ℕ) (held expected : Option (List ℕ)) → Holds (said_of_line column held expected)
-of_line column None expected = of_fault _
-of_line column (Some l) expected =
-    elim (is_some (spoken l) || expects_bad_line expected) as (λ b. (is_some (spoken l) || expects_bad_line expected) ≡ b → Holds (cond b (Ok (Call l expected)) (said_of_line column None expected))) [
+of_line : (column : ℕ) (call : List ℕ) (held expected : Option (List ℕ)) → Holds (said_of_line column call held expected)
+of_line column call None expected = of_fault _
+of_line column call (Some l) expected =
+    elim (is_some (spoken l) || expects_bad_line expected) as (λ b. (is_some (spoken l) || expects_bad_line expected) ≡ b → Holds (cond b (Ok (Call l expected)) (Err (no_call column call)))) [
       | true ↦ λ holds. of_held l expected holds
       | false ↦ λ none. of_fault _
     ] refl
@@ -39,8 +39,8 @@ of_place column (Some n) said fault holds = of_fault (fault n)
 
 of_call : (column : ℕ) (call : List ℕ) (expected : Option (List ℕ)) → Holds (said_of_call column call expected)
 of_call column call expected =
-    of_place column (option_or (fault_in (length call) (parts_of call).tail) (fault_behind (length call + 4) expected)) (said_of_line column (added (Some []) (spelled (parts_of call))) expected) _
-    (of_line column (added (Some []) (spelled (parts_of call))) expected)
+    of_place column (option_or (fault_in (length call) (parts_of call).tail) (fault_behind (length call + 4) expected)) (said_of_line column call (added (Some []) (spelled (parts_of call))) expected) _
+    (of_line column call (added (Some []) (spelled (parts_of call))) expected)
 
 of_choice : (test : Bool) (x y : Result Said Fault) → Holds x → Holds y → Holds (cond test x y)
 of_choice true x y hx hy = hx

@@ -13,13 +13,16 @@ use Rattle.trade_base.specs.Amount.{amount_of, number_of}
 use Rattle.own_model.specs.Call.{Call, Form, Spoken, call_in, form_of, forms, name_of, of_none, of_one, of_rest, of_text, of_two, some_bytes_of_hex, spoken}
 use Rattle.own_model.specs.Text.{FirstWord, address_of, bytes_of_hex, first_word, hex_digit_of, hex_number_after, is_name, is_name_byte, is_path}
 use Rattle.own_model.specs.Transcript.{longest_line}
-use Rattle.friendly_lines.specs.Friendly.{Said, fault_in, said_of_both, said_of_call, said_of_signs, said_of_text, signs_of, without_mark, without_return}
-use Rattle.friendly_lines.specs.Laws.{IsPlain, PlainLinesPass, has_suffix, is_suffixed, is_translated}
+use Rattle.friendly_lines.specs.Friendly.{Said, fault_in, said_of_both, said_of_call, said_of_signs, said_of_text, signs_of, without_comment, without_mark, without_return}
+use Rattle.friendly_lines.specs.Laws.{IsPlain, LaterFormsAreMarked, PlainLinesPass, has_suffix, is_suffixed, is_translated}
 use Rattle.friendly_lines.specs.Parts.{Tail, parts_of, quoted_or, request_tail, request_text, size_text, sizes_behind, sizes_in, spelled, tail_of, tail_text, takes_text, text_written, word_behind, word_text}
 use Rattle.friendly_lines.specs.Parts.Tail.{Words, Kept, Sized, Request, Quoted}
-use Rattle.friendly_lines.specs.Quotes.{inside_quotes}
+use Rattle.friendly_lines.specs.Quotes.{first_outside, inside_quotes, is_arrow, is_comment}
 use Rattle.friendly_lines.specs.Words.{Word, is_blank, next_word, skip_blanks, spaced, up_to_blank, words_spaced}
 use Rattle.friendly_lines.specs.Written.{added}
+use Rattle.friendly_lines.specs.declared.quotes.Quoting.TheVariants.{Outside}
+use Rattle.friendly_lines.proofs.ExpectedLemmas.{exact_meets}
+use Rattle.friendly_lines.proofs.WordLemmas.{words_next}
 
 -- a text without a blank, and a word: one that isn't empty
 abbrev is_unbroken : List ℕ → Bool
@@ -671,3 +674,33 @@ plain_lines_pass line plain =
     let column : ℕ = length line - length line + 1 in
     ap (λ s. said_of_signs (length line - length s + 1) s) front.skipped
     ∙ signs_said column line front plain.ending ∙ text_said column line plain front ∙ both_said column line plain ∙ call_said column line plain spelt
+
+-- ---- lines without the later forms
+
+no_mark_signs : (line : List ℕ) → starts_with nat_eq line (239 ∷ 187 ∷ 191 ∷ []) ≡ false → signs_of line ≡ skip_blanks line
+no_mark_signs line none = rw none refl
+
+no_comment_stays : (text : List ℕ) → first_outside is_comment Outside text ≡ None → without_comment text ≡ text
+no_comment_stays text none = rw none refl
+
+arrow_is : (text : List ℕ) → nat_eq (slice_index text 0) 9 ≡ false → is_arrow text ≡ starts_with nat_eq text (codes " => ")
+arrow_is [] no_tab = refl
+arrow_is (b ∷ bs) no_tab =
+    let same : is_blank b ≡ nat_eq 32 b = grind (arith, nat_tests) in
+    ap (λ t. t && starts_with nat_eq bs (codes "=> ")) same
+
+peek_passes : (rest : List ℕ) → is_suffixed (next_word rest).word ≡ false → tail_text (Sized rest) ≡ words_spaced false rest
+peek_passes rest plain =
+    ap (λ w. spaced w ++ words_spaced false (next_word rest).rest) (plain_size (next_word rest).word plain) ∙ sym (words_next rest)
+
+pub later_forms_are_marked : LaterFormsAreMarked
+later_forms_are_marked = record {
+  mark = no_mark_signs;
+  comment = no_comment_stays;
+  arrow = arrow_is;
+  request = λ blank text plain. ap (λ l. 32 ∷ l) (request_passes text plain);
+  peek = peek_passes;
+  reply = exact_meets;
+}
+
+pub ruleset lines_pass = (plain_lines_pass, later_forms_are_marked)

@@ -1,10 +1,13 @@
 -- What stands within quotes, byte by byte.
-use Rattle.std.proofs.Common.{◌≡◌, ℕ, ◌+◌, ◌<◌, ◌≤◌, ◌&&◌, Bool, true, false, cond, not, nat_eq, List, [], ◌∷◌, length, drop, get_or, slice_index, Option, Some, None, IfSome, refl, sym, ap, ◌∙◌, arith, suc, add-one, drop-cons}
+use Rattle.std.proofs.Common.{◌≡◌, ℕ, ◌+◌, ◌<◌, ◌≤◌, ◌&&◌, Bool, true, false, cond, not, nat_eq, List, [], ◌∷◌, length, drop, get_or, slice_index, codes, position, Option, Some, None, IfSome, refl, sym, ap, ◌∙◌, arith, suc, add-one, drop-cons}
+use Rattle.std.specs.List.{list_all, position_or_len}
 use Rattle.std.specs.Option.{option_map, option_or}
+use Rattle.std.specs.Str.{bytes_eq}
 use Rattle.std.proofs.lemmas.Bool.Decides.{nat_tests}
 use Rattle.std.proofs.lemmas.List.{drop_all}
-use Rattle.friendly_lines.specs.Quotes.{after_byte, after_text, closing, first_outside, is_outside, is_quote, last_outside}
-use Rattle.friendly_lines.specs.Words.{is_blank}
+use Rattle.friendly_lines.specs.Quotes.{after_byte, after_text, closing, first_outside, is_comment, is_outside, is_quote, last_outside}
+use Rattle.friendly_lines.specs.Words.{is_blank, next_word, skip_blanks, up_to_blank}
+use Rattle.friendly_lines.proofs.WordLemmas.{place_none}
 use Rattle.friendly_lines.specs.declared.quotes.Quoting.{Quoting}
 use Rattle.friendly_lines.specs.declared.quotes.Quoting.TheVariants.{Outside}
 
@@ -72,6 +75,48 @@ no_blank [] none = refl
 no_blank (b ∷ bs) none = absurd (omega (arith, none))
 
 pub ruleset firsts = (first_step, first_start, first_end, no_blank)
+
+-- ---- a text without the sign of a comment
+
+abbrev is_free : List ℕ → Bool
+is_free text = list_all (λ b. not (nat_eq b 35)) text
+
+free_all : (text : List ℕ) → position_or_len (λ b. nat_eq b 35) text ≡ length text → is_free text ≡ true
+free_all [] is = refl
+free_all (b ∷ bs) is =
+    elim (nat_eq b 35) as (λ t. cond (not t) (1 + position_or_len (λ b. nat_eq b 35) bs) 0 ≡ length (b ∷ bs) → (not t && is_free bs) ≡ true) [
+      | true ↦ λ sign. absurd (omega (arith, sign))
+      | false ↦ λ more. free_all bs (omega (arith, more))
+    ] is
+
+free_first : (b : ℕ) (bs : List ℕ) → is_free (b ∷ bs) ≡ true → nat_eq b 35 ≡ false
+free_first b bs free = grind (arith, nat_tests)
+
+free_more : (b : ℕ) (bs : List ℕ) → is_free (b ∷ bs) ≡ true → is_free bs ≡ true
+free_more b bs free = grind (arith, nat_tests)
+
+no_word : (text : List ℕ) → is_free text ≡ true → bytes_eq (next_word text).word (codes "#") ≡ false
+no_word [] free = refl
+no_word (b ∷ bs) free =
+    elim (is_blank b) as (λ t. is_blank b ≡ t → bytes_eq (up_to_blank (cond t (skip_blanks bs) (b ∷ bs))).word (codes "#") ≡ false) [
+      | true ↦ λ blank. no_word bs (free_more b bs free)
+      | false ↦ λ other. rw (other, free_first b bs free) refl
+    ] refl
+
+and_false : (x y z : Bool) → z ≡ false → (x && (y && z)) ≡ false
+and_false false y z none = refl
+and_false true false z none = refl
+and_false true true z none = none
+
+no_first : (at : Quoting) (text : List ℕ) → is_free text ≡ true → first_outside is_comment at text ≡ None
+no_first at [] free = refl
+no_first at (b ∷ bs) free =
+    let test : (is_outside at && is_comment (b ∷ bs)) ≡ false = and_false (is_outside at) (is_blank b) (bytes_eq (next_word (b ∷ bs)).word (codes "#")) (no_word (b ∷ bs) free) in
+    ap (λ t. cond t (Some 0) (option_map (λ n. 1 + n) (first_outside is_comment (after_byte at b) bs))) test
+    ∙ ap (option_map (λ n. 1 + n)) (no_first (after_byte at b) bs (free_more b bs free))
+
+pub no_comment : (text : List ℕ) → position (λ b. nat_eq b 35) text ≡ None → first_outside is_comment Outside text ≡ None
+no_comment text none = no_first Outside text (free_all text (place_none (λ b. nat_eq b 35) text none))
 
 -- ---- marks outside of quotes
 

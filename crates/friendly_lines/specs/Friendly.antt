@@ -9,6 +9,7 @@ use Rattle.friendly_lines.specs.Parts.{Parts, Tail, parts_of, spelled}
 use Rattle.friendly_lines.specs.Parts.Tail.{Words, Kept, Sized, Request, Quoted}
 use Rattle.friendly_lines.specs.Quotes.{after_text, first_outside, is_arrow, is_comment, is_outside, is_quote, last_outside}
 use Rattle.friendly_lines.specs.Signs.{fault_of}
+use Rattle.friendly_lines.specs.Why.{why}
 use Rattle.friendly_lines.specs.Words.{skip_blanks}
 use Rattle.friendly_lines.specs.Written.{added}
 use Rattle.friendly_lines.specs.declared.fault.Fault.{Fault}
@@ -29,12 +30,15 @@ without_return text = if slice_index text (length text - 1) == 13 then take (len
 abbrev pub expects_bad_line : Option (List ℕ) → Bool
 expects_bad_line reply = option_map_or (λ text. bytes_eq text (codes "Bad_line")) reply false
 
--- a line that isn't too long is a call, unless it is expected to be none
-abbrev pub said_of_line : ℕ → Option (List ℕ) → Option (List ℕ) → Result Said Fault
-said_of_line column None reply = Err (record { reason = NoCall; column = column })
-said_of_line column (Some line) reply =
-    if is_some (spoken line) || expects_bad_line reply then Ok (Call line reply)
-    else Err (record { reason = NoCall; column = column })
+-- why a call is none that begins at this column
+abbrev pub no_call : ℕ → List ℕ → Fault
+no_call column call = record { reason = (why call).reason; column = column + (why call).column }
+
+-- the line of a call is one of the grammar, unless it is expected to be none, or is too long
+abbrev pub said_of_line : ℕ → List ℕ → Option (List ℕ) → Option (List ℕ) → Result Said Fault
+said_of_line column call None reply = Err (record { reason = NoCall; column = column })
+said_of_line column call (Some line) reply =
+    if is_some (spoken line) || expects_bad_line reply then Ok (Call line reply) else Err (no_call column call)
 
 -- where a call of so many bytes has an escape that is none
 abbrev pub fault_in : ℕ → Tail → Option ℕ
@@ -54,7 +58,7 @@ abbrev pub said_of_call : ℕ → List ℕ → Option (List ℕ) → Result Said
 said_of_call column call reply =
     option_map_or (λ n. Err (record { reason = BadEscape; column = column + n }))
     (option_or (fault_in (length call) (parts_of call).tail) (fault_behind (length call + 4) reply))
-    (said_of_line column (added (Some []) (spelled (parts_of call))) reply)
+    (said_of_line column call (added (Some []) (spelled (parts_of call))) reply)
 
 -- the call ends before the last arrow outside of quotes; the reply that is expected stands behind it
 abbrev pub arrow_of : List ℕ → Option ℕ

@@ -1,14 +1,19 @@
 -- What holds of every line of the friendly form.
-use Rattle.std.specs.Prelude.{◌≡◌, ◌≤◌, ◌==◌, ◌&&◌, ◌||◌, Bool, true, false, List, [], ◌∷◌, ℕ, length, drop, slice_index, is_none, is_some, Option, Some, None, Ok}
+use Rattle.std.specs.Prelude.{◌≡◌, ◌≤◌, ◌==◌, ◌&&◌, ◌||◌, Bool, true, false, List, [], ◌∷◌, ℕ, length, drop, codes, nat_eq, slice_index, is_none, is_some, Option, Some, None, Ok}
+use Rattle.std.specs.List.{starts_with}
+use Rattle.std.specs.Str.{bytes_eq}
 use Rattle.trade_base.specs.Amount.{amount_of, number_of}
 use Rattle.own_model.specs.Call.{spoken}
 use Rattle.own_model.specs.Text.{first_word}
 use Rattle.own_model.specs.Transcript.{longest_line}
-use Rattle.friendly_lines.specs.Friendly.{arrow_of, expects_bad_line, said_of, signs_of, without_return}
+use Rattle.friendly_lines.specs.Expectations.{IsExact}
+use Rattle.friendly_lines.specs.Expected.{meets}
+use Rattle.friendly_lines.specs.Friendly.{arrow_of, expects_bad_line, said_of, signs_of, without_comment, without_return}
 use Rattle.friendly_lines.specs.Friendly.Said.{Call}
-use Rattle.friendly_lines.specs.Parts.{Tail, parts_of, sizes_in}
+use Rattle.friendly_lines.specs.Parts.{Tail, kept_text, parts_of, sizes_in, tail_text}
 use Rattle.friendly_lines.specs.Parts.Tail.{Words, Kept, Sized, Request, Quoted}
-use Rattle.friendly_lines.specs.Quotes.{after_text, first_outside, is_comment, is_outside}
+use Rattle.friendly_lines.specs.Quotes.{after_text, first_outside, is_arrow, is_comment, is_outside}
+use Rattle.friendly_lines.specs.Words.{next_word, skip_blanks, words_spaced}
 use Rattle.friendly_lines.specs.declared.quotes.Quoting.TheVariants.{Outside}
 
 -- a line is a call in the engine's grammar, or is expected to be none
@@ -54,3 +59,13 @@ pub record IsPlain (line : List ℕ) : Type 0 where
 -- such a line is the engine's as it stands
 abbrev pub PlainLinesPass : Type 0
 PlainLinesPass = (line : List ℕ) → IsPlain line → said_of line ≡ Ok (Call line None)
+
+-- a line that has none of the later forms says what it said before there were any
+pub record LaterFormsAreMarked : Type 0 where
+  pub mark : (line : List ℕ) → starts_with nat_eq line (239 ∷ 187 ∷ 191 ∷ []) ≡ false → signs_of line ≡ skip_blanks line
+  pub comment : (text : List ℕ) → first_outside is_comment Outside text ≡ None → without_comment text ≡ text
+  pub arrow : (text : List ℕ) → nat_eq (slice_index text 0) 9 ≡ false → is_arrow text ≡ starts_with nat_eq text (codes " => ")
+  pub request : (blank : ℕ) (text : List ℕ) → has_suffix (sizes_in (first_word text).word) (first_word text).rest ≡ false →
+      tail_text (Request (blank ∷ text)) ≡ kept_text (blank ∷ text)
+  pub peek : (rest : List ℕ) → is_suffixed (next_word rest).word ≡ false → tail_text (Sized rest) ≡ words_spaced false rest
+  pub reply : (reply expected : List ℕ) → IsExact expected → meets reply expected ≡ bytes_eq reply expected

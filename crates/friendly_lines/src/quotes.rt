@@ -7,6 +7,7 @@ ghost use Rattle.friendly_lines.specs.Words.{is_blank};
 ghost use Rattle.friendly_lines.specs.Quotes.{after_byte, after_text, closed_inside, closing, first_outside, inside_quotes, is_arrow, is_comment, is_outside, is_quote, last_outside};
 
 use crate::words::{behind, is_blank, next_word};
+use text_codec::find_byte;
 
 /// How a byte stands to quotes.
 #[derive(Clone, Copy, Debug, PartialEq, Eq)]
@@ -96,8 +97,21 @@ fn last_place(is_outside: bool, is_here: bool, place: usize, before: Option<usiz
 }
 
 /// Where a text has a comment behind it, outside of quotes.
-#[tactic(auto, using(crate::proofs::QuoteLemmas::firsts))]
+#[tactic(auto, using(crate::proofs::QuoteLemmas::no_comment))]
 pub(crate) fn comment_of(text: &[u8]) -> Option<usize>
+    ensures place { result ≡ first_outside is_comment Quoting.Outside text.now }
+    ensures inside { IfSome result (λ place. place < length text.now) }
+{
+    // Few lines have the sign.
+    if find_byte(b'#', text).is_none() {
+        return None;
+    }
+    first_comment(text)
+}
+
+// The same by each byte.
+#[tactic(auto, using(crate::proofs::QuoteLemmas::firsts))]
+fn first_comment(text: &[u8]) -> Option<usize>
     ensures place { result ≡ first_outside is_comment Quoting.Outside text.now }
     ensures inside { IfSome result (λ place. place < length text.now) }
 {

@@ -2,10 +2,9 @@
 ghost use Rattle.std.specs.Prelude.{◌≡◌, ◌+◌, ◌<◌, ◌≤◌, ◌^◌, ◌==◌, length, is_some, slice_index, true, IfSome, None};
 ghost use Rattle.std.specs.Option.{option_copied, option_map, option_or};
 ghost use Rattle.own_model.specs.Call.{spoken};
-ghost use Rattle.friendly_lines.specs.Friendly.{end_of, expects_bad_line, fault_behind, fault_in, said_of, said_of_both, said_of_call, said_of_line, said_of_signs, said_of_text, without_comment, without_mark, without_return};
+ghost use Rattle.friendly_lines.specs.Friendly.{end_of, expects_bad_line, fault_behind, fault_in, no_call, said_of, said_of_both, said_of_call, said_of_line, said_of_signs, said_of_text, without_comment, without_mark, without_return};
 ghost use Rattle.friendly_lines.specs.Friendly.Said.{Call};
-ghost use Rattle.friendly_lines.specs.Laws.{IsPlain};
-ghost use Rattle.friendly_lines.specs.declared.fault.Reason.TheVariants.{NoCall};
+ghost use Rattle.friendly_lines.specs.Laws.{IsPlain, LaterFormsAreMarked};
 ghost use Rattle.friendly_lines.specs.Says.{says};
 ghost use Rattle.friendly_lines.specs.Views.{LiesIn, tail_in};
 
@@ -14,6 +13,7 @@ use crate::fault::{Fault, Reason};
 use crate::line::Line;
 use crate::parts::{Parts, Tail, fault_in};
 use crate::quotes::{Quoting, comment_of, marks_of};
+use crate::why::why;
 use crate::words::{behind, skip_blanks};
 use scenario::read_line;
 
@@ -33,11 +33,13 @@ pub enum Said<'a> {
 
 /// What a line says, which is without its newline. The engine's line is put together in `room`, where it isn't a piece of the
 /// line itself. A call that isn't one in the engine's grammar is a fault, unless `Bad_line` is expected; and a line of that
-/// grammar in which nothing is to be translated is the engine's as it stands.
-#[tactic(auto, using(crate::proofs::PlainLemmas::plain_lines_pass))]
+/// grammar in which nothing is to be translated is the engine's as it stands. Each later form is told by a sign of its own, so a
+/// line without them says what it said before there were any.
+#[tactic(auto, using(crate::proofs::PlainLemmas::lines_pass))]
 pub fn read_friendly<'a>(line: &'a [u8], room: &'a mut Line) -> Result<Said<'a>, Fault>
     ensures value { says result ≡ said_of line.now }
     ensures plain { IsPlain line.now → says result ≡ Ok (Call line.now None) }
+    ensures later { LaterFormsAreMarked }
 {
     let signs = skip_blanks(without_mark(line));
     said_of_signs(line.len() - signs.len() + 1, signs, room)
@@ -168,7 +170,7 @@ fn said_of_call<'a>(
         None => {
             room.clear();
             parts.put(room);
-            said_of_line(column, room.text(), reply)
+            said_of_line(column, call, room.text(), reply)
         }
     }
 }
@@ -188,31 +190,39 @@ fn escape_fault(column: usize, count: usize, tail: Tail<'_>, reply: Option<&[u8]
     Some(column + count + 4 + place)
 }
 
-// A line that isn't too long is a call, unless it is expected to be none.
+// The line of a call is one of the grammar, unless it is expected to be none, or is too long.
 fn said_of_line<'a>(
     column: usize,
+    call: &[u8],
     line: Option<&'a [u8]>,
     reply: Option<&'a [u8]>,
 ) -> Result<Said<'a>, Fault>
-    ensures { says result ≡ said_of_line column (option_copied line.entry) (option_copied reply.entry) }
+    requires { column + length call.now < 2 ^ 64 }
+    ensures { says result
+        ≡ said_of_line column call.now (option_copied line.entry) (option_copied reply.entry) }
 {
     match line {
         Some(line) => if is_call(line) || expects_bad_line(reply) {
             Ok(Said::Call { line, reply })
         } else {
-            Err(no_call(column))
+            Err(no_call(column, call))
         },
-        None => Err(no_call(column)),
+        None => Err(Fault {
+            reason: Reason::NoCall,
+            column,
+        }),
     }
 }
 
-// What is no call.
-fn no_call(column: usize) -> Fault
-    ensures { result ≡ record { reason = NoCall; column = column } }
+// Why a call is none that begins at this column.
+fn no_call(column: usize, call: &[u8]) -> Fault
+    requires { column + length call.now < 2 ^ 64 }
+    ensures { result ≡ no_call column call.now }
 {
+    let fault = why(call);
     Fault {
-        reason: Reason::NoCall,
-        column,
+        reason: fault.reason,
+        column: column + fault.column,
     }
 }
 
