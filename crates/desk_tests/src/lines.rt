@@ -1,5 +1,5 @@
 //! Lines of the friendly form, rule by rule: what each says.
-use friendly_lines::{Fault, Line, Reason, Said, meets, read_friendly};
+use friendly_lines::{Fault, Form, Line, Reason, Said, meets, read_friendly};
 use std::process::Abort;
 use std::test::Fail;
 
@@ -205,8 +205,8 @@ fn lines_of_the_engine_pass(rt: HostRuntime) -> Result<(), Fail> {
 
 #[test]
 fn lines_have_faults(rt: HostRuntime) -> Result<(), Fail> {
-    let rows: [(&[u8], Reason, usize); 22] = [
-        (b"alice quota\r ", Reason::NoCall, 1),
+    let rows: [(&[u8], Reason, usize); 29] = [
+        (b"alice quota\r ", Reason::Misspelt(Form::Quota), 7),
         (b"alice call 1 WRITE \"hi", Reason::OpenQuote, 20),
         (
             b"  alice open LOG label=\"a\", \"b => x",
@@ -214,8 +214,9 @@ fn lines_have_faults(rt: HostRuntime) -> Result<(), Fail> {
             29,
         ),
         (b"alice call 1 WRITE \"hi\\\"", Reason::OpenQuote, 20),
-        (b"alice poke 0x10 \"\"", Reason::NoCall, 1),
-        (b"alice poke 0x10 \"a\"b", Reason::NoCall, 1),
+        (b"alice poke 0x10 \"\"", Reason::NoHex, 17),
+        (b"alice poke 0x10 \"a\"b", Reason::NoHex, 17),
+        (b"alice poke 0x10 123", Reason::NoHex, 17),
         (b"alice poke 0x10 \"ab\\q\"", Reason::BadEscape, 20),
         (b" alice call 1 WRITE \"\\x4\"", Reason::BadEscape, 22),
         (
@@ -223,19 +224,25 @@ fn lines_have_faults(rt: HostRuntime) -> Result<(), Fail> {
             Reason::BadEscape,
             25,
         ),
-        (b"alice alloc 4k", Reason::NoCall, 1),
-        (b"alice free 4K", Reason::NoCall, 1),
-        (b"alice alloc 17179869184G", Reason::NoCall, 1),
-        (b"alice alloc K", Reason::NoCall, 1),
-        (b"=>", Reason::NoCall, 1),
-        (b"  alice frob", Reason::NoCall, 3),
-        (b"alice frob => ok", Reason::NoCall, 1),
-        (b"alice alloc 1 2", Reason::NoCall, 1),
+        (b"alice alloc 4k", Reason::SmallUnit, 13),
+        (b"alice free 4K", Reason::NoNumber, 12),
+        (b"alice alloc 17179869184G", Reason::NoSize, 13),
+        (b"alice alloc K", Reason::NoSize, 13),
+        (b"=>", Reason::NoName, 1),
+        (b"al!ce quota", Reason::NoName, 1),
+        (b"  alice frob", Reason::UnknownCall, 9),
+        (b"alice aloc 4K => ok", Reason::Misspelt(Form::Alloc), 7),
+        (b"alice alloc 1 2", Reason::TooMany(Form::Alloc), 15),
+        (b"alice attach_at  1", Reason::Missing(Form::AttachAt), 19),
+        (b"alice detach 0x12345678901234567", Reason::LongAddress, 14),
+        (b"alice peek 10 4", Reason::NoAddress, 12),
+        (b"alice open LOG! x", Reason::NoService, 12),
         (b"\t\"", Reason::OpenQuote, 2),
         (b"alice quota => OK \"\\q\"", Reason::BadEscape, 20),
         (b"alice quota => \"\\q", Reason::OpenQuote, 16),
-        (b"alice quota => #", Reason::NoCall, 1),
-        (b"\xef\xbb\xbf frob # x", Reason::NoCall, 5),
+        (b"alice quota => #", Reason::TooMany(Form::Quota), 13),
+        (b"\xef\xbb\xbf frob # x", Reason::NoForm, 9),
+        (b"\xef\xbb\xbf al ice", Reason::UnknownCall, 8),
     ];
     for (line, reason, column) in rows {
         let fault = Fault { reason, column };

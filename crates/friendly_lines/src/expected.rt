@@ -79,7 +79,8 @@ fn meets_words(reply: &[u8], expected: &[u8]) -> bool
 /// The text in quotes with which an expectation ends, if it has one.
 pub(crate) fn written_in(expected: &[u8]) -> Option<Written<'_>>
     ensures value { written_view result ≡ written_in expected.now }
-    ensures within { IfSome result (λ w. length w.front.now + 1 + length w.inside.now ≤ length expected.now) }
+    ensures within { IfSome result
+        (λ w. length w.front.now + 1 + length w.inside.now ≤ length expected.now) }
 {
     let place = find_byte(b'"', expected)?;
     let inside = inside_quotes(behind(expected, place))?;
@@ -135,7 +136,8 @@ fn bytes_for(begins: bool, byte: u8, more: &[u8], reply: &[u8]) -> usize
 
 // One where a text begins with a byte, and else none.
 fn stands_first(text: &[u8], byte: u8) -> usize
-    ensures value { result ≡ (if nat_lt 0 (length text.now) && slice_index text.now 0 == byte then 1 else 0) }
+    ensures value { result
+        ≡ (if nat_lt 0 (length text.now) && slice_index text.now 0 == byte then 1 else 0) }
     ensures within { result ≤ length text.now }
 {
     if !text.is_empty() && text[0] == byte {
