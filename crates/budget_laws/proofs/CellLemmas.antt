@@ -1,11 +1,10 @@
 -- What a cell's bounds say of the needs that made it.
 use Rattle.std.proofs.lemmas.Bool.Decides.{nat_tests}
-use Rattle.std.proofs.lemmas.Bool.{ltb-true, ltb-false, cases_lt}
-use Rattle.std.proofs.Common.{arith, rules, ◌≡◌, ℕ, ◌<◌, ◌≤◌, ◌&&◌, Bool, true, false, cond, List, [], ◌∷◌, nat_lt, nat_le, min, refl, sym, ap, ◌∙◌, true≢false, subst}
+use Rattle.std.proofs.Common.{arith, ◌≡◌, ℕ, ◌<◌, ◌≤◌, ◌&&◌, Bool, true, false, List, [], ◌∷◌, nat_lt, nat_le, refl, sym, ◌∙◌, true≢false}
 use Rattle.std.specs.List.{AllByRecursion}
 use Rattle.std.specs.Prelude.{if◌then◌else◌, Option, Some, None, max, not}
 use Rattle.own_model.specs.Amounts.{Amounts}
-use Rattle.budget_laws.specs.Need.{Need, Cell, covers_ram, covers_caps, lesser, narrowed, cell_by, IsBelow, HasRam, HasCaps, IsIn, ComesOutAlike, greatest_choice}
+use Rattle.budget_laws.specs.Need.{Need, Cell, covers_ram, covers_caps, lesser, narrowed, cell_by, IsBelow, HasRam, IsIn, ComesOutAlike, greatest_choice}
 
 -- below the lesser of two is below both
 below_first : (x n : ℕ) (other : Option ℕ) → IsBelow x (lesser n other) → x < n
@@ -19,11 +18,6 @@ below_second x n (Some end) below = grind (arith, below)
 below_both : (x n : ℕ) (other : Option ℕ) → x < n → IsBelow x other → IsBelow x (lesser n other)
 below_both x n None less below = less
 below_both x n (Some end) less below = grind (arith, less, below)
-
--- a lesser of two is there
-lesser_there : {P : Type 0} (n : ℕ) (other : Option ℕ) → lesser n other ≡ None → P
-lesser_there n None is = cc
-lesser_there n (Some end) is = cc
 
 -- ---- one need more
 
@@ -100,26 +94,26 @@ in_own_cell budget needs = in_cell_to budget budget needs (own_alike budget need
 pub record Leads (one other : Amounts) (need : Need) : Type 0 where
   pub fails : covers_ram one need ≡ false → covers_ram other need ≡ false
   pub chosen : need.choice ≡ true → covers_ram one need ≡ true → covers_ram other need ≡ true
-  pub caps : covers_ram one need ≡ true → covers_caps one need ≡ true
+  pub caps : covers_ram one need ≡ true → covers_caps one need ≡ false → covers_caps other need ≡ false
 
--- capabilities pass where no capabilities bound a cell above
-caps_pass : (u v : Bool) (n : ℕ) (end : Option ℕ) → (if u && not v then lesser n end else end) ≡ None → (end ≡ None) × (u ≡ true → v ≡ true)
-caps_pass true true n end is = (is, λ _. refl)
-caps_pass true false n end is = lesser_there n end is
-caps_pass false v n end is = (is, λ passes. absurd (true≢false (sym passes)))
+-- capabilities that fail do so below those that bound a cell above
+caps_fail : (u v : Bool) (n x : ℕ) (end : Option ℕ) → IsBelow x (if u && not v then lesser n end else end) → IsBelow x end × (u ≡ true → v ≡ false → nat_le n x ≡ false)
+caps_fail true true n x end is = (is, λ _ fails. absurd (true≢false fails))
+caps_fail true false n x end is = (below_second x n end is, λ _ _. grind (arith, nat_tests, below_first x n end is))
+caps_fail false v n x end is = (is, λ passes. absurd (true≢false (sym passes)))
 
--- no capabilities bound it above, and so for each need
-no_caps : (one : Amounts) (need : Need) (rest : List Need) → (cell_by one (need ∷ rest)).caps_below ≡ None →
-    ((cell_by one rest).caps_below ≡ None) × (covers_ram one need ≡ true → covers_caps one need ≡ true)
-no_caps one need rest none = caps_pass (covers_ram one need) (covers_caps one need) need.caps (cell_by one rest).caps_below none
+-- so for each need
+few_caps : (one other : Amounts) (need : Need) (rest : List Need) → IsBelow other.caps (cell_by one (need ∷ rest)).caps_below →
+    IsBelow other.caps (cell_by one rest).caps_below × (covers_ram one need ≡ true → covers_caps one need ≡ false → covers_caps other need ≡ false)
+few_caps one other need rest few = caps_fail (covers_ram one need) (covers_caps one need) need.caps other.caps (cell_by one rest).caps_below few
 
 -- tests lead within the RAM of a cell
-pub leads_within : (one other : Amounts) (needs : List Need) → (cell_by one needs).caps_below ≡ None → HasRam (cell_by one needs) other.ram →
+pub leads_within : (one other : Amounts) (needs : List Need) → IsBelow other.caps (cell_by one needs).caps_below → HasRam (cell_by one needs) other.ram →
     AllByRecursion (Leads one other) needs
-leads_within one other [] none has = tt
-leads_within one other (need ∷ rest) none has =
+leads_within one other [] few has = tt
+leads_within one other (need ∷ rest) few has =
     let c = cell_by one rest in
-    let split = no_caps one need rest none in
+    let split = few_caps one other need rest few in
     let ram = ram_of (covers_ram one need) need.ram other.ram c.ram_from c.ram_below (record { enough = has.enough; below = has.below }) in (
       record { fails = λ e. sym ram.0 ∙ e; chosen = λ _ e. sym ram.0 ∙ e; caps = split.1 },
       leads_within one other rest split.0 (record { enough = ram.1.enough; below = ram.1.below }),
@@ -132,11 +126,11 @@ choice_within true false n g x most = (most, λ _ e. absurd (true≢false (sym e
 choice_within false passes n g x most = (most, λ e _. absurd (true≢false (sym e)))
 
 -- tests lead from the greatest choice on, up to the budget
-pub leads_below : (one other : Amounts) (needs : List Need) → (cell_by one needs).caps_below ≡ None → greatest_choice one needs ≤ other.ram → other.ram ≤ one.ram →
+pub leads_below : (one other : Amounts) (needs : List Need) → IsBelow other.caps (cell_by one needs).caps_below → greatest_choice one needs ≤ other.ram → other.ram ≤ one.ram →
     AllByRecursion (Leads one other) needs
-leads_below one other [] none most within = tt
-leads_below one other (need ∷ rest) none most within =
-    let split = no_caps one need rest none in
+leads_below one other [] few most within = tt
+leads_below one other (need ∷ rest) few most within =
+    let split = few_caps one other need rest few in
     let chosen = choice_within need.choice (covers_ram one need) need.ram (greatest_choice one rest) other.ram most in (
       record {
         fails = λ e. grind (arith, nat_tests, e, within);
@@ -150,12 +144,12 @@ leads_below one other (need ∷ rest) none most within =
 pub begins_within : (one : Amounts) (needs : List Need) → (cell_by one needs).ram_from ≤ one.ram
 begins_within one needs = (in_own_cell one needs).ram.enough
 
--- where no capabilities bound a cell above, RAM of it and as many capabilities as were ever needed are in it
-pub in_by_parts : (one other : Amounts) (needs : List Need) → (cell_by one needs).caps_below ≡ None → HasRam (cell_by one needs) other.ram →
+-- where capabilities aren't past a cell's, RAM of it and as many capabilities as were ever needed are in it
+pub in_by_parts : (one other : Amounts) (needs : List Need) → IsBelow other.caps (cell_by one needs).caps_below → HasRam (cell_by one needs) other.ram →
     nat_lt other.caps (cell_by one needs).caps_from ≡ false → IsIn (cell_by one needs) other
-in_by_parts one other needs none has enough = record {
+in_by_parts one other needs few has enough = record {
   ram = has;
-  caps = record { enough = grind (arith, nat_tests, enough); below = subst (IsBelow other.caps) (sym none) tt };
+  caps = record { enough = grind (arith, nat_tests, enough); below = few };
 }
 
 -- in a cell there are as many as were ever needed

@@ -1,5 +1,5 @@
 -- Under fewer capabilities, or under less RAM down to the greatest choice, a call's tests come out alike or the call is in want.
-use Rattle.std.proofs.Common.{◌≡◌, ℕ, ◌+◌, ◌⊎◌, inl, inr, Bool, true, false, cond, List, [], ◌∷◌, length, nat_lt, refl, sym, ap, ◌∙◌, true≢false, subst, ◌&&◌}
+use Rattle.std.proofs.Common.{◌≡◌, ℕ, ◌+◌, ◌⊎◌, inl, inr, Bool, true, false, cond, List, [], ◌∷◌, length, nat_lt, refl, sym, true≢false, subst, ◌&&◌}
 use Rattle.std.specs.FinMap.{get}
 use Rattle.std.specs.List.{AllByRecursion}
 use Rattle.std.specs.Option.{option_or}
@@ -8,23 +8,23 @@ use Rattle.trade_base.specs.Page.{page_of, is_valid_size}
 use Rattle.trade_base.specs.declared.refusal.Refusal.{Refusal}
 use Rattle.trade_base.specs.declared.refusal.Refusal.TheVariants.{InvalidSize, OutOfRam, OutOfCaps, TooManyChunks}
 use Rattle.own_model.proofs.ListLemmas.{all_then}
-use Rattle.own_model.specs.Account.{Account, shortage, alloc_refusal}
+use Rattle.own_model.specs.Account.{shortage, alloc_refusal}
 use Rattle.own_model.specs.Amounts.{Amounts}
 use Rattle.own_model.specs.BestFit.{Spot}
 use Rattle.own_model.specs.Call.{Call}
-use Rattle.own_model.specs.Call.Call.{Alloc, Free, Attach, AttachAt, Detach, Peek, Poke, Capalloc, Capfree, New, Del, Snew, Sdel, Quota, Reserve, Request, Yield, Open, Upgrade, CallSession, Close, Exit}
+use Rattle.own_model.specs.Call.Call.{Alloc, Capalloc, New, Snew, Yield, Open, Upgrade}
 use Rattle.own_model.specs.Growth.{most_chunks, is_large, hole_for, least_growth, small_refusal, heap_refusal}
 use Rattle.own_model.specs.OwnState.{OwnState, session_named}
 use Rattle.own_model.specs.OwnStep.{Outcome, unless, turned_away, allocated, cap_allocated, sliced_in, own_heap_gap, newed, yielded_by, reserve_yielded, opened_by, session_opened, upgraded_by, session_upgraded, entry_step, own_step}
 use Rattle.own_model.specs.Session.{Session, Wish, wish, donation_refusal, too_small}
 use Rattle.own_model.specs.SessionArgs.{Arguments, arguments_of}
 use Rattle.own_model.specs.Sliced.{sliced_header, sliced_size, sliced_refusal}
-use Rattle.own_model.specs.StartList.{Entry, Kind}
+use Rattle.own_model.specs.StartList.{Entry}
 use Rattle.budget_laws.proofs.CellLemmas.{Leads}
 use Rattle.budget_laws.proofs.StepLemmas.{Moved, limits_of, here_when, turned_alike}
 use Rattle.budget_laws.proofs.TestLemmas.{IsAlike, IsLed, lacks, decided, sized_decided, growth_decided, alike_to, led_of}
 use Rattle.budget_laws.specs.Need.{budgeted, need_of, ComesOutAlike}
-use Rattle.budget_laws.specs.Test.{Test, test_of, tested_where, small_tests, growth_tests, arguments_tests, wish_tests, upgrade_tests, entry_tests, tests_unless, tests}
+use Rattle.budget_laws.specs.Test.{Test, test_of, small_tests, growth_tests, arguments_tests, wish_tests, upgrade_tests, entry_tests, tests_unless, tests}
 use Rattle.budget_laws.specs.Want.{is_short, wants}
 
 -- what is refused for want is in want

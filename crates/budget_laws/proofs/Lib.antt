@@ -1,6 +1,13 @@
 mod EachLemmas
 mod CellLemmas
+mod WantLemmas
 mod TestLemmas
 mod StepLemmas
 mod DecideLemmas
 mod RunLemmas
+mod ServeLemmas
+mod SessionRunLemmas
+mod SelectorLemmas
+mod CarryLemmas
+mod ClientLemmas
+mod StretchLemmas

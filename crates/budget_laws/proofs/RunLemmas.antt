@@ -1,8 +1,6 @@
 -- Runs under two budgets.
-use Rattle.std.proofs.lemmas.Bool.Decides.{nat_tests}
-use Rattle.std.proofs.Common.{arith, ◌≡◌, ℕ, ◌+◌, ◌<◌, ◌≤◌, ◌⊎◌, inl, inr, ⊎_elim, Bool, true, false, cond, List, [], ◌∷◌, ◌++◌, map, nat_lt, refl, sym, ap, ◌∙◌, true≢false, ◌||◌}
+use Rattle.std.proofs.Common.{arith, ◌≡◌, ◌<◌, ◌≤◌, ◌⊎◌, inl, inr, Bool, true, List, [], ◌∷◌, map, nat_lt, refl, sym, ap, ◌∙◌, ◌||◌}
 use Rattle.std.specs.List.{AllByRecursion}
-use Rattle.std.specs.Prelude.{None}
 use Rattle.own_model.specs.Amounts.{Amounts, no_amounts}
 use Rattle.own_model.specs.Call.{Call}
 use Rattle.own_model.specs.Call.Call.{Request}
@@ -11,12 +9,13 @@ use Rattle.own_model.specs.OwnStep.{own_step, own_run}
 use Rattle.own_model.specs.Reply.{Reply}
 use Rattle.own_model.specs.Reply.Reply.{Quotas}
 use Rattle.own_model.specs.StartList.{Entry}
-use Rattle.budget_laws.proofs.CellLemmas.{Leads, in_cell_of, in_cell_to, leads_within, leads_below, begins_within, in_by_parts, enough_in}
+use Rattle.budget_laws.proofs.CellLemmas.{Leads, in_cell_of}
 use Rattle.budget_laws.proofs.DecideLemmas.{own_decides}
 use Rattle.budget_laws.proofs.EachLemmas.{of_first, of_second, of_both, of_mapped, to_mapped}
-use Rattle.budget_laws.proofs.StepLemmas.{Moved, Agrees, own_agrees}
+use Rattle.budget_laws.proofs.StepLemmas.{Moved, own_agrees}
+use Rattle.budget_laws.proofs.WantLemmas.{or_left, or_right, within_by, below_by}
 use Rattle.budget_laws.specs.Laws.{SameAnswersInACell, WantInACell, WantBelowACell}
-use Rattle.budget_laws.specs.Need.{Need, HasRam, IsIn, budgeted, need_of, needs, ComesOutAlike, cell, cell_by}
+use Rattle.budget_laws.specs.Need.{Need, HasRam, IsBelow, budgeted, need_of, needs, ComesOutAlike, cell, greatest_choice}
 use Rattle.budget_laws.specs.Test.{tests}
 use Rattle.budget_laws.specs.Want.{but_limits, answers, is_short, wants, in_want}
 
@@ -28,15 +27,6 @@ short_same reply = refl
 wants_same : (call : Call) (one other : Reply) → but_limits other ≡ but_limits one → wants call other ≡ wants call one
 wants_same (Request text) one other same = refl
 wants_same call one other same = sym (short_same other) ∙ ap is_short same ∙ short_same one
-
--- one of two is so
-or_left : (a b : Bool) → a ≡ true → (a || b) ≡ true
-or_left true b is = refl
-or_left false b is = absurd (true≢false (sym is))
-
-or_right : (a b : Bool) → b ≡ true → (a || b) ≡ true
-or_right true b is = refl
-or_right false b is = is
 
 module _ (one other : Amounts) (entry : Entry) where
   abbrev EachAlike : List Need → Type 0
@@ -96,47 +86,26 @@ module _ (entry : Entry) (calls : List Call) (s : OwnState) (one other : Amounts
   abbrev each : List Need
   each = needs entry one calls (budgeted one s)
 
-  abbrev want_there : Bool
-  want_there = in_want entry calls (budgeted other s)
+  abbrev there : Bool
+  there = in_want entry calls (budgeted other s)
 
-  abbrev want_here : Bool
-  want_here = in_want entry calls (budgeted one s)
+  abbrev here : Bool
+  here = in_want entry calls (budgeted one s)
 
-  -- in the cell both are in want or neither
-  want_in : IsIn (cell_by one each) other → want_there ≡ want_here
-  want_in is = (run_alike one other entry calls (budgeted one s) (budgeted other s) (first_moved one other entry s) (in_cell_of one other each is)).want
+  alike : AllByRecursion (ComesOutAlike one other) each → there ≡ here
+  alike same = (run_alike one other entry calls (budgeted one s) (budgeted other s) (first_moved one other entry s) same).want
 
-  leads_to : AllByRecursion (Leads one other) each → (IsIn (cell_by one each) other) ⊎ (want_there ≡ true)
-  leads_to led =
-      elim (run_decides one other entry calls (budgeted one s) (budgeted other s) (first_moved one other entry s) led) [
-        | inl alike ↦ inl (in_cell_to one other each alike)
-        | inr short ↦ inr short
-      ]
+  decides : AllByRecursion (Leads one other) each → AllByRecursion (ComesOutAlike one other) each ⊎ (there ≡ true)
+  decides led = run_decides one other entry calls (budgeted one s) (budgeted other s) (first_moved one other entry s) led
 
-  same_or : (b few : Bool) → few ≡ false → b ≡ (b || few)
-  same_or b true enough = absurd (true≢false enough)
-  same_or true false enough = refl
-  same_or false false enough = refl
+  within : IsBelow other.caps (cell entry calls one s).caps_below → HasRam (cell entry calls one s) other.ram → there ≡ (here || nat_lt other.caps (cell entry calls one s).caps_from)
+  within few has = within_by one other each here there alike decides few has
 
-  -- with as many capabilities as were needed as here, and with fewer in want
-  by_caps : (few : Bool) → (few ≡ false → IsIn (cell_by one each) other) → want_there ≡ true → want_there ≡ (want_here || few)
-  by_caps true enough short = short ∙ sym (or_right want_here true refl)
-  by_caps false enough short = want_in (enough refl) ∙ same_or want_here false refl
-
-  within : (cell_by one each).caps_below ≡ None → HasRam (cell_by one each) other.ram →
-      want_there ≡ (want_here || nat_lt other.caps (cell_by one each).caps_from)
-  within none has =
-      elim (leads_to (leads_within one other each none has)) [
-        | inl is ↦ want_in is ∙ same_or want_here (nat_lt other.caps (cell_by one each).caps_from) (enough_in one other each is)
-        | inr short ↦ by_caps (nat_lt other.caps (cell_by one each).caps_from) (in_by_parts one other each none has) short
-      ]
+  below : IsBelow other.caps (cell entry calls one s).caps_below → other.ram < (cell entry calls one s).ram_from → greatest_choice one each ≤ other.ram → there ≡ true
+  below few less chosen = below_by one other each here there alike decides few less chosen
 
 pub want_within : WantInACell
-want_within entry calls s one other none has = within entry calls s one other none has
+want_within entry calls s one other few has = within entry calls s one other few has
 
 pub want_below : WantBelowACell
-want_below entry calls s one other none less chosen =
-    elim (leads_to entry calls s one other (leads_below one other (each entry calls s one other) none chosen (omega (arith, less, begins_within one (each entry calls s one other))))) [
-      | inr short ↦ short
-      | inl is ↦ absurd (omega (arith, less, is.ram.enough))
-    ]
+want_below entry calls s one other few less chosen = below entry calls s one other few less chosen

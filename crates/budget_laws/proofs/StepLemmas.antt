@@ -1,25 +1,25 @@
 -- What a call does under another budget where its tests come out alike.
-use Rattle.std.proofs.Common.{arith, rules, ◌≡◌, ℕ, ◌+◌, ◌*◌, ◌-◌, ◌≤◌, Bool, true, false, cond, List, [], ◌∷◌, length, nat_lt, refl, sym, ap, ◌∙◌, true≢false, subst, ◌&&◌}
+use Rattle.std.proofs.Common.{arith, ◌≡◌, ℕ, ◌+◌, ◌-◌, ◌≤◌, Bool, true, false, cond, List, [], ◌∷◌, length, nat_lt, refl, sym, ap, ◌∙◌, true≢false, subst, ◌&&◌}
 use Rattle.std.specs.FinMap.{get}
 use Rattle.std.specs.List.{AllByRecursion}
 use Rattle.std.specs.Option.{option_or}
-use Rattle.std.specs.Prelude.{Option, Some, None, is_none, Result, Ok, Err, nat_le, if◌then◌else◌}
+use Rattle.std.specs.Prelude.{Option, Some, None, Result, Ok, Err, nat_le}
 use Rattle.trade_base.specs.Page.{page_of, is_valid_size}
 use Rattle.trade_base.specs.declared.refusal.Refusal.{Refusal}
 use Rattle.trade_base.specs.declared.refusal.Refusal.TheVariants.{InvalidSize, TooManyChunks, Gone}
 use Rattle.own_model.proofs.StepLemmas.{covers}
-use Rattle.own_model.specs.Account.{Account, Fits, shortage, alloc_refusal}
+use Rattle.own_model.specs.Account.{shortage, alloc_refusal}
 use Rattle.own_model.specs.Amounts.{Amounts}
 use Rattle.own_model.specs.BestFit.{Spot}
 use Rattle.own_model.specs.Call.{Call}
 use Rattle.own_model.specs.Call.Call.{Alloc, Free, Attach, AttachAt, Detach, Peek, Poke, Capalloc, Capfree, New, Del, Snew, Sdel, Quota, Reserve, Request, Yield, Open, Upgrade, CallSession, Close, Exit}
-use Rattle.own_model.specs.Growth.{Growth, most_chunks, is_large, hole_for, least_growth, growth_of, small_refusal, heap_refusal}
+use Rattle.own_model.specs.Growth.{Growth, most_chunks, is_large, hole_for, least_growth, growth_of, small_refusal}
 use Rattle.own_model.specs.OwnState.{OwnState, Object, named_bytes, session_named}
 use Rattle.own_model.specs.OwnState.Object.{Dataspace, RpcObject, OpenSession, Buffer}
-use Rattle.own_model.specs.OwnStep.{Outcome, refused, unless, turned_away, allocated, freed, attached_first, attached_at, with_region, region_detached, count_refusal, peeked, poked_at, payload_poked, block_poked, poked, cap_allocated, cap_freed, block_taken, grown_in, grown_at, large_in, large_at, deleted, given_back, sliced_in, sliced_at, sliced_freed, own_heap_gap, small_new, newed, told_quota, told_reserve, requested_by, reserve_requested, yielded_by, reserve_yielded, opened_by, session_opened, upgraded_by, session_upgraded, session_called, session_closed, exited, entry_step, own_step}
+use Rattle.own_model.specs.OwnStep.{Outcome, refused, unless, turned_away, allocated, freed, attached_first, attached_at, with_region, region_detached, count_refusal, peeked, poked_at, payload_poked, block_poked, poked, cap_allocated, cap_freed, block_taken, grown_in, large_in, deleted, given_back, sliced_in, sliced_freed, own_heap_gap, small_new, told_reserve, requested_by, yielded_by, opened_by, upgraded_by, session_called, session_closed, entry_step, own_step}
 use Rattle.own_model.specs.Place.{Place, found}
 use Rattle.own_model.specs.Place.Place.{InDataspace, InPayload, InBlock}
-use Rattle.own_model.specs.Region.{most_regions, attach_refusal, attach_at_refusal, detach_refusal, user_gap}
+use Rattle.own_model.specs.Region.{most_regions, attach_refusal, attach_at_refusal, detach_refusal}
 use Rattle.own_model.specs.Reserve.{reserve_account}
 use Rattle.own_model.specs.Session.{Session, Wish, wish, donation_refusal, too_small}
 use Rattle.own_model.specs.SessionArgs.{Arguments, arguments_of}
@@ -28,8 +28,8 @@ use Rattle.own_model.specs.StartList.{Entry, Kind}
 use Rattle.own_model.specs.StartList.Kind.{Script, Server, Init}
 use Rattle.own_model.proofs.ListLemmas.{all_then}
 use Rattle.budget_laws.proofs.TestLemmas.{IsAlike, short_alike, sized_alike, least_alike, growth_alike, alike_of}
-use Rattle.budget_laws.specs.Need.{limited, budgeted, need_of, ComesOutAlike}
-use Rattle.budget_laws.specs.Test.{Test, test_of, tested_where, small_tests, growth_tests, arguments_tests, wish_tests, upgrade_tests, entry_tests, tests_unless, tests}
+use Rattle.budget_laws.specs.Need.{budgeted, need_of, ComesOutAlike}
+use Rattle.budget_laws.specs.Test.{Test, test_of, small_tests, growth_tests, arguments_tests, wish_tests, upgrade_tests, entry_tests, tests_unless, tests}
 use Rattle.budget_laws.specs.Want.{but_limits}
 
 -- the limits of a component's account

@@ -1,15 +1,15 @@
 -- What a test says of an account under other limits.
 use Rattle.std.proofs.lemmas.Bool.Decides.{nat_tests}
-use Rattle.std.proofs.Common.{arith, ◌≡◌, ℕ, ◌+◌, ◌<◌, ◌≤◌, ◌⊎◌, inl, inr, Bool, true, false, cond, List, [], ◌∷◌, nat_lt, nat_le, refl, sym, ap, ◌∙◌, true≢false, subst}
+use Rattle.std.proofs.Common.{arith, ◌≡◌, ℕ, ◌+◌, ◌≤◌, ◌⊎◌, inl, inr, Bool, true, false, cond, [], ◌∷◌, nat_lt, nat_le, refl, sym, ap, ◌∙◌, true≢false}
 use Rattle.std.specs.List.{AllByRecursion}
-use Rattle.std.specs.Prelude.{if◌then◌else◌, Option, Some, None, is_none}
+use Rattle.std.specs.Prelude.{Option, Some, None, is_none}
 use Rattle.trade_base.specs.declared.refusal.Refusal.{Refusal}
-use Rattle.trade_base.specs.declared.refusal.Refusal.TheVariants.{OutOfRam, OutOfCaps, TooManyChunks}
+use Rattle.trade_base.specs.declared.refusal.Refusal.TheVariants.{OutOfRam, OutOfCaps}
 use Rattle.own_model.specs.Account.{Account, shortage}
 use Rattle.own_model.specs.Amounts.{Amounts}
 use Rattle.own_model.specs.Growth.{Shape, least_growth, larger_growth, growth_of}
 use Rattle.budget_laws.proofs.CellLemmas.{Leads}
-use Rattle.budget_laws.specs.Need.{Need, limited, need_of, covers_ram, covers_caps, ComesOutAlike}
+use Rattle.budget_laws.specs.Need.{limited, need_of, covers_ram, covers_caps, ComesOutAlike}
 use Rattle.budget_laws.specs.Test.{Test, test_of, tested_where, larger_test, growth_tests}
 
 -- a refusal for want of RAM or of capabilities
@@ -28,7 +28,7 @@ module _ (m : Amounts) (a : Account) where
   pub record IsLed (test : Test) : Type 0 where
     pub fails : nat_lt a.ram_limit (a.ram_used + test.ram) ≡ true → nat_lt m.ram (a.ram_used + test.ram) ≡ true
     pub chosen : test.choice ≡ true → nat_lt a.ram_limit (a.ram_used + test.ram) ≡ false → nat_lt m.ram (a.ram_used + test.ram) ≡ false
-    pub caps : nat_lt a.ram_limit (a.ram_used + test.ram) ≡ false → nat_lt a.caps_limit (a.caps_used + test.caps) ≡ false
+    pub caps : nat_lt a.ram_limit (a.ram_used + test.ram) ≡ false → nat_lt a.caps_limit (a.caps_used + test.caps) ≡ true → nat_lt m.caps (a.caps_used + test.caps) ≡ true
 
   -- then the account lacks the same
   by_tests : (u v x y : Bool) → u ≡ x → (x ≡ false → v ≡ y) → cond u (Some OutOfRam) (cond v (Some OutOfCaps) None) ≡ cond x (Some OutOfRam) (cond y (Some OutOfCaps) None)
@@ -48,13 +48,14 @@ module _ (m : Amounts) (a : Account) where
   sized_alike false test x each = refl
 
   -- a test that is no choice comes out alike, or the account lacks under the other limits
-  by_cases : (u v x y : Bool) → (x ≡ true → u ≡ true) → (x ≡ false → y ≡ false) →
+  by_cases : (u v x y : Bool) → (x ≡ true → u ≡ true) → (x ≡ false → y ≡ true → v ≡ true) →
       ((u ≡ x) × (x ≡ false → v ≡ y)) ⊎ (lacks (cond u (Some OutOfRam) (cond v (Some OutOfCaps) None)) ≡ true)
   by_cases true v true y fails caps = inl (refl, λ e. absurd (true≢false e))
   by_cases false v true y fails caps = absurd (true≢false (sym (fails refl)))
   by_cases true v false y fails caps = inr refl
   by_cases false true false y fails caps = inr refl
-  by_cases false false false y fails caps = inl (refl, λ e. sym (caps e))
+  by_cases false false false true fails caps = absurd (true≢false (sym (caps refl refl)))
+  by_cases false false false false fails caps = inl (refl, λ _. refl)
 
   pub decided : (test : Test) → IsLed test → IsAlike test ⊎ (lacks (shortage (limited m a) test.ram test.caps) ≡ true)
   decided test led =
@@ -116,6 +117,14 @@ module _ (m : Amounts) (a : Account) where
     lacks_caps true v is = refl
     lacks_caps false v is = ap (λ b. lacks (cond b (Some OutOfCaps) None)) is
 
+    -- capabilities that pass there pass here
+    caps_pass : fails_large ≡ false → IsLed (larger_test n shape) → nat_lt m.caps (a.caps_used + 1) ≡ false → nat_lt a.caps_limit (a.caps_used + 1) ≡ false
+    caps_pass is led passes =
+        elim (nat_lt a.caps_limit (a.caps_used + 1)) as (λ b. (b ≡ true → nat_lt m.caps (a.caps_used + 1) ≡ true) → b ≡ false) [
+          | true ↦ λ fails. absurd (true≢false (sym (fails refl) ∙ passes))
+          | false ↦ λ _. refl
+        ] (led.caps is)
+
     passes_decided : (u v : Bool) → nat_lt m.ram (a.ram_used + large) ≡ u → nat_lt m.caps (a.caps_used + 1) ≡ v → fails_large ≡ false → IsLed (larger_test n shape) →
         AllByRecursion IsAlike (larger_test n shape ∷ []) ⊎ (lacks (shortage (limited m a) least 1) ≡ true)
     passes_decided true v fails w is led =
@@ -123,7 +132,7 @@ module _ (m : Amounts) (a : Account) where
         let within = least_within in
         inr (lacks_ram (nat_lt m.ram (a.ram_used + least)) (nat_lt m.caps (a.caps_used + 1)) (grind (arith, nat_tests, same, within, fails)))
     passes_decided false true u w is led = inr (lacks_caps (nat_lt m.ram (a.ram_used + least)) (nat_lt m.caps (a.caps_used + 1)) w)
-    passes_decided false false u w is led = inl (record { ram = u ∙ sym is; caps = λ _. w ∙ sym (led.caps is) }, tt)
+    passes_decided false false u w is led = inl (record { ram = u ∙ sym is; caps = λ _. w ∙ sym (caps_pass is led w) }, tt)
 
     -- growth comes out alike, or the account lacks the least chunk under the other limits
     growth_decided_by : (v : Bool) → fails_large ≡ v → IsLed (larger_test n shape) → AllByRecursion IsLed (tested_where v (test_of least 1)) →
@@ -180,8 +189,9 @@ module _ (one other m : Amounts) (a : Account) (ram : m.ram + one.ram ≡ a.ram_
       let p = passes_ram test in
       let q = passes_other_ram test in
       let u = passes_caps test in
+      let v = passes_other_caps test in
       record {
         fails = λ e. let f = led.fails (grind (arith, nat_tests, e, p)) in grind (arith, nat_tests, q, f);
         chosen = λ is e. let f = led.chosen is (grind (arith, nat_tests, e, p)) in grind (arith, nat_tests, q, f);
-        caps = λ e. let f = led.caps (grind (arith, nat_tests, e, p)) in grind (arith, nat_tests, u, f);
+        caps = λ e fails. let f = led.caps (grind (arith, nat_tests, e, p)) (grind (arith, nat_tests, fails, u)) in grind (arith, nat_tests, v, f);
       }

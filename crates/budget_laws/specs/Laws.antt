@@ -1,12 +1,12 @@
 -- The laws of budgets, as statements.
-use Rattle.std.specs.Prelude.{◌≡◌, ℕ, ◌<◌, ◌≤◌, ◌||◌, true, nat_lt, List, None}
+use Rattle.std.specs.Prelude.{◌≡◌, ◌<◌, ◌≤◌, ◌||◌, true, nat_lt, List}
 use Rattle.std.specs.List.{AllByRecursion}
 use Rattle.own_model.specs.Amounts.{Amounts, no_amounts}
 use Rattle.own_model.specs.Call.{Call}
 use Rattle.own_model.specs.OwnState.{OwnState}
 use Rattle.own_model.specs.OwnStep.{own_run}
 use Rattle.own_model.specs.StartList.{Entry}
-use Rattle.budget_laws.specs.Need.{Cell, HasRam, IsIn, ComesOutAlike, budgeted, needs, cell, greatest_choice}
+use Rattle.budget_laws.specs.Need.{HasRam, IsBelow, IsIn, ComesOutAlike, budgeted, needs, cell, greatest_choice}
 use Rattle.budget_laws.specs.Want.{answers, in_want}
 
 -- a budget is in the cell of another exactly where each test along the other's run comes out alike
@@ -27,18 +27,18 @@ SameAnswersInACell =
     (answers entry calls (budgeted other s) ≡ answers entry calls (budgeted one s))
     × (budgeted no_amounts (own_run entry calls (budgeted other s)) ≡ budgeted no_amounts (own_run entry calls (budgeted one s)))
 
--- where a run has capabilities enough, a budget with RAM of the run's cell is in want where the run is, and where its capabilities
--- are fewer than were ever needed, and nowhere else
+-- a budget with RAM of a run's cell, and with capabilities below all that the run was refused, is in want where the run is, and where
+-- its capabilities are fewer than were ever needed, and nowhere else
 abbrev pub WantInACell : Type 0
 WantInACell =
-    (entry : Entry) (calls : List Call) (s : OwnState) (one other : Amounts) → (cell entry calls one s).caps_below ≡ None →
+    (entry : Entry) (calls : List Call) (s : OwnState) (one other : Amounts) → IsBelow other.caps (cell entry calls one s).caps_below →
     HasRam (cell entry calls one s) other.ram →
     in_want entry calls (budgeted other s)
     ≡ (in_want entry calls (budgeted one s) || nat_lt other.caps (cell entry calls one s).caps_from)
 
--- and each budget below the run's cell, from the greatest need of a choice on that passed in it, is in want
+-- and each such budget below the run's cell, from the greatest need of a choice on that passed in it, is in want
 abbrev pub WantBelowACell : Type 0
 WantBelowACell =
-    (entry : Entry) (calls : List Call) (s : OwnState) (one other : Amounts) → (cell entry calls one s).caps_below ≡ None →
+    (entry : Entry) (calls : List Call) (s : OwnState) (one other : Amounts) → IsBelow other.caps (cell entry calls one s).caps_below →
     other.ram < (cell entry calls one s).ram_from → greatest_choice one (needs entry one calls (budgeted one s)) ≤ other.ram →
     in_want entry calls (budgeted other s) ≡ true

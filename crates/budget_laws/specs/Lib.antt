@@ -2,3 +2,8 @@ pub mod Test
 pub mod Need
 pub mod Want
 pub mod Laws
+pub mod Request
+pub mod RequestLaws
+pub mod Opened
+pub mod Rows
+pub mod Stretches

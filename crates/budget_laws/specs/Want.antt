@@ -1,6 +1,5 @@
 -- What a run answers, and whether it is in want.
-use Rattle.std.specs.Prelude.{ℕ, ◌||◌, Bool, true, false, List, [], ◌∷◌}
-use Rattle.trade_base.specs.declared.refusal.Refusal.{Refusal}
+use Rattle.std.specs.Prelude.{◌||◌, Bool, true, false, List, [], ◌∷◌}
 use Rattle.trade_base.specs.declared.refusal.Refusal.TheVariants.{OutOfRam, OutOfCaps}
 use Rattle.own_model.specs.Call.{Call}
 use Rattle.own_model.specs.Call.Call.{Request}
@@ -10,7 +9,7 @@ use Rattle.own_model.specs.Reply.{Reply, LogLine}
 use Rattle.own_model.specs.Reply.Reply.{Quotas, Refused}
 use Rattle.own_model.specs.StartList.{Entry}
 use Rattle.own_model.specs.Amounts.{no_amounts}
-use Rattle.budget_laws.specs.Need.{limited, budgeted}
+use Rattle.budget_laws.specs.Need.{limited}
 
 -- a reply, but for the limits that it tells
 abbrev pub but_limits : Reply → Reply

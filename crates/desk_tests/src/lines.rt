@@ -1,5 +1,5 @@
 //! Lines of the friendly form, rule by rule: what each says.
-use friendly_lines::{Fault, Line, Reason, Said, read_friendly};
+use friendly_lines::{Fault, Form, Line, Reason, Said, meets, read_friendly};
 use std::process::Abort;
 use std::test::Fail;
 
@@ -51,6 +51,28 @@ fn lines_say_calls(rt: HostRuntime) -> Result<(), Fail> {
             ),
             // no call, where that is expected
             (b"alice  frob => Bad_line", b"alice frob", Some(b"Bad_line")),
+        ],
+    );
+    Ok(())
+}
+
+#[test]
+fn comments_stand_behind_calls(rt: HostRuntime) -> Result<(), Fail> {
+    check_calls(
+        &rt,
+        &[
+            (b"alice quota # all", b"alice quota", None),
+            (b"alice quota\t#", b"alice quota", None),
+            (b"alice quota => ok  # \" => x", b"alice quota", Some(b"ok")),
+            (b"alice quota\t=> ok", b"alice quota", Some(b"ok")),
+            (b"alice call 1 a #b # c", b"alice call 1 a #b", None),
+            (
+                b"alice call 1 WRITE \" # \" # => x",
+                b"alice call 1 WRITE 202320",
+                None,
+            ),
+            (b"\xef\xbb\xbf alice quota", b"alice quota", None),
+            (b"\xef\xbb\xbf!alice  quota", b"alice  quota", None),
         ],
     );
     Ok(())
@@ -117,6 +139,28 @@ fn texts_and_sizes_are_translated(rt: HostRuntime) -> Result<(), Fail> {
             (b"alice alloc 4K", b"alice alloc 4096", None),
             (b"alice new 2M => x", b"alice new 2097152", Some(b"x")),
             (b"alice snew 1G", b"alice snew 1073741824", None),
+            (b"alice  peek 0x10  1K ", b"alice peek 0x10 1024", None),
+            (b"alice call 1 BUFFER 8K", b"alice call 1 BUFFER 8192", None),
+            (
+                b"alice call 1 READ 1K 1K 2K",
+                b"alice call 1 READ 1K 1024 2048",
+                None,
+            ),
+            (
+                b"alice call 1 PUT f 1K 0 1M x",
+                b"alice call 1 PUT f 1024 0 1048576 x",
+                None,
+            ),
+            (
+                b"alice call 1 WRITE f 4K 00",
+                b"alice call 1 WRITE f 4096 00",
+                None,
+            ),
+            (
+                b"alice call 1 WRITE f 4K \"\\n\"",
+                b"alice call 1 WRITE f 4096 0a",
+                None,
+            ),
         ],
     );
     Ok(())
@@ -149,6 +193,10 @@ fn lines_of_the_engine_pass(rt: HostRuntime) -> Result<(), Fail> {
         b"alice request ram_quota=4K,  label=\"a  b\"",
         b"alice yield  cap_quota=1 ",
         b"alice request ",
+        b"alice call 1 BUFFER  8K",
+        b"alice call 1 NAME 1K",
+        b"alice call 1 READ f 4k 0",
+        b"alice call 1 WRITE 4K 1",
     ] {
         check_calls(&rt, &[(line, line, None)]);
     }
@@ -157,8 +205,8 @@ fn lines_of_the_engine_pass(rt: HostRuntime) -> Result<(), Fail> {
 
 #[test]
 fn lines_have_faults(rt: HostRuntime) -> Result<(), Fail> {
-    let rows: [(&[u8], Reason, usize); 18] = [
-        (b"alice quota\r ", Reason::NoCall, 1),
+    let rows: [(&[u8], Reason, usize); 29] = [
+        (b"alice quota\r ", Reason::Misspelt(Form::Quota), 7),
         (b"alice call 1 WRITE \"hi", Reason::OpenQuote, 20),
         (
             b"  alice open LOG label=\"a\", \"b => x",
@@ -166,8 +214,9 @@ fn lines_have_faults(rt: HostRuntime) -> Result<(), Fail> {
             29,
         ),
         (b"alice call 1 WRITE \"hi\\\"", Reason::OpenQuote, 20),
-        (b"alice poke 0x10 \"\"", Reason::NoCall, 1),
-        (b"alice poke 0x10 \"a\"b", Reason::NoCall, 1),
+        (b"alice poke 0x10 \"\"", Reason::NoHex, 17),
+        (b"alice poke 0x10 \"a\"b", Reason::NoHex, 17),
+        (b"alice poke 0x10 123", Reason::NoHex, 17),
         (b"alice poke 0x10 \"ab\\q\"", Reason::BadEscape, 20),
         (b" alice call 1 WRITE \"\\x4\"", Reason::BadEscape, 22),
         (
@@ -175,19 +224,64 @@ fn lines_have_faults(rt: HostRuntime) -> Result<(), Fail> {
             Reason::BadEscape,
             25,
         ),
-        (b"alice alloc 4k", Reason::NoCall, 1),
-        (b"alice free 4K", Reason::NoCall, 1),
-        (b"alice alloc 17179869184G", Reason::NoCall, 1),
-        (b"alice alloc K", Reason::NoCall, 1),
-        (b"=>", Reason::NoCall, 1),
-        (b"  alice frob", Reason::NoCall, 3),
-        (b"alice frob => ok", Reason::NoCall, 1),
-        (b"alice alloc 1 2", Reason::NoCall, 1),
+        (b"alice alloc 4k", Reason::SmallUnit, 13),
+        (b"alice free 4K", Reason::NoNumber, 12),
+        (b"alice alloc 17179869184G", Reason::NoSize, 13),
+        (b"alice alloc K", Reason::NoSize, 13),
+        (b"=>", Reason::NoName, 1),
+        (b"al!ce quota", Reason::NoName, 1),
+        (b"  alice frob", Reason::UnknownCall, 9),
+        (b"alice aloc 4K => ok", Reason::Misspelt(Form::Alloc), 7),
+        (b"alice alloc 1 2", Reason::TooMany(Form::Alloc), 15),
+        (b"alice attach_at  1", Reason::Missing(Form::AttachAt), 19),
+        (b"alice detach 0x12345678901234567", Reason::LongAddress, 14),
+        (b"alice peek 10 4", Reason::NoAddress, 12),
+        (b"alice open LOG! x", Reason::NoService, 12),
         (b"\t\"", Reason::OpenQuote, 2),
+        (b"alice quota => OK \"\\q\"", Reason::BadEscape, 20),
+        (b"alice quota => \"\\q", Reason::OpenQuote, 16),
+        (b"alice quota => #", Reason::TooMany(Form::Quota), 13),
+        (b"\xef\xbb\xbf frob # x", Reason::NoForm, 9),
+        (b"\xef\xbb\xbf al ice", Reason::UnknownCall, 8),
     ];
     for (line, reason, column) in rows {
         let fault = Fault { reason, column };
         assert!(rt; read_friendly(line, &mut Line::new()) == Err(fault));
+    }
+    Ok(())
+}
+
+#[test]
+fn replies_meet_what_is_expected(rt: HostRuntime) -> Result<(), Fail> {
+    let rows: [(&[u8], &[u8], bool); 25] = [
+        (b"cap 1", b"cap 1", true),
+        (b"cap 1", b"cap 1 ", false),
+        (b"cap 1", b"cap", false),
+        (b"cap 1", b"granted", true),
+        (b"ok", b"granted", true),
+        (b"OK", b"granted", true),
+        (b"OK 4", b"refused", false),
+        (b"Out_of_ram", b"granted", false),
+        (b"Gone", b"refused", true),
+        (b"ERR EXISTS", b"refused", true),
+        (b"ERR EXISTS", b"*", true),
+        (b"cap 12", b"cap *", true),
+        (b"cap 12", b"cap *2", false),
+        (b"ram 0/65536 caps 0/16", b"ram */65536 caps *", true),
+        (b"ram 0/65537 caps 0/16", b"ram */65536 caps *", false),
+        (b"ram 0/65536 caps 0/16", b"ram *", false),
+        (b"ram 0/65536 caps 0/16", b"* * * *", true),
+        (b"cap ", b"cap *", false),
+        (b"OK 6869", b"OK \"hi\"", true),
+        (b"OK 6869", b"* \"hi\"  ", true),
+        (b"OK 68692a", b"OK \"hi*\"", true),
+        (b"OK 686900", b"OK \"hi\"", false),
+        (b"OK 68", b"OK \"hi\"", false),
+        (b"data ", b"data \"\"", true),
+        (b"granted", b"granted!", false),
+    ];
+    for (reply, expected, met) in rows {
+        assert!(rt; meets(reply, expected) == met);
     }
     Ok(())
 }

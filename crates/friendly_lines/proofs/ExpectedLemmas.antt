@@ -1,5 +1,5 @@
 -- What is expected of a reply, byte by byte.
-use Rattle.std.proofs.Common.{◌≡◌, ℕ, ◌+◌, ◌<◌, ◌≤◌, ◌&&◌, Bool, true, false, true≢false, cond, not, nat_eq, nat_lt, List, [], ◌∷◌, length, drop, take, get_or, position, Option, Some, None, refl, sym, ap, ◌∙◌, subst, arith, codes}
+use Rattle.std.proofs.Common.{◌≡◌, ℕ, ◌+◌, ◌<◌, ◌≤◌, ◌&&◌, ◌||◌, Bool, true, false, true≢false, cond, not, nat_eq, nat_lt, List, [], ◌∷◌, length, drop, take, get_or, position, Option, Some, None, refl, sym, ap, ◌∙◌, subst, arith, codes}
 use Rattle.std.specs.List.{list_all, position_or_len}
 use Rattle.std.specs.Option.{option_map_or}
 use Rattle.std.specs.Str.{bytes_eq}
@@ -15,6 +15,7 @@ use Rattle.friendly_lines.specs.Expectations.{IsExact, RefusalsAreTold, denies, 
 use Rattle.friendly_lines.specs.Expected.{bytes_for, is_refusal, meets, meets_both, meets_words, reply_behind, written_in}
 use Rattle.friendly_lines.specs.Words.{is_blank}
 use Rattle.friendly_lines.proofs.QuoteLemmas.{byte_at}
+use Rattle.friendly_lines.proofs.WordLemmas.{place_none}
 
 pub nothing_is_capital : (reply : List ℕ) → length reply ≡ 0 → is_refusal reply ≡ false
 nothing_is_capital [] none = refl
@@ -79,6 +80,23 @@ same_behind begins (b ∷ more) (r ∷ rs) all =
       | true ↦ same_behind (is_blank b) more rs front.2
       | false ↦ refl
     ])
+
+-- a text that has none of both signs
+all_plain : (text : List ℕ) → position_or_len (λ b. nat_eq b 42 || nat_eq b 34) text ≡ length text → list_all is_plain text ≡ true
+all_plain [] is = refl
+all_plain (b ∷ bs) is =
+    elim (nat_eq b 42) as (λ s. cond (not (s || nat_eq b 34)) (1 + position_or_len (λ b. nat_eq b 42 || nat_eq b 34) bs) 0 ≡ length (b ∷ bs) → ((not s && not (nat_eq b 34)) && list_all is_plain bs) ≡ true) [
+      | true ↦ λ star. absurd (omega (arith, star))
+      | false ↦ elim (nat_eq b 34) as (λ q. cond (not q) (1 + position_or_len (λ b. nat_eq b 42 || nat_eq b 34) bs) 0 ≡ length (b ∷ bs) → (not q && list_all is_plain bs) ≡ true) [
+        | true ↦ λ quote. absurd (omega (arith, quote))
+        | false ↦ λ more. all_plain bs (omega (arith, more))
+      ]
+    ] is
+
+pub same_words : (reply expected : List ℕ) → position (λ b. nat_eq b 42 || nat_eq b 34) expected ≡ None → meets_words reply expected ≡ bytes_eq reply expected
+same_words reply expected none =
+    let all : list_all is_plain expected ≡ true = all_plain expected (place_none (λ b. nat_eq b 42 || nat_eq b 34) expected none) in
+    rw (not_written expected all) (same_behind true expected reply all)
 
 no_star : (expected : List ℕ) → list_all is_plain expected ≡ true → bytes_eq expected (codes "*") ≡ false
 no_star [] all = refl

@@ -1,14 +1,13 @@
 -- What comes of a line is a call, or is expected to be none.
 use Rattle.std.proofs.Common.{◌≡◌, ℕ, ◌+◌, ◌-◌, ◌||◌, Bool, true, false, cond, nat_eq, slice_index, is_some, List, [], length, drop, Option, Some, None, Result, Ok, Err, refl, sym, ap, ◌∙◌, subst, codes}
 use Rattle.std.specs.List.{starts_with}
-use Rattle.std.specs.Option.{option_map_or, unwrap_or}
+use Rattle.std.specs.Option.{option_map_or, option_or, unwrap_or}
 use Rattle.own_model.specs.Call.{spoken}
-use Rattle.friendly_lines.specs.Friendly.{Said, call_part, expects_bad_line, fault_in, reply_part, said_of, said_of_both, said_of_call, said_of_line, said_of_signs, said_of_text, without_return}
+use Rattle.friendly_lines.specs.Friendly.{Said, call_part, expects_bad_line, fault_behind, fault_in, no_call, reply_part, said_of, said_of_both, said_of_call, said_of_line, said_of_signs, said_of_text, signs_of, without_comment, without_return}
 use Rattle.friendly_lines.specs.Friendly.Said.{Nothing, Log, Call}
 use Rattle.friendly_lines.specs.Laws.{CallsAreCalls, IsCallOrExpected}
 use Rattle.friendly_lines.specs.Parts.{parts_of, spelled}
 use Rattle.friendly_lines.specs.Quotes.{after_text, is_outside}
-use Rattle.friendly_lines.specs.Words.{skip_blanks}
 use Rattle.friendly_lines.specs.Written.{added}
 use Rattle.friendly_lines.specs.declared.fault.Fault.{Fault}
 use Rattle.friendly_lines.specs.declared.quotes.Quoting.TheVariants.{Outside}
@@ -26,10 +25,10 @@ of_held l expected holds line reply is =
     let replies : expected ≡ reply = cc in
     subst (λ r. IsCallOrExpected line r) replies (subst (λ x. IsCallOrExpected x expected) lines holds)
 
-of_line : (column : ℕ) (held expected : Option (List ℕ)) → Holds (said_of_line column held expected)
-of_line column None expected = of_fault _
-of_line column (Some l) expected =
-    elim (is_some (spoken l) || expects_bad_line expected) as (λ b. (is_some (spoken l) || expects_bad_line expected) ≡ b → Holds (cond b (Ok (Call l expected)) (said_of_line column None expected))) [
+of_line : (column : ℕ) (call : List ℕ) (held expected : Option (List ℕ)) → Holds (said_of_line column call held expected)
+of_line column call None expected = of_fault _
+of_line column call (Some l) expected =
+    elim (is_some (spoken l) || expects_bad_line expected) as (λ b. (is_some (spoken l) || expects_bad_line expected) ≡ b → Holds (cond b (Ok (Call l expected)) (Err (no_call column call)))) [
       | true ↦ λ holds. of_held l expected holds
       | false ↦ λ none. of_fault _
     ] refl
@@ -40,8 +39,8 @@ of_place column (Some n) said fault holds = of_fault (fault n)
 
 of_call : (column : ℕ) (call : List ℕ) (expected : Option (List ℕ)) → Holds (said_of_call column call expected)
 of_call column call expected =
-    of_place column (fault_in (length call) (parts_of call).tail) (said_of_line column (added (Some []) (spelled (parts_of call))) expected) _
-    (of_line column (added (Some []) (spelled (parts_of call))) expected)
+    of_place column (option_or (fault_in (length call) (parts_of call).tail) (fault_behind (length call + 4) expected)) (said_of_line column call (added (Some []) (spelled (parts_of call))) expected) _
+    (of_line column call (added (Some []) (spelled (parts_of call))) expected)
 
 of_choice : (test : Bool) (x y : Result Said Fault) → Holds x → Holds y → Holds (cond test x y)
 of_choice true x y hx hy = hx
@@ -53,11 +52,14 @@ of_nothing line reply is = cc
 of_log : (text : List ℕ) → Holds (Ok (Log text))
 of_log text line reply is = cc
 
+of_both : (column : ℕ) (text : List ℕ) → Holds (said_of_both column text)
+of_both column text = of_choice (is_outside (after_text Outside text)) _ _ (of_call column (call_part text) (reply_part text)) (of_fault _)
+
 of_text : (column : ℕ) (text : List ℕ) → Holds (said_of_text column text)
 of_text column text =
-    of_choice _ _ _ of_nothing (of_choice _ _ _ (of_log _) (of_choice (is_outside (after_text Outside text)) _ _ (of_call column (call_part text) (reply_part text)) (of_fault _)))
+    of_choice _ _ _ of_nothing (of_choice _ _ _ (of_log _) (of_both column (without_comment text)))
 
 pub calls_are_calls : CallsAreCalls
 calls_are_calls whole line reply unmarked is =
-    of_text (length whole - length (skip_blanks whole) + 1) (without_return (skip_blanks whole)) line reply
-    (ap (λ b. cond b (Ok (Call (drop 1 (skip_blanks whole)) None)) (said_of_text (length whole - length (skip_blanks whole) + 1) (without_return (skip_blanks whole)))) (sym unmarked) ∙ is)
+    of_text (length whole - length (signs_of whole) + 1) (without_return (signs_of whole)) line reply
+    (ap (λ b. cond b (Ok (Call (drop 1 (signs_of whole)) None)) (said_of_text (length whole - length (signs_of whole) + 1) (without_return (signs_of whole)))) (sym unmarked) ∙ is)

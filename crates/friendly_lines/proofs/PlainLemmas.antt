@@ -1,5 +1,5 @@
 -- A call of the engine that has none of the forms that are translated passes as it stands.
-use Rattle.std.proofs.Common.{◌≡◌, ◌≢◌, ℕ, ◌+◌, ◌-◌, ◌*◌, ◌^◌, ◌<◌, ◌≤◌, ◌&&◌, ◌||◌, Bool, true, false, true≢false, cond, not, nat_eq, nat_lt, nat_le, List, [], ◌∷◌, ◌++◌, length, drop, take, slice_index, is_some, codes, Option, Some, None, Ok, refl, sym, ap, ◌∙◌, subst, arith}
+use Rattle.std.proofs.Common.{◌≡◌, ◌≢◌, ℕ, ◌+◌, ◌-◌, ◌*◌, ◌^◌, ◌<◌, ◌≤◌, ◌&&◌, ◌||◌, Bool, true, false, true≢false, cond, not, nat_eq, nat_lt, nat_le, List, [], ◌∷◌, ◌++◌, length, drop, take, slice_index, is_none, is_some, decimal, codes, append-nil, Option, Some, None, Ok, refl, sym, ap, ◌∙◌, subst, arith}
 use Rattle.std.specs.Char.{is_ascii_digit}
 use Rattle.std.specs.List.{list_all, onto_first, slice_split, starts_with}
 use Rattle.std.proofs.lemmas.List.Splits.{length-slice_split}
@@ -9,17 +9,20 @@ use Rattle.std.specs.Str.Parse.{digits_value}
 use Rattle.std.proofs.lemmas.Bool.Decides.{nat_tests}
 use Rattle.std.proofs.lemmas.Option.{none-some}
 use Rattle.std.proofs.lemmas.Slice.Eq.{bytes_eq-Decides}
-use Rattle.trade_base.specs.Amount.{number_of}
+use Rattle.trade_base.specs.Amount.{amount_of, number_of}
 use Rattle.own_model.specs.Call.{Call, Form, Spoken, call_in, form_of, forms, name_of, of_none, of_one, of_rest, of_text, of_two, some_bytes_of_hex, spoken}
 use Rattle.own_model.specs.Text.{FirstWord, address_of, bytes_of_hex, first_word, hex_digit_of, hex_number_after, is_name, is_name_byte, is_path}
 use Rattle.own_model.specs.Transcript.{longest_line}
-use Rattle.friendly_lines.specs.Friendly.{Said, fault_in, said_of_both, said_of_call, said_of_signs, said_of_text, without_return}
-use Rattle.friendly_lines.specs.Laws.{IsPlain, PlainLinesPass, is_quoted}
-use Rattle.friendly_lines.specs.Parts.{Tail, parts_of, quoted_or, request_tail, size_text, spelled, tail_of, tail_text, takes_text, text_written, word_behind, word_text}
-use Rattle.friendly_lines.specs.Parts.Tail.{Words, Kept, Quoted}
-use Rattle.friendly_lines.specs.Quotes.{inside_quotes}
+use Rattle.friendly_lines.specs.Friendly.{Said, fault_in, said_of_both, said_of_call, said_of_signs, said_of_text, signs_of, without_comment, without_mark, without_return}
+use Rattle.friendly_lines.specs.Laws.{IsPlain, LaterFormsAreMarked, PlainLinesPass, has_suffix, is_suffixed, is_translated}
+use Rattle.friendly_lines.specs.Parts.{Tail, parts_of, quoted_or, request_tail, request_text, size_text, sizes_behind, sizes_in, spelled, tail_of, tail_text, takes_text, text_written, word_behind, word_text}
+use Rattle.friendly_lines.specs.Parts.Tail.{Words, Kept, Sized, Request, Quoted}
+use Rattle.friendly_lines.specs.Quotes.{first_outside, inside_quotes, is_arrow, is_comment}
 use Rattle.friendly_lines.specs.Words.{Word, is_blank, next_word, skip_blanks, spaced, up_to_blank, words_spaced}
 use Rattle.friendly_lines.specs.Written.{added}
+use Rattle.friendly_lines.specs.declared.quotes.Quoting.TheVariants.{Outside}
+use Rattle.friendly_lines.proofs.ExpectedLemmas.{exact_meets}
+use Rattle.friendly_lines.proofs.WordLemmas.{words_next}
 
 -- a text without a blank, and a word: one that isn't empty
 abbrev is_unbroken : List ℕ → Bool
@@ -50,6 +53,14 @@ and_both a b first second = rw first second
 not_true : (a : Bool) → not a ≡ true → a ≡ false
 not_true true is = absurd (true≢false (sym is))
 not_true false is = refl
+
+or_left : (a b : Bool) → (a || b) ≡ false → a ≡ false
+or_left true b none = absurd (true≢false none)
+or_left false b none = refl
+
+or_right : (a b : Bool) → (a || b) ≡ false → b ≡ false
+or_right true b none = absurd (true≢false none)
+or_right false b none = none
 
 some_if : {X : Type 0} (test : Bool) (found : Option X) (x : X) → cond test found None ≡ Some x → test ≡ true
 some_if true found x is = refl
@@ -284,7 +295,7 @@ name_is_word text name is = is_name_word text (some_if _ (Some text) name is)
 record Passes (form arguments : List ℕ) : Type 0 where
   word : is_word (first_word arguments).word ≡ true
   sized : word_text form (first_word arguments).word ≡ (first_word arguments).word
-  tail : is_quoted (tail_of form (behind_word (first_word arguments).rest)) ≡ false →
+  tail : is_translated (tail_of form (behind_word (first_word arguments).rest)) ≡ false →
       tail_text (tail_of form (behind_word (first_word arguments).rest)) ≡ behind_word (first_word arguments).rest
 
 -- where there is nothing, nothing comes of it
@@ -298,7 +309,7 @@ PassesBehind form (Some arguments) = Passes form arguments
 
 -- all that stands behind a form's word passes, where that is no text in quotes
 record PassesAll (form : List ℕ) (arguments : Option (List ℕ)) : Type 0 where
-  whole : is_quoted (tail_of form (word_behind form (behind_word arguments)).rest) ≡ false →
+  whole : is_translated (tail_of form (word_behind form (behind_word arguments)).rest) ≡ false →
       spaced (word_text form (word_behind form (behind_word arguments)).word) ++ tail_text (tail_of form (word_behind form (behind_word arguments)).rest)
       ≡ behind_word arguments
 
@@ -308,20 +319,20 @@ words_behind form words rest = rw words refl
 
 -- a word and what follows it do
 all_pass : (form : List ℕ) → takes_text form ≡ false → (arguments : Option (List ℕ)) → PassesBehind form arguments → PassesAll form arguments
-all_pass form words None nothing = record { whole = rw (words_behind form words []) (λ unquoted. rw (nothing.sized, nothing.tail) refl) }
+all_pass form words None nothing = record { whole = rw (words_behind form words []) (λ untranslated. rw (nothing.sized, nothing.tail) refl) }
 all_pass form words (Some arguments) passes =
     let word : List ℕ = (first_word arguments).word in
     let rest : Option (List ℕ) = (first_word arguments).rest in
     let whole : arguments ≡ word ++ behind_word rest = word_and_behind arguments in
     let next : next_word (32 ∷ arguments) ≡ record { word = word; rest = behind_word rest } = ap next_word whole ∙ next_is word rest passes.word in
     record {
-      whole = rw (words_behind form words (32 ∷ arguments), next) (λ unquoted. rw (passes.sized, passes.tail unquoted, spaced_word word passes.word) (ap (λ a. 32 ∷ a) (sym whole)));
+      whole = rw (words_behind form words (32 ∷ arguments), next) (λ untranslated. rw (passes.sized, passes.tail untranslated, spaced_word word passes.word) (ap (λ a. 32 ∷ a) (sym whole)));
     }
 
 -- and so does a text alone
 text_passes : (form : List ℕ) → takes_text form ≡ true → word_text form [] ≡ [] → (arguments : Option (List ℕ)) → PassesAll form arguments
-text_passes form text sized None = record { whole = rw text (λ unquoted. rw sized refl) }
-text_passes form text sized (Some arguments) = record { whole = rw text (λ unquoted. rw sized refl) }
+text_passes form text sized None = record { whole = rw text (λ untranslated. rw sized refl) }
+text_passes form text sized (Some arguments) = record { whole = rw text (λ untranslated. rw sized refl) }
 
 -- a form lets through what it reads
 record Lets (form : Form) : Type 0 where
@@ -347,7 +358,7 @@ one_lets {X = X} form call read word words reads sized none = record { word = wo
     passes : (arguments : List ℕ) (x : X) → read arguments ≡ Some x → Passes form arguments
     passes arguments x is =
         let only : first_word arguments ≡ record { word = arguments; rest = None } = first_unbroken arguments (unbroken_word arguments (reads arguments x is)) in
-        record { word = rw only (reads arguments x is); sized = rw only (sized arguments x is); tail = rw only (λ unquoted. none) }
+        record { word = rw only (reads arguments x is); sized = rw only (sized arguments x is); tail = rw only (λ untranslated. none) }
 
     go : (arguments : Option (List ℕ)) (made : Call) → of_one call read arguments ≡ Some made → PassesBehind form arguments
     go None made is = absurd (none-some made is)
@@ -359,21 +370,44 @@ one_lets {X = X} form call read word words reads sized none = record { word = wo
 
 -- words behind a form that has no text in quotes
 abbrev HasWords : List ℕ → Type 0
-HasWords form = (rest : List ℕ) → is_quoted (tail_of form rest) ≡ false → tail_of form rest ≡ Words rest
+HasWords form = (rest : List ℕ) → is_translated (tail_of form rest) ≡ false → tail_of form rest ≡ Words rest
 
 abbrev Keeps : List ℕ → Type 0
-Keeps form = (rest : List ℕ) → is_quoted (tail_of form rest) ≡ false → tail_of form rest ≡ Kept rest
+Keeps form = (rest : Option (List ℕ)) → is_translated (tail_of form (behind_word rest)) ≡ false → tail_text (tail_of form (behind_word rest)) ≡ behind_word rest
+
+-- what is kept passes
+kept_passes : (rest : Option (List ℕ)) → tail_text (Kept (behind_word rest)) ≡ behind_word rest
+kept_passes None = refl
+kept_passes (Some rest) = refl
+
+-- a second argument passes
+abbrev TailPasses : {Y : Type 0} → List ℕ → (List ℕ → Option Y) → Type 0
+TailPasses {Y = Y} form second = (rest : List ℕ) (y : Y) → second rest ≡ Some y → is_translated (tail_of form (32 ∷ rest)) ≡ false → tail_text (tail_of form (32 ∷ rest)) ≡ 32 ∷ rest
+
+words_pass : {Y : Type 0} (form : List ℕ) (second : List ℕ → Option Y) → ReadsWords second → HasWords form → TailPasses form second
+words_pass form second reads words rest y two untranslated = rw (words (32 ∷ rest) untranslated) (words_of_one rest (reads rest y two))
+
+-- a size that is a number passes
+size_is : (text : List ℕ) (n : ℕ) → number_of text ≡ Some n → size_text text ≡ text
+size_is text n is = rw is refl
+
+size_passes : (rest : List ℕ) (n : ℕ) → number_of rest ≡ Some n → tail_text (Sized (32 ∷ rest)) ≡ 32 ∷ rest
+size_passes rest n is =
+    let whole : is_word rest ≡ true = number_is_word rest n is in
+    let next : next_word (rest ++ behind_word None) ≡ record { word = rest; rest = [] } = next_is rest None whole in
+    let only : next_word (32 ∷ rest) ≡ record { word = rest; rest = [] } = ap next_word (sym (append-nil rest)) ∙ next in
+    rw (only, size_is rest n is) (ap (λ l. l ++ []) (spaced_word rest whole) ∙ append-nil (32 ∷ rest))
 
 two_lets : {X Y : Type 0} (form : List ℕ) (call : X → Y → Call) (first : List ℕ → Option X) (second : List ℕ → Option Y) → is_word form ≡ true → takes_text form ≡ false
-    → ReadsWords first → ReadsWords second → ((text : List ℕ) → word_text form text ≡ text) → HasWords form
+    → ReadsWords first → ((text : List ℕ) → word_text form text ≡ text) → TailPasses form second
     → Lets (record { word = form; call = of_two call first second })
-two_lets {X = X} {Y = Y} form call first second word no_text reads_first reads_second sized words = record { word = word; passes = λ arguments made is. all_pass form no_text arguments (go arguments made is) }
+two_lets {X = X} {Y = Y} form call first second word no_text reads_first sized tails = record { word = word; passes = λ arguments made is. all_pass form no_text arguments (go arguments made is) }
   where
     passes : (arguments rest : List ℕ) (x : X) (y : Y) → (first_word arguments).rest ≡ Some rest → first (first_word arguments).word ≡ Some x → second rest ≡ Some y → Passes form arguments
     passes arguments rest x y more one two = record {
       word = reads_first (first_word arguments).word x one;
       sized = sized (first_word arguments).word;
-      tail = rw more (λ unquoted. rw (words (32 ∷ rest) unquoted) (words_of_one rest (reads_second rest y two)));
+      tail = rw more (λ untranslated. tails rest y two untranslated);
     }
 
     go : (arguments : Option (List ℕ)) (made : Call) → of_two call first second arguments ≡ Some made → PassesBehind form arguments
@@ -398,10 +432,6 @@ text_lets : {X : Type 0} (form : List ℕ) (call : X → List ℕ → Call) (fir
     → Lets (record { word = form; call = of_text call first })
 text_lets {X = X} form call first word no_text reads sized keeps = record { word = word; passes = λ arguments made is. all_pass form no_text arguments (go arguments made is) }
   where
-    kept : (rest : Option (List ℕ)) → tail_text (Kept (behind_word rest)) ≡ behind_word rest
-    kept None = refl
-    kept (Some rest) = refl
-
     go : (arguments : Option (List ℕ)) (made : Call) → of_text call first arguments ≡ Some made → PassesBehind form arguments
     go None made is = absurd (none-some made is)
     go (Some arguments) made is =
@@ -411,32 +441,64 @@ text_lets {X = X} form call first word no_text reads sized keeps = record { word
           | Some x ↦ λ at some. record {
             word = reads (first_word arguments).word x at;
             sized = sized (first_word arguments).word;
-            tail = λ unquoted. rw (keeps (behind_word (first_word arguments).rest) unquoted) (kept (first_word arguments).rest);
+            tail = keeps (first_word arguments).rest;
           }
         ] refl is
 
 -- where no text in quotes is found there is what stands for it
-unquoted_other : (other : Tail) (front text : List ℕ) → is_quoted (quoted_or other front text) ≡ false → quoted_or other front text ≡ other
-unquoted_other other front text =
-    elim (inside_quotes text) as (λ inside. is_quoted (option_map_or (λ i. Quoted front i (length text - 1)) inside other) ≡ false → option_map_or (λ i. Quoted front i (length text - 1)) inside other ≡ other) [
-      | None ↦ λ unquoted. refl
-      | Some inside ↦ λ unquoted. absurd (true≢false unquoted)
+untranslated_other : (other : Tail) (front text : List ℕ) → is_translated (quoted_or other front text) ≡ false → quoted_or other front text ≡ other
+untranslated_other other front text =
+    elim (inside_quotes text) as (λ inside. is_translated (option_map_or (λ i. Quoted front i (length text - 1)) inside other) ≡ false → option_map_or (λ i. Quoted front i (length text - 1)) inside other ≡ other) [
+      | None ↦ λ untranslated. refl
+      | Some inside ↦ λ untranslated. absurd (true≢false untranslated)
     ]
 
-keeps_request : (rest : List ℕ) → is_quoted (request_tail rest) ≡ false → request_tail rest ≡ Kept rest
-keeps_request rest =
-    let tail : Option (List ℕ) → Tail = λ (found : Option (List ℕ)). option_map_or (λ text. quoted_or (Kept rest) (take (length (drop 1 rest) - (length text + 1)) (drop 1 rest)) text) found (Kept rest) in
-    elim (text_written (drop 1 rest)) as (λ found. is_quoted (tail found) ≡ false → tail found ≡ Kept rest) [
-      | None ↦ λ unquoted. refl
-      | Some text ↦ λ unquoted. unquoted_other (Kept rest) (take (length (drop 1 rest) - (length text + 1)) (drop 1 rest)) text unquoted
+-- a size without a suffix passes
+plain_size : (word : List ℕ) → is_suffixed word ≡ false → size_text word ≡ word
+plain_size word =
+    elim (number_of word) as (λ n. (is_none n && is_some (amount_of word)) ≡ false → cond (is_some n) word (option_map_or decimal (amount_of word) word) ≡ word) [
+      | Some n ↦ λ plain. refl
+      | None ↦ elim (amount_of word) as (λ a. is_some a ≡ false → option_map_or decimal a word ≡ word) [
+        | Some a ↦ λ plain. absurd (true≢false plain)
+        | None ↦ λ plain. refl
+      ]
     ]
+
+-- a request without a suffix passes
+sizes_pass : (sizes : List Bool) (rest : Option (List ℕ)) → has_suffix sizes rest ≡ false → sizes_behind sizes rest ≡ behind_word rest
+sizes_pass sizes None plain = refl
+sizes_pass [] (Some text) plain = refl
+sizes_pass (false ∷ more) (Some text) plain =
+    ap (λ l. 32 ∷ ((first_word text).word ++ l)) (sizes_pass more (first_word text).rest plain) ∙ ap (λ l. 32 ∷ l) (sym (word_and_behind text))
+sizes_pass (true ∷ more) (Some text) plain =
+    let here : is_suffixed (first_word text).word ≡ false = or_left (is_suffixed (first_word text).word) _ plain in
+    let later : has_suffix more (first_word text).rest ≡ false = or_right (is_suffixed (first_word text).word) _ plain in
+    rw (plain_size (first_word text).word here)
+    (ap (λ l. 32 ∷ ((first_word text).word ++ l)) (sizes_pass more (first_word text).rest later) ∙ ap (λ l. 32 ∷ l) (sym (word_and_behind text)))
+
+request_passes : (request : List ℕ) → has_suffix (sizes_in (first_word request).word) (first_word request).rest ≡ false → request_text request ≡ request
+request_passes request plain =
+    ap (λ l. (first_word request).word ++ l) (sizes_pass (sizes_in (first_word request).word) (first_word request).rest plain) ∙ sym (word_and_behind request)
+
+keeps_request : Keeps (codes "call")
+keeps_request rest =
+    let whole : List ℕ = behind_word rest in
+    let front : List ℕ → List ℕ = λ (text : List ℕ). take (length (drop 1 whole) - (length text + 1)) (drop 1 whole) in
+    let tail : Option (List ℕ) → Tail = λ (found : Option (List ℕ)). option_map_or (λ text. quoted_or (Request whole) (front text) text) found (Request whole) in
+    elim (text_written (drop 1 whole)) as (λ found. is_translated (tail found) ≡ false → tail_text (tail found) ≡ whole) [
+      | None ↦ λ plain. passes rest plain
+      | Some text ↦ λ plain.
+          let other : quoted_or (Request whole) (front text) text ≡ Request whole = untranslated_other (Request whole) (front text) text plain in
+          ap tail_text other ∙ passes rest (ap is_translated (sym other) ∙ plain)
+    ]
+  where
+    passes : (rest : Option (List ℕ)) → is_translated (Request (behind_word rest)) ≡ false → tail_text (Request (behind_word rest)) ≡ behind_word rest
+    passes None plain = refl
+    passes (Some request) plain = ap (λ l. 32 ∷ l) (request_passes request plain)
 
 abbrev AllLet : List Form → Type 0
 AllLet [] = Unit {0}
 AllLet (form ∷ rest) = Lets form × AllLet rest
-
-size_is : (text : List ℕ) (n : ℕ) → number_of text ≡ Some n → size_text text ≡ text
-size_is text n is = rw is refl
 
 forms_let : AllLet forms
 forms_let = (
@@ -446,13 +508,13 @@ forms_let = (
     (
       one_lets (codes "attach") _ number_of refl refl number_is_word (λ text n is. refl) refl,
       (
-        two_lets (codes "attach_at") _ number_of address_of refl refl number_is_word address_is_word (λ text. refl) (λ rest unquoted. refl),
+        two_lets (codes "attach_at") _ number_of address_of refl refl number_is_word (λ text. refl) (words_pass (codes "attach_at") address_of address_is_word (λ rest untranslated. refl)),
         (
           one_lets (codes "detach") _ address_of refl refl address_is_word (λ text a is. refl) refl,
           (
-            two_lets (codes "peek") _ address_of number_of refl refl address_is_word number_is_word (λ text. refl) (λ rest unquoted. refl),
+            two_lets (codes "peek") _ address_of number_of refl refl address_is_word (λ text. refl) (λ rest n is untranslated. size_passes rest n is),
             (
-              two_lets (codes "poke") _ address_of some_bytes_of_hex refl refl address_is_word bytes_are_word (λ text. refl) (λ rest. unquoted_other (Words rest) [] (skip_blanks rest)),
+              two_lets (codes "poke") _ address_of some_bytes_of_hex refl refl address_is_word (λ text. refl) (words_pass (codes "poke") some_bytes_of_hex bytes_are_word (λ rest. untranslated_other (Words rest) [] (skip_blanks rest))),
               (
                 none_lets (codes "capalloc") _ refl refl (record { sized = refl; tail = refl }),
                 (
@@ -466,9 +528,9 @@ forms_let = (
                         (
                           one_lets (codes "sdel") _ address_of refl refl address_is_word (λ text a is. refl) refl,
                           (
-                            text_lets (codes "open") Call.Open name_of refl refl name_is_word (λ text. refl) (λ rest unquoted. refl),
+                            text_lets (codes "open") Call.Open name_of refl refl name_is_word (λ text. refl) (λ rest untranslated. kept_passes rest),
                             (
-                              text_lets (codes "upgrade") Call.Upgrade number_of refl refl number_is_word (λ text. refl) (λ rest unquoted. refl),
+                              text_lets (codes "upgrade") Call.Upgrade number_of refl refl number_is_word (λ text. refl) (λ rest untranslated. kept_passes rest),
                               (
                                 text_lets (codes "call") Call.CallSession number_of refl refl number_is_word (λ text. refl) keeps_request,
                                 (
@@ -520,11 +582,11 @@ form_in (form ∷ rest) all word arguments call is =
 
 -- the parts of a call spell it
 spells : (name form : List ℕ) (arguments : Option (List ℕ)) → is_word name ≡ true → IsForm form arguments
-    → is_quoted (parts_of (name ++ behind_word (Some (form ++ behind_word arguments)))).tail ≡ false
+    → is_translated (parts_of (name ++ behind_word (Some (form ++ behind_word arguments)))).tail ≡ false
     → spelled (parts_of (name ++ behind_word (Some (form ++ behind_word arguments)))) ≡ name ++ behind_word (Some (form ++ behind_word arguments))
 spells name form arguments is call =
     rw (next_is name (Some (form ++ behind_word arguments)) is, next_is form arguments call.word_is)
-    (λ unquoted. rw (call.passes.whole unquoted, spaced_word form call.word_is) refl)
+    (λ untranslated. rw (call.passes.whole untranslated, spaced_word form call.word_is) refl)
 
 -- what a call of the grammar says
 record SaysCall (line : List ℕ) : Type 0 where
@@ -555,7 +617,10 @@ record BeginsCall (line : List ℕ) : Type 0 where
   unmarked : nat_eq (slice_index line 0) 33 ≡ false
   text : (nat_eq (length line) 0 || nat_eq (slice_index line 0) 35) ≡ false
   no_log : starts_with nat_eq line (codes "=> ") ≡ false
-  skipped : skip_blanks line ≡ line
+  skipped : signs_of line ≡ line
+
+no_mark : (b : ℕ) (bs : List ℕ) → is_name_byte b ≡ true → without_mark (b ∷ bs) ≡ b ∷ bs
+no_mark b bs sign = let other : nat_eq 239 b ≡ false = grind (arith, nat_tests) in rw other refl
 
 begins : (name more : List ℕ) → is_path name ≡ true → BeginsCall (name ++ more)
 begins [] more is = absurd (true≢false (sym is))
@@ -566,13 +631,15 @@ begins (b ∷ bs) more is =
     let three : nat_eq 61 b ≡ false = grind (arith, nat_tests) in
     let some : nat_eq (length ((b ∷ bs) ++ more)) 0 ≡ false = grind (arith, nat_tests) in
     let blank : is_blank b ≡ false = not_true (is_blank b) (name_sign b sign) in
-    record { unmarked = one; text = rw (some, two) refl; no_log = rw three refl; skipped = rw blank refl }
+    record { unmarked = one; text = rw (some, two) refl; no_log = rw three refl; skipped = ap skip_blanks (no_mark b (bs ++ more) sign) ∙ rw blank refl }
 
 -- a call that isn't quoted has no escape
-no_fault : (count : ℕ) (tail : Tail) → is_quoted tail ≡ false → fault_in count tail ≡ None
-no_fault count (Words rest) unquoted = refl
-no_fault count (Kept rest) unquoted = refl
-no_fault count (Quoted front inside left) unquoted = absurd (true≢false unquoted)
+no_fault : (count : ℕ) (tail : Tail) → is_translated tail ≡ false → fault_in count tail ≡ None
+no_fault count (Words rest) untranslated = refl
+no_fault count (Kept rest) untranslated = refl
+no_fault count (Sized rest) untranslated = refl
+no_fault count (Request rest) untranslated = refl
+no_fault count (Quoted front inside left) untranslated = absurd (true≢false untranslated)
 
 added_short : (line : List ℕ) → length line ≤ longest_line → added (Some []) line ≡ Some line
 unfolding added
@@ -581,13 +648,13 @@ added_short line short = let fits : nat_le (length line) (longest_line - length 
 -- the line that a call is, where it spells itself
 call_said : (column : ℕ) (line : List ℕ) → IsPlain line → spelled (parts_of line) ≡ line → said_of_call column line None ≡ Ok (Said.Call line None)
 call_said column line plain spelt =
-    rw (no_fault (length line) (parts_of line).tail plain.unquoted, spelt, added_short line plain.short, plain.call) refl
+    rw (no_fault (length line) (parts_of line).tail plain.untranslated, spelt, added_short line plain.short, plain.call) refl
 
 both_said : (column : ℕ) (line : List ℕ) → IsPlain line → said_of_both column line ≡ said_of_call column line None
 both_said column line plain = rw (plain.closed, plain.arrow) refl
 
-text_said : (column : ℕ) (line : List ℕ) → BeginsCall line → said_of_text column line ≡ said_of_both column line
-text_said column line front = rw (front.text, front.no_log) refl
+text_said : (column : ℕ) (line : List ℕ) → IsPlain line → BeginsCall line → said_of_text column line ≡ said_of_both column line
+text_said column line plain front = rw (front.text, front.no_log, plain.comment) refl
 
 signs_said : (column : ℕ) (line : List ℕ) → BeginsCall line → without_return line ≡ line → said_of_signs column line ≡ said_of_text column line
 signs_said column line front ending = rw front.unmarked (ap (said_of_text column) ending)
@@ -601,9 +668,39 @@ plain_lines_pass line plain =
     let whole : line ≡ name ++ behind_word (Some (form ++ behind_word arguments)) =
     word_and_behind line ∙ ap (λ r. name ++ behind_word r) says.behind ∙ ap (λ t. name ++ 32 ∷ t) (word_and_behind says.text) in
     let spelt : spelled (parts_of line) ≡ line =
-    subst (λ l. is_quoted (parts_of l).tail ≡ false → spelled (parts_of l) ≡ l) (sym whole)
-    (spells name form arguments (is_path_word name says.named) (form_in forms forms_let form arguments says.call says.says)) plain.unquoted in
+    subst (λ l. is_translated (parts_of l).tail ≡ false → spelled (parts_of l) ≡ l) (sym whole)
+    (spells name form arguments (is_path_word name says.named) (form_in forms forms_let form arguments says.call says.says)) plain.untranslated in
     let front : BeginsCall line = subst BeginsCall (sym whole) (begins name (behind_word (Some (form ++ behind_word arguments))) says.named) in
     let column : ℕ = length line - length line + 1 in
     ap (λ s. said_of_signs (length line - length s + 1) s) front.skipped
-    ∙ signs_said column line front plain.ending ∙ text_said column line front ∙ both_said column line plain ∙ call_said column line plain spelt
+    ∙ signs_said column line front plain.ending ∙ text_said column line plain front ∙ both_said column line plain ∙ call_said column line plain spelt
+
+-- ---- lines without the later forms
+
+no_mark_signs : (line : List ℕ) → starts_with nat_eq line (239 ∷ 187 ∷ 191 ∷ []) ≡ false → signs_of line ≡ skip_blanks line
+no_mark_signs line none = rw none refl
+
+no_comment_stays : (text : List ℕ) → first_outside is_comment Outside text ≡ None → without_comment text ≡ text
+no_comment_stays text none = rw none refl
+
+arrow_is : (text : List ℕ) → nat_eq (slice_index text 0) 9 ≡ false → is_arrow text ≡ starts_with nat_eq text (codes " => ")
+arrow_is [] no_tab = refl
+arrow_is (b ∷ bs) no_tab =
+    let same : is_blank b ≡ nat_eq 32 b = grind (arith, nat_tests) in
+    ap (λ t. t && starts_with nat_eq bs (codes "=> ")) same
+
+peek_passes : (rest : List ℕ) → is_suffixed (next_word rest).word ≡ false → tail_text (Sized rest) ≡ words_spaced false rest
+peek_passes rest plain =
+    ap (λ w. spaced w ++ words_spaced false (next_word rest).rest) (plain_size (next_word rest).word plain) ∙ sym (words_next rest)
+
+pub later_forms_are_marked : LaterFormsAreMarked
+later_forms_are_marked = record {
+  mark = no_mark_signs;
+  comment = no_comment_stays;
+  arrow = arrow_is;
+  request = λ blank text plain. ap (λ l. 32 ∷ l) (request_passes text plain);
+  peek = peek_passes;
+  reply = exact_meets;
+}
+
+pub ruleset lines_pass = (plain_lines_pass, later_forms_are_marked)

@@ -1,9 +1,13 @@
 -- What stands within quotes, byte by byte.
-use Rattle.std.proofs.Common.{◌≡◌, ℕ, ◌+◌, ◌<◌, ◌≤◌, ◌&&◌, Bool, true, false, cond, not, nat_eq, List, [], ◌∷◌, length, drop, get_or, Option, Some, None, IfSome, refl, sym, ap, ◌∙◌, arith, suc, add-one, drop-cons}
+use Rattle.std.proofs.Common.{◌≡◌, ℕ, ◌+◌, ◌<◌, ◌≤◌, ◌&&◌, Bool, true, false, cond, not, nat_eq, List, [], ◌∷◌, length, drop, get_or, slice_index, codes, position, Option, Some, None, IfSome, refl, sym, ap, ◌∙◌, arith, suc, add-one, drop-cons}
+use Rattle.std.specs.List.{list_all, position_or_len}
 use Rattle.std.specs.Option.{option_map, option_or}
+use Rattle.std.specs.Str.{bytes_eq}
 use Rattle.std.proofs.lemmas.Bool.Decides.{nat_tests}
 use Rattle.std.proofs.lemmas.List.{drop_all}
-use Rattle.friendly_lines.specs.Quotes.{after_byte, after_text, closing, is_outside, is_quote, last_outside}
+use Rattle.friendly_lines.specs.Quotes.{after_byte, after_text, closing, first_outside, is_comment, is_outside, is_quote, last_outside}
+use Rattle.friendly_lines.specs.Words.{is_blank, next_word, skip_blanks, up_to_blank}
+use Rattle.friendly_lines.proofs.WordLemmas.{place_none}
 use Rattle.friendly_lines.specs.declared.quotes.Quoting.{Quoting}
 use Rattle.friendly_lines.specs.declared.quotes.Quoting.TheVariants.{Outside}
 
@@ -45,6 +49,74 @@ pub closing_end : (text : List ℕ) (escaped : Bool) (i : ℕ) → length text �
 closing_end text escaped i past = rw (drop_all i text past) refl
 
 pub ruleset closes = (closing_step, closing_start, closing_end)
+
+-- ---- the first place outside of quotes
+
+pub first_step : (test : List ℕ → Bool) (text : List ℕ) (at : Quoting) (i b : ℕ) → i < length text → get_or text i 0 ≡ b →
+    option_map (λ n. i + n) (first_outside test at (drop i text))
+    ≡ cond (is_outside at && test (drop i text)) (Some i) (option_map (λ n. (i + 1) + n) (first_outside test (after_byte at b) (drop (i + 1) text)))
+first_step test text at i b within is =
+    rw (byte_at text i b within is)
+    (elim (is_outside at && test (b ∷ drop (i + 1) text)) as (λ t. option_map (λ n. i + n) (cond t (Some 0) (option_map (λ n. 1 + n) (first_outside test (after_byte at b) (drop (i + 1) text))))
+    ≡ cond t (Some i) (option_map (λ n. (i + 1) + n) (first_outside test (after_byte at b) (drop (i + 1) text)))) [
+      | true ↦ let e : i + 0 ≡ i = omega arith in ap Some e
+      | false ↦ one_further i (first_outside test (after_byte at b) (drop (i + 1) text))
+    ])
+
+pub first_start : (test : List ℕ → Bool) (text : List ℕ) (at : Quoting) → first_outside test at text ≡ option_map (λ n. 0 + n) (first_outside test at text)
+first_start test text at = no_further (first_outside test at text)
+
+pub first_end : (test : List ℕ → Bool) (text : List ℕ) (at : Quoting) (i : ℕ) → length text ≤ i → option_map (λ n. i + n) (first_outside test at (drop i text)) ≡ None
+first_end test text at i past = rw (drop_all i text past) refl
+
+-- no blank begins a text that has no byte
+pub no_blank : (text : List ℕ) → length text ≡ 0 → is_blank (slice_index text 0) ≡ false
+no_blank [] none = refl
+no_blank (b ∷ bs) none = absurd (omega (arith, none))
+
+pub ruleset firsts = (first_step, first_start, first_end, no_blank)
+
+-- ---- a text without the sign of a comment
+
+abbrev is_free : List ℕ → Bool
+is_free text = list_all (λ b. not (nat_eq b 35)) text
+
+free_all : (text : List ℕ) → position_or_len (λ b. nat_eq b 35) text ≡ length text → is_free text ≡ true
+free_all [] is = refl
+free_all (b ∷ bs) is =
+    elim (nat_eq b 35) as (λ t. cond (not t) (1 + position_or_len (λ b. nat_eq b 35) bs) 0 ≡ length (b ∷ bs) → (not t && is_free bs) ≡ true) [
+      | true ↦ λ sign. absurd (omega (arith, sign))
+      | false ↦ λ more. free_all bs (omega (arith, more))
+    ] is
+
+free_first : (b : ℕ) (bs : List ℕ) → is_free (b ∷ bs) ≡ true → nat_eq b 35 ≡ false
+free_first b bs free = grind (arith, nat_tests)
+
+free_more : (b : ℕ) (bs : List ℕ) → is_free (b ∷ bs) ≡ true → is_free bs ≡ true
+free_more b bs free = grind (arith, nat_tests)
+
+no_word : (text : List ℕ) → is_free text ≡ true → bytes_eq (next_word text).word (codes "#") ≡ false
+no_word [] free = refl
+no_word (b ∷ bs) free =
+    elim (is_blank b) as (λ t. is_blank b ≡ t → bytes_eq (up_to_blank (cond t (skip_blanks bs) (b ∷ bs))).word (codes "#") ≡ false) [
+      | true ↦ λ blank. no_word bs (free_more b bs free)
+      | false ↦ λ other. rw (other, free_first b bs free) refl
+    ] refl
+
+and_false : (x y z : Bool) → z ≡ false → (x && (y && z)) ≡ false
+and_false false y z none = refl
+and_false true false z none = refl
+and_false true true z none = none
+
+no_first : (at : Quoting) (text : List ℕ) → is_free text ≡ true → first_outside is_comment at text ≡ None
+no_first at [] free = refl
+no_first at (b ∷ bs) free =
+    let test : (is_outside at && is_comment (b ∷ bs)) ≡ false = and_false (is_outside at) (is_blank b) (bytes_eq (next_word (b ∷ bs)).word (codes "#")) (no_word (b ∷ bs) free) in
+    ap (λ t. cond t (Some 0) (option_map (λ n. 1 + n) (first_outside is_comment (after_byte at b) bs))) test
+    ∙ ap (option_map (λ n. 1 + n)) (no_first (after_byte at b) bs (free_more b bs free))
+
+pub no_comment : (text : List ℕ) → position (λ b. nat_eq b 35) text ≡ None → first_outside is_comment Outside text ≡ None
+no_comment text none = no_first Outside text (free_all text (place_none (λ b. nat_eq b 35) text none))
 
 -- ---- marks outside of quotes
 

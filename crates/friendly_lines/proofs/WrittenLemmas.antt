@@ -1,8 +1,10 @@
 -- A line that is put together piece by piece.
-use Rattle.std.proofs.Common.{◌≡◌, ℕ, ◌+◌, ◌<◌, ◌≤◌, Bool, true, false, cond, List, [], ◌∷◌, ◌++◌, length, drop, nat_le, ◌-◌, Option, Some, None, refl, sym, ap, ◌∙◌, arith, append_assoc, append-nil, length-append}
+use Rattle.std.proofs.Common.{◌≡◌, ℕ, ◌+◌, ◌<◌, ◌≤◌, Bool, true, false, cond, List, [], ◌∷◌, ◌++◌, length, drop, nat_eq, nat_le, ◌-◌, Option, Some, None, refl, sym, ap, ◌∙◌, arith, append_assoc, append-nil, length-append}
 use Rattle.std.proofs.lemmas.Bool.Decides.{nat_tests}
 use Rattle.own_model.specs.Transcript.{longest_line}
-use Rattle.friendly_lines.specs.Parts.{kept_text}
+use Rattle.own_model.specs.Text.{FirstWord, first_word}
+use Rattle.friendly_lines.specs.Parts.{kept_text, request_text, sizes_behind, sizes_in, tail_text}
+use Rattle.friendly_lines.specs.Parts.Tail.{Request}
 use Rattle.friendly_lines.specs.Words.{next_word, spaced, words_spaced}
 use Rattle.friendly_lines.specs.Written.{added}
 use Rattle.friendly_lines.proofs.WordLemmas.{less_is_left, words_next}
@@ -70,3 +72,37 @@ put_word_end line (b ∷ bs) none = absurd (omega (arith, none))
 pub ruleset puts = (put_behind, put_kept_behind, put_no_word, put_no_rest)
 
 pub ruleset word_steps = (put_word_step, put_word_end, less_is_left)
+
+-- ---- requests
+
+-- a request that isn't empty has a text that isn't
+request_some : (request : List ℕ) → 0 < length request → 0 < length (request_text request)
+request_some [] some = absurd (omega (arith, some))
+request_some (b ∷ bs) some =
+    let here : FirstWord = record { word = []; rest = Some bs } in
+    let later : FirstWord = record { word = b ∷ (first_word bs).word; rest = (first_word bs).rest } in
+    elim (nat_eq b 32) as (λ t. 0 < length ((cond t here later).word ++ sizes_behind (sizes_in (cond t here later).word) (cond t here later).rest)) [
+      | true ↦ omega arith
+      | false ↦ omega arith
+    ]
+
+pub put_request_some : (line : Option (List ℕ)) (request : List ℕ) → 0 < length request →
+    added (added line (32 ∷ [])) (request_text request) ≡ added line (spaced (request_text request))
+put_request_some line request some =
+    added_both line (32 ∷ []) (request_text request) ∙ ap (added line) (sym (spaced_some (request_text request) (request_some request some)))
+
+pub put_request_none : (line : Option (List ℕ)) (request : List ℕ) → length request ≡ 0 → line ≡ added line (spaced (request_text request))
+put_request_none line [] none = added_none line
+put_request_none line (b ∷ bs) none = absurd (omega (arith, none))
+
+-- the same of one that stands behind one blank
+pub put_behind_blank : (line : Option (List ℕ)) (rest : List ℕ) → 0 < length rest →
+    added (added line (32 ∷ [])) (request_text (drop 1 rest)) ≡ added line (tail_text (Request rest))
+put_behind_blank line [] some = absurd (omega (arith, some))
+put_behind_blank line (blank ∷ request) some = added_both line (32 ∷ []) (request_text request)
+
+pub put_behind_none : (line : Option (List ℕ)) (rest : List ℕ) → length rest ≡ 0 → line ≡ added line (tail_text (Request rest))
+put_behind_none line [] none = added_none line
+put_behind_none line (b ∷ bs) none = absurd (omega (arith, none))
+
+pub ruleset requests = (put_request_some, put_request_none, put_behind_blank, put_behind_none, added_both, added_none)

@@ -6,6 +6,8 @@ pub mod Parts
 pub mod Views
 pub mod Expected
 pub mod Expectations
+pub mod Forms
+pub mod Why
 pub mod Friendly
 pub mod Says
 pub mod Laws

@@ -1,5 +1,5 @@
 -- The parts of a call in the friendly form, and the engine's line that they spell.
-use Rattle.std.specs.Prelude.{ℕ, ◌+◌, ◌-◌, ◌&&◌, ◌||◌, Bool, false, List, [], ◌∷◌, ◌++◌, length, take, drop, codes, decimal, nat_lt, is_some, if◌then◌else◌, Option, Some, None}
+use Rattle.std.specs.Prelude.{ℕ, ◌+◌, ◌-◌, ◌&&◌, ◌||◌, Bool, true, false, List, [], ◌∷◌, ◌++◌, length, take, drop, codes, decimal, nat_lt, is_some, if◌then◌else◌, Option, Some, None}
 use Rattle.std.specs.Char.{is_ascii_digit}
 use Rattle.std.specs.List.{list_all}
 use Rattle.std.specs.Option.{option_and_then, option_map_or}
@@ -11,11 +11,14 @@ use Rattle.friendly_lines.specs.Quotes.{inside_quotes, is_quote}
 use Rattle.friendly_lines.specs.Signs.{bytes_of}
 use Rattle.friendly_lines.specs.Words.{Word, next_word, skip_blanks, spaced, words_spaced}
 
--- what follows the first words of a call: more words; what is kept as it stands, behind one blank; or a text in quotes, with
--- what is kept before it, and how many bytes the call has from the text's first sign on
+-- what follows the first words of a call: more words; what is kept as it stands, behind one blank; words of which the first
+-- is a size; a request, behind one blank; or a text in quotes, with the request before it, and how many bytes the call has
+-- from the text's first sign on
 pub data Tail : Type 0 where
   Words : List ℕ → Tail
   Kept : List ℕ → Tail
+  Sized : List ℕ → Tail
+  Request : List ℕ → Tail
   Quoted : List ℕ → List ℕ → ℕ → Tail
 
 -- a call by its first words
@@ -31,10 +34,12 @@ abbrev pub text_behind : Option (List ℕ) → Option (List ℕ)
 text_behind None = None
 text_behind (Some text) = if is_quote text then Some text else None
 
+-- an offset: digits, or an amount
+abbrev pub is_place : List ℕ → Bool
+is_place word = (nat_lt 0 (length word) && list_all is_ascii_digit word) || is_some (amount_of word)
+
 abbrev pub text_behind_place : List ℕ → Option (List ℕ)
-text_behind_place text =
-    if nat_lt 0 (length (first_word text).word) && list_all is_ascii_digit (first_word text).word
-    then text_behind (first_word text).rest else None
+text_behind_place text = if is_place (first_word text).word then text_behind (first_word text).rest else None
 
 abbrev pub text_behind_file : List ℕ → Option (List ℕ)
 text_behind_file text =
@@ -50,11 +55,11 @@ text_written request =
 abbrev pub quoted_or : Tail → List ℕ → List ℕ → Tail
 quoted_or other front text = option_map_or (λ inside. Quoted front inside (length text - 1)) (inside_quotes text) other
 
--- what follows `call S`: a request that writes text, or what is kept
+-- what follows `call S`: a request that writes text, or another
 abbrev pub request_tail : List ℕ → Tail
 request_tail rest =
-    option_map_or (λ text. quoted_or (Kept rest) (take (length (drop 1 rest) - (length text + 1)) (drop 1 rest)) text)
-    (text_written (drop 1 rest)) (Kept rest)
+    option_map_or (λ text. quoted_or (Request rest) (take (length (drop 1 rest) - (length text + 1)) (drop 1 rest)) text)
+    (text_written (drop 1 rest)) (Request rest)
 
 -- a form whose arguments are a text alone
 abbrev pub takes_text : List ℕ → Bool
@@ -70,7 +75,8 @@ tail_of form rest =
     if takes_text form || (bytes_eq form (codes "open") || bytes_eq form (codes "upgrade")) then Kept rest
     else (if bytes_eq form (codes "call") then request_tail rest
     else (if bytes_eq form (codes "poke") then quoted_or (Words rest) [] (skip_blanks rest)
-    else Words rest))
+    else (if bytes_eq form (codes "peek") then Sized rest
+    else Words rest)))
 
 -- the parts of a call
 abbrev pub parts_of : List ℕ → Parts
@@ -99,10 +105,34 @@ is_sized form = bytes_eq form (codes "alloc") || (bytes_eq form (codes "new") ||
 abbrev pub word_text : List ℕ → List ℕ → List ℕ
 word_text form word = if is_sized form then size_text word else word
 
+-- which of the words behind a request's first are sizes: of a buffer, the offsets and the lengths
+abbrev pub sizes_in : List ℕ → List Bool
+sizes_in form =
+    if bytes_eq form (codes "BUFFER") then true ∷ []
+    else (if bytes_eq form (codes "WRITE") then false ∷ true ∷ []
+    else (if bytes_eq form (codes "READ") then false ∷ true ∷ true ∷ []
+    else (if bytes_eq form (codes "PUT") || bytes_eq form (codes "GET") then false ∷ true ∷ true ∷ true ∷ []
+    else [])))
+
+-- what stands behind a word, where these of its words are sizes
+abbrev pub sizes_behind : List Bool → Option (List ℕ) → List ℕ
+sizes_behind sizes None = []
+sizes_behind [] (Some text) = 32 ∷ text
+sizes_behind (sized ∷ more) (Some text) =
+    32 ∷ ((if sized then size_text (first_word text).word else (first_word text).word)
+    ++ sizes_behind more (first_word text).rest)
+
+-- a request with its sizes as numbers
+abbrev pub request_text : List ℕ → List ℕ
+request_text request = (first_word request).word ++ sizes_behind (sizes_in (first_word request).word) (first_word request).rest
+
 abbrev pub tail_text : Tail → List ℕ
 tail_text (Words rest) = words_spaced false rest
 tail_text (Kept rest) = kept_text rest
-tail_text (Quoted front inside left) = spaced front ++ spaced (hex_text (bytes_of inside))
+tail_text (Sized rest) = spaced (size_text (next_word rest).word) ++ words_spaced false (next_word rest).rest
+tail_text (Request []) = []
+tail_text (Request (blank ∷ request)) = 32 ∷ request_text request
+tail_text (Quoted front inside left) = spaced (request_text front) ++ spaced (hex_text (bytes_of inside))
 
 -- the line that parts spell
 abbrev pub spelled : Parts → List ℕ

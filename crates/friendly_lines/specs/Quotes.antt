@@ -2,7 +2,8 @@
 use Rattle.std.specs.Prelude.{ℕ, ◌+◌, ◌==◌, ◌&&◌, not, Bool, true, false, List, [], ◌∷◌, take, drop, slice_index, codes, nat_eq, if◌then◌else◌, Option, Some, None}
 use Rattle.std.specs.List.{list_all, starts_with}
 use Rattle.std.specs.Option.{option_and_then, option_map, option_or}
-use Rattle.friendly_lines.specs.Words.{is_blank}
+use Rattle.std.specs.Str.{bytes_eq}
+use Rattle.friendly_lines.specs.Words.{is_blank, next_word}
 use Rattle.friendly_lines.specs.declared.quotes.Quoting.{Quoting}
 use Rattle.friendly_lines.specs.declared.quotes.Quoting.TheVariants.{Outside, Within, Escaped}
 
@@ -30,9 +31,20 @@ last_outside test at (b ∷ bs) =
     option_or (option_map (λ n. 1 + n) (last_outside test (after_byte at b) bs))
     (if is_outside at && test (b ∷ bs) then Some 0 else None)
 
--- what parts a call from the reply that is expected
+-- the first place outside of quotes where a text goes on so
+abbrev pub first_outside : (List ℕ → Bool) → Quoting → List ℕ → Option ℕ
+first_outside test at [] = None
+first_outside test at (b ∷ bs) =
+    if is_outside at && test (b ∷ bs) then Some 0
+    else option_map (λ n. 1 + n) (first_outside test (after_byte at b) bs)
+
+-- what parts a call from the reply that is expected, with a blank before it
 abbrev pub is_arrow : List ℕ → Bool
-is_arrow text = starts_with nat_eq text (codes " => ")
+is_arrow text = is_blank (slice_index text 0) && starts_with nat_eq (drop 1 text) (codes "=> ")
+
+-- what parts a line from a comment behind it: blanks, and `#` as a word
+abbrev pub is_comment : List ℕ → Bool
+is_comment text = is_blank (slice_index text 0) && bytes_eq (next_word text).word (codes "#")
 
 -- a quote
 abbrev pub is_quote : List ℕ → Bool

@@ -13,7 +13,7 @@ ghost use Rattle.friendly_lines.specs.Views.{written_view};
 use crate::quotes::inside_quotes;
 use crate::signs::{fault_of, is_hex_of};
 use crate::words::{behind, is_blank, word_length};
-use text_codec::split_first_word;
+use text_codec::{find_byte, find_either, split_first_word};
 
 /// A text in quotes with which an expectation ends, and what stands before it.
 #[derive(Clone, Copy, Debug)]
@@ -37,7 +37,18 @@ pub fn meets(reply: &[u8], expected: &[u8]) -> bool
     if expected == b"refused".as_slice() {
         return is_refusal(reply);
     }
-    expected == b"*".as_slice() || meets_words(reply, expected)
+    expected == b"*".as_slice() || meets_text(reply, expected)
+}
+
+// Whether a reply is what is expected word for word: the same, where no sign stands.
+#[tactic(auto, using(crate::proofs::ExpectedLemmas::same_words))]
+fn meets_text(reply: &[u8], expected: &[u8]) -> bool
+    ensures { result ≡ meets_words reply.now expected.now }
+{
+    if find_either(b'*', b'"', expected).is_none() {
+        return reply == expected;
+    }
+    meets_words(reply, expected)
 }
 
 // Whether a reply refuses.
@@ -49,7 +60,7 @@ fn is_refusal(reply: &[u8]) -> bool
     !reply.is_empty() && reply[0].is_ascii_uppercase() && word != b"OK".as_slice()
 }
 
-// Whether a reply is what is expected word for word.
+// The same by each byte.
 fn meets_words(reply: &[u8], expected: &[u8]) -> bool
     ensures { result ≡ meets_words reply.now expected.now }
 {
@@ -68,22 +79,15 @@ fn meets_words(reply: &[u8], expected: &[u8]) -> bool
 /// The text in quotes with which an expectation ends, if it has one.
 pub(crate) fn written_in(expected: &[u8]) -> Option<Written<'_>>
     ensures value { written_view result ≡ written_in expected.now }
-    ensures within { IfSome result (λ w. length w.front.now + 1 + length w.inside.now ≤ length expected.now) }
+    ensures within { IfSome result
+        (λ w. length w.front.now + 1 + length w.inside.now ≤ length expected.now) }
 {
-    let place = first_quote(expected)?;
+    let place = find_byte(b'"', expected)?;
     let inside = inside_quotes(behind(expected, place))?;
     Some(Written {
         front: &expected[..place],
         inside,
     })
-}
-
-// Where a text has its first quote.
-fn first_quote(text: &[u8]) -> Option<usize>
-    ensures place { result ≡ position (λ b. b == 34) text.now }
-    ensures inside { IfSome result (λ place. place < length text.now) }
-{
-    text.iter().position(|byte| *byte == b'"')
 }
 
 /// Where the text in quotes of an expectation has an escape that is none.
@@ -132,7 +136,8 @@ fn bytes_for(begins: bool, byte: u8, more: &[u8], reply: &[u8]) -> usize
 
 // One where a text begins with a byte, and else none.
 fn stands_first(text: &[u8], byte: u8) -> usize
-    ensures value { result ≡ (if nat_lt 0 (length text.now) && slice_index text.now 0 == byte then 1 else 0) }
+    ensures value { result
+        ≡ (if nat_lt 0 (length text.now) && slice_index text.now 0 == byte then 1 else 0) }
     ensures within { result ≤ length text.now }
 {
     if !text.is_empty() && text[0] == byte {

@@ -3,16 +3,20 @@
 
 mod expected;
 mod fault;
+mod forms;
 mod laws;
 mod line;
 mod parts;
 mod quotes;
 mod reading;
+mod requests;
 mod signs;
+mod why;
 mod words;
 
 pub use expected::meets;
 pub use fault::{Fault, Reason};
+pub use forms::Form;
 pub use laws::calls_are_calls;
 pub use line::Line;
-pub use reading::{Said, read_friendly};
+pub use reading::{Said, end_of, read_friendly};

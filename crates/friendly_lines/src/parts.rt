@@ -1,11 +1,10 @@
 //! The parts of a call, and the engine's line that they spell.
-ghost use Rattle.std.specs.Prelude.{◌≡◌, ◌+◌, ◌≤◌, ◌<◌, ◌&&◌, length, nat_lt, IfSome};
+ghost use Rattle.std.specs.Prelude.{◌≡◌, ◌+◌, ◌≤◌, ◌<◌, length, IfSome};
 ghost use Rattle.std.specs.Option.{option_copied};
-ghost use Rattle.std.specs.List.{list_all};
-ghost use Rattle.std.specs.Char.{is_ascii_digit};
 ghost use Rattle.own_model.specs.Reply.{hex_text};
 ghost use Rattle.friendly_lines.specs.Friendly.{fault_in};
-ghost use Rattle.friendly_lines.specs.Parts.{is_sized, kept_text, parts_of, quoted_or, request_tail, size_text, spelled, takes_text, tail_of, tail_text, text_behind, text_behind_file, text_behind_place, text_written, word_text, word_behind};
+ghost use Rattle.friendly_lines.specs.Parts.{is_sized, kept_text, parts_of, quoted_or, request_tail, spelled, takes_text, tail_of, tail_text, text_behind, text_behind_file, text_behind_place, text_written, word_text, word_behind};
+ghost use Rattle.friendly_lines.specs.Parts.Tail.{Request};
 ghost use Rattle.friendly_lines.specs.Signs.{bytes_of};
 ghost use Rattle.friendly_lines.specs.Views.{LiesIn, parts_in, tail_in};
 ghost use Rattle.friendly_lines.specs.Words.{spaced};
@@ -13,11 +12,12 @@ ghost use Rattle.friendly_lines.specs.Written.{added};
 
 use crate::line::Line;
 use crate::quotes::{inside_quotes, is_quote};
+use crate::requests::{
+    is_place, put_request, put_sized_words, put_spaced_request, put_spaced_size,
+};
 use crate::signs::{fault_of, put_text};
 use crate::words::{behind, next_word, skip_blanks};
-use itoa::Buffer;
 use text_codec::split_first_word;
-use trade_base::{read_amount, read_number};
 
 /// What follows the first words of a call.
 #[derive(Clone, Copy, Debug)]
@@ -26,7 +26,11 @@ pub(crate) enum Tail<'a> {
     Words(&'a [u8]),
     /// What is kept as it stands, behind one blank.
     Kept(&'a [u8]),
-    /// A text in quotes, with what is kept before it, and how many bytes the call has from the text's first sign on.
+    /// Words of which the first is a size.
+    Sized(&'a [u8]),
+    /// A request, behind one blank.
+    Request(&'a [u8]),
+    /// A text in quotes, with the request before it, and how many bytes the call has from the text's first sign on.
     Quoted {
         front: &'a [u8],
         inside: &'a [u8],
@@ -108,10 +112,13 @@ fn tail_of<'a>(form: &[u8], rest: &'a [u8]) -> Tail<'a>
     if form == b"poke".as_slice() {
         return quoted_or(Tail::Words(rest), b"", skip_blanks(rest));
     }
+    if form == b"peek".as_slice() {
+        return Tail::Sized(rest);
+    }
     Tail::Words(rest)
 }
 
-// What follows `call S`: a request that writes text, or what is kept.
+// What follows `call S`: a request that writes text, or another.
 #[tactic(auto, using(crate::proofs::TailLemmas::lies))]
 fn request_tail(rest: &[u8]) -> Tail<'_>
     ensures value { tail_in result ≡ request_tail rest.now }
@@ -120,11 +127,11 @@ fn request_tail(rest: &[u8]) -> Tail<'_>
     let request = behind(rest, rest.len().min(1));
     match text_written(request) {
         Some(text) => quoted_or(
-            Tail::Kept(rest),
+            Tail::Request(rest),
             &request[..request.len() - (text.len() + 1)],
             text,
         ),
-        None => Tail::Kept(rest),
+        None => Tail::Request(rest),
     }
 }
 
@@ -180,25 +187,11 @@ fn text_behind_place(text: &[u8]) -> Option<&[u8]>
     ensures within { IfSome result (λ found. length found.now ≤ length text.now) }
 {
     let (place, rest) = split_first_word(text);
-    if !is_digits(place) {
+    if !is_place(place) {
         return None;
     }
     let rest = rest?;
     if is_quote(rest) { Some(rest) } else { None }
-}
-
-// Whether a word is decimal digits.
-fn is_digits(word: &[u8]) -> bool
-    ensures { result ≡ (nat_lt 0 (length word.now) && list_all is_ascii_digit word.now) }
-{
-    !word.is_empty() && are_digits(word)
-}
-
-// Whether each byte is a decimal digit.
-fn are_digits(text: &[u8]) -> bool
-    ensures { result ≡ list_all is_ascii_digit text.now }
-{
-    text.iter().all(|byte| byte.is_ascii_digit())
 }
 
 /// Where a call of so many bytes has an escape that is none.
@@ -209,7 +202,7 @@ pub(crate) fn fault_in(count: usize, tail: Tail<'_>) -> Option<usize>
 {
     match tail {
         Tail::Quoted { inside, left, .. } => Some(count - left + fault_of(inside)?),
-        Tail::Words(_) | Tail::Kept(_) => None,
+        Tail::Words(_) | Tail::Kept(_) | Tail::Sized(_) | Tail::Request(_) => None,
     }
 }
 
@@ -218,7 +211,7 @@ fn put_word(line: &mut Line, form: &[u8], word: &[u8])
     ensures { line.new ≡ added line.old (spaced (word_text form.now word.now)) }
 {
     if is_sized(form) {
-        put_size(line, word);
+        put_spaced_size(line, word);
     } else {
         line.put_spaced(word);
     }
@@ -231,19 +224,6 @@ fn is_sized(form: &[u8]) -> bool
     form == b"alloc".as_slice() || form == b"new".as_slice() || form == b"snew".as_slice()
 }
 
-// Puts a size as a number, or the word as it is where it is a number already or is no amount.
-fn put_size(line: &mut Line, word: &[u8])
-    ensures { line.new ≡ added line.old (spaced (size_text word.now)) }
-{
-    if read_number(word).is_some() {
-        return line.put_spaced(word);
-    }
-    match read_amount(word) {
-        Some(size) => line.put_spaced(Buffer::new().format(size).as_bytes()),
-        None => line.put_spaced(word),
-    }
-}
-
 // Puts what follows the first words.
 #[tactic(auto, using(crate::proofs::WrittenLemmas::added_both))]
 fn put_tail(line: &mut Line, tail: Tail<'_>)
@@ -252,8 +232,10 @@ fn put_tail(line: &mut Line, tail: Tail<'_>)
     match tail {
         Tail::Words(rest) => line.put_words(rest),
         Tail::Kept(rest) => put_kept(line, rest),
+        Tail::Sized(rest) => put_sized_words(line, rest),
+        Tail::Request(rest) => put_request_behind(line, rest),
         Tail::Quoted { front, inside, .. } => {
-            line.put_spaced(front);
+            put_spaced_request(line, front);
             put_quoted(line, inside);
         }
     }
@@ -278,5 +260,16 @@ fn put_kept(line: &mut Line, rest: &[u8])
     if !rest.is_empty() {
         line.put(b" ");
         line.put(behind(rest, 1));
+    }
+}
+
+// Puts a request that stands behind one blank, with a space for that.
+#[tactic(auto, using(crate::proofs::WrittenLemmas::requests))]
+fn put_request_behind(line: &mut Line, rest: &[u8])
+    ensures { line.new ≡ added line.old (tail_text (Request rest.now)) }
+{
+    if !rest.is_empty() {
+        line.put(b" ");
+        put_request(line, behind(rest, 1));
     }
 }

@@ -1,12 +1,13 @@
 //! What stands within quotes.
-ghost use Rattle.std.specs.Prelude.{◌≡◌, ◌+◌, ◌<◌, ◌≤◌, ◌==◌, ◌&&◌, not, true, false, length, IfSome, if◌then◌else◌};
+ghost use Rattle.std.specs.Prelude.{◌≡◌, ◌+◌, ◌<◌, ◌≤◌, ◌==◌, ◌&&◌, not, true, false, length, slice_index, IfSome, if◌then◌else◌};
 ghost use Rattle.std.specs.Option.{option_copied};
 ghost use Rattle.std.specs.List.{list_all};
 ghost use Rattle.friendly_lines.specs.Views.{AreInside};
 ghost use Rattle.friendly_lines.specs.Words.{is_blank};
-ghost use Rattle.friendly_lines.specs.Quotes.{after_byte, after_text, closed_inside, closing, inside_quotes, is_arrow, is_outside, is_quote, last_outside};
+ghost use Rattle.friendly_lines.specs.Quotes.{after_byte, after_text, closed_inside, closing, first_outside, inside_quotes, is_arrow, is_comment, is_outside, is_quote, last_outside};
 
-use crate::words::{behind, is_blank};
+use crate::words::{behind, is_blank, next_word};
+use text_codec::find_byte;
 
 /// How a byte stands to quotes.
 #[derive(Clone, Copy, Debug, PartialEq, Eq)]
@@ -58,7 +59,7 @@ impl Quoting {
 pub(crate) struct Marks {
     /// How what follows the text stands.
     pub end: Quoting,
-    /// Where the last arrow begins, ` => `.
+    /// Where the last arrow begins, with the blank before it.
     pub arrow: Option<usize>,
     /// Where the last quote is that opens.
     pub quote: Option<usize>,
@@ -95,12 +96,57 @@ fn last_place(is_outside: bool, is_here: bool, place: usize, before: Option<usiz
     }
 }
 
+/// Where a text has a comment behind it, outside of quotes.
+#[tactic(auto, using(crate::proofs::QuoteLemmas::no_comment))]
+pub(crate) fn comment_of(text: &[u8]) -> Option<usize>
+    ensures place { result ≡ first_outside is_comment Quoting.Outside text.now }
+    ensures inside { IfSome result (λ place. place < length text.now) }
+{
+    // Few lines have the sign.
+    if find_byte(b'#', text).is_none() {
+        return None;
+    }
+    first_comment(text)
+}
+
+// The same by each byte.
+#[tactic(auto, using(crate::proofs::QuoteLemmas::firsts))]
+fn first_comment(text: &[u8]) -> Option<usize>
+    ensures place { result ≡ first_outside is_comment Quoting.Outside text.now }
+    ensures inside { IfSome result (λ place. place < length text.now) }
+{
+    let mut at = Quoting::Outside;
+    for (i, byte) in text.iter().enumerate() {
+        if at.is_outside() && is_comment(behind(text, i)) {
+            return Some(i);
+        }
+        at = at.after(*byte);
+    }
+    None
+}
+
+// Whether a text goes on with blanks and a comment.
+fn is_comment(text: &[u8]) -> bool
+    ensures { result ≡ is_comment text.now }
+{
+    begins_blank(text) && next_word(text).0 == b"#".as_slice()
+}
+
+// Whether a text begins with a blank.
+#[tactic(auto, using(crate::proofs::QuoteLemmas::firsts))]
+fn begins_blank(text: &[u8]) -> bool
+    ensures value { result ≡ is_blank (slice_index text.now 0) }
+    ensures some { result ≡ true → 0 < length text.now }
+{
+    !text.is_empty() && is_blank(text[0])
+}
+
 // Whether a text goes on with an arrow.
 fn is_arrow(text: &[u8]) -> bool
     ensures value { result ≡ is_arrow text.now }
     ensures some { result ≡ true → 4 ≤ length text.now }
 {
-    text.starts_with(b" => ")
+    begins_blank(text) && behind(text, 1).starts_with(b"=> ")
 }
 
 /// Whether a text goes on with a quote.

@@ -1,17 +1,19 @@
 //! What a line says.
-ghost use Rattle.std.specs.Prelude.{◌≡◌, ◌+◌, ◌<◌, ◌≤◌, ◌^◌, ◌==◌, length, is_some, slice_index, true, None};
-ghost use Rattle.std.specs.Option.{option_copied};
+ghost use Rattle.std.specs.Prelude.{◌≡◌, ◌+◌, ◌<◌, ◌≤◌, ◌^◌, ◌==◌, length, is_some, slice_index, true, IfSome, None};
+ghost use Rattle.std.specs.Option.{option_copied, option_map, option_or};
 ghost use Rattle.own_model.specs.Call.{spoken};
-ghost use Rattle.friendly_lines.specs.Friendly.{expects_bad_line, said_of, said_of_both, said_of_call, said_of_line, said_of_signs, said_of_text, without_return};
+ghost use Rattle.friendly_lines.specs.Friendly.{end_of, expects_bad_line, fault_behind, fault_in, no_call, said_of, said_of_both, said_of_call, said_of_line, said_of_signs, said_of_text, without_comment, without_mark, without_return};
 ghost use Rattle.friendly_lines.specs.Friendly.Said.{Call};
-ghost use Rattle.friendly_lines.specs.Laws.{IsPlain};
-ghost use Rattle.friendly_lines.specs.declared.fault.Reason.TheVariants.{NoCall};
+ghost use Rattle.friendly_lines.specs.Laws.{IsPlain, LaterFormsAreMarked};
 ghost use Rattle.friendly_lines.specs.Says.{says};
+ghost use Rattle.friendly_lines.specs.Views.{LiesIn, tail_in};
 
+use crate::expected::written_fault;
 use crate::fault::{Fault, Reason};
 use crate::line::Line;
-use crate::parts::{Parts, fault_in};
-use crate::quotes::{Quoting, marks_of};
+use crate::parts::{Parts, Tail, fault_in};
+use crate::quotes::{Quoting, comment_of, marks_of};
+use crate::why::why;
 use crate::words::{behind, skip_blanks};
 use scenario::read_line;
 
@@ -31,14 +33,37 @@ pub enum Said<'a> {
 
 /// What a line says, which is without its newline. The engine's line is put together in `room`, where it isn't a piece of the
 /// line itself. A call that isn't one in the engine's grammar is a fault, unless `Bad_line` is expected; and a line of that
-/// grammar in which nothing is to be translated is the engine's as it stands.
-#[tactic(auto, using(crate::proofs::PlainLemmas::plain_lines_pass))]
+/// grammar in which nothing is to be translated is the engine's as it stands. Each later form is told by a sign of its own, so a
+/// line without them says what it said before there were any.
+#[tactic(auto, using(crate::proofs::PlainLemmas::lines_pass))]
 pub fn read_friendly<'a>(line: &'a [u8], room: &'a mut Line) -> Result<Said<'a>, Fault>
     ensures value { says result ≡ said_of line.now }
     ensures plain { IsPlain line.now → says result ≡ Ok (Call line.now None) }
+    ensures later { LaterFormsAreMarked }
 {
-    let signs = skip_blanks(line);
+    let signs = skip_blanks(without_mark(line));
     said_of_signs(line.len() - signs.len() + 1, signs, room)
+}
+
+/// Where what a line says ends: before a comment behind its call and the blanks before that, or a carriage return. There the
+/// reply ends that is expected.
+pub fn end_of(line: &[u8]) -> usize
+    ensures { result ≡ end_of line.now }
+{
+    let signs = skip_blanks(without_mark(line));
+    line.len() - signs.len() + without_comment(without_return(signs)).len()
+}
+
+// What stands behind a byte order mark, where a line begins with one.
+fn without_mark(line: &[u8]) -> &[u8]
+    ensures value { result.now ≡ without_mark line.now }
+    ensures within { length result.now ≤ length line.now }
+{
+    if line.starts_with(b"\xef\xbb\xbf") {
+        behind(line, 3)
+    } else {
+        line
+    }
 }
 
 // What a line says from its first sign on.
@@ -93,7 +118,18 @@ fn said_of_text<'a>(column: usize, text: &'a [u8], room: &'a mut Line) -> Result
     if text.starts_with(b"=> ") {
         return Ok(Said::Log(behind(text, 3)));
     }
-    said_of_both(column, text, room)
+    said_of_both(column, without_comment(text), room)
+}
+
+// A text without a comment behind it.
+fn without_comment(text: &[u8]) -> &[u8]
+    ensures value { result.now ≡ without_comment text.now }
+    ensures within { length result.now ≤ length text.now }
+{
+    match comment_of(text) {
+        Some(place) => &text[..place],
+        None => text,
+    }
 }
 
 // A call, and the reply that is expected, where each quote is closed.
@@ -114,53 +150,79 @@ fn said_of_both<'a>(column: usize, text: &'a [u8], room: &'a mut Line) -> Result
     }
 }
 
-// A call whose escapes are all ones.
+// A call and the reply that is expected, whose escapes are all ones.
 fn said_of_call<'a>(
     column: usize,
     call: &'a [u8],
     reply: Option<&'a [u8]>,
     room: &'a mut Line,
 ) -> Result<Said<'a>, Fault>
-    requires { column + length call.now < 2 ^ 64 }
+    requires call { column + length call.now < 2 ^ 64 }
+    requires reply { IfSome reply (λ r. column + length call.now + 4 + length r.now < 2 ^ 64) }
     ensures { says result ≡ said_of_call column call.now (option_copied reply.entry) }
 {
     let parts = Parts::of(call);
-    if let Some(place) = fault_in(call.len(), parts.tail) {
-        return Err(Fault {
+    match escape_fault(column, call.len(), parts.tail, reply) {
+        Some(column) => Err(Fault {
             reason: Reason::BadEscape,
-            column: column + place,
-        });
+            column,
+        }),
+        None => {
+            room.clear();
+            parts.put(room);
+            said_of_line(column, call, room.text(), reply)
+        }
     }
-    room.clear();
-    parts.put(room);
-    said_of_line(column, room.text(), reply)
 }
 
-// A line that isn't too long is a call, unless it is expected to be none.
+// The column of the first escape that is none, of a call of so many bytes or of the reply that is expected.
+fn escape_fault(column: usize, count: usize, tail: Tail<'_>, reply: Option<&[u8]>) -> Option<usize>
+    requires lies { LiesIn count (tail_in tail) }
+    requires call { column + count < 2 ^ 64 }
+    requires reply { IfSome reply (λ r. column + count + 4 + length r.now < 2 ^ 64) }
+    ensures { result ≡ option_map (λ n. column + n) (option_or (fault_in count (tail_in tail.entry))
+        (fault_behind (count + 4) (option_copied reply.entry))) }
+{
+    if let Some(place) = fault_in(count, tail) {
+        return Some(column + place);
+    }
+    let place = written_fault(reply?)?;
+    Some(column + count + 4 + place)
+}
+
+// The line of a call is one of the grammar, unless it is expected to be none, or is too long.
 fn said_of_line<'a>(
     column: usize,
+    call: &[u8],
     line: Option<&'a [u8]>,
     reply: Option<&'a [u8]>,
 ) -> Result<Said<'a>, Fault>
-    ensures { says result ≡ said_of_line column (option_copied line.entry) (option_copied reply.entry) }
+    requires { column + length call.now < 2 ^ 64 }
+    ensures { says result
+        ≡ said_of_line column call.now (option_copied line.entry) (option_copied reply.entry) }
 {
     match line {
         Some(line) => if is_call(line) || expects_bad_line(reply) {
             Ok(Said::Call { line, reply })
         } else {
-            Err(no_call(column))
+            Err(no_call(column, call))
         },
-        None => Err(no_call(column)),
+        None => Err(Fault {
+            reason: Reason::NoCall,
+            column,
+        }),
     }
 }
 
-// What is no call.
-fn no_call(column: usize) -> Fault
-    ensures { result ≡ record { reason = NoCall; column = column } }
+// Why a call is none that begins at this column.
+fn no_call(column: usize, call: &[u8]) -> Fault
+    requires { column + length call.now < 2 ^ 64 }
+    ensures { result ≡ no_call column call.now }
 {
+    let fault = why(call);
     Fault {
-        reason: Reason::NoCall,
-        column,
+        reason: fault.reason,
+        column: column + fault.column,
     }
 }
 

@@ -2,6 +2,7 @@
 use Rattle.std.specs.Prelude.{◌≡◌, ℕ, ◌||◌, Bool, true, false, not, is_some, List, [], ◌∷◌, ◌++◌, Option, Some, None, Result, Ok, Err}
 use Rattle.std.specs.Str.{bytes_eq}
 use Rattle.own_model.specs.World.{World}
+use Rattle.friendly_lines.specs.Expected.{meets}
 use Rattle.friendly_lines.specs.Friendly.{Said}
 use Rattle.friendly_lines.specs.Friendly.Said.{Nothing, Log, Call}
 use Rattle.friendly_lines.specs.declared.fault.Fault.{Fault}
@@ -30,13 +31,13 @@ awaited_more awaited number text = record {
   first = Some (first_of awaited.first number);
 }
 
--- an answer is otherwise than expected: it has another reply, or other log lines; where no reply is expected log lines are; a
+-- an answer is otherwise than expected: its reply doesn't meet what is expected, or it has other log lines; where no reply is expected log lines are; a
 -- call that was skipped is answered as it may be
 abbrev pub is_other : Option (List ℕ) → Option LineAnswer → Awaited → Bool
 is_other reply None awaited = false
 is_other None (Some answer) awaited = is_some awaited.first
 is_other (Some reply) (Some answer) awaited =
-    not (bytes_eq answer.reply.now reply) || not (bytes_eq answer.lines.now awaited.lines)
+    not (meets answer.reply.now reply) || not (bytes_eq answer.lines.now awaited.lines)
 
 -- ---- of a line, by what is read of it
 

@@ -2,6 +2,7 @@
 ghost use Rattle.std.specs.Prelude.{◌≡◌, ◌||◌, false, true, not, is_some, IfErr, IfOk, OnOk};
 ghost use Rattle.std.specs.Option.{option_copied};
 ghost use Rattle.std.specs.Str.{bytes_eq};
+ghost use Rattle.friendly_lines.specs.Expected.{meets};
 ghost use Rattle.workbench.specs.Faults.{Fails};
 ghost use Rattle.workbench.specs.Judging.{awaited_more, is_other, nothing_awaited};
 ghost use Rattle.workbench.specs.declared.ending.PlayFault.TheVariants.{NoMemory as NoRoom};
@@ -9,7 +10,7 @@ ghost use Rattle.workbench.specs.declared.ending.PlayFault.TheVariants.{NoMemory
 use crate::complaint::{Complaints, Place};
 use crate::ending::PlayFault;
 use crate::expected::Expected;
-use friendly_lines::Fault;
+use friendly_lines::{Fault, end_of, meets};
 use scenario::{LineAnswer, Sink};
 use std::alloc::Global;
 
@@ -65,11 +66,12 @@ impl<'a> Critic<'a> {
             (_, None) => Ok(false),
             (None, Some(_)) => self.judge_silent(number, sink),
             (Some(reply), Some(answer)) => {
-                let place = Place {
-                    line: number,
-                    column: column_of(line, reply),
+                let wish = Wish {
+                    number,
+                    line,
+                    reply,
                 };
-                self.judge_answer(place, reply, answer.reply, answer.lines, sink)
+                self.judge_answer(wish, answer.reply, answer.lines, sink)
             }
         };
         self.expected.clear();
@@ -94,25 +96,25 @@ impl<'a> Critic<'a> {
         self.complain(place, b"log lines are expected of it, and no reply", sink)
     }
 
-    // Complains of another reply, or else of other log lines.
+    // Complains of a reply that isn't what is expected, or else of other log lines.
     fn judge_answer<E: Sink>(
         &mut self,
-        place: Place,
-        expected: &[u8],
+        wish: Wish<'_>,
         reply: &[u8],
         lines: &[u8],
         sink: &mut E,
     ) -> Result<bool, PlayFault>
         requires { E.has_failed sink.old ≡ false }
         ensures judged { IfOk result (λ complained. complained
-            ≡ (not (bytes_eq reply.now expected.now) || not (bytes_eq lines.now self.old.expected.lines))) }
+            ≡ (not (meets reply.now wish.entry.reply.now)
+            || not (bytes_eq lines.now self.old.expected.lines))) }
         ensures keeps { self.new.expected ≡ self.old.expected }
         ensures works { OnOk result (E.has_failed sink.new ≡ false) }
         ensures failing { Fails result (E.has_failed sink.new) false }
     {
-        if reply != expected {
+        if !meets(reply, wish.reply) {
             self.complaints
-                .tell_other(sink, place, b"the reply is", reply, expected)?;
+                .tell_other(sink, wish.place(), b"the reply is", reply, wish.reply)?;
             return Ok(true);
         }
         let expected = self.expected.lines();
@@ -120,7 +122,7 @@ impl<'a> Critic<'a> {
             let lines = without_last(lines);
             let expected = without_last(expected);
             self.complaints
-                .tell_other(sink, place, b"the log lines are", lines, expected)?;
+                .tell_other(sink, wish.place(), b"the log lines are", lines, expected)?;
             return Ok(true);
         }
         Ok(false)
@@ -204,17 +206,28 @@ impl<'a> Critic<'a> {
     }
 }
 
+// A reply that is expected, with the line of the scenario where it stands.
+#[derive(Clone, Copy)]
+struct Wish<'a> {
+    number: u64,
+    line: &'a [u8],
+    reply: &'a [u8],
+}
+
+impl Wish<'_> {
+    // Where the reply begins.
+    fn place(self) -> Place {
+        let column = end_of(self.line)
+            .saturating_sub(self.reply.len())
+            .saturating_add(1);
+        Place {
+            line: self.number,
+            column,
+        }
+    }
+}
+
 // Log lines without the last newline.
 fn without_last(lines: &[u8]) -> &[u8] {
     &lines[..lines.len().saturating_sub(1)]
-}
-
-// The column of the reply that is expected, with which a line ends but for a carriage return.
-fn column_of(line: &[u8], reply: &[u8]) -> usize {
-    let end = if line.ends_with(b"\r") {
-        line.len().saturating_sub(1)
-    } else {
-        line.len()
-    };
-    end.saturating_sub(reply.len()).saturating_add(1)
 }

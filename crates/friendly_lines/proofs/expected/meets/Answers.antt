@@ -7,5 +7,5 @@ use Rattle.friendly_lines.proofs.expected.meets.Goals as goal
 
 pub returns-else-eq-3-clause-exact : goal.returns-else-eq-3-clause-exact
 returns-else-eq-3-clause-exact c =
-    let value : c.meets_words.result ≡ meets c.args.reply.now c.args.expected.now = grind (arith, common_steps) in
+    let value : c.meets_text.result ≡ meets c.args.reply.now c.args.expected.now = grind (arith, common_steps) in
     λ exact. value ∙ exact_meets c.args.reply.now c.args.expected.now exact

@@ -1,0 +1,9 @@
+-- Stretches are the budgets in no want.
+use Rattle.budget_laws.proofs.StretchLemmas.{account_exact, session_exact}
+use Rattle.budget_laws.proofs.stretches.stretches_are_exact.Goals as goal
+
+pub returns-clause-account : goal.returns-clause-account
+returns-clause-account c = account_exact
+
+pub returns-clause-session : goal.returns-clause-session
+returns-clause-session c = session_exact

@@ -1,0 +1,62 @@
+-- All budgets in no want, from a few runs.
+use Rattle.std.specs.Prelude.{◌≡◌, ℕ, zero, suc, ◌-◌, ◌≤◌, ◌&&◌, Bool, not, List, [], ◌∷◌, nat_le, nat_eq, if◌then◌else◌}
+use Rattle.std.specs.List.{list_any}
+use Rattle.own_model.specs.Amounts.{Amounts}
+use Rattle.own_model.specs.Call.{Call}
+use Rattle.own_model.specs.OwnState.{OwnState}
+use Rattle.own_model.specs.Session.{Session}
+use Rattle.own_model.specs.StartList.{Entry}
+use Rattle.budget_laws.specs.Need.{Need, cell_by, greatest_choice, budgeted, needs}
+use Rattle.budget_laws.specs.Request.{donating}
+use Rattle.budget_laws.specs.RequestLaws.{Reaches, session_needs, session_in_want}
+use Rattle.budget_laws.specs.Want.{in_want}
+
+-- a stretch of budgets: RAM from a number of bytes up to another, and capabilities from a number on
+pub record Stretch : Type 0 where
+  pub ram_from : ℕ
+  pub ram_to : ℕ
+  pub caps_from : ℕ
+
+abbrev pub covers : Amounts → Stretch → Bool
+covers budget stretch = nat_le stretch.ram_from budget.ram && nat_le budget.ram stretch.ram_to && nat_le stretch.caps_from budget.caps
+
+-- some stretch covers a budget
+abbrev pub is_covered : List Stretch → Amounts → Bool
+is_covered stretches budget = list_any (covers budget) stretches
+
+-- the stretch of a run that is in no want: what is left of its cell up to its own budget
+abbrev pub stretch_of : Bool → Amounts → List Need → List Stretch → List Stretch
+stretch_of wanting budget needs rest =
+    if wanting then rest
+    else record { ram_from = (cell_by budget needs).ram_from; ram_to = budget.ram; caps_from = (cell_by budget needs).caps_from } ∷ rest
+
+-- the stretches of all budgets of so many capabilities and up to so many bytes, from the greatest on, by what each run needs and
+-- whether it is in want: after a run the next one has a byte less than the greatest need of a choice that passed in it. At most so
+-- many runs are made
+abbrev pub stretches : (Amounts → List Need) → (Amounts → Bool) → ℕ → ℕ → ℕ → List Stretch
+stretches each want caps zero top = []
+stretches each want caps (suc runs) top =
+    let budget : Amounts = record { ram = top; caps = caps } in
+    let choice = greatest_choice budget (each budget) in
+    stretch_of (want budget) budget (each budget) (if nat_eq choice 0 then [] else stretches each want caps runs (choice - 1))
+
+-- of a component's own account, and of what was donated for a session
+abbrev pub account_stretches : Entry → List Call → OwnState → ℕ → ℕ → List Stretch
+account_stretches entry calls s caps top =
+    stretches (λ budget. needs entry budget calls (budgeted budget s)) (λ budget. in_want entry calls (budgeted budget s)) caps (suc top) top
+
+abbrev pub session_stretches : List Reaches → Session → ℕ → ℕ → List Stretch
+session_stretches all session caps top =
+    stretches (λ donation. session_needs donation all (donating donation session)) (λ donation. session_in_want all (donating donation session))
+    caps (suc top) top
+
+-- a budget of no more bytes and capabilities than these is covered exactly where the run from it is in no want
+abbrev pub AccountStretchesAreExact : Type 0
+AccountStretchesAreExact =
+    (entry : Entry) (calls : List Call) (s : OwnState) (caps top : ℕ) (budget : Amounts) → budget.caps ≤ caps → budget.ram ≤ top →
+    is_covered (account_stretches entry calls s caps top) budget ≡ not (in_want entry calls (budgeted budget s))
+
+abbrev pub SessionStretchesAreExact : Type 0
+SessionStretchesAreExact =
+    (all : List Reaches) (session : Session) (caps top : ℕ) (donation : Amounts) → donation.caps ≤ caps → donation.ram ≤ top →
+    is_covered (session_stretches all session caps top) donation ≡ not (session_in_want all (donating donation session))

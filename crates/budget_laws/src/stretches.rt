@@ -1,0 +1,9 @@
+//! All budgets that serve, from a few runs.
+ghost use Rattle.budget_laws.specs.Stretches.{AccountStretchesAreExact, SessionStretchesAreExact};
+
+/// The budgets in no want, up to any number of bytes and of capabilities, are those that are covered by the stretches of a few
+/// runs: each from a byte less than the greatest choice that passed in the one before.
+pub fn stretches_are_exact()
+    ensures account { AccountStretchesAreExact }
+    ensures session { SessionStretchesAreExact }
+{}
