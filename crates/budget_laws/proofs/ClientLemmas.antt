@@ -8,8 +8,8 @@ use Rattle.std.specs.List.{AllByRecursion}
 use Rattle.std.specs.Prelude.{Option, Some, None, is_none}
 use Rattle.trade_base.specs.declared.refusal.Refusal.{Refusal}
 use Rattle.trade_base.specs.declared.refusal.Refusal.TheVariants.{Gone, BadArgs}
-use Rattle.own_model.proofs.AloneLemmas.{stand_alone}
-use Rattle.own_model.proofs.ExitLemmas.{alike_on}
+use Rattle.own_model.proofs.SessionAloneLemmas.{stand_alone}
+use Rattle.own_model.proofs.StepExitLemmas.{alike_on}
 use Rattle.own_model.proofs.ListLemmas.{all_then}
 use Rattle.own_model.proofs.NatMapLemmas.{natmaps, same, get-insert_same}
 use Rattle.own_model.proofs.StepLemmas.{covers}

@@ -21,7 +21,7 @@ use Rattle.own_model.specs.FileText.FileError.{BadRequest, BadName, Exists, NotF
 use Rattle.own_model.specs.FileText.FileReply.{Done, Count, Bytes, Named, Refused}
 use Rattle.own_model.specs.Growth.{Growth, most_chunks, hole_for, least_growth, growth_of, new_hole, small_refusal, shape_grown}
 use Rattle.own_model.specs.Session.{ServiceState, Session, Served, served_by, served}
-use Rattle.own_model.specs.Session.ServiceState.{Logging, Filing}
+use Rattle.own_model.specs.Services.ServiceState.{Logging, Filing}
 use Rattle.own_model.specs.Sliced.{sliced_size}
 use Rattle.own_model.specs.Text.{is_name}
 use Rattle.budget_laws.proofs.TestLemmas.{IsAlike, IsLed, lacks, short_alike, least_alike, growth_alike, decided, growth_decided}

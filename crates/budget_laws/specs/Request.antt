@@ -13,7 +13,7 @@ use Rattle.own_model.specs.FileText.FileRequest.{Create, Write}
 use Rattle.own_model.specs.FileText.FileReply.{Refused}
 use Rattle.own_model.specs.FileText.FileError.{OutOfRam, OutOfCaps}
 use Rattle.own_model.specs.Session.{ServiceState, Session}
-use Rattle.own_model.specs.Session.ServiceState.{Logging, Filing}
+use Rattle.own_model.specs.Services.ServiceState.{Logging, Filing}
 use Rattle.own_model.specs.Sliced.{sliced_size}
 use Rattle.own_model.specs.Text.{is_name}
 use Rattle.budget_laws.specs.Need.{limited}

@@ -12,7 +12,7 @@ use Rattle.own_model.specs.OwnState.{OwnState}
 use Rattle.own_model.specs.OwnStep.{unrouted}
 use Rattle.own_model.specs.Reserve.{no_reserve}
 use Rattle.own_model.specs.Session.{Session, session_account}
-use Rattle.own_model.specs.Session.ServiceState.{Filing}
+use Rattle.own_model.specs.Services.ServiceState.{Filing}
 use Rattle.budget_laws.specs.Need.{Cell, budgeted, cell}
 use Rattle.budget_laws.specs.Request.{request_tests}
 use Rattle.budget_laws.specs.Test.{test_of, heap_tests}
