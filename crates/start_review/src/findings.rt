@@ -306,8 +306,9 @@ fn tell_all_strays(
         ≡ found.old.items ++ stray_findings list.now.entries init
         (part_of list.now.entries about) earlier.now rule.now None) }
 {
-    for place in 0..SERVICES.len() {
-        let remark = strays_if_provided(list, init, earlier, rule, SERVICES[place]);
+    let services = SERVICES.as_slice();
+    for place in 0..services.len() {
+        let remark = strays_if_provided(list, init, earlier, rule, services[place]);
         tell(found, alloc, list, about, remark)?;
     }
     Ok(())
