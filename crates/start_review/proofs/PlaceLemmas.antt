@@ -19,7 +19,7 @@ use Rattle.init_core.specs.Members.{whole_at}
 use Rattle.init_core.specs.Misread.{entry_at_fault, place_of_fault, starts_of}
 use Rattle.init_core.specs.StartText.{fault_of, list_of, machine_of, object_in}
 use Rattle.start_review.specs.Places.{FaultsHavePlaces, field_of, spot_at, spot_in, spot_of}
-use Rattle.start_review.specs.Values.{Placed, found_at, found_in, found_within, runs, starts_in, step_down, with_own}
+use Rattle.start_review.specs.Values.{EntryValue, found_at, found_in, found_within, runs, starts_in, step_down, with_own}
 use Rattle.start_review.specs.declared.part.Step.{Step}
 use Rattle.start_review.proofs.FaultLemmas.{Fails, OfEntry, bound, done, head_fault, in_entry, value_fault}
 use Rattle.start_review.proofs.StartsLemmas.{head_starts, own_starts, own_values}
@@ -39,7 +39,7 @@ counts_then : (r : Result SoFar Misread) (f : SoFar → Result SoFar Misread) (b
 counts_then (Ok next) f before n m first more = shift (f next) before (length next.entries) n m first.counted (more next)
 counts_then (Err misread) f before n m first more = record { counted = (omega (arith, first.counted.0), first.counted.1) }
 
-counts_all : (reads : Reads) (place : Place) (g : ℕ × Data → List Placed)
+counts_all : (reads : Reads) (place : Place) (g : ℕ × Data → List EntryValue)
     → ((k : ℕ) (so_far : SoFar) (d : Data) → Counts (length so_far.entries) (length (g (k, d))) (reads place so_far d))
     → (k : ℕ) (so_far : SoFar) (ds : List Data) → Counts (length so_far.entries) (length (flat_map g (enumerate_from k ds))) (all_read reads place so_far ds)
 counts_all reads place g each k so_far [] = record { counted = omega arith }
@@ -56,7 +56,7 @@ none_deeper place so_far (d ∷ ds) = none_deeper place so_far ds
 
 -- those that an entry starts
 own_found : (deeper : ℕ) (steps : List Step) (init : Bool) (config : Option Data) →
-    let own : List Placed = if init then flat_map (with_own deeper steps) (enumerate_from 0 (starts_in config)) else [] in
+    let own : List EntryValue = if init then flat_map (with_own deeper steps) (enumerate_from 0 (starts_in config)) else [] in
     own ≡ flat_map (with_own deeper steps) (enumerate_from 0 (own_values init config))
 own_found deeper steps true config = refl
 own_found deeper steps false config = refl
@@ -105,7 +105,7 @@ something xs i inside = elim (slice_get_cases xs i).1 [
 abbrev HasPlace : Data → Option ℕ → BootFault → Type 0
 HasPlace list number fault = IsSome (option_and_then (λ bad. spot_at list number bad) (field_of fault))
 
-member_there : (number : ℕ) (bad : Field) (found : Option Placed) → IsSome found → in_entry bad ≡ true → IsSome (option_and_then (spot_in number bad) found)
+member_there : (number : ℕ) (bad : Field) (found : Option EntryValue) → IsSome found → in_entry bad ≡ true → IsSome (option_and_then (spot_in number bad) found)
 member_there number bad None some is = cc
 member_there number field.Size (Some found) some is = cc
 member_there number field.Machine (Some found) some is = cc

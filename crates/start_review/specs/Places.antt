@@ -18,7 +18,7 @@ use Rattle.own_model.specs.Listed.{Listed}
 use Rattle.start_review.specs.Left.{first_lack}
 use Rattle.start_review.specs.RuleFaults.{rule_fault}
 use Rattle.start_review.specs.Steps.{rule_at}
-use Rattle.start_review.specs.Values.{Placed, found_in}
+use Rattle.start_review.specs.Values.{EntryValue, found_in}
 use Rattle.start_review.specs.declared.fault.Whereabouts.{Whereabouts}
 use Rattle.start_review.specs.declared.fault.Whereabouts.TheVariants as whereabouts
 use Rattle.start_review.specs.declared.flaw.Flaw.{Flaw}
@@ -86,19 +86,19 @@ inner_rules_spot number steps config =
     (bad_rule (option_and_then (get (codes "default-route")) config))
 
 -- of an entry's own route
-abbrev pub own_rules_spot : ℕ → Placed → Spot
+abbrev pub own_rules_spot : ℕ → EntryValue → Spot
 own_rules_spot number found =
     rules_spot (owner.Entry number) found.steps (parts.Entry number found.steps) (codes "route")
     (bad_rule (get (codes "route") found.value))
 
 -- an entry that is no object is a fault of `start`, and so is a list of what an init starts that is none
-abbrev pub start_spot : ℕ → Placed → Spot
+abbrev pub start_spot : ℕ → EntryValue → Spot
 start_spot number found =
     if is_object found.value then member_in (parts.Config number found.steps) (codes "start")
     else whole (parts.Entry number found.steps)
 
 -- of the entry of a number
-abbrev pub spot_in : ℕ → Field → Placed → Option Spot
+abbrev pub spot_in : ℕ → Field → EntryValue → Option Spot
 spot_in number field.Size found = None
 spot_in number field.Machine found = None
 spot_in number field.Pages found = None

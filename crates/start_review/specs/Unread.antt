@@ -8,7 +8,7 @@ use Rattle.serde_json.specs.Find.{as_object, get}
 use Rattle.start_review.specs.Findings.{told}
 use Rattle.start_review.specs.Near.{nearest}
 use Rattle.start_review.specs.Steps.{rule_at}
-use Rattle.start_review.specs.Values.{Placed, elements_in, found_in, runs}
+use Rattle.start_review.specs.Values.{EntryValue, elements_in, found_in, runs}
 use Rattle.start_review.specs.declared.finding.Finding.{Finding}
 use Rattle.start_review.specs.declared.finding.Remark.{Remark}
 use Rattle.start_review.specs.declared.finding.Remark.TheVariants.{Unread}
@@ -79,7 +79,7 @@ unread_in_config number steps config =
     ++ unread_in_rules (owner.Inner number) steps (option_and_then (get (codes "default-route")) config)
 
 -- of an entry by its number, of its own route, and of what it starts if it is an init
-abbrev pub unread_in_entry : ℕ × Placed → List Finding
+abbrev pub unread_in_entry : ℕ × EntryValue → List Finding
 unread_in_entry entry =
     let is_init = runs (codes "init") entry.1.value in
     unread_in (if is_init then table.Init else table.Entry) (parts.Entry entry.0 entry.1.steps) (Some entry.1.value)

@@ -10,10 +10,10 @@ use Rattle.init_core.specs.Entries.{deepest}
 use Rattle.init_core.specs.Members.{elements, name_at}
 use Rattle.start_review.specs.Hiding.{has}
 use Rattle.start_review.specs.declared.part.Step.{Step}
-use Rattle.start_review.specs.declared.values.Placed.{Placed as PlacedValue}
+use Rattle.start_review.specs.declared.values.EntryValue.{EntryValue as SeenValue}
 
 -- an entry's value, and the steps to it from the machine's list on
-pub record Placed : Type 0 where
+pub record EntryValue : Type 0 where
   pub steps : List Step
   pub value : Data
 
@@ -33,11 +33,11 @@ starts_in list = elements_in (option_and_then (get (codes "start")) list)
 abbrev pub step_down : List Step → ℕ × Data → List Step
 step_down above entry = above ++ record { place = entry.0; name = name_at (codes "name") entry.1 } ∷ []
 
-abbrev pub found_at : List Step → ℕ × Data → Placed
+abbrev pub found_at : List Step → ℕ × Data → EntryValue
 found_at above entry = record { steps = step_down above entry; value = entry.1 }
 
 -- an entry, and those that it starts if it is an init, where inits may nest so deep
-abbrev pub with_own : ℕ → List Step → ℕ × Data → List Placed
+abbrev pub with_own : ℕ → List Step → ℕ × Data → List EntryValue
 with_own zero above entry = found_at above entry ∷ []
 with_own (suc deeper) above entry =
     found_at above entry
@@ -46,14 +46,14 @@ with_own (suc deeper) above entry =
     else [])
 
 -- the entries of a list, each before those that it starts
-abbrev pub found_within : ℕ → List Step → List Data → List Placed
+abbrev pub found_within : ℕ → List Step → List Data → List EntryValue
 found_within deeper above starts = flat_map (with_own deeper above) (enumerate_from 0 starts)
 
 -- of all lists
-abbrev pub found_in : Data → List Placed
+abbrev pub found_in : Data → List EntryValue
 found_in list = found_within deepest [] (starts_in (Some list))
 
 -- ---- what the code's type stands for
 
-abbrev pub seen : PlacedValue → Placed
+abbrev pub seen : SeenValue → EntryValue
 seen found = record { steps = found.steps; value = view found.value.now }

@@ -11,7 +11,7 @@ ghost use Rattle.start_review.specs.Values.{seen};
 
 use crate::bad_rule::{bad_rule, rule_flaw};
 use crate::part::{Owner, Part, Steps, rule_at};
-use crate::values::{Placed, find_entries, member, runs};
+use crate::values::{EntryValue, find_entries, member, runs};
 use init_core::{BootFault, Field, entry_at_fault};
 use serde_json::Value;
 use std::alloc::{AllocError, Global};
@@ -272,7 +272,7 @@ fn flaw_of_entry(
 // The same of an entry that was found.
 fn flaw_in(
     alloc: Global,
-    found: &Placed<'_>,
+    found: &EntryValue<'_>,
     number: usize,
     field: Field,
     taken: bool,

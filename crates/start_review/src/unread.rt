@@ -10,7 +10,7 @@ ghost use Rattle.start_review.specs.Values.{seen};
 use crate::finding::{Finding, Remark};
 use crate::members::Table;
 use crate::part::{Owner, Part, Steps, rule_at};
-use crate::values::{Placed, elements, find_entries, member, runs};
+use crate::values::{EntryValue, elements, find_entries, member, runs};
 use serde_json::{Map, Value};
 use std::alloc::{AllocError, Global};
 
@@ -42,7 +42,7 @@ fn tell_entry(
     found: &mut Vec<Finding>,
     alloc: Global,
     number: usize,
-    entry: &Placed<'_>,
+    entry: &EntryValue<'_>,
 ) -> Result<(), AllocError>
     ensures { OnOk result
         (found.new.items ≡ found.old.items ++ unread_in_entry (number, seen entry.now)) }

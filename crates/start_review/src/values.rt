@@ -17,13 +17,13 @@ const DEEPEST: usize = 3;
 
 /// An entry's value, and the steps to it.
 #[derive(Drop)]
-pub(crate) struct Placed<'v> {
+pub(crate) struct EntryValue<'v> {
     pub steps: Steps,
     pub value: &'v Value,
 }
 
 /// The entries of all lists, an init directly before its own.
-pub(crate) fn find_entries(alloc: Global, list: &Value) -> Result<Vec<Placed<'_>>, AllocError>
+pub(crate) fn find_entries(alloc: Global, list: &Value) -> Result<Vec<EntryValue<'_>>, AllocError>
     ensures { IfOk result (λ found. map seen found.items ≡ found_in (view list.now)) }
 {
     let mut found = Vec::new(alloc);
@@ -33,7 +33,7 @@ pub(crate) fn find_entries(alloc: Global, list: &Value) -> Result<Vec<Placed<'_>
 
 // Those of a list in which inits may nest so deep, and to which the steps above lead.
 fn find_within<'v>(
-    found: &mut Vec<Placed<'v>>,
+    found: &mut Vec<EntryValue<'v>>,
     alloc: Global,
     deeper: usize,
     above: &Steps,
@@ -54,7 +54,7 @@ fn find_within<'v>(
 
 // One of them, and the steps to it.
 fn find<'v>(
-    found: &mut Vec<Placed<'v>>,
+    found: &mut Vec<EntryValue<'v>>,
     alloc: Global,
     above: &Steps,
     place: usize,
@@ -69,7 +69,7 @@ fn find<'v>(
         place,
         name: name_of(entry),
     })?;
-    found.push(Placed {
+    found.push(EntryValue {
         steps: steps.copy(alloc)?,
         value: entry,
     })?;
