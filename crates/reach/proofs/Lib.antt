@@ -1,0 +1,5 @@
+pub mod ClosureLemmas
+pub mod HopLemmas
+pub mod KeyLemmas
+pub mod TableLemmas
+pub mod WaysLemmas

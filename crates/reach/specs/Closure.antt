@@ -1,0 +1,55 @@
+-- Labels that stand for all others: of each kind of label, by its key, one that is no longer.
+use Rattle.std.specs.Prelude.{◌≡◌, ℕ, ◌<◌, ◌≤◌, true, List, [], ◌∷◌, ◌++◌, length, slice_index_or, Option, All, Any}
+use Rattle.own_model.specs.Listed.{Listed}
+use Rattle.own_model.specs.SessionArgs.{is_quotable}
+use Rattle.reach.specs.Reach.{IsGiven, leads_to}
+use Rattle.reach.specs.Keys.{key_of}
+
+-- a label that is kept, with its key and where it leads
+pub record KeptLabel : Type 0 where
+  pub label : List ℕ
+  pub key : List ℕ
+  pub child : Option ℕ
+
+-- a label is given and has at most so many bytes, and what is kept with it is its own
+pub record IsKept (list : Listed) (client : ℕ) (service : List ℕ) (most : ℕ) (kept : KeptLabel) : Type 0 where
+  pub given : IsGiven kept.label
+  pub short : length kept.label ≤ most
+  pub keyed : kept.key ≡ key_of list client service kept.label
+  pub leads : kept.child ≡ leads_to list client service kept.label
+
+-- a kept label is no longer than another one, and with anything behind them both lead alike
+pub record StandsFor (list : Listed) (client : ℕ) (service label : List ℕ) (kept : KeptLabel) : Type 0 where
+  pub short : length kept.label ≤ length label
+  pub alike : (rest : List ℕ) → leads_to list client service (kept.label ++ rest) ≡ leads_to list client service (label ++ rest)
+
+-- the labels that are kept stand for all given ones of at most so many bytes
+pub record AreKept (list : Listed) (client : ℕ) (service : List ℕ) (most : ℕ) (kept : List KeptLabel) : Type 0 where
+  pub sound : All (IsKept list client service most) kept
+  pub covers : (label : List ℕ) → IsGiven label → length label ≤ most → Any (StandsFor list client service label) kept
+
+-- some are kept behind those that were kept
+pub record IsGrown (old new : List KeptLabel) : Type 0 where
+  pub longer : length old ≤ length new
+  pub stays : (k : ℕ) (d : KeptLabel) → k < length old → slice_index_or new k d ≡ slice_index_or old k d
+
+-- a kept label has the key of a label
+abbrev pub HasKey : Listed → ℕ → List ℕ → List ℕ → KeptLabel → Type 0
+HasKey list client service label kept = kept.key ≡ key_of list client service label
+
+-- each label that is one byte longer has the key of a kept one, where the byte is within a range
+abbrev pub IsLengthened : Listed → ℕ → List ℕ → List ℕ → ℕ → ℕ → List KeptLabel → Type 0
+IsLengthened list client service label from until kept =
+    (byte : ℕ) → from ≤ byte → byte < until → is_quotable byte ≡ true → Any (HasKey list client service (label ++ byte ∷ [])) kept
+
+-- what is kept of a label, and of those before
+pub record Keeps (list : Listed) (client : ℕ) (service label : List ℕ) (old new : List KeptLabel) : Type 0 where
+  pub grown : IsGrown old new
+  pub sound : All (IsKept list client service (length label)) new
+  pub there : Any (HasKey list client service label) new
+
+-- each label that is one byte longer than the label at a place, where that has so many bytes
+abbrev pub IsLengthenedAt : Listed → ℕ → List ℕ → ℕ → List KeptLabel → ℕ → List KeptLabel → Type 0
+IsLengthenedAt list client service most old place new =
+    (d : KeptLabel) → length (slice_index_or old place d).label ≡ most
+    → IsLengthened list client service (slice_index_or old place d).label 32 127 new

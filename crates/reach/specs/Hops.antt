@@ -1,0 +1,36 @@
+-- Which rules decide where a wish goes, list by list outward.
+use Rattle.std.specs.Prelude.{ℕ, zero, suc, Bool, true, false, List, [], ◌∷◌, if◌then◌else◌, position, Option, Some, None}
+use Rattle.std.specs.List.{slice_get}
+use Rattle.std.specs.Option.{option_map, unwrap_or}
+use Rattle.own_model.specs.Routes.{label_with}
+use Rattle.own_model.specs.Listed.{Listed, ListedEntry, ListedRule, Target, asks_for, init_entry, most_lists, rules_for}
+use Rattle.own_model.specs.Listed.Target.{Child, AnyChild, Parent}
+
+-- the label as a list's rules see it, and the place of the first of them that matches, if one does
+pub record HopAt : Type 0 where
+  pub seen : List ℕ
+  pub rule : Option ℕ
+
+abbrev pub is_parent : Target → Bool
+is_parent (Child name) = false
+is_parent AnyChild = false
+is_parent Parent = true
+
+-- the rule at a place leads outward
+abbrev pub leads_out : List ListedRule → Option ℕ → Bool
+leads_out rules None = false
+leads_out rules (Some place) = unwrap_or (option_map (λ rule. is_parent rule.target) (slice_get rules place)) false
+
+-- by the rules for an entry and, where these lead outward, by those for its init, through so many lists at most
+abbrev pub hops_within : ℕ → Listed → ListedEntry → List ℕ → List ℕ → List HopAt
+hops_within zero list entry service seen = []
+hops_within (suc lists) list entry service seen =
+    record { seen = seen; rule = position (λ rule. asks_for rule service seen) (rules_for list entry) }
+    ∷ (if leads_out (rules_for list entry) (position (λ rule. asks_for rule service seen) (rules_for list entry))
+    then unwrap_or (option_map (λ init. hops_within lists list init service (label_with entry.name seen)) (init_entry list entry.home)) []
+    else [])
+
+-- those of a client's wish
+unfoldable pub hops_of : Listed → ℕ → List ℕ → List ℕ → List HopAt
+hops_of list client service label =
+    unwrap_or (option_map (λ entry. hops_within most_lists list entry service label) (slice_get list.entries client)) []

@@ -1,0 +1,6 @@
+pub mod Reach
+pub mod Keys
+pub mod Closure
+pub mod Ways
+pub mod Hops
+pub mod Table

@@ -1,0 +1,217 @@
+//! Labels that stand for all others: of the labels of one key the first that is found, from the shortest on.
+ghost use Rattle.std.specs.Prelude.{◌≡◌, ◌≤◌, ◌<◌, ◌+◌, ◌++◌, ◌∷◌, [], true, length, All, Any, IfOk, OnOk};
+ghost use Rattle.std.specs.List.{list_any};
+ghost use Rattle.std.specs.Str.{bytes_eq};
+ghost use Rattle.own_model.specs.SessionArgs.{is_quotable};
+ghost use Rattle.reach.specs.Reach.{IsGiven};
+ghost use Rattle.reach.specs.Closure.{AreKept, HasKey, IsGrown, IsKept, IsLengthened, IsLengthenedAt, Keeps};
+
+use crate::key::key_of;
+use crate::label::{LONGEST_GIVEN, Label};
+use crate::wishes::Wishes;
+use init_core::route;
+use std::alloc::{AllocError, Global};
+use std::marker::Model;
+use text_codec::is_quotable;
+
+/// A label with its key, and the component to which it leads.
+#[derive(Drop)]
+pub(crate) struct Kept {
+    pub(crate) label: Label,
+    key: Vec<usize>,
+    pub(crate) child: Option<usize>,
+}
+
+impl Model for Kept {
+    ghost use Rattle.reach.specs.Closure.{KeptLabel};
+
+    ghost Value = { KeptLabel };
+
+    ghost view = { λ kept. record {
+      label = kept.label;
+      key = kept.key.items;
+      child = kept.child;
+    } };
+}
+
+/// Labels that stand for all that can be given.
+pub(crate) fn labels(alloc: Global, wishes: Wishes<'_>) -> Result<Vec<Kept>, AllocError>
+    requires client { wishes.client < length wishes.list.now.entries }
+    ensures { IfOk result (λ kept.
+        AreKept wishes.entry.list.now wishes.entry.client wishes.entry.service.now 64 kept.items) }
+{
+    let mut kept = first(alloc, wishes)?;
+    for size in 0..LONGEST_GIVEN {
+        lengthen(alloc, &mut kept, wishes, size)?;
+    }
+    Ok(kept)
+}
+
+// The empty label alone.
+#[tactic(auto, using(crate::proofs::ClosureLemmas::given_empty, crate::proofs::ClosureLemmas::kept_none, crate::proofs::ClosureLemmas::first_of))]
+fn first(alloc: Global, wishes: Wishes<'_>) -> Result<Vec<Kept>, AllocError>
+    requires client { wishes.client < length wishes.list.now.entries }
+    ensures { IfOk result (λ kept.
+        AreKept wishes.entry.list.now wishes.entry.client wishes.entry.service.now 0 kept.items) }
+{
+    let mut kept = Vec::new(alloc);
+    keep(alloc, &mut kept, wishes, Label::empty())?;
+    Ok(kept)
+}
+
+// Keeps labels that stand for those of one byte more.
+#[tactic(auto, using(crate::proofs::ClosureLemmas::all_wider, crate::proofs::ClosureLemmas::grown_same, crate::proofs::ClosureLemmas::places_more, crate::proofs::ClosureLemmas::longer_kept))]
+fn lengthen(
+    alloc: Global,
+    kept: &mut Vec<Kept>,
+    wishes: Wishes<'_>,
+    size: usize,
+) -> Result<(), AllocError>
+    requires client { wishes.client < length wishes.list.now.entries }
+    requires short { size < 64 }
+    requires kept { AreKept wishes.list.now wishes.client wishes.service.now size kept.old.items }
+    ensures { OnOk result
+        (AreKept wishes.entry.list.now wishes.entry.client wishes.entry.service.now (size + 1) kept.new.items) }
+{
+    for place in 0..kept.len() {
+        lengthen_at(alloc, kept, wishes, size, place)?;
+    }
+    Ok(())
+}
+
+// Keeps labels that stand for those which a byte makes of the label at a place, where that has so many bytes.
+#[tactic(auto, using(crate::proofs::ClosureLemmas::given_at, crate::proofs::ClosureLemmas::done_at, crate::proofs::ClosureLemmas::passed_at, crate::proofs::ClosureLemmas::grown_same))]
+fn lengthen_at(
+    alloc: Global,
+    kept: &mut Vec<Kept>,
+    wishes: Wishes<'_>,
+    size: usize,
+    place: usize,
+) -> Result<(), AllocError>
+    requires client { wishes.client < length wishes.list.now.entries }
+    requires short { size < 64 }
+    requires within { place < length kept.old.items }
+    requires sound { All (IsKept wishes.list.now wishes.client wishes.service.now (size + 1))
+        kept.old.items }
+    ensures sound { OnOk result (All
+        (IsKept wishes.entry.list.now wishes.entry.client wishes.entry.service.now (size + 1)) kept.new.items) }
+    ensures grown { OnOk result (IsGrown kept.old.items kept.new.items) }
+    ensures longer { OnOk result (IsLengthenedAt wishes.entry.list.now wishes.entry.client wishes.entry.service.now
+        size kept.old.items place kept.new.items) }
+{
+    let one = &kept[place];
+    let label = one.label.copy();
+    if label.as_bytes().len() == size {
+        lengthen_one(alloc, kept, wishes, &label)?;
+    }
+    Ok(())
+}
+
+// Keeps labels that stand for those which a byte makes of one label: with a small letter first, and a space last.
+#[tactic(auto, using(crate::proofs::ClosureLemmas::three_ranges, crate::proofs::ClosureLemmas::grown_then))]
+fn lengthen_one(
+    alloc: Global,
+    kept: &mut Vec<Kept>,
+    wishes: Wishes<'_>,
+    label: &Label,
+) -> Result<(), AllocError>
+    requires client { wishes.client < length wishes.list.now.entries }
+    requires given { IsGiven label.now }
+    requires short { length label.now < 64 }
+    requires sound { All (IsKept wishes.list.now wishes.client wishes.service.now
+        (length label.now + 1)) kept.old.items }
+    ensures sound { OnOk result (All (IsKept wishes.entry.list.now wishes.entry.client wishes.entry.service.now
+        (length label.now + 1)) kept.new.items) }
+    ensures grown { OnOk result (IsGrown kept.old.items kept.new.items) }
+    ensures longer { OnOk result (IsLengthened wishes.entry.list.now wishes.entry.client wishes.entry.service.now
+        label.now 32 127 kept.new.items) }
+{
+    keep_range(alloc, kept, wishes, label, b'a', 127)?;
+    keep_range(alloc, kept, wishes, label, b'!', b'a')?;
+    keep_range(alloc, kept, wishes, label, b' ', b'!')
+}
+
+// The same for the bytes of a range.
+#[tactic(auto, using(crate::proofs::ClosureLemmas::lengthened_more, crate::proofs::ClosureLemmas::grown_same, crate::proofs::ClosureLemmas::grown_then))]
+fn keep_range(
+    alloc: Global,
+    kept: &mut Vec<Kept>,
+    wishes: Wishes<'_>,
+    label: &Label,
+    from: u8,
+    until: u8,
+) -> Result<(), AllocError>
+    requires client { wishes.client < length wishes.list.now.entries }
+    requires given { IsGiven label.now }
+    requires short { length label.now < 64 }
+    requires sound { All (IsKept wishes.list.now wishes.client wishes.service.now
+        (length label.now + 1)) kept.old.items }
+    ensures sound { OnOk result (All (IsKept wishes.entry.list.now wishes.entry.client wishes.entry.service.now
+        (length label.now + 1)) kept.new.items) }
+    ensures grown { OnOk result (IsGrown kept.old.items kept.new.items) }
+    ensures longer { OnOk result (IsLengthened wishes.entry.list.now wishes.entry.client wishes.entry.service.now
+        label.now from until kept.new.items) }
+{
+    for byte in from..until {
+        keep_with(alloc, kept, wishes, label, byte)?;
+    }
+    Ok(())
+}
+
+// Keeps one that stands for a label with a byte behind it, if it can be given.
+#[tactic(auto, using(crate::proofs::ClosureLemmas::given_more, crate::proofs::ClosureLemmas::grown_same))]
+fn keep_with(
+    alloc: Global,
+    kept: &mut Vec<Kept>,
+    wishes: Wishes<'_>,
+    label: &Label,
+    byte: u8,
+) -> Result<(), AllocError>
+    requires client { wishes.client < length wishes.list.now.entries }
+    requires given { IsGiven label.now }
+    requires short { length label.now < 64 }
+    requires sound { All (IsKept wishes.list.now wishes.client wishes.service.now
+        (length label.now + 1)) kept.old.items }
+    ensures sound { OnOk result (All (IsKept wishes.entry.list.now wishes.entry.client wishes.entry.service.now
+        (length label.now + 1)) kept.new.items) }
+    ensures grown { OnOk result (IsGrown kept.old.items kept.new.items) }
+    ensures here { OnOk result (is_quotable byte ≡ true → Any (HasKey wishes.entry.list.now wishes.entry.client
+        wishes.entry.service.now (label.now ++ byte ∷ [])) kept.new.items) }
+{
+    if is_quotable(byte) {
+        keep(alloc, kept, wishes, label.with(byte))
+    } else {
+        Ok(())
+    }
+}
+
+// Keeps a label, unless one of its key is there.
+#[tactic(auto, using(crate::proofs::ClosureLemmas::keeps_known, crate::proofs::ClosureLemmas::keeps_new), unfolding(crate::specs::Reach::leads_to))]
+fn keep(
+    alloc: Global,
+    kept: &mut Vec<Kept>,
+    wishes: Wishes<'_>,
+    label: Label,
+) -> Result<(), AllocError>
+    requires client { wishes.client < length wishes.list.now.entries }
+    requires given { IsGiven label }
+    requires sound { All (IsKept wishes.list.now wishes.client wishes.service.now (length label))
+        kept.old.items }
+    ensures { OnOk result (Keeps wishes.entry.list.now wishes.entry.client wishes.entry.service.now label
+        kept.old.items kept.new.items) }
+{
+    let key = key_of(alloc, wishes, &label)?;
+    if is_known(kept, key.as_slice()) {
+        return Ok(());
+    }
+    let child = route(wishes.list, wishes.client, wishes.service, label.as_bytes());
+    kept.push(Kept { label, key, child })?;
+    Ok(())
+}
+
+// Whether a label of a key is there.
+fn is_known(kept: &[Kept], key: &[usize]) -> bool
+    ensures { result ≡ list_any (λ one. bytes_eq one.key key.now) kept.now }
+{
+    kept.iter().any(|one| one.key.as_slice() == key)
+}

@@ -1,0 +1,308 @@
+//! Where one wish leads, and by which rules, list by list outward.
+ghost use Rattle.std.specs.Prelude.{◌≡◌, ◌+◌, ◌*◌, ◌<◌, ◌≤◌, ◌++◌, length, position, IfOk, OnOk};
+ghost use Rattle.init_core.specs.View.{model_target};
+ghost use Rattle.own_model.specs.Listed.{asks_for};
+ghost use Rattle.reach.specs.Hops.{hops_of, hops_within, is_parent, leads_out};
+ghost use Rattle.reach.specs.Reach.{leads_to};
+
+use crate::key::{MOST_LISTS, init_entry, rules_of};
+use crate::label::{LONGEST_GIVEN, LONGEST_SEEN, label_with};
+use crate::wishes::Wishes;
+use arrayvec::ArrayVec;
+use init_core::{Binary, Entry, Rule, StartList, Target, route};
+use session_proto::SessionArgs;
+use std::alloc::{AllocError, Global};
+use std::fmt;
+use std::marker::Model;
+
+/// What the rules of a list decide of a wish.
+#[derive(Drop)]
+pub struct Hop {
+    seen: ArrayVec<u8, LONGEST_SEEN>,
+    rule: Option<usize>,
+}
+
+impl Model for Hop {
+    ghost use Rattle.reach.specs.Hops.{HopAt};
+
+    ghost Value = { HopAt };
+
+    ghost view = { λ hop. record {
+      seen = hop.seen.items;
+      rule = hop.rule;
+    } };
+}
+
+/// Where a wish leads, and by which rules.
+#[derive(Drop)]
+pub struct Course<'a> {
+    wishes: Wishes<'a>,
+    hops: Vec<Hop>,
+    child: Option<usize>,
+}
+
+impl<'a> Course<'a> {
+    /// That of a client's wish with a label. An error is want of memory.
+    #[tactic(auto, unfolding(crate::specs::Reach::leads_to))]
+    pub fn of(alloc: Global, wishes: Wishes<'a>, label: &[u8]) -> Result<Course<'a>, AllocError>
+        requires client { wishes.client < length wishes.list.now.entries }
+        requires label { length label.now ≤ 64 }
+        ensures child { IfOk result (λ course. course.child
+            ≡ leads_to wishes.entry.list.now wishes.entry.client wishes.entry.service.now label.now) }
+        ensures hops { IfOk result (λ course. course.hops.items
+            ≡ hops_of wishes.entry.list.now wishes.entry.client wishes.entry.service.now label.now) }
+    {
+        Ok(Course {
+            wishes,
+            hops: hops(alloc, wishes, label)?,
+            child: route(wishes.list, wishes.client, wishes.service, label),
+        })
+    }
+
+    /// That of the wish of a script, by its path, for a service with these arguments; without any the label is empty.
+    pub fn read(
+        alloc: Global,
+        list: &'a StartList,
+        client: &[u8],
+        service: &'a [u8],
+        args: &[u8],
+    ) -> Result<Course<'a>, NoCourse> {
+        let Some(client) = list.find(client) else {
+            return Err(NoCourse::Nobody);
+        };
+        if list.entries()[client].binary() != Binary::Script {
+            return Err(NoCourse::Nobody);
+        }
+        let label = label_in(args)?;
+        let wishes = Wishes {
+            list,
+            client,
+            service,
+        };
+        match Course::of(alloc, wishes, label) {
+            Ok(course) => Ok(course),
+            Err(_) => Err(NoCourse::NoMemory),
+        }
+    }
+
+    /// The number of the component to which it leads, if it leads to one.
+    pub fn child(&self) -> Option<usize>
+        ensures { result ≡ self.now.child }
+    {
+        self.child
+    }
+}
+
+/// Why no course is told.
+#[derive(Clone, Copy, Debug, PartialEq, Eq)]
+pub enum NoCourse {
+    /// No script is called so.
+    Nobody,
+    /// The arguments aren't in the grammar.
+    BadArgs,
+    /// The host has no room.
+    NoMemory,
+}
+
+impl fmt::Display for NoCourse {
+    fn fmt<W: fmt::Write>(&self, f: &mut fmt::Formatter<W>) -> fmt::Result {
+        f.write_str(match self {
+            NoCourse::Nobody => "no script is called so",
+            NoCourse::BadArgs => "Bad_args",
+            NoCourse::NoMemory => "no memory",
+        })
+    }
+}
+
+// The label of a session's arguments; of no arguments the empty one.
+fn label_in(args: &[u8]) -> Result<&[u8], NoCourse>
+    ensures { IfOk result (λ label. length label.now ≤ 64) }
+{
+    if args.is_empty() {
+        return Ok(args);
+    }
+    match SessionArgs::read(args) {
+        Ok(found) if found.label().len() <= LONGEST_GIVEN => Ok(found.label()),
+        _ => Err(NoCourse::BadArgs),
+    }
+}
+
+// What each list decides.
+#[tactic(auto, unfolding(crate::specs::Hops::hops_of))]
+fn hops(alloc: Global, wishes: Wishes<'_>, label: &[u8]) -> Result<Vec<Hop>, AllocError>
+    requires label { length label.now ≤ 64 }
+    ensures { IfOk result (λ hops. hops.items
+        ≡ hops_of wishes.entry.list.now wishes.entry.client wishes.entry.service.now label.now) }
+{
+    let mut hops = Vec::new(alloc);
+    if let Some(entry) = wishes.list.entries().get(wishes.client) {
+        add_hops(
+            &mut hops,
+            wishes.list,
+            MOST_LISTS,
+            entry,
+            wishes.service,
+            label,
+        )?;
+    }
+    Ok(hops)
+}
+
+// What the rules for an entry decide and, where they lead outward, those for the inits around it.
+fn add_hops(
+    hops: &mut Vec<Hop>,
+    list: &StartList,
+    lists: usize,
+    entry: &Entry,
+    service: &[u8],
+    seen: &[u8],
+) -> Result<(), AllocError>
+    requires seen { length seen.now + lists * 36 ≤ 208 }
+    ensures { OnOk result (hops.new.items
+        ≡ hops.old.items ++ hops_within lists list.now entry.now service.now seen.now) }
+{
+    if lists == 0 {
+        return Ok(());
+    }
+    let rules = rules_of(list, entry);
+    let rule = first_match(rules, service, seen);
+    hops.push(Hop {
+        seen: copied(seen),
+        rule,
+    })?;
+    if !leads_out(rules, rule) {
+        return Ok(());
+    }
+    match init_entry(list, entry.home()) {
+        Some(init) => {
+            let outer = label_with(entry.name(), seen);
+            add_hops(hops, list, lists - 1, init, service, outer.as_slice())
+        }
+        None => Ok(()),
+    }
+}
+
+// The place of the first rule that matches.
+fn first_match(rules: &[Rule], service: &[u8], seen: &[u8]) -> Option<usize>
+    ensures { result ≡ position (λ rule. asks_for rule service.now seen.now) rules.now }
+{
+    rules.iter().position(|rule| rule.matches(service, seen))
+}
+
+// Whether the rule at a place leads outward.
+fn leads_out(rules: &[Rule], place: Option<usize>) -> bool
+    ensures { result ≡ leads_out rules.now place }
+{
+    let Some(place) = place else {
+        return false;
+    };
+    match rules.get(place) {
+        Some(rule) => is_parent(rule.target()),
+        None => false,
+    }
+}
+
+// Whether a target leads out of its init.
+fn is_parent(target: &Target) -> bool
+    ensures { result ≡ is_parent (model_target target.now) }
+{
+    match target {
+        Target::Child(_) | Target::AnyChild => false,
+        Target::Parent => true,
+    }
+}
+
+// The bytes of a label once more.
+fn copied(seen: &[u8]) -> ArrayVec<u8, LONGEST_SEEN>
+    requires { length seen.now ≤ 208 }
+    ensures { result.items ≡ seen.now }
+{
+    let mut text = ArrayVec::<u8, LONGEST_SEEN>::new();
+    let _ = text.try_extend_from_slice(seen);
+    text
+}
+
+/// A line a list, and then where it leads, or by which rule it is denied.
+impl fmt::Display for Course<'_> {
+    fn fmt<W: fmt::Write>(&self, f: &mut fmt::Formatter<W>) -> fmt::Result {
+        let list = self.wishes.list;
+        let mut asks = list.entries().get(self.wishes.client);
+        for hop in self.hops.as_slice() {
+            if let Some(entry) = asks {
+                show_hop(f, list, entry, hop)?;
+                asks = init_entry(list, entry.home());
+            }
+        }
+        self.show_end(f)
+    }
+}
+
+impl Course<'_> {
+    // Where it leads, or by which rule it is denied.
+    fn show_end<W: fmt::Write>(&self, f: &mut fmt::Formatter<W>) -> fmt::Result {
+        let list = self.wishes.list;
+        if let Some(child) = self.child {
+            return match list.entries().get(child) {
+                Some(server) => writeln!(f, "leads to {}", server.to_path()),
+                None => Ok(()),
+            };
+        }
+        f.write_str("denied by ")?;
+        let mut asks = list.entries().get(self.wishes.client);
+        for (lists, hop) in self.hops.as_slice().iter().enumerate() {
+            if let Some(entry) = asks {
+                if lists + 1 == self.hops.as_slice().len() {
+                    show_rule(f, entry, hop)?;
+                }
+                asks = init_entry(list, entry.home());
+            }
+        }
+        f.write_str("\n")
+    }
+}
+
+// What a list decides, by the label as it sees it.
+fn show_hop<W: fmt::Write>(
+    f: &mut fmt::Formatter<W>,
+    list: &StartList,
+    entry: &Entry,
+    hop: &Hop,
+) -> fmt::Result {
+    show_rule(f, entry, hop)?;
+    f.write_str(", where the label is \"")?;
+    for byte in hop.seen.as_slice() {
+        write!(f, "{}", char::from(*byte))?;
+    }
+    f.write_str("\"")?;
+    if let Some(place) = hop.rule {
+        if let Some(rule) = rules_of(list, entry).get(place) {
+            show_target(f, rule.target())?;
+        }
+    }
+    f.write_str("\n")
+}
+
+// A rule for an entry by its place, or that there is none.
+fn show_rule<W: fmt::Write>(f: &mut fmt::Formatter<W>, entry: &Entry, hop: &Hop) -> fmt::Result {
+    match hop.rule {
+        Some(place) => write!(f, "{}[{place}] for {}", route_name(entry), entry.to_path()),
+        None => write!(f, "no rule for {}", entry.to_path()),
+    }
+}
+
+// The member that holds the rules for an entry.
+fn route_name(entry: &Entry) -> &'static str {
+    match entry.route() {
+        Some(_) => "route",
+        None => "default-route",
+    }
+}
+
+// Where a rule leads.
+fn show_target<W: fmt::Write>(f: &mut fmt::Formatter<W>, target: &Target) -> fmt::Result {
+    match target {
+        Target::Child(name) => write!(f, ": child {name}"),
+        Target::AnyChild => f.write_str(": any-child"),
+        Target::Parent => f.write_str(": parent"),
+    }
+}

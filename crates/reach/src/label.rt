@@ -1,0 +1,91 @@
+//! Labels that a client gives, and what the lists around it see of them.
+ghost use Rattle.std.specs.Prelude.{◌≡◌, ◌+◌, ◌≤◌, length};
+ghost use Rattle.own_model.specs.Routes.{label_with};
+
+use arrayvec::ArrayVec;
+use std::fmt;
+use std::marker::Model;
+
+/// The most bytes of a label that a client gives.
+pub(crate) const LONGEST_GIVEN: usize = 64;
+
+/// The most bytes of a label with the names of all inits above a client before it.
+pub(crate) const LONGEST_SEEN: usize = 208;
+
+/// A label: at most 64 bytes.
+#[derive(Debug, Drop)]
+pub struct Label {
+    text: ArrayVec<u8, LONGEST_GIVEN>,
+}
+
+impl Model for Label {
+    ghost use Rattle.std.specs.Prelude.{List, ℕ};
+
+    ghost Value = { List ℕ };
+
+    ghost view = { λ label. label.text.items };
+}
+
+impl Label {
+    ghost use Rattle.std.specs.Prelude.{[], ◌∷◌, ◌++◌, ◌<◌};
+
+    /// The empty label.
+    pub(crate) fn empty() -> Label
+        ensures { result ≡ [] }
+    {
+        Label {
+            text: ArrayVec::new(),
+        }
+    }
+
+    /// The same label once more.
+    pub(crate) fn copy(&self) -> Label
+        ensures { result ≡ self.now }
+    {
+        let mut text = ArrayVec::new();
+        let _ = text.try_extend_from_slice(self.text.as_slice());
+        Label { text }
+    }
+
+    /// The label with a byte behind it.
+    pub(crate) fn with(&self, byte: u8) -> Label
+        requires { length self.now < 64 }
+        ensures { result ≡ self.now ++ byte ∷ [] }
+    {
+        let mut label = self.copy();
+        label.text.push(byte);
+        label
+    }
+
+    /// Its bytes.
+    pub fn as_bytes(&self) -> &[u8]
+        ensures bytes { result.now ≡ self.now }
+        ensures short { length result.now ≤ 64 }
+    {
+        self.text.as_slice()
+    }
+}
+
+/// Each byte is a sign that can be printed.
+impl fmt::Display for Label {
+    fn fmt<W: fmt::Write>(&self, f: &mut fmt::Formatter<W>) -> fmt::Result {
+        for byte in self.as_bytes() {
+            write!(f, "{}", char::from(*byte))?;
+        }
+        Ok(())
+    }
+}
+
+/// A name, and a label behind it, if there is one.
+pub(crate) fn label_with(name: &[u8], given: &[u8]) -> ArrayVec<u8, LONGEST_SEEN>
+    requires { length name.now + 4 + length given.now ≤ 208 }
+    ensures { result.items ≡ label_with name.now given.now }
+{
+    let mut label = ArrayVec::<u8, LONGEST_SEEN>::new();
+    let _ = label.try_extend_from_slice(name);
+    if !given.is_empty() {
+        let _ = label.try_extend_from_slice(b" -> ");
+        let _ = label.try_extend_from_slice(given);
+    }
+    label
+}
