@@ -1,7 +1,11 @@
 //! What is told of a start list: its faults and findings, and where its wishes lead.
-use crate::ends::{REFUSED, status_of};
+use crate::ends::{REFUSED, UNWRITTEN, status_of};
 use crate::files::read_list;
+use reach::{Course, NoCourse, Table};
 use start_review::{Fault, Review, Whereabouts};
+
+/// The exit status of a wish that leads nowhere.
+const DENIED: u8 = 3;
 
 /// Tells what is wrong with a start list, a line each on standard error, and `ok` where nothing is that counts: findings
 /// count where the check is strict. Answers the exit status.
@@ -29,6 +33,52 @@ pub(crate) fn tree(rt: &HostRuntime, path: &str, dot: bool) -> u8 {
         print!(rt; "{}", review.tree())
     };
     status_of(rt, shown)
+}
+
+/// Shows which scripts of a start list reach which servers, as a table or as comma-separated values, and answers the exit status.
+pub(crate) fn reach(rt: &HostRuntime, path: &str, csv: bool) -> u8 {
+    let Some(review) = review(rt, path) else {
+        return REFUSED;
+    };
+    let Ok(table) = Table::of(rt.alloc(), review.list()) else {
+        let _ = eprintln!(rt; "{path}: {}", NoCourse::NoMemory);
+        return UNWRITTEN;
+    };
+    let shown = if csv {
+        print!(rt; "{}", table.into_csv())
+    } else {
+        print!(rt; "{table}")
+    };
+    status_of(rt, shown)
+}
+
+/// Shows where a wish of a script for a session leads, and answers the exit status: where it leads nowhere that of what isn't
+/// as expected.
+pub(crate) fn route(rt: &HostRuntime, path: &str, client: &str, service: &str, args: &str) -> u8 {
+    let Some(review) = review(rt, path) else {
+        return REFUSED;
+    };
+    let client_path = client.as_bytes();
+    match Course::read(
+        rt.alloc(),
+        review.list(),
+        client_path,
+        service.as_bytes(),
+        args.as_bytes(),
+    ) {
+        Ok(course) => {
+            let status = status_of(rt, print!(rt; "{course}"));
+            if status == 0 && course.child().is_none() {
+                DENIED
+            } else {
+                status
+            }
+        }
+        Err(fault) => {
+            let _ = eprintln!(rt; "{client}: {fault}");
+            REFUSED
+        }
+    }
 }
 
 // The start list of a path, or none where that is told on standard error.

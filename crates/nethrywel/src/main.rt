@@ -8,7 +8,7 @@ mod plays;
 
 use clap::Error;
 use ends::status_of;
-use lists::{check, tree};
+use lists::{check, reach, route, tree};
 use plays::{Viewing, play};
 use std::process::ExitCode;
 use workbench_options::{Command, needs_command, words_given};
@@ -42,6 +42,13 @@ fn answer(rt: &HostRuntime, command: Command<'_>) -> u8 {
     match command {
         Command::Check { strict, list } => check(rt, list, strict),
         Command::Tree { dot, list } => tree(rt, list, dot),
+        Command::Reach { csv, list } => reach(rt, list, csv),
+        Command::Route {
+            list,
+            client,
+            service,
+            args,
+        } => route(rt, list, client, service, args),
         Command::Run {
             machine,
             only,

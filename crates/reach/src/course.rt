@@ -7,7 +7,6 @@ ghost use Rattle.reach.specs.Reach.{leads_to};
 
 use crate::key::{MOST_LISTS, init_entry, rules_of};
 use crate::label::{LONGEST_GIVEN, LONGEST_SEEN, label_with};
-use crate::wishes::Wishes;
 use arrayvec::ArrayVec;
 use init_core::{Binary, Entry, Rule, StartList, Target, route};
 use session_proto::SessionArgs;
@@ -36,26 +35,34 @@ impl Model for Hop {
 /// Where a wish leads, and by which rules.
 #[derive(Drop)]
 pub struct Course<'a> {
-    wishes: Wishes<'a>,
+    list: &'a StartList,
+    client: usize,
     hops: Vec<Hop>,
     child: Option<usize>,
 }
 
 impl<'a> Course<'a> {
-    /// That of a client's wish with a label. An error is want of memory.
+    /// That of a client's wish for a service with a label. An error is want of memory.
     #[tactic(auto, unfolding(crate::specs::Reach::leads_to))]
-    pub fn of(alloc: Global, wishes: Wishes<'a>, label: &[u8]) -> Result<Course<'a>, AllocError>
-        requires client { wishes.client < length wishes.list.now.entries }
+    pub fn of(
+        alloc: Global,
+        list: &'a StartList,
+        client: usize,
+        service: &[u8],
+        label: &[u8],
+    ) -> Result<Course<'a>, AllocError>
+        requires client { client < length list.now.entries }
         requires label { length label.now ≤ 64 }
         ensures child { IfOk result (λ course. course.child
-            ≡ leads_to wishes.entry.list.now wishes.entry.client wishes.entry.service.now label.now) }
+            ≡ leads_to list.now client service.now label.now) }
         ensures hops { IfOk result (λ course. course.hops.items
-            ≡ hops_of wishes.entry.list.now wishes.entry.client wishes.entry.service.now label.now) }
+            ≡ hops_of list.now client service.now label.now) }
     {
         Ok(Course {
-            wishes,
-            hops: hops(alloc, wishes, label)?,
-            child: route(wishes.list, wishes.client, wishes.service, label),
+            list,
+            client,
+            hops: hops(alloc, list, client, service, label)?,
+            child: route(list, client, service, label),
         })
     }
 
@@ -64,7 +71,7 @@ impl<'a> Course<'a> {
         alloc: Global,
         list: &'a StartList,
         client: &[u8],
-        service: &'a [u8],
+        service: &[u8],
         args: &[u8],
     ) -> Result<Course<'a>, NoCourse> {
         let Some(client) = list.find(client) else {
@@ -74,12 +81,7 @@ impl<'a> Course<'a> {
             return Err(NoCourse::Nobody);
         }
         let label = label_in(args)?;
-        let wishes = Wishes {
-            list,
-            client,
-            service,
-        };
-        match Course::of(alloc, wishes, label) {
+        match Course::of(alloc, list, client, service, label) {
             Ok(course) => Ok(course),
             Err(_) => Err(NoCourse::NoMemory),
         }
@@ -129,21 +131,20 @@ fn label_in(args: &[u8]) -> Result<&[u8], NoCourse>
 
 // What each list decides.
 #[tactic(auto, unfolding(crate::specs::Hops::hops_of))]
-fn hops(alloc: Global, wishes: Wishes<'_>, label: &[u8]) -> Result<Vec<Hop>, AllocError>
+fn hops(
+    alloc: Global,
+    list: &StartList,
+    client: usize,
+    service: &[u8],
+    label: &[u8],
+) -> Result<Vec<Hop>, AllocError>
     requires label { length label.now ≤ 64 }
     ensures { IfOk result (λ hops. hops.items
-        ≡ hops_of wishes.entry.list.now wishes.entry.client wishes.entry.service.now label.now) }
+        ≡ hops_of list.now client service.now label.now) }
 {
     let mut hops = Vec::new(alloc);
-    if let Some(entry) = wishes.list.entries().get(wishes.client) {
-        add_hops(
-            &mut hops,
-            wishes.list,
-            MOST_LISTS,
-            entry,
-            wishes.service,
-            label,
-        )?;
+    if let Some(entry) = list.entries().get(client) {
+        add_hops(&mut hops, list, MOST_LISTS, entry, service, label)?;
     }
     Ok(hops)
 }
@@ -225,8 +226,8 @@ fn copied(seen: &[u8]) -> ArrayVec<u8, LONGEST_SEEN>
 /// A line a list, and then where it leads, or by which rule it is denied.
 impl fmt::Display for Course<'_> {
     fn fmt<W: fmt::Write>(&self, f: &mut fmt::Formatter<W>) -> fmt::Result {
-        let list = self.wishes.list;
-        let mut asks = list.entries().get(self.wishes.client);
+        let list = self.list;
+        let mut asks = list.entries().get(self.client);
         for hop in self.hops.as_slice() {
             if let Some(entry) = asks {
                 show_hop(f, list, entry, hop)?;
@@ -240,7 +241,7 @@ impl fmt::Display for Course<'_> {
 impl Course<'_> {
     // Where it leads, or by which rule it is denied.
     fn show_end<W: fmt::Write>(&self, f: &mut fmt::Formatter<W>) -> fmt::Result {
-        let list = self.wishes.list;
+        let list = self.list;
         if let Some(child) = self.child {
             return match list.entries().get(child) {
                 Some(server) => writeln!(f, "leads to {}", server.to_path()),
@@ -248,7 +249,7 @@ impl Course<'_> {
             };
         }
         f.write_str("denied by ")?;
-        let mut asks = list.entries().get(self.wishes.client);
+        let mut asks = list.entries().get(self.client);
         for (lists, hop) in self.hops.as_slice().iter().enumerate() {
             if let Some(entry) = asks {
                 if lists + 1 == self.hops.as_slice().len() {

@@ -51,11 +51,8 @@ impl<'a> Table<'a> {
     }
 
     /// The table as comma-separated values.
-    pub fn csv(&self) -> Csv<'_> {
-        Csv {
-            list: self.list,
-            cells: self.cells.as_slice(),
-        }
+    pub fn into_csv(self) -> Csv<'a> {
+        Csv { table: self }
     }
 }
 
@@ -249,20 +246,18 @@ fn show_reach<W: fmt::Write>(f: &mut fmt::Formatter<W>, reach: &Reach) -> fmt::R
 }
 
 /// A table as comma-separated values: a line of names, and a line a cell.
-#[derive(Clone, Copy)]
-pub struct Csv<'t> {
-    list: &'t StartList,
-    cells: &'t [Cell],
+#[derive(Drop)]
+pub struct Csv<'a> {
+    table: Table<'a>,
 }
 
 impl fmt::Display for Csv<'_> {
     fn fmt<W: fmt::Write>(&self, f: &mut fmt::Formatter<W>) -> fmt::Result {
         f.write_str("from,service,to,reach,label\n")?;
-        for cell in self.cells {
-            let (Some(client), Some(server)) = (
-                self.list.entries().get(cell.client),
-                self.list.entries().get(cell.server),
-            ) else {
+        let entries = self.table.list.entries();
+        for cell in self.table.cells() {
+            let (Some(client), Some(server)) = (entries.get(cell.client), entries.get(cell.server))
+            else {
                 return Ok(());
             };
             write!(

@@ -23,6 +23,10 @@ option_rule name = record (new_rule name) { long = Some name; value_names = 1 }
 abbrev pub file_rule : Text → Rule
 file_rule name = record (new_rule name) { required = true; value_names = 1 }
 
+-- a word that may be left out
+abbrev pub word_rule : Text → Rule
+word_rule name = record (new_rule name) { value_names = 1 }
+
 -- a command with these rules
 abbrev pub with_rules : Text → List Rule → Shape
 with_rules name rules = record (new_shape name) { rules = rules }
@@ -50,6 +54,12 @@ run = of_scenario (codes "run") (option_rule (codes "only") ∷ flag_rule (codes
 abbrev pub alone : Shape
 alone = of_scenario (codes "alone") (file_rule (codes "name") ∷ [])
 
+-- the command that tells where one wish leads
+abbrev pub route : Shape
+route =
+    with_rules (codes "route")
+    (file_rule (codes "list") ∷ file_rule (codes "client") ∷ file_rule (codes "service") ∷ word_rule (codes "args") ∷ [])
+
 -- a command has this shape, and no argument of it counts for others
 abbrev pub HasShape : Shape → Words → Type 0
 HasShape shape made = (app_of made ≡ record { top = shape; subs = [] }) × ((out-Command made).has_globals ≡ false)
@@ -57,8 +67,9 @@ HasShape shape made = (app_of made ≡ record { top = shape; subs = [] }) × ((o
 -- the program itself
 abbrev pub program : App
 program =
-    with_subcommand (with_subcommand (with_subcommand (with_subcommand (with_subcommand (with_subcommand bare
-    run) (of_list (codes "check") (codes "strict"))) (of_list (codes "tree") (codes "dot")))
+    with_subcommand (with_subcommand (with_subcommand (with_subcommand (with_subcommand (with_subcommand (with_subcommand
+    (with_subcommand bare run) (of_list (codes "check") (codes "strict"))) (of_list (codes "tree") (codes "dot")))
+    (of_list (codes "reach") (codes "csv"))) route)
     (of_scenario (codes "trace") [])) (of_scenario (codes "accounts") [])) alone
 
 -- a text says that a flag was used
@@ -86,6 +97,14 @@ Asks (command.Check strict list) name rows = (name ≡ codes "check")
 Asks (command.Tree dot list) name rows = (name ≡ codes "tree")
     × (dot ≡ is_set (codes "dot") rows)
     × (list.now ≡ first_or (codes "-") (codes "list") rows)
+Asks (command.Reach csv list) name rows = (name ≡ codes "reach")
+    × (csv ≡ is_set (codes "csv") rows)
+    × (list.now ≡ first_or (codes "-") (codes "list") rows)
+Asks (command.Route list client service args) name rows = (name ≡ codes "route")
+    × (list.now ≡ first_or (codes "-") (codes "list") rows)
+    × (client.now ≡ first_or [] (codes "client") rows)
+    × (service.now ≡ first_or [] (codes "service") rows)
+    × (args.now ≡ first_or [] (codes "args") rows)
 Asks (command.Trace machine scenario) name rows = (name ≡ codes "trace")
     × (option_map (λ t. t.now) machine ≡ first_of (codes "machine") rows)
     × (scenario.now ≡ first_or (codes "-") (codes "scenario") rows)
@@ -99,7 +118,7 @@ Asks (command.Alone machine name_looked_at scenario) name rows = (name ≡ codes
 
 -- the names of all commands
 abbrev pub names : List Text
-names = codes "run" ∷ codes "check" ∷ codes "tree" ∷ codes "trace" ∷ codes "accounts" ∷ codes "alone" ∷ []
+names = codes "run" ∷ codes "check" ∷ codes "tree" ∷ codes "reach" ∷ codes "route" ∷ codes "trace" ∷ codes "accounts" ∷ codes "alone" ∷ []
 
 -- a command, if one is asked for, is what a command line asks for
 abbrev pub AsksAs : Option Command → Option (Text × List Row) → Type 0

@@ -1,5 +1,5 @@
 //! What is asked for.
-ghost use Rattle.std.specs.Prelude.{◌≡◌, IfErr, IfOk, Some, codes, map, true};
+ghost use Rattle.std.specs.Prelude.{◌≡◌, [], IfErr, IfOk, Some, codes, map, true};
 ghost use Rattle.clap.specs.Words.{FailsBy, fault_of, found_of, kind_of, rows_of, subcommand_of, takes};
 ghost use Rattle.workbench_options.specs.Line.{AsksAs, first_or, is_set, program};
 
@@ -36,6 +36,24 @@ pub enum Command<'a> {
         dot: bool,
         /// The path of the start list.
         list: &'a str,
+    },
+    /// Tells which scripts reach which servers, and with which labels.
+    Reach {
+        /// Whether comma-separated values are written in place of a table.
+        csv: bool,
+        /// The path of the start list.
+        list: &'a str,
+    },
+    /// Tells where one wish for a session leads, and by which rules.
+    Route {
+        /// The path of the start list.
+        list: &'a str,
+        /// The component that wishes.
+        client: &'a str,
+        /// The service.
+        service: &'a str,
+        /// The arguments of the session, or nothing.
+        args: &'a str,
     },
     /// Writes a table of all lines with what each left in use.
     Trace {
@@ -98,6 +116,16 @@ impl<'a> Command<'a> {
                 dot: is_set(found, "dot"),
                 list: path(found, "list"),
             }),
+            "reach" => Some(Command::Reach {
+                csv: is_set(found, "csv"),
+                list: path(found, "list"),
+            }),
+            "route" => Some(Command::Route {
+                list: path(found, "list"),
+                client: word(found, "client"),
+                service: word(found, "service"),
+                args: word(found, "args"),
+            }),
             "trace" => Some(Command::Trace {
                 machine: found.get_str("machine"),
                 scenario: path(found, "scenario"),
@@ -108,7 +136,7 @@ impl<'a> Command<'a> {
             }),
             "alone" => Some(Command::Alone {
                 machine: found.get_str("machine"),
-                name: found.get_str("name").unwrap_or(""),
+                name: word(found, "name"),
                 scenario: path(found, "scenario"),
             }),
             _ => None,
@@ -121,6 +149,13 @@ fn path<'a>(found: &ArgMatches<'a>, id: &str) -> &'a str
     ensures { result.now ≡ first_or (codes "-") id.now (rows_of (found_of found.now)) }
 {
     found.get_str(id).unwrap_or("-")
+}
+
+// A word, or nothing where there is none.
+fn word<'a>(found: &ArgMatches<'a>, id: &str) -> &'a str
+    ensures { result.now ≡ first_or [] id.now (rows_of (found_of found.now)) }
+{
+    found.get_str(id).unwrap_or("")
 }
 
 // Whether a flag was used. `get_flag` says this only of a text that is `true` or `false`, this of any.

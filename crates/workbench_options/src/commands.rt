@@ -1,7 +1,7 @@
 //! The command line as `clap` reads it.
 ghost use Rattle.std.specs.Prelude.{◌≡◌, [], IfOk, MatchResult, false};
 ghost use Rattle.clap.specs.Words.{app_of, kind_of, rule_of};
-ghost use Rattle.workbench_options.specs.Line.{HasShape, alone as alone_shape, file_rule, flag_rule, of_list as list_shape, of_scenario as scenario_shape, option_rule, program, run as run_shape};
+ghost use Rattle.workbench_options.specs.Line.{HasShape, alone as alone_shape, file_rule, flag_rule, of_list as list_shape, of_scenario as scenario_shape, option_rule, program, route as route_shape, run as run_shape, word_rule};
 
 use crate::help;
 use clap::error::ErrorKind;
@@ -26,6 +26,10 @@ pub(crate) fn commands<'a>(alloc: Global) -> Result<Words<'a>, Error>
     let words = words.subcommand(check)?;
     let tree = of_list(alloc, "tree", help::TREE, "dot", help::DOT)?;
     let words = words.subcommand(tree)?;
+    let reach = of_list(alloc, "reach", help::REACH, "csv", help::CSV)?;
+    let words = words.subcommand(reach)?;
+    let route = route(alloc)?;
+    let words = words.subcommand(route)?;
     let trace = of_scenario(alloc, "trace", help::TRACE)?;
     let words = words.subcommand(trace)?;
     let accounts = of_scenario(alloc, "accounts", help::ACCOUNTS)?;
@@ -96,6 +100,23 @@ fn alone<'a>(alloc: Global) -> Result<Words<'a>, AllocError>
     Ok(command)
 }
 
+// The command that tells where one wish leads.
+fn route<'a>(alloc: Global) -> Result<Words<'a>, AllocError>
+    ensures { IfOk result (HasShape route_shape) }
+{
+    let list = file(alloc, "list", "FILE", help::LIST);
+    let client = file(alloc, "client", "NAME", help::CLIENT);
+    let service = file(alloc, "service", "SERVICE", help::SERVICE);
+    let args = last(alloc, "args", "ARGS", help::ARGS);
+    let command = Words::new(alloc, "route")
+        .about(help::ROUTE)
+        .arg(list)?
+        .arg(client)?
+        .arg(service)?
+        .arg(args)?;
+    Ok(command)
+}
+
 // A flag by its name.
 fn flag<'a>(alloc: Global, name: &'a str, help: &'a str) -> Arg<'a>
     ensures rule { rule_of result ≡ flag_rule name.entry.now }
@@ -129,11 +150,19 @@ fn file<'a>(alloc: Global, name: &'a str, value: &'a str, help: &'a str) -> Arg<
         .help(help)
 }
 
+// A word that may be left out.
+fn last<'a>(alloc: Global, name: &'a str, value: &'a str, help: &'a str) -> Arg<'a>
+    ensures rule { rule_of result ≡ word_rule name.entry.now }
+    ensures local { result.global ≡ false }
+{
+    Arg::new(alloc, name).value_name(value).help(help)
+}
+
 /// The error of a command line that names no command.
 pub fn needs_command(alloc: Global) -> Result<Error, Error> {
     Ok(commands(alloc)?.error(
         ErrorKind::MissingSubcommand,
-        "'nethrywel' requires a command: run, check, tree, trace, accounts or alone",
+        "'nethrywel' requires a command: run, check, tree, reach, route, trace, accounts or alone",
     )?)
 }
 

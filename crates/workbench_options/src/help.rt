@@ -46,6 +46,11 @@ pub(crate) const CHECK: &str = "Tell what is wrong with a start list, and where"
 pub(crate) const TREE: &str =
     "Show a start list's components, their budgets, and where their sessions lead";
 
+pub(crate) const REACH: &str = "Show which scripts reach which servers, always or with which label";
+
+pub(crate) const ROUTE: &str =
+    "Tell where one wish for a session leads, and by which rules, list by list";
+
 pub(crate) const TRACE: &str = "Write a table (CSV) of all lines with what each left in use";
 
 pub(crate) const ACCOUNTS: &str =
@@ -67,5 +72,13 @@ pub(crate) const WITH_ACCOUNTS: &str = "Print all accounts after the last reply"
 pub(crate) const STRICT: &str = "End with status 2 where there is a finding";
 
 pub(crate) const DOT: &str = "Write a graph for Graphviz in place of the text";
+
+pub(crate) const CSV: &str = "Write comma-separated values in place of the table";
+
+pub(crate) const CLIENT: &str = "The script that wishes, by its path";
+
+pub(crate) const SERVICE: &str = "The service: LOG or File_system";
+
+pub(crate) const ARGS: &str = "The arguments of the session; without them the label is empty";
 
 pub(crate) const NAME: &str = "The component that is looked at";

@@ -14,9 +14,11 @@ returns c =
     let made : app_of c.disable_help_subcommand-words.result ≡ bare =
     named ∙ ap (on_top (λ s. record s { disable_help_subcommand = true }))
     (told ∙ versioned ∙ ap (on_top (λ s. record s { has_version = true })) c.new.ensures.app) in
-    added _ _ _ _ _ c.in_ok-words-6.ensures c.in_ok-alone.ensures
-    (added _ _ _ _ _ c.in_ok-words-5.ensures c.in_ok-accounts.ensures
-    (added _ _ _ _ _ c.in_ok-words-4.ensures c.in_ok-trace.ensures
+    added _ _ _ _ _ c.in_ok-words-8.ensures c.in_ok-alone.ensures
+    (added _ _ _ _ _ c.in_ok-words-7.ensures c.in_ok-accounts.ensures
+    (added _ _ _ _ _ c.in_ok-words-6.ensures c.in_ok-trace.ensures
+    (added _ _ _ _ _ c.in_ok-words-5.ensures c.in_ok-route.ensures
+    (added _ _ _ _ _ c.in_ok-words-4.ensures c.in_ok-reach.ensures
     (added _ _ _ _ _ c.in_ok-words-3.ensures c.in_ok-tree.ensures
     (added _ _ _ _ _ c.in_ok-words-2.ensures c.in_ok-check.ensures
-    (added _ _ _ _ _ c.in_ok-words.ensures c.in_ok-run.ensures made)))))
+    (added _ _ _ _ _ c.in_ok-words.ensures c.in_ok-run.ensures made)))))))

@@ -1,8 +1,7 @@
 -- What is read of each command, by its rows.
-use Rattle.std.proofs.Common.{◌∙◌, List, [], ℕ, Option, ap, codes, unwrap_or}
+use Rattle.std.proofs.Common.{◌∙◌, codes}
 use Rattle.clap.specs.Words.{found_of}
 use Rattle.clap.proofs.WalkLemmas.{first_value-rows}
-use Rattle.workbench_options.proofs.LineLemmas.{value_or}
 use Rattle.workbench_options.proofs.command.Command.of.Goals as goal
 
 pub returns-in-run : goal.returns-in-run
@@ -30,11 +29,9 @@ returns-in-accounts c = (
 )
 
 pub returns-in-alone : goal.returns-in-alone
-returns-in-alone c =
-    let found = found_of c.args.found.now in (
-      c.in-alone.is,
-      c.get_str-in-alone.ensures ∙ first_value-rows found (codes "machine"),
-      value_or c.get_str-in-alone-2.result _ c.unwrap_or.result c.unwrap_or.ensures
-          ∙ ap (λ (o : Option (List ℕ)). unwrap_or o []) (c.get_str-in-alone-2.ensures ∙ first_value-rows found (codes "name")),
-      c.path-in-alone.ensures,
-    )
+returns-in-alone c = (
+  c.in-alone.is,
+  c.get_str-in-alone.ensures ∙ first_value-rows (found_of c.args.found.now) (codes "machine"),
+  c.word-in-alone.ensures,
+  c.path-in-alone.ensures,
+)
