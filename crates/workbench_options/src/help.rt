@@ -10,8 +10,9 @@ pub(crate) const ABOUT: &str =
 /// What a first scenario needs: names, calls, services and statuses.
 pub(crate) const FIRST_STEPS: &str =
     "A scenario has a call a line: NAME CALL. On the built-in machine NAME is alice or
-bob, both with 64K and 16 capabilities, and log and files are its servers. A line
-that begins with # is a comment, and what follows => is the reply that is expected:
+bob, both with 64K and 16 capabilities, and log and files are its servers. What
+follows a # is a comment, and what follows => is the reply that is expected: as it
+stands, granted, refused, or with a * for a word or for a number within one:
 
   alice alloc 4K => cap 1
   alice open File_system ram_quota=24K, cap_quota=4 => cap 2
