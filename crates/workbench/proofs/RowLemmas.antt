@@ -1,38 +1,184 @@
--- The cells of a row.
-use Rattle.std.proofs.Common.{◌≡◌, ℕ, List, [], ◌∷◌, ◌++◌, decimal, Option, Some, None, Result, Ok, Err, IfOk, sym, ◌∙◌, ap, append_assoc}
-use Rattle.std.proofs.lemmas.Option.{none-some, same_Some}
+-- The text of a row, cell by cell.
+use Rattle.std.proofs.Common.{◌≡◌, ℕ, suc, ◌+◌, ◌^◌, ◌<◌, ◌==◌, ◌&&◌, ◌||◌, not, Bool, true, false, cond, if◌then◌else◌, List, [], ◌∷◌, ◌++◌, length, take, drop, get_or, arith, refl, sym, ◌∙◌, ap, append_assoc, append-nil, codes, Option, Some, None}
+use Rattle.std.specs.Prelude.{decimal}
+use Rattle.std.specs.Char.{is_ascii_digit}
+use Rattle.std.specs.List.{list_any}
+use Rattle.std.specs.Str.{all_ascii_digits}
 use Rattle.std.specs.Option.{option_map}
+use Rattle.std.proofs.Math.Seq.{take-suc}
+use Rattle.std.proofs.lemmas.Bool.Decides.{nat_tests}
+use Rattle.std.proofs.lemmas.Fmt.{digits_decimal}
+use Rattle.std.proofs.lemmas.List.{take-append-drop}
+use Rattle.std.proofs.lemmas.Option.{none-some, same_Some}
+use Rattle.std.proofs.lemmas.Str.Parse.{numerals_by_value, tells_all_ascii_digits}
+use Rattle.csv.specs.Writing.{default_writer, escaped, field_text, fields_text, is_blank, needs_byte, needs_quotes, quoted, row_text}
 use Rattle.own_model.specs.Account.{Account}
 use Rattle.own_model.specs.Session.{Session}
 use Rattle.own_model.specs.Transcript.{heard}
 use Rattle.own_model.specs.World.{World, world_running}
 use Rattle.scenario.specs.declared.answering.LineAnswer.{LineAnswer}
 use Rattle.scenario.proofs.Serving.{world_running-append}
-use Rattle.workbench.specs.Tracing.{account_cells, call_text, cells_of, figures, open_cells, trace_row}
+use Rattle.workbench.specs.Tracing.{account_cells, call_text, cell_text, cells_of, figures, open_cells, stranger_cells, trace_row, trace_tells}
 use Rattle.workbench.specs.Watching.{IsToldOf}
-use Rattle.workbench.specs.declared.ending.PlayFault.{PlayFault}
 
--- a row by another that it is
-pub row_as : (r : Result (List (List ℕ)) PlayFault) (a b : List (List ℕ)) → a ≡ b → IfOk r (λ all. all ≡ a) → IfOk r (λ all. all ≡ b)
-row_as (Ok row) a b same is = is ∙ same
-row_as (Err fault) a b same is = tt
+-- ---- a number
 
--- the cells of a session that is there
-pub cells_there : (row : List (List ℕ)) (selector : ℕ) (s : Option Session) (account : Account) → Some account ≡ option_map (λ (x : Session). x.account) s →
-    (row ++ decimal selector ∷ []) ++ account_cells account ≡ row ++ open_cells selector s
-cells_there row selector None account is = absurd (none-some account (sym is))
-cells_there row selector (Some x) account is =
-    append_assoc row (decimal selector ∷ []) (account_cells account)
-    ∙ (let same : account ≡ x.account = same_Some account x.account is in ap (λ a. row ++ (decimal selector ∷ account_cells a)) same)
+digit_plain : (b : ℕ) → is_ascii_digit b ≡ true → needs_byte default_writer b ≡ false
+digit_plain b digit = grind (arith, nat_tests)
 
--- and of none
-pub cells_absent : (row : List (List ℕ)) (selector : ℕ) (s : Option Session) → None ≡ option_map (λ (x : Session). x.account) s → (row ++ [] ∷ []) ++ cells_of None ≡ row ++ open_cells selector s
-cells_absent row selector None is = append_assoc row ([] ∷ []) (cells_of None)
-cells_absent row selector (Some x) is = absurd (none-some x.account is)
+both : (x y : Bool) → (x && y) ≡ true → (x ≡ true) × (y ≡ true)
+both true y e = (refl, e)
+both false y e = absurd (cc)
 
--- the row of a call that was told of
+digits_plain : (ds : List ℕ) → all_ascii_digits ds ≡ true → list_any (needs_byte default_writer) ds ≡ false
+digits_plain [] digits = refl
+digits_plain (b ∷ bs) digits = let parts = both _ _ digits in λ i. digit_plain b parts.0 i || digits_plain bs parts.1 i
+
+-- a number needs no quotes
+pub plain_number : (n : ℕ) → n < 2 ^ 64 → field_text default_writer (decimal n) ≡ decimal n
+plain_number n small =
+    ap (λ (q : Bool). cond q (quoted default_writer (decimal n)) (decimal n))
+    (digits_plain (decimal n) (digits_decimal (numerals_by_value _ tells_all_ascii_digits) n small))
+
+pub plain_cell : (old : List ℕ) (n : ℕ) → n < 2 ^ 64 → (old ++ 44 ∷ []) ++ decimal n ≡ old ++ cell_text (decimal n)
+plain_cell old n small = append_assoc old (44 ∷ []) (decimal n) ∙ ap (λ text. old ++ 44 ∷ text) (sym (plain_number n small))
+
+pub ruleset plain_numbers = (plain_cell)
+
+-- ---- cells
+
+-- a cell, and then others
+cell_then : (old x : List ℕ) (xs : List (List ℕ)) → old ++ fields_text default_writer (x ∷ xs) ≡ (old ++ cell_text x) ++ fields_text default_writer xs
+unfolding fields_text
+cell_then old x xs = sym (append_assoc old (cell_text x) (fields_text default_writer xs))
+
+none_then : (old : List ℕ) → old ++ fields_text default_writer [] ≡ old
+unfolding fields_text
+none_then old = append-nil old
+
+four_then : (old a b c d : List ℕ) (xs : List (List ℕ)) → old ++ fields_text default_writer (a ∷ b ∷ c ∷ d ∷ xs)
+    ≡ ((((old ++ cell_text a) ++ cell_text b) ++ cell_text c) ++ cell_text d) ++ fields_text default_writer xs
+four_then old a b c d xs =
+    cell_then old a (b ∷ c ∷ d ∷ xs) ∙ cell_then (old ++ cell_text a) b (c ∷ d ∷ xs)
+    ∙ cell_then ((old ++ cell_text a) ++ cell_text b) c (d ∷ xs) ∙ cell_then (((old ++ cell_text a) ++ cell_text b) ++ cell_text c) d xs
+
+pub four_alone : (old a b c d : List ℕ) → (((old ++ cell_text a) ++ cell_text b) ++ cell_text c) ++ cell_text d ≡ old ++ fields_text default_writer (a ∷ b ∷ c ∷ d ∷ [])
+four_alone old a b c d = sym (four_then old a b c d [] ∙ none_then _)
+
+pub ruleset four_cells = (four_alone)
+
+-- empty cells
+pub five_empty : codes ",,,,," ≡ fields_text default_writer ([] ∷ cells_of None)
+unfolding fields_text
+five_empty = refl
+
+pub nine_empty : codes ",,,,,,,,," ≡ fields_text default_writer stranger_cells
+unfolding fields_text
+nine_empty = refl
+
+pub ruleset empty_cells = (five_empty, nine_empty)
+
+-- cells behind cells
+pub cells_more : (xs ys : List (List ℕ)) → fields_text default_writer (xs ++ ys) ≡ fields_text default_writer xs ++ fields_text default_writer ys
+unfolding fields_text
+cells_more [] ys = refl
+cells_more (x ∷ xs) ys =
+    ap (λ text. cell_text x ++ text) (cells_more xs ys) ∙ sym (append_assoc (cell_text x) (fields_text default_writer xs) (fields_text default_writer ys))
+
+-- ---- a text in quotes
+
+byte_escaped : (b : ℕ) → escaped default_writer (b ∷ []) ≡ (if b == 34 then 34 ∷ b ∷ [] else b ∷ [])
+unfolding escaped
+byte_escaped b = refl
+
+escaped-cons : (b : ℕ) (bs : List ℕ) → escaped default_writer (b ∷ bs) ≡ escaped default_writer (b ∷ []) ++ escaped default_writer bs
+unfolding escaped
+escaped-cons b bs = of (b == 34)
+  where
+    of : (q : Bool) → (if q then 34 ∷ b ∷ escaped default_writer bs else b ∷ escaped default_writer bs) ≡ (if q then 34 ∷ b ∷ [] else b ∷ []) ++ escaped default_writer bs
+    of true = refl
+    of false = refl
+
+escaped-none : (ys : List ℕ) → escaped default_writer ys ≡ escaped default_writer [] ++ escaped default_writer ys
+unfolding escaped
+escaped-none ys = refl
+
+escaped-append : (xs ys : List ℕ) → escaped default_writer (xs ++ ys) ≡ escaped default_writer xs ++ escaped default_writer ys
+escaped-append [] ys = escaped-none ys
+escaped-append (b ∷ bs) ys =
+    escaped-cons b (bs ++ ys) ∙ ap (λ text. escaped default_writer (b ∷ []) ++ text) (escaped-append bs ys)
+    ∙ sym (append_assoc (escaped default_writer (b ∷ [])) (escaped default_writer bs) (escaped default_writer ys))
+    ∙ ap (λ text. text ++ escaped default_writer ys) (sym (escaped-cons b bs))
+
+pub escaped_nothing : [] ≡ escaped default_writer []
+unfolding escaped
+escaped_nothing = refl
+
+-- one byte more
+pub escaped_more : (text : List ℕ) (k : ℕ) → k < length text → escaped default_writer (take (k + 1) text) ≡ escaped default_writer (take k text) ++ escaped default_writer (get_or text k 0 ∷ [])
+escaped_more text k within =
+    let next : k + 1 ≡ suc k = omega arith in
+    ap (λ n. escaped default_writer (take n text)) next ∙ ap (escaped default_writer) (take-suc text k 0 within) ∙ escaped-append (take k text) (get_or text k 0 ∷ [])
+
+pub escaped_cut : (text : List ℕ) (k : ℕ) → k < length text →
+    escaped default_writer text ≡ (escaped default_writer (take k text) ++ escaped default_writer (get_or text k 0 ∷ [])) ++ escaped default_writer (drop (k + 1) text)
+escaped_cut text k within =
+    ap (escaped default_writer) (sym (take-append-drop (k + 1) text)) ∙ escaped-append (take (k + 1) text) (drop (k + 1) text)
+    ∙ ap (λ front. front ++ escaped default_writer (drop (k + 1) text)) (escaped_more text k within)
+
+-- a cell is a text in quotes where it needs them
+pub quoted_cell : (text : List ℕ) → needs_quotes default_writer text ≡ true → 44 ∷ quoted default_writer text ≡ cell_text text
+quoted_cell text needs = ap (λ (q : Bool). 44 ∷ cond q (quoted default_writer text) text) (sym needs)
+
+pub unquoted_cell : (text : List ℕ) → needs_quotes default_writer text ≡ false → 44 ∷ text ≡ cell_text text
+unquoted_cell text needs = ap (λ (q : Bool). 44 ∷ cond q (quoted default_writer text) text) (sym needs)
+
+-- ---- the row
+
+-- the row of a call that was told of, by its cells
 pub row_told : {start : World} {earlier : List (List ℕ)} {call : List ℕ} {core : World} {answer : LineAnswer} (number : ℕ) → IsToldOf start earlier call core answer →
     decimal number ∷ answer.name.now ∷ call_text call ∷ answer.reply.now ∷ figures core (heard core.entries call) ≡ trace_row (world_running start earlier) number call
 row_told {start} {earlier} {call} {core} {answer} number told =
     let left : core ≡ world_running (world_running start earlier) (call ∷ []) = told.leaves ∙ sym (world_running-append start earlier (call ∷ [])) in
     λ i. decimal number ∷ told.answers.name i ∷ call_text call ∷ told.answers.reply i ∷ figures (left i) (heard (left i).entries call)
+
+-- a row is its number, three cells and the others
+pub row_whole : (number : ℕ) (name call reply : List ℕ) (cells : List (List ℕ)) → number < 2 ^ 64 →
+    decimal number ++ (cell_text name ++ (cell_text call ++ (cell_text reply ++ (fields_text default_writer cells ++ 10 ∷ []))))
+    ≡ row_text default_writer (decimal number ∷ name ∷ call ∷ reply ∷ cells)
+unfolding fields_text is_blank
+row_whole number name call reply cells small =
+    let end = 10 ∷ [] in
+    let others = fields_text default_writer cells in
+    let behind : fields_text default_writer (name ∷ call ∷ reply ∷ cells) ++ end ≡ cell_text name ++ (cell_text call ++ (cell_text reply ++ (others ++ end))) =
+    append_assoc (cell_text name) (cell_text call ++ (cell_text reply ++ others)) end
+    ∙ ap (λ text. cell_text name ++ text) (append_assoc (cell_text call) (cell_text reply ++ others) end ∙ ap (λ text. cell_text call ++ text) (append_assoc (cell_text reply) others end)) in
+    ap (λ text. decimal number ++ text) (sym behind)
+    ∙ ap (λ text. text ++ (fields_text default_writer (name ∷ call ∷ reply ∷ cells) ++ end)) (sym (plain_number number small))
+    ∙ sym (append_assoc (field_text default_writer (decimal number)) (fields_text default_writer (name ∷ call ∷ reply ∷ cells)) end)
+
+to_right : (a b c d e : List ℕ) → (((a ++ b) ++ c) ++ d) ++ e ≡ a ++ (b ++ (c ++ (d ++ e)))
+to_right a b c d e = append_assoc ((a ++ b) ++ c) d e ∙ append_assoc (a ++ b) c (d ++ e) ∙ append_assoc a b (c ++ (d ++ e))
+
+-- so what is put together is what is told of a call
+pub row_written : {start : World} {earlier : List (List ℕ)} {call : List ℕ} {core : World} {answer : LineAnswer} (number : ℕ) (says ends : List ℕ) → number < 2 ^ 64 → IsToldOf start earlier call core answer →
+    says ≡ call_text call → ends ≡ fields_text default_writer (figures core (heard core.entries call)) ++ 10 ∷ [] →
+    (((decimal number ++ cell_text answer.name.now) ++ cell_text says) ++ cell_text answer.reply.now) ++ ends ≡ trace_tells start earlier number call
+row_written {call = call} {core = core} {answer = answer} number says ends small told is_call is_ends =
+    (λ i. (((decimal number ++ cell_text answer.name.now) ++ cell_text (is_call i)) ++ cell_text answer.reply.now) ++ is_ends i)
+    ∙ to_right (decimal number) (cell_text answer.name.now) (cell_text (call_text call)) (cell_text answer.reply.now) _
+    ∙ row_whole number answer.name.now (call_text call) answer.reply.now (figures core (heard core.entries call)) small
+    ∙ ap (row_text default_writer) (row_told number told)
+
+-- ---- the session that a call names, where it is there
+
+pub session_there : (old : List ℕ) (selector : ℕ) (s : Option Session) (account : Account) → Some account ≡ option_map (λ (x : Session). x.account) s →
+    (old ++ cell_text (decimal selector)) ++ fields_text default_writer (account_cells account) ≡ old ++ fields_text default_writer (open_cells selector s)
+session_there old selector None account is = absurd (none-some account (sym is))
+session_there old selector (Some x) account is =
+    (let same : account ≡ x.account = same_Some account x.account is in ap (λ a. (old ++ cell_text (decimal selector)) ++ fields_text default_writer (account_cells a)) same)
+    ∙ sym (cell_then old (decimal selector) (account_cells x.account))
+
+-- an account's cells, and then those of a session
+pub cells_both : {text : List ℕ} (xs ys : List (List ℕ)) (more : List ℕ) → text ≡ [] ++ fields_text default_writer xs → more ≡ fields_text default_writer ys → text ++ more ≡ fields_text default_writer (xs ++ ys)
+cells_both xs ys more first others = (λ i. first i ++ others i) ∙ sym (cells_more xs ys)

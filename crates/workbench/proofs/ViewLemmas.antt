@@ -36,8 +36,8 @@ run_played accounts only listed {start = start} {w' = w'} {w'' = w''} played end
 
 -- the rows of a trace, behind its header
 pub trace_played : {seen : List (List ℕ) → Type 0} {start last : World} {input rest w w' : Option (List ℕ)} {failed : Bool} (ending : Ending) →
-    PlaysAll (trace_tells start) true seen None ending.fault ending.lines start last trace_header input rest failed w w' →
-    IsPlayedFrom (λ lines. trace_header ++ told_of_lines (trace_tells start) None [] 1 lines) (λ _. []) true ending input rest failed w w'
+    PlaysAll (trace_tells start) false seen None ending.fault ending.lines start last trace_header input rest failed w w' →
+    IsPlayedFrom (λ lines. trace_header ++ told_of_lines (trace_tells start) None [] 1 lines) (λ _. []) false ending input rest failed w w'
 trace_played {w' = w'} ending plays = played_from ending ending plays refl (closes_alone ending w')
 
 -- ---- one name alone

@@ -1,7 +1,7 @@
 -- The rows of a trace.
 use Rattle.std.specs.Prelude.{ℕ, ◌+◌, List, [], ◌∷◌, ◌++◌, length, drop, codes, decimal, Option, Some, None}
 use Rattle.std.specs.FinMap.{get}
-use Rattle.csv.specs.Writing.{default_writer, row_text}
+use Rattle.csv.specs.Writing.{comma, default_writer, field_text, row_text}
 use Rattle.own_model.specs.Account.{Account}
 use Rattle.own_model.specs.Call.{Call, Spoken}
 use Rattle.own_model.specs.Call.Call.{Upgrade, CallSession, Close}
@@ -69,6 +69,10 @@ trace_row before number call =
     let what = heard before.entries call in
     decimal number ∷ answered_name before what ∷ call_text call ∷ reply_text (answered_reply before what)
     ∷ figures (world_running before (call ∷ [])) what
+
+-- a cell as it stands behind another
+abbrev pub cell_text : List ℕ → List ℕ
+cell_text text = comma ∷ field_text default_writer text
 
 -- as it is written
 abbrev pub trace_tells : World → List (List ℕ) → ℕ → List ℕ → List ℕ

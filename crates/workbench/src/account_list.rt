@@ -59,7 +59,8 @@ pub fn accounts<S: Source, K: Sink, E: Sink>(
     ensures few { IfOk result (λ ending. ending.lines ≤ MAX_LINES) }
     ensures writing { IfOk result (λ ending. (K.has_failed writer.new
         || E.has_failed complaints.new) ≡ is_write_fault ending.fault) }
-    ensures reading { IfOk result (λ ending. IfNone ending.fault (S.has_failed reader.new ≡ false)) }
+    ensures reading { IfOk result (λ ending.
+        IfNone ending.fault (S.has_failed reader.new ≡ false)) }
     ensures ok { IfOk result (λ ending. IfSome ending.fault (λ fault. fault ≢ NoRoom →
         IfSome (S.remaining reader.old) (λ input. HasCause input MAX_LINES
         (S.has_failed reader.new) (K.has_failed writer.new || E.has_failed complaints.new)))) }
@@ -67,7 +68,8 @@ pub fn accounts<S: Source, K: Sink, E: Sink>(
         (K.has_failed writer.old || E.has_failed complaints.old)) (λ fault.
         IsUnplayed play.entry.machine.now ending fault
         × (reader.new ≡ reader.old) × (writer.new ≡ writer.old) × (complaints.new ≡ complaints.old))) }
-    ensures unbooted { IfErr result (λ fault. fault ≢ NoMemory → boot_fault play.entry.machine.now ≡ Some fault) }
+    ensures unbooted { IfErr result (λ fault. fault ≢ NoMemory →
+        boot_fault play.entry.machine.now ≡ Some fault) }
     ensures untouched { OnErr result
         ((reader.new ≡ reader.old) × (writer.new ≡ writer.old) × (complaints.new ≡ complaints.old)) }
 {
@@ -98,7 +100,8 @@ fn play_with_peaks<R: Router + Drop, S: Source, K: Sink, E: Sink>(
     requires all { run.now.only ≡ None }
     requires ahead { notes.old.buffers.ahead ≡ [] }
     requires gathered { notes.old.buffers.gathered ≡ [] }
-    requires sees { SeesPeaks (peaked peaks.old.init) peaks.old.components.items peaks.old.sessions.items run.now.list.now core.old [] }
+    requires sees { SeesPeaks (peaked peaks.old.init) peaks.old.components.items
+        peaks.old.sessions.items run.now.list.now core.old [] }
     ensures played { fault_before (S.has_failed reader.old)
         (K.has_failed writer.old || E.has_failed complaints.old) ≡ None → IsPlayedFrom (λ _. []) (λ lines. peaks_text run.now.list.now core.old (calls_answered None lines))
         true result (S.remaining reader.old) (S.remaining reader.new)
@@ -170,7 +173,8 @@ fn put_list<R: Router + Drop, K: Sink>(
 ) -> Result<(), DeviceFault>
     requires listed { core.now.entries ≡ entries_of (start_list_of list.now) }
     requires writes { K.has_failed writer.old ≡ false }
-    ensures told { TellsUnless result (K.contents writer.old) gathered.old (K.contents writer.new) gathered.new
+    ensures told { TellsUnless result (K.contents writer.old) gathered.old
+        (K.contents writer.new) gathered.new
         (list_with list.now core.now (peaked peaks.now.init) (peak_at peaks.now.components.items) (found peaks.now.sessions.items)) }
     ensures failing { K.has_failed writer.new ≡ is_err result }
 {
@@ -188,7 +192,8 @@ fn put_init<R: Router + Drop, K: Sink>(
     writer: &mut K,
 ) -> Result<(), DeviceFault>
     requires { K.has_failed writer.old ≡ false }
-    ensures told { TellsUnless result (K.contents writer.old) gathered.old (K.contents writer.new) gathered.new
+    ensures told { TellsUnless result (K.contents writer.old) gathered.old
+        (K.contents writer.new) gathered.new
         (peaked_line (codes "init") (machine_init core.now) (peaked peaks.now.init)) }
     ensures failing { K.has_failed writer.new ≡ is_err result }
 {
@@ -205,7 +210,8 @@ fn put_components<R: Router + Drop, K: Sink>(
 ) -> Result<(), DeviceFault>
     requires listed { core.now.entries ≡ entries_of (start_list_of list.now) }
     requires writes { K.has_failed writer.old ≡ false }
-    ensures told { TellsUnless result (K.contents writer.old) gathered.old (K.contents writer.new) gathered.new
+    ensures told { TellsUnless result (K.contents writer.old) gathered.old
+        (K.contents writer.new) gathered.new
         (flat_map (lines_at list.now core.now (peak_at peaks.now.components.items)) (places core.now)) }
     ensures failing { K.has_failed writer.new ≡ is_err result }
 {
@@ -227,7 +233,8 @@ fn put_component<R: Router + Drop, K: Sink>(
     requires listed { core.now.entries ≡ entries_of (start_list_of list.now) }
     requires component { component < length core.now.entries }
     requires writes { K.has_failed writer.old ≡ false }
-    ensures told { TellsUnless result (K.contents writer.old) gathered.old (K.contents writer.new) gathered.new
+    ensures told { TellsUnless result (K.contents writer.old) gathered.old
+        (K.contents writer.new) gathered.new
         (lines_at list.now core.now (peak_at peaks.now.components.items) component) }
     ensures failing { K.has_failed writer.new ≡ is_err result }
 {
@@ -252,7 +259,8 @@ fn put_sessions<R: Router + Drop, K: Sink>(
 ) -> Result<(), DeviceFault>
     requires listed { core.now.entries ≡ entries_of (start_list_of list.now) }
     requires writes { K.has_failed writer.old ≡ false }
-    ensures told { TellsUnless result (K.contents writer.old) gathered.old (K.contents writer.new) gathered.new
+    ensures told { TellsUnless result (K.contents writer.old) gathered.old
+        (K.contents writer.new) gathered.new
         (flat_map (λ place. flat_map (line_at core.now (found peaks.now.sessions.items) place) selectors) (places core.now)) }
     ensures failing { K.has_failed writer.new ≡ is_err result }
 {
@@ -274,7 +282,8 @@ fn put_sessions_of<R: Router + Drop, K: Sink>(
     requires listed { core.now.entries ≡ entries_of (start_list_of list.now) }
     requires component { component < length core.now.entries }
     requires writes { K.has_failed writer.old ≡ false }
-    ensures told { TellsUnless result (K.contents writer.old) gathered.old (K.contents writer.new) gathered.new
+    ensures told { TellsUnless result (K.contents writer.old) gathered.old
+        (K.contents writer.new) gathered.new
         (flat_map (line_at core.now (found peaks.now.sessions.items) component) selectors) }
     ensures failing { K.has_failed writer.new ≡ is_err result }
 {
@@ -297,7 +306,8 @@ fn put_selected<R: Router + Drop, K: Sink>(
     requires listed { core.now.entries ≡ entries_of (start_list_of list.now) }
     requires component { component < length core.now.entries }
     requires writes { K.has_failed writer.old ≡ false }
-    ensures told { TellsUnless result (K.contents writer.old) gathered.old (K.contents writer.new) gathered.new
+    ensures told { TellsUnless result (K.contents writer.old) gathered.old
+        (K.contents writer.new) gathered.new
         (line_at core.now (found peaks.now.sessions.items) component selector) }
     ensures failing { K.has_failed writer.new ≡ is_err result }
 {
@@ -319,7 +329,8 @@ fn put_account<K: Sink>(
     writer: &mut K,
 ) -> Result<(), DeviceFault>
     requires { K.has_failed writer.old ≡ false }
-    ensures told { TellsUnless result (K.contents writer.old) gathered.old (K.contents writer.new) gathered.new
+    ensures told { TellsUnless result (K.contents writer.old) gathered.old
+        (K.contents writer.new) gathered.new
         (peaked_line name.now (quotas_account account) (peaked peak)) }
     ensures failing { K.has_failed writer.new ≡ is_err result }
 {
@@ -337,7 +348,8 @@ fn put_reserve<K: Sink>(
     writer: &mut K,
 ) -> Result<(), DeviceFault>
     requires { K.has_failed writer.old ≡ false }
-    ensures told { TellsUnless result (K.contents writer.old) gathered.old (K.contents writer.new) gathered.new
+    ensures told { TellsUnless result (K.contents writer.old) gathered.old
+        (K.contents writer.new) gathered.new
         (reserve_line name.now (reserve_amounts reserve)) }
     ensures failing { K.has_failed writer.new ≡ is_err result }
 {
@@ -358,7 +370,8 @@ fn put_session<K: Sink>(
 ) -> Result<(), DeviceFault>
     requires component { session.now.component < length list.now.entries }
     requires writes { K.has_failed writer.old ≡ false }
-    ensures told { TellsUnless result (K.contents writer.old) gathered.old (K.contents writer.new) gathered.new
+    ensures told { TellsUnless result (K.contents writer.old) gathered.old
+        (K.contents writer.new) gathered.new
         (noted_line (entries_of (start_list_of list.now)) session.now.component session.now.selector
         (quotas_account account) (noted_in session.now)) }
     ensures failing { K.has_failed writer.new ≡ is_err result }
@@ -377,7 +390,8 @@ fn put_client<K: Sink>(
 ) -> Result<(), DeviceFault>
     requires component { session.now.component < length list.now.entries }
     requires writes { K.has_failed writer.old ≡ false }
-    ensures told { TellsUnless result (K.contents writer.old) gathered.old (K.contents writer.new) gathered.new
+    ensures told { TellsUnless result (K.contents writer.old) gathered.old
+        (K.contents writer.new) gathered.new
         (client_text (entries_of (start_list_of list.now)) session.now.component session.now.selector
         (quotas_account account) (peaked session.now.peak)) }
     ensures failing { K.has_failed writer.new ≡ is_err result }
@@ -398,7 +412,8 @@ fn put_origin<K: Sink>(
     writer: &mut K,
 ) -> Result<(), DeviceFault>
     requires { K.has_failed writer.old ≡ false }
-    ensures told { TellsUnless result (K.contents writer.old) gathered.old (K.contents writer.new) gathered.new
+    ensures told { TellsUnless result (K.contents writer.old) gathered.old
+        (K.contents writer.new) gathered.new
         (origin_text (entries_of (start_list_of list.now)) (noted_in session.now)) }
     ensures failing { K.has_failed writer.new ≡ is_err result }
 {
@@ -415,7 +430,8 @@ fn put_server<K: Sink>(
     writer: &mut K,
 ) -> Result<(), DeviceFault>
     requires { K.has_failed writer.old ≡ false }
-    ensures told { TellsUnless result (K.contents writer.old) gathered.old (K.contents writer.new) gathered.new
+    ensures told { TellsUnless result (K.contents writer.old) gathered.old
+        (K.contents writer.new) gathered.new
         (server_text (entries_of (start_list_of list.now)) server) }
     ensures failing { K.has_failed writer.new ≡ is_err result }
 {
@@ -436,7 +452,8 @@ fn name_at(list: &StartList, place: Option<usize>) -> &[u8]
 // Appends use and limits, and the peak.
 fn add_figures<const N: usize>(text: &mut ArrayVec<u8, N>, account: Quotas, peak: Peak)
     requires { array_vec_len text.old + 160 ≤ N }
-    ensures items { text.new.items ≡ text.old.items ++ peaked_text (quotas_account account) (peaked peak) }
+    ensures items { text.new.items ≡ text.old.items ++ peaked_text (quotas_account account)
+        (peaked peak) }
     ensures len { array_vec_len text.new ≤ array_vec_len text.old + 160 }
 {
     add(text, b" ");
@@ -448,7 +465,8 @@ fn add_figures<const N: usize>(text: &mut ArrayVec<u8, N>, account: Quotas, peak
 // Appends bytes of RAM and capabilities.
 fn add_amounts<const N: usize>(text: &mut ArrayVec<u8, N>, ram: Ram, caps: Caps)
     requires { array_vec_len text.old + 50 ≤ N }
-    ensures items { text.new.items ≡ text.old.items ++ amounts_text (record { ram = ram.0; caps = caps.0 }) }
+    ensures items { text.new.items ≡ text.old.items ++ amounts_text
+        (record { ram = ram.0; caps = caps.0 }) }
     ensures len { array_vec_len text.new ≤ array_vec_len text.old + 50 }
 {
     add(text, b"ram ");
@@ -466,7 +484,8 @@ fn put_total<R: Router + Drop, K: Sink>(
 ) -> Result<(), DeviceFault>
     requires listed { core.now.entries ≡ entries_of (start_list_of list.now) }
     requires writes { K.has_failed writer.old ≡ false }
-    ensures told { TellsUnless result (K.contents writer.old) gathered.old (K.contents writer.new) gathered.new
+    ensures told { TellsUnless result (K.contents writer.old) gathered.old
+        (K.contents writer.new) gathered.new
         (total_line (all_ram core.now) (all_caps core.now)) }
     ensures failing { K.has_failed writer.new ≡ is_err result }
 {

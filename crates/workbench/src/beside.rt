@@ -100,7 +100,8 @@ fn put_both<K: Sink>(
     writer: &mut K,
 ) -> Result<(), DeviceFault>
     requires { K.has_failed writer.old ≡ false }
-    ensures told { TellsUnless result (K.contents writer.old) gathered.old (K.contents writer.new) gathered.new
+    ensures told { TellsUnless result (K.contents writer.old) gathered.old
+        (K.contents writer.new) gathered.new
         ((decimal heard.now.number ++ codes ": " ++ heard.now.line.now ++ 10 ∷ [])
         ++ (codes "  whole: " ++ answer_text (Some heard.now.answer))
         ++ (codes "  alone: " ++ answer_text (Some alone.now))) }
@@ -119,7 +120,8 @@ fn put_heard<K: Sink>(
     writer: &mut K,
 ) -> Result<(), DeviceFault>
     requires { K.has_failed writer.old ≡ false }
-    ensures told { TellsUnless result (K.contents writer.old) gathered.old (K.contents writer.new) gathered.new
+    ensures told { TellsUnless result (K.contents writer.old) gathered.old
+        (K.contents writer.new) gathered.new
         (decimal number ++ codes ": " ++ line.now ++ 10 ∷ []) }
     ensures failing { K.has_failed writer.new ≡ is_err result }
 {
@@ -137,7 +139,8 @@ fn put_side<K: Sink>(
     writer: &mut K,
 ) -> Result<(), DeviceFault>
     requires { K.has_failed writer.old ≡ false }
-    ensures told { TellsUnless result (K.contents writer.old) gathered.old (K.contents writer.new) gathered.new
+    ensures told { TellsUnless result (K.contents writer.old) gathered.old
+        (K.contents writer.new) gathered.new
         (side.now ++ answer_text (Some answer.now)) }
     ensures failing { K.has_failed writer.new ≡ is_err result }
 {
@@ -170,7 +173,8 @@ pub fn alone<S: Source, K: Sink, E: Sink>(
     ensures few { IfOk result (λ ending. ending.lines ≤ MAX_LINES) }
     ensures writing { IfOk result (λ ending. (K.has_failed writer.new
         || E.has_failed complaints.new) ≡ is_write_fault ending.fault) }
-    ensures reading { IfOk result (λ ending. IfNone ending.fault (S.has_failed reader.new ≡ false)) }
+    ensures reading { IfOk result (λ ending.
+        IfNone ending.fault (S.has_failed reader.new ≡ false)) }
     ensures ok { IfOk result (λ ending. IfSome ending.fault (λ fault. fault ≢ NoRoom →
         IfSome (S.remaining reader.old) (λ input. HasCause input MAX_LINES
         (S.has_failed reader.new) (K.has_failed writer.new || E.has_failed complaints.new)))) }
@@ -178,7 +182,8 @@ pub fn alone<S: Source, K: Sink, E: Sink>(
         (K.has_failed writer.old || E.has_failed complaints.old)) (λ fault.
         IsUnplayed play.entry.machine.now ending fault
         × (reader.new ≡ reader.old) × (writer.new ≡ writer.old) × (complaints.new ≡ complaints.old))) }
-    ensures unbooted { IfErr result (λ fault. fault ≢ NoMemory → boot_fault play.entry.machine.now ≡ Some fault) }
+    ensures unbooted { IfErr result (λ fault. fault ≢ NoMemory →
+        boot_fault play.entry.machine.now ≡ Some fault) }
     ensures untouched { OnErr result
         ((reader.new ≡ reader.old) × (writer.new ≡ writer.old) × (complaints.new ≡ complaints.old)) }
 {

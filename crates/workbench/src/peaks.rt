@@ -99,7 +99,8 @@ impl Peaks {
     /// The peaks before the first line.
     pub(crate) fn new<R: Router + Drop>(alloc: Global, core: &Core<R>) -> Result<Peaks, AllocError>
         ensures init { IfOk result (λ peaks. peaked peaks.init ≡ in_use (machine_init core.now)) }
-        ensures count { IfOk result (λ peaks. length peaks.components.items ≡ length core.now.entries) }
+        ensures count { IfOk result (λ peaks.
+            length peaks.components.items ≡ length core.now.entries) }
         ensures components { IfOk result (λ peaks. (place : ℕ) → place < length core.now.entries →
             peak_at peaks.components.items place ≡ in_use (account_at core.now place)) }
         ensures sessions { IfOk result (λ peaks. peaks.sessions.items ≡ []) }
@@ -148,7 +149,8 @@ impl Peaks {
     fn raise_accounts<R: Router + Drop>(&mut self, core: &Core<R>)
         ensures init { peaked self.new.init ≡ grown (peaked self.old.init) (machine_init core.now) }
         ensures count { length self.new.components.items ≡ length self.old.components.items }
-        ensures components { (place : ℕ) → place < length core.now.entries → place < length self.old.components.items →
+        ensures components { (place : ℕ) → place < length core.now.entries →
+            place < length self.old.components.items →
             peak_at self.new.components.items place
             ≡ grown (peak_at self.old.components.items place) (account_at core.now place) }
         ensures sessions { self.new.sessions.items ≡ self.old.sessions.items }
@@ -166,7 +168,8 @@ impl Peaks {
     fn raise_sessions<R: Router + Drop>(&mut self, core: &Core<R>) -> Result<(), AllocError>
         ensures init { self.new.init ≡ self.old.init }
         ensures components { self.new.components.items ≡ self.old.components.items }
-        ensures sessions { OnOk result ((component selector : ℕ) → component < length core.now.entries →
+        ensures sessions { OnOk result ((component selector : ℕ) →
+            component < length core.now.entries →
             found self.new.sessions.items component selector
             ≡ raised_in (session_at component selector core.now) (found self.old.sessions.items component selector)) }
     {
@@ -190,7 +193,8 @@ impl Peaks {
         requires listed { core.now.entries ≡ entries_of (start_list_of list.now) }
         ensures init { self.new.init ≡ self.old.init }
         ensures components { self.new.components.items ≡ self.old.components.items }
-        ensures sessions { OnOk result ((component selector : ℕ) → component < length core.now.entries →
+        ensures sessions { OnOk result ((component selector : ℕ) →
+            component < length core.now.entries →
             found self.new.sessions.items component selector
             ≡ option_or (found self.old.sessions.items component selector)
             (begun_by list.now core.now line.now component selector)) }

@@ -159,7 +159,8 @@ fn play_all<R: Router + Drop, W: Watch, S: Source, K: Sink, E: Sink>(
 ) -> Result<(), PlayFault>
     requires listed { core.old.entries ≡ entries_of (start_list_of run.now.list.now) }
     requires fresh { notes.old.buffers.ahead ≡ [] }
-    requires works { AllWork (S.has_failed reader.old) (K.has_failed writer.old) (E.has_failed complaints.old) }
+    requires works { AllWork (S.has_failed reader.old) (K.has_failed writer.old)
+        (E.has_failed complaints.old) }
     ensures plays { W.sees watch.old run.now.list.now core.old [] →
         PlaysAll (W.tells watch.old core.old) W.takes (W.sees watch.new run.now.list.now core.old)
         (option_copied run.now.only) (result_err result) tally.new.lines core.old core.new
@@ -220,8 +221,10 @@ fn play_next<R: Router + Drop, W: Watch, S: Source, K: Sink, E: Sink>(
     complaints: &mut E,
 ) -> Result<Played, PlayFault>
     requires listed { core.old.entries ≡ entries_of (start_list_of run.now.list.now) }
-    requires works { AllWork (S.has_failed reader.old) (K.has_failed writer.old) (E.has_failed complaints.old) }
-    ensures next { (start : World) (earlier : List (List ℕ)) → Watches (W.sees watch.old run.now.list.now) start earlier core.old →
+    requires works { AllWork (S.has_failed reader.old) (K.has_failed writer.old)
+        (E.has_failed complaints.old) }
+    ensures next { (start : World) (earlier : List (List ℕ)) →
+        Watches (W.sees watch.old run.now.list.now) start earlier core.old →
         PlaysNext (W.tells watch.old start) W.takes (W.sees watch.new run.now.list.now start)
         (option_copied run.now.only) notes.old.number earlier result (S.has_failed reader.new)
         (point core.old notes.old.buffers (S.remaining reader.old) (K.contents writer.old))
@@ -272,17 +275,20 @@ fn play_ahead<R: Router + Drop, W: Watch, K: Sink, E: Sink>(
     ensures world { core.new ≡ after_all (option_copied run.now.only) core.old
         (call_of (take count notes.old.buffers.ahead)) }
     ensures passed { notes.new.buffers.ahead ≡ drop (count + 1) notes.old.buffers.ahead }
-    ensures told { (start : World) (earlier : List (List ℕ)) → Watches (W.sees watch.old run.now.list.now) start earlier core.old →
+    ensures told { (start : World) (earlier : List (List ℕ)) →
+        Watches (W.sees watch.old run.now.list.now) start earlier core.old →
         TellsUnless result (K.contents writer.old) notes.old.buffers.gathered
         (K.contents writer.new) notes.new.buffers.gathered
         (told_of_calls (W.tells watch.old start) earlier notes.old.number
         (said_by (option_copied run.now.only) (call_of (take count notes.old.buffers.ahead)))) }
-    ensures seen { (start : World) (earlier : List (List ℕ)) → Watches (W.sees watch.old run.now.list.now) start earlier core.old →
+    ensures seen { (start : World) (earlier : List (List ℕ)) →
+        Watches (W.sees watch.old run.now.list.now) start earlier core.old →
         OnOk result (Watches (W.sees watch.new run.now.list.now) start
         (earlier ++ said_by (option_copied run.now.only) (call_of (take count notes.old.buffers.ahead))) core.new) }
     ensures same { W.tells watch.new ≡ W.tells watch.old }
     ensures held { W.holds watch.new ≡ W.holds watch.old }
-    ensures works { OnOk result (OutputsWork (K.has_failed writer.new) (E.has_failed complaints.new)) }
+    ensures works { OnOk result (OutputsWork (K.has_failed writer.new)
+        (E.has_failed complaints.new)) }
     ensures failing { Fails result (K.has_failed writer.new || E.has_failed complaints.new)
         (line_takes_room W.takes (take count notes.old.buffers.ahead)) }
 {
@@ -318,16 +324,19 @@ fn play_line<R: Router + Drop, W: Watch, K: Sink, E: Sink>(
     requires listed { core.old.entries ≡ entries_of (start_list_of run.now.list.now) }
     requires works { OutputsWork (K.has_failed writer.old) (E.has_failed complaints.old) }
     ensures world { core.new ≡ after_all (option_copied run.now.only) core.old (call_of line.now) }
-    ensures told { (start : World) (earlier : List (List ℕ)) → Watches (W.sees watch.old run.now.list.now) start earlier core.old →
+    ensures told { (start : World) (earlier : List (List ℕ)) →
+        Watches (W.sees watch.old run.now.list.now) start earlier core.old →
         TellsUnless result (K.contents writer.old) gathered.old (K.contents writer.new) gathered.new
         (told_of_calls (W.tells watch.old start) earlier number
         (said_by (option_copied run.now.only) (call_of line.now))) }
-    ensures seen { (start : World) (earlier : List (List ℕ)) → Watches (W.sees watch.old run.now.list.now) start earlier core.old →
+    ensures seen { (start : World) (earlier : List (List ℕ)) →
+        Watches (W.sees watch.old run.now.list.now) start earlier core.old →
         OnOk result (Watches (W.sees watch.new run.now.list.now) start
         (earlier ++ said_by (option_copied run.now.only) (call_of line.now)) core.new) }
     ensures same { W.tells watch.new ≡ W.tells watch.old }
     ensures held { W.holds watch.new ≡ W.holds watch.old }
-    ensures works { OnOk result (OutputsWork (K.has_failed writer.new) (E.has_failed complaints.new)) }
+    ensures works { OnOk result (OutputsWork (K.has_failed writer.new)
+        (E.has_failed complaints.new)) }
     ensures failing { Fails result (K.has_failed writer.new || E.has_failed complaints.new)
         (line_takes_room W.takes line.now) }
     ensures judged { IfOk result (IsJudged (option_copied run.now.only) core.old (said_of line.now)
@@ -373,11 +382,13 @@ where
     requires listed { core.old.entries ≡ entries_of (start_list_of run.now.list.now) }
     requires writes { K.has_failed writer.old ≡ false }
     ensures world { core.new ≡ after_all (option_copied run.now.only) core.old (line.now ∷ []) }
-    ensures told { (start : World) (earlier : List (List ℕ)) → Watches (W.sees watch.old run.now.list.now) start earlier core.old →
+    ensures told { (start : World) (earlier : List (List ℕ)) →
+        Watches (W.sees watch.old run.now.list.now) start earlier core.old →
         TellsUnless result (K.contents writer.old) gathered.old (K.contents writer.new) gathered.new
         (told_of_calls (W.tells watch.old start) earlier number
         (said_by (option_copied run.now.only) (line.now ∷ []))) }
-    ensures seen { (start : World) (earlier : List (List ℕ)) → Watches (W.sees watch.old run.now.list.now) start earlier core.old →
+    ensures seen { (start : World) (earlier : List (List ℕ)) →
+        Watches (W.sees watch.old run.now.list.now) start earlier core.old →
         OnOk result (Watches (W.sees watch.new run.now.list.now) start
         (earlier ++ said_by (option_copied run.now.only) (line.now ∷ [])) core.new) }
     ensures same { W.tells watch.new ≡ W.tells watch.old }

@@ -1,103 +1,114 @@
-//! A row of a table of comma-separated values.
-ghost use Rattle.std.specs.Prelude.{◌≡◌, ◌∷◌, ◌++◌, [], IfOk, IfErr, decimal};
-ghost use Rattle.std.specs.Option.{option_map};
-ghost use Rattle.csv.specs.Writing.{default_writer, row_text};
+//! Cells of comma-separated values, as they stand behind others in a row.
+ghost use Rattle.std.specs.Prelude.{◌≡◌, ◌+◌, ◌≤◌, ◌∷◌, ◌++◌, [], decimal, false, is_err};
+ghost use Rattle.arrayvec.specs.ArrayVec.{array_vec_len};
+ghost use Rattle.csv.specs.Writing.{default_writer, escaped, field_text, fields_text, needs_byte, needs_quotes, quoted};
 ghost use Rattle.pd_core.specs.Answer.{quotas_account};
-ghost use Rattle.workbench.specs.Tracing.{cells_of};
-ghost use Rattle.workbench.specs.declared.ending.PlayFault.TheVariants.{NoMemory as NoRoom};
+ghost use Rattle.scenario.specs.Gathered.{TellsUnless};
+ghost use Rattle.workbench.specs.Tracing.{account_cells, cell_text};
 
-use crate::ending::PlayFault;
-use csv::{ByteRecord, Error, IntoInnerError, Writer, WriterBuilder};
-use itoa::Buffer;
+use crate::text::{add, add_number};
+use arrayvec::ArrayVec;
 use pd_core::Quotas;
-use std::alloc::Global;
-use std::marker::Model;
+use scenario::{DeviceFault, Gather, Sink};
 
-/// Cells from left to right.
-#[derive(Drop)]
-pub(crate) struct Row {
-    alloc: Global,
-    cells: ByteRecord,
-}
-
-impl Model for Row {
-    ghost use Rattle.std.specs.Prelude.{◌≡◌, ℕ, List, []};
-    ghost use Rattle.csv.specs.Records.{fields_of, partial_of};
-
-    ghost Value = { List (List ℕ) };
-
-    ghost view = { λ row. fields_of row.cells };
-
-    ghost invariant = { λ row. partial_of row.cells ≡ [] };
-}
-
-impl From<Error> for PlayFault {
-    ghost from_gives = { λ _ result. result ≡ NoRoom };
-
-    fn from(_fault: Error) -> PlayFault {
-        PlayFault::NoMemory
+/// Gathers a cell more with a text, in quotes where it needs them.
+pub(crate) fn put_cell<K: Sink>(
+    text: &[u8],
+    gathered: &mut Gather,
+    sink: &mut K,
+) -> Result<(), DeviceFault>
+    requires { K.has_failed sink.old ≡ false }
+    ensures told { TellsUnless result (K.contents sink.old) gathered.old
+        (K.contents sink.new) gathered.new
+        (cell_text text.now) }
+    ensures failing { K.has_failed sink.new ≡ is_err result }
+{
+    gathered.put(sink, b",")?;
+    if needs_quotes(text) {
+        put_quoted(text, gathered, sink)
+    } else {
+        gathered.put(sink, text)
     }
 }
 
-impl From<IntoInnerError<Writer<Vec<u8>>>> for PlayFault {
-    ghost from_gives = { λ _ result. result ≡ NoRoom };
+// Whether a text has a byte that calls for quotes.
+fn needs_quotes(text: &[u8]) -> bool
+    ensures { result ≡ needs_quotes default_writer text.now }
+{
+    text.iter().any(|byte| needs_byte(*byte))
+}
 
-    fn from(_fault: IntoInnerError<Writer<Vec<u8>>>) -> PlayFault {
-        PlayFault::NoMemory
+// Whether a byte calls for quotes.
+fn needs_byte(byte: u8) -> bool
+    ensures { result ≡ needs_byte default_writer byte }
+{
+    byte == b',' || byte == b'"' || byte == b'\r' || byte == b'\n'
+}
+
+// Gathers a text in quotes, with each quote in it twice.
+fn put_quoted<K: Sink>(text: &[u8], gathered: &mut Gather, sink: &mut K) -> Result<(), DeviceFault>
+    requires { K.has_failed sink.old ≡ false }
+    ensures told { TellsUnless result (K.contents sink.old) gathered.old
+        (K.contents sink.new) gathered.new
+        (quoted default_writer text.now) }
+    ensures failing { K.has_failed sink.new ≡ is_err result }
+{
+    gathered.put(sink, b"\"")?;
+    put_escaped(text, gathered, sink)?;
+    gathered.put(sink, b"\"")
+}
+
+// Gathers a text with each quote in it twice.
+fn put_escaped<K: Sink>(text: &[u8], gathered: &mut Gather, sink: &mut K) -> Result<(), DeviceFault>
+    requires { K.has_failed sink.old ≡ false }
+    ensures told { TellsUnless result (K.contents sink.old) gathered.old
+        (K.contents sink.new) gathered.new
+        (escaped default_writer text.now) }
+    ensures failing { K.has_failed sink.new ≡ is_err result }
+{
+    for place in 0..text.len() {
+        put_byte(text[place], gathered, sink)?;
+    }
+    Ok(())
+}
+
+// Gathers a byte, a quote twice.
+#[tactic(auto, unfolding(csv::specs::Writing::escaped))]
+fn put_byte<K: Sink>(byte: u8, gathered: &mut Gather, sink: &mut K) -> Result<(), DeviceFault>
+    requires { K.has_failed sink.old ≡ false }
+    ensures told { TellsUnless result (K.contents sink.old) gathered.old
+        (K.contents sink.new) gathered.new
+        (escaped default_writer (byte ∷ [])) }
+    ensures failing { K.has_failed sink.new ≡ is_err result }
+{
+    if byte == b'"' {
+        gathered.put(sink, b"\"\"")
+    } else {
+        gathered.put(sink, &[byte])
     }
 }
 
-impl Row {
-    /// No cells yet.
-    pub(crate) fn new(alloc: Global) -> Row
-        ensures { result ≡ [] }
-    {
-        Row {
-            alloc,
-            cells: ByteRecord::new(alloc),
-        }
-    }
+/// Appends a cell more with a number.
+#[tactic(auto, using(crate::proofs::RowLemmas::plain_numbers))]
+pub(crate) fn add_cell<const N: usize>(text: &mut ArrayVec<u8, N>, number: u64)
+    requires { array_vec_len text.old + 21 ≤ N }
+    ensures items { text.new.items ≡ text.old.items ++ cell_text (decimal number) }
+    ensures len { array_vec_len text.new ≤ array_vec_len text.old + 21 }
+{
+    add(text, b",");
+    add_number(text, number);
+}
 
-    /// A cell more with a text.
-    pub(crate) fn text(mut self, text: &[u8]) -> Result<Row, PlayFault>
-        ensures value { IfOk result (λ row. row ≡ self ++ text.now ∷ []) }
-        ensures fault { IfErr result (λ fault. fault ≡ NoRoom) }
-    {
-        self.cells.push_field(text)?;
-        Ok(self)
-    }
-
-    /// A cell more with a number.
-    pub(crate) fn number(self, number: u64) -> Result<Row, PlayFault>
-        ensures value { IfOk result (λ row. row ≡ self ++ decimal number ∷ []) }
-        ensures fault { IfErr result (λ fault. fault ≡ NoRoom) }
-    {
-        let mut digits = Buffer::new();
-        self.text(digits.format(number).as_bytes())
-    }
-
-    /// Four cells more with an account's use and limit of RAM and of capabilities, or empty ones.
-    pub(crate) fn account(self, account: Option<Quotas>) -> Result<Row, PlayFault>
-        ensures value { IfOk result (λ row. row ≡ self ++ cells_of (option_map quotas_account account)) }
-        ensures fault { IfErr result (λ fault. fault ≡ NoRoom) }
-    {
-        match account {
-            Some(account) => self
-                .number(account.ram_used.0)?
-                .number(account.ram_limit.0)?
-                .number(u64::from(account.caps_used.0))?
-                .number(u64::from(account.caps_limit.0)),
-            None => self.text(b"")?.text(b"")?.text(b"")?.text(b""),
-        }
-    }
-
-    /// The row as a line.
-    pub(crate) fn line(&self) -> Result<Vec<u8>, PlayFault>
-        ensures value { IfOk result (λ line. line.items ≡ row_text default_writer self.now) }
-        ensures fault { IfErr result (λ fault. fault ≡ NoRoom) }
-    {
-        let mut table = WriterBuilder::new().from_writer(Vec::new(self.alloc));
-        table.write_byte_record(&self.cells)?;
-        Ok(table.into_inner()?)
-    }
+/// Appends four cells more with an account's use and limit of RAM and of capabilities.
+#[tactic(auto, using(crate::proofs::RowLemmas::four_cells))]
+pub(crate) fn add_account<const N: usize>(text: &mut ArrayVec<u8, N>, account: Quotas)
+    requires { array_vec_len text.old + 84 ≤ N }
+    ensures items { text.new.items
+        ≡ text.old.items ++ fields_text default_writer (account_cells (quotas_account account)) }
+    ensures len { array_vec_len text.new ≤ array_vec_len text.old + 84 }
+{
+    add_cell(text, account.ram_used.0);
+    add_cell(text, account.ram_limit.0);
+    add_cell(text, u64::from(account.caps_used.0));
+    add_cell(text, u64::from(account.caps_limit.0));
 }

@@ -22,7 +22,8 @@ pub(crate) fn put_number<I: Integer, K: Sink>(
     sink: &mut K,
 ) -> Result<(), DeviceFault>
     requires { K.has_failed sink.old ≡ false }
-    ensures told { TellsUnless result (K.contents sink.old) gathered.old (K.contents sink.new) gathered.new
+    ensures told { TellsUnless result (K.contents sink.old) gathered.old
+        (K.contents sink.new) gathered.new
         (I.text number) }
     ensures failing { K.has_failed sink.new ≡ is_err result }
 {
@@ -39,7 +40,8 @@ pub(crate) fn put_three<K: Sink>(
     sink: &mut K,
 ) -> Result<(), DeviceFault>
     requires { K.has_failed sink.old ≡ false }
-    ensures told { TellsUnless result (K.contents sink.old) gathered.old (K.contents sink.new) gathered.new
+    ensures told { TellsUnless result (K.contents sink.old) gathered.old
+        (K.contents sink.new) gathered.new
         (first.now ++ then.now ++ last.now) }
     ensures failing { K.has_failed sink.new ≡ is_err result }
 {
@@ -84,7 +86,8 @@ pub(crate) fn call_in(line: &[u8]) -> Option<(&[u8], Call<'_>)>
 
 /// The component that a call under a name is heard of: none where nobody has the name, or an init, which makes no calls.
 pub(crate) fn caller_of(list: &StartList, name: &[u8]) -> Option<usize>
-    ensures heard { (call : Said) → heard_spoken (entries_of (start_list_of list.now)) (Some (record { name = name.now; call = call }))
+    ensures heard { (call : Said) → heard_spoken (entries_of (start_list_of list.now))
+        (Some (record { name = name.now; call = call }))
         ≡ heard_as name.now call result }
     ensures inside { IfSome result (λ component. component < length list.now.entries) }
 {

@@ -1,15 +1,18 @@
 //! The trace of a scenario: a row of figures for each call.
-ghost use Rattle.std.specs.Prelude.{◌≡◌, ◌≢◌, ◌+◌, ◌<◌, ◌≤◌, ◌∷◌, ◌++◌, ◌||◌, [], ⊤, length, decimal, true, false, IfOk, IfErr, IfSome, OnErr, IfNone, None, Some, drop};
+ghost use Rattle.std.specs.Prelude.{◌≡◌, ◌≢◌, ◌+◌, ◌<◌, ◌≤◌, ◌∷◌, ◌++◌, ◌||◌, [], ⊤, length, decimal, false, is_err, IfOk, IfErr, IfSome, OnErr, IfNone, None, Some, drop};
+ghost use Rattle.arrayvec.specs.ArrayVec.{array_vec_len};
+ghost use Rattle.csv.specs.Writing.{default_writer, fields_text};
 ghost use Rattle.own_model.specs.Listed.{start_list_of};
 ghost use Rattle.own_model.specs.StartList.{entries_of};
 ghost use Rattle.own_model.specs.Transcript.{heard, heard_spoken, state_at};
 ghost use Rattle.init_core.specs.declared.fault.BootFault.TheVariants.{NoMemory};
 ghost use Rattle.pd_core.specs.Call.{model_call};
+ghost use Rattle.scenario.specs.Gathered.{TellsUnless};
 ghost use Rattle.scenario.specs.Program.{boot_fault};
 ghost use Rattle.scenario.specs.Runs.{HasCause};
 ghost use Rattle.workbench.specs.Faults.{fault_before, is_write_fault, unplayed};
 ghost use Rattle.workbench.specs.Played.{told_of_lines};
-ghost use Rattle.workbench.specs.Tracing.{call_text, caller_cells, figures, session_cells, session_of, stranger_cells, trace_header, trace_tells, trace_told};
+ghost use Rattle.workbench.specs.Tracing.{call_text, caller_cells, cell_text, figures, session_cells, session_of, stranger_cells, trace_header, trace_tells, trace_told};
 ghost use Rattle.workbench.specs.Writes.{IsPlayed, IsPlayedFrom, IsUnplayed, nothing_told};
 ghost use Rattle.workbench.specs.declared.ending.PlayFault.TheVariants.{NoMemory as NoRoom};
 
@@ -17,28 +20,28 @@ use crate::ending::{Ending, PlayFault};
 use crate::machine::Play;
 use crate::notes::Notes;
 use crate::playing::play as play_lines;
-use crate::row::Row;
-use crate::text::{call_in, caller_of};
+use crate::row::{add_account, add_cell, put_cell};
+use crate::text::{add, call_in, caller_of, put_number};
 use crate::watch::{Heard, Watch};
+use arrayvec::ArrayVec;
 use init_core::{BootFault, StartList, boot};
 use pd_core::{Call, Core, Router};
-use scenario::{Gather, MAX_LINES, Run, Sink, Source};
+use scenario::{DeviceFault, Gather, MAX_LINES, Run, Sink, Source};
 use std::alloc::Global;
 
 /// The names of the columns.
 const HEADER: &[u8] =
     b"line,component,call,reply,ram_used,ram_limit,caps_used,caps_limit,session,session_ram_used,session_ram_limit,session_caps_used,session_caps_limit\n";
 
+/// Room for the figures of a row, with its newline.
+const LONGEST_FIGURES: usize = 200;
+
 /// Tells the figures after each call.
 #[derive(Drop)]
-pub(crate) struct Tracer {
-    alloc: Global,
-}
+pub(crate) struct Tracer;
 
 impl Watch for Tracer {
     ghost tells = { λ _. trace_tells };
-
-    ghost takes = { true };
 
     ghost sees = { λ _ _ _ _. ⊤ };
 
@@ -50,37 +53,74 @@ impl Watch for Tracer {
         gathered: &mut Gather,
         writer: &mut K,
     ) -> Result<(), PlayFault> {
-        let line = row_of(self.alloc, core, list, heard)?.line()?;
-        gathered.put(writer, line.as_slice())?;
+        let (call, figures) = told_of(core, list, heard.line);
+        let front = Front {
+            number: heard.number,
+            name: heard.answer.name,
+            call,
+            reply: heard.answer.reply,
+        };
+        put_row(front, figures.as_slice(), gathered, writer)?;
         Ok(())
     }
 }
 
-// The row of a call.
-fn row_of<R: Router + Drop>(
-    alloc: Global,
+// What stands in a row before its figures.
+#[derive(Clone, Copy)]
+struct Front<'a> {
+    number: u64,
+    name: &'a [u8],
+    call: &'a [u8],
+    reply: &'a [u8],
+}
+
+// Gathers a row by what stands before its figures, and these.
+fn put_row<K: Sink>(
+    front: Front<'_>,
+    figures: &[u8],
+    gathered: &mut Gather,
+    writer: &mut K,
+) -> Result<(), DeviceFault>
+    requires { K.has_failed writer.old ≡ false }
+    ensures told { TellsUnless result (K.contents writer.old) gathered.old
+        (K.contents writer.new) gathered.new
+        (decimal front.entry.number ++ cell_text front.entry.name.now
+        ++ cell_text front.entry.call.now ++ cell_text front.entry.reply.now ++ figures.now) }
+    ensures failing { K.has_failed writer.new ≡ is_err result }
+{
+    put_number(front.number, gathered, writer)?;
+    put_cell(front.name, gathered, writer)?;
+    put_cell(front.call, gathered, writer)?;
+    put_cell(front.reply, gathered, writer)?;
+    gathered.put(writer, figures)
+}
+
+// What a line says as a call, and the figures after it as they end a row.
+fn told_of<'a, R: Router + Drop>(
     core: &Core<R>,
     list: &StartList,
-    told: &Heard<'_>,
-) -> Result<Row, PlayFault>
+    line: &'a [u8],
+) -> (&'a [u8], ArrayVec<u8, LONGEST_FIGURES>)
     requires listed { core.now.entries ≡ entries_of (start_list_of list.now) }
-    ensures fault { IfErr result (λ fault. fault ≡ NoRoom) }
-    ensures value { IfOk result (λ row. row
-        ≡ decimal told.now.number ∷ told.now.answer.name.now ∷ call_text told.now.line.now
-        ∷ told.now.answer.reply.now ∷ figures core.now (heard core.now.entries told.now.line.now)) }
+    ensures call { result.0.now ≡ call_text line.now }
+    ensures figures { result.1.items
+        ≡ fields_text default_writer (figures core.now (heard core.now.entries line.now)) ++ 10 ∷ [] }
 {
-    let row = Row::new(alloc).number(told.number)?.text(told.answer.name)?;
-    match call_in(told.line) {
+    let mut text = ArrayVec::new();
+    match call_in(line) {
         Some((name, call)) => {
-            let row = row
-                .text(text_behind(name, told.line))?
-                .text(told.answer.reply)?;
             match caller_of(list, name) {
-                Some(component) => put_caller(row, core, component, call),
-                None => put_stranger(row),
+                Some(component) => add_caller(&mut text, core, component, call),
+                None => add_stranger(&mut text),
             }
+            add(&mut text, b"\n");
+            (text_behind(name, line), text)
         }
-        None => put_stranger(row.text(told.line)?.text(told.answer.reply)?),
+        None => {
+            add_stranger(&mut text);
+            add(&mut text, b"\n");
+            (line, text)
+        }
     }
 }
 
@@ -91,48 +131,56 @@ fn text_behind<'a>(name: &[u8], line: &'a [u8]) -> &'a [u8]
     &line[line.len().min(name.len().saturating_add(1))..]
 }
 
-// Empty cells, of who isn't there.
-fn put_stranger(row: Row) -> Result<Row, PlayFault>
-    ensures fault { IfErr result (λ fault. fault ≡ NoRoom) }
-    ensures value { IfOk result (λ all. all ≡ row ++ stranger_cells) }
+// Appends empty cells, of who isn't there.
+#[tactic(auto, using(crate::proofs::RowLemmas::empty_cells))]
+fn add_stranger(text: &mut ArrayVec<u8, LONGEST_FIGURES>)
+    requires { text.old.items ≡ [] }
+    ensures items { text.new.items ≡ fields_text default_writer stranger_cells }
+    ensures len { array_vec_len text.new ≤ 189 }
 {
-    row.account(None)?.text(b"")?.account(None)
+    add(text, b",,,,,,,,,");
 }
 
-// The cells of the component at a place, and of the session that its call names.
-fn put_caller<R: Router + Drop>(
-    row: Row,
+// Appends the cells of the component at a place, and of the session that its call names.
+fn add_caller<R: Router + Drop>(
+    text: &mut ArrayVec<u8, LONGEST_FIGURES>,
     core: &Core<R>,
     component: usize,
     call: Call<'_>,
-) -> Result<Row, PlayFault>
+)
+    requires empty { text.old.items ≡ [] }
     requires component { component < length core.now.entries }
-    ensures fault { IfErr result (λ fault. fault ≡ NoRoom) }
-    ensures value { IfOk result (λ all. all
-        ≡ row ++ caller_cells core.now component (model_call call.entry)) }
+    ensures items { text.new.items
+        ≡ fields_text default_writer (caller_cells core.now component (model_call call.entry)) }
+    ensures len { array_vec_len text.new ≤ 189 }
 {
-    let account = core.account(component);
-    let row = row.account(Some(account))?;
-    put_session(row, core, component, session_of(call))
+    add_account(text, core.account(component));
+    match session_of(call) {
+        Some(selector) => add_session(text, core, component, selector),
+        None => add(text, b",,,,,"),
+    }
 }
 
-// The cells of the session that a selector of a component names, or empty ones.
-fn put_session<R: Router + Drop>(
-    row: Row,
+// Appends the cells of the session that a selector of a component names, or empty ones.
+#[tactic(auto, using(crate::proofs::RowLemmas::empty_cells))]
+fn add_session<R: Router + Drop>(
+    text: &mut ArrayVec<u8, LONGEST_FIGURES>,
     core: &Core<R>,
     component: usize,
-    selector: Option<u64>,
-) -> Result<Row, PlayFault>
+    selector: u64,
+)
+    requires room { array_vec_len text.old ≤ 84 }
     requires component { component < length core.now.entries }
-    ensures fault { IfErr result (λ fault. fault ≡ NoRoom) }
-    ensures value { IfOk result (λ all. all ≡ row ++ session_cells (state_at core.now.states component) selector) }
+    ensures items { text.new.items ≡ text.old.items
+        ++ fields_text default_writer (session_cells (state_at core.now.states component) (Some selector)) }
+    ensures len { array_vec_len text.new ≤ array_vec_len text.old + 105 }
 {
-    let Some(selector) = selector else {
-        return row.text(b"")?.account(None);
-    };
     match core.session_account(component, selector) {
-        Some(account) => row.number(selector)?.account(Some(account)),
-        None => row.text(b"")?.account(None),
+        Some(account) => {
+            add_cell(text, selector);
+            add_account(text, account);
+        }
+        None => add(text, b",,,,,"),
     }
 }
 
@@ -153,8 +201,7 @@ fn session_of(call: Call<'_>) -> Option<u64>
 /// the session that the call names. Complaints are written as they come.
 ///
 /// The figures are those of the own state that the call leaves its caller. At a fault the rows of the lines that were
-/// played are written, or where a write failed or the host has no room a part of them, from the front. It stops as `run` does, and
-/// for want of room at a call too.
+/// played are written, or where a write failed or the host has no room a part of them, from the front. It stops as `run` does.
 #[tactic(auto, using(scenario::proofs::TaskLemmas::tasks))]
 pub fn trace<S: Source, K: Sink, E: Sink>(
     alloc: Global,
@@ -165,13 +212,14 @@ pub fn trace<S: Source, K: Sink, E: Sink>(
 ) -> Result<Ending, BootFault>
     ensures played { IfOk result (λ ending. fault_before (S.has_failed reader.old)
         (K.has_failed writer.old || E.has_failed complaints.old) ≡ None →
-        IsPlayed play.entry.machine.now trace_told nothing_told true ending
+        IsPlayed play.entry.machine.now trace_told nothing_told false ending
         (S.remaining reader.old) (S.remaining reader.new)
         (S.has_failed reader.new) (K.contents writer.old) (K.contents writer.new)) }
     ensures few { IfOk result (λ ending. ending.lines ≤ MAX_LINES) }
     ensures writing { IfOk result (λ ending. (K.has_failed writer.new
         || E.has_failed complaints.new) ≡ is_write_fault ending.fault) }
-    ensures reading { IfOk result (λ ending. IfNone ending.fault (S.has_failed reader.new ≡ false)) }
+    ensures reading { IfOk result (λ ending.
+        IfNone ending.fault (S.has_failed reader.new ≡ false)) }
     ensures ok { IfOk result (λ ending. IfSome ending.fault (λ fault. fault ≢ NoRoom →
         IfSome (S.remaining reader.old) (λ input. HasCause input MAX_LINES
         (S.has_failed reader.new) (K.has_failed writer.new || E.has_failed complaints.new)))) }
@@ -179,7 +227,8 @@ pub fn trace<S: Source, K: Sink, E: Sink>(
         (K.has_failed writer.old || E.has_failed complaints.old)) (λ fault.
         IsUnplayed play.entry.machine.now ending fault
         × (reader.new ≡ reader.old) × (writer.new ≡ writer.old) × (complaints.new ≡ complaints.old))) }
-    ensures unbooted { IfErr result (λ fault. fault ≢ NoMemory → boot_fault play.entry.machine.now ≡ Some fault) }
+    ensures unbooted { IfErr result (λ fault. fault ≢ NoMemory →
+        boot_fault play.entry.machine.now ≡ Some fault) }
     ensures untouched { OnErr result
         ((reader.new ≡ reader.old) × (writer.new ≡ writer.old) × (complaints.new ≡ complaints.old)) }
 {
@@ -190,7 +239,7 @@ pub fn trace<S: Source, K: Sink, E: Sink>(
         list: &list,
         only: None,
     };
-    let mut watch = Tracer { alloc };
+    let mut watch = Tracer;
     Ok(trace_on(
         &run, &mut core, &mut notes, &mut watch, reader, writer, complaints,
     ))
@@ -212,7 +261,7 @@ fn trace_on<R: Router + Drop, S: Source, K: Sink, E: Sink>(
     requires gathered { notes.old.buffers.gathered ≡ [] }
     ensures played { fault_before (S.has_failed reader.old)
         (K.has_failed writer.old || E.has_failed complaints.old) ≡ None → IsPlayedFrom (λ lines. trace_header ++ told_of_lines (trace_tells core.old) None [] 1 lines) (λ _. [])
-        true result (S.remaining reader.old) (S.remaining reader.new)
+        false result (S.remaining reader.old) (S.remaining reader.new)
         (S.has_failed reader.new) (K.contents writer.old) (K.contents writer.new) }
     ensures few { result.lines ≤ MAX_LINES }
     ensures writing { (K.has_failed writer.new || E.has_failed complaints.new)

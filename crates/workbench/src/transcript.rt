@@ -71,7 +71,8 @@ pub fn run<S: Source, K: Sink, E: Sink>(
     ensures few { IfOk result (λ ending. ending.lines ≤ MAX_LINES) }
     ensures writing { IfOk result (λ ending. (K.has_failed writer.new
         || E.has_failed complaints.new) ≡ is_write_fault ending.fault) }
-    ensures reading { IfOk result (λ ending. IfNone ending.fault (S.has_failed reader.new ≡ false)) }
+    ensures reading { IfOk result (λ ending.
+        IfNone ending.fault (S.has_failed reader.new ≡ false)) }
     ensures ok { IfOk result (λ ending. IfSome ending.fault (λ fault. fault ≢ NoRoom →
         IfSome (S.remaining reader.old) (λ input. HasCause input MAX_LINES
         (S.has_failed reader.new) (K.has_failed writer.new || E.has_failed complaints.new)))) }
@@ -79,7 +80,8 @@ pub fn run<S: Source, K: Sink, E: Sink>(
         (K.has_failed writer.old || E.has_failed complaints.old)) (λ fault.
         IsUnplayed play.entry.machine.now ending fault
         × (reader.new ≡ reader.old) × (writer.new ≡ writer.old) × (complaints.new ≡ complaints.old))) }
-    ensures unbooted { IfErr result (λ fault. fault ≢ NoMemory → boot_fault play.entry.machine.now ≡ Some fault) }
+    ensures unbooted { IfErr result (λ fault. fault ≢ NoMemory →
+        boot_fault play.entry.machine.now ≡ Some fault) }
     ensures untouched { OnErr result
         ((reader.new ≡ reader.old) × (writer.new ≡ writer.old) × (complaints.new ≡ complaints.old)) }
 {

@@ -49,11 +49,13 @@ pub(crate) trait Watch {
     ) -> Result<(), PlayFault>
         requires listed { core.now.entries ≡ entries_of (start_list_of list.now) }
         requires writes { K.has_failed writer.old ≡ false }
-        ensures told { (start : World) (earlier : List (List ℕ)) → sees self.old list.now start earlier →
+        ensures told { (start : World) (earlier : List (List ℕ)) →
+            sees self.old list.now start earlier →
             IsToldOf start earlier heard.now.line.now core.now heard.now.answer →
             TellsUnless result (K.contents writer.old) gathered.old (K.contents writer.new) gathered.new
             (tells self.old start earlier heard.now.number heard.now.line.now) }
-        ensures seen { (start : World) (earlier : List (List ℕ)) → sees self.old list.now start earlier →
+        ensures seen { (start : World) (earlier : List (List ℕ)) →
+            sees self.old list.now start earlier →
             IsToldOf start earlier heard.now.line.now core.now heard.now.answer →
             OnOk result (sees self.new list.now start (earlier ++ heard.now.line.now ∷ [])) }
         ensures same { tells self.new ≡ tells self.old }
