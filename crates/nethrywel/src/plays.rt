@@ -68,7 +68,15 @@ fn play_on(
     viewing: Viewing<'_>,
 ) -> u8 {
     if let Some(name) = viewing.name() {
-        warn_of_stranger(rt, text, name);
+        match (Review::read(rt.alloc(), text), machine) {
+            (Ok(review), _) => warn_of_stranger(rt, review.list(), name),
+            (Err(fault), Some(path)) => {
+                tell_fault(rt, path, &fault);
+                return REFUSED;
+            }
+            // The built-in list is none in want of memory alone, which the play tells.
+            (Err(_), None) => {}
+        }
     }
     let play = Play {
         machine: text,
@@ -92,11 +100,9 @@ fn play_on(
 }
 
 // Warns of a name that no component has.
-fn warn_of_stranger(rt: &HostRuntime, text: &[u8], name: &str) {
-    if let Ok(list) = StartList::read(rt.alloc(), text) {
-        if list.find(name.as_bytes()).is_none() {
-            let _ = eprintln!(rt; "{name}: no component of the machine has this name");
-        }
+fn warn_of_stranger(rt: &HostRuntime, list: &StartList, name: &str) {
+    if list.find(name.as_bytes()).is_none() {
+        let _ = eprintln!(rt; "{name}: no component of the machine has this name");
     }
 }
 
