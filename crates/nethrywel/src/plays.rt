@@ -60,11 +60,11 @@ pub(crate) fn play(
 }
 
 // Plays a scenario of a path on the machine of a text.
-fn play_on(
+fn play_on<'a>(
     rt: &HostRuntime,
-    text: &[u8],
+    text: &'a [u8],
     machine: Option<&str>,
-    scenario: &str,
+    scenario: &'a str,
     viewing: Viewing<'_>,
 ) -> u8 {
     if let Some(name) = viewing.name() {
