@@ -1,4 +1,4 @@
-//! Tests of the layers below the core: worked calls of each, as tables where they are such.
+//! Tests of the layers below the services: worked calls of each, as tables where they are such.
 #![tactic(auto)]
 
 #[cfg(test)]
@@ -9,21 +9,13 @@ mod best_fit;
 #[tactic(auto, using(crate::proofs::MemoryLemmas::store_laws))]
 mod dataspaces;
 #[cfg(test)]
-mod files;
-#[cfg(test)]
 mod heaps;
-#[cfg(test)]
-mod logs;
 #[cfg(test)]
 mod pages;
 #[cfg(test)]
 mod regions;
 #[cfg(test)]
-mod requests;
-#[cfg(test)]
 mod selectors;
-#[cfg(test)]
-mod server;
 #[cfg(test)]
 mod sliced;
 #[cfg(test)]

@@ -2,7 +2,7 @@
 use Rattle.std.proofs.Common.{rules, arith}
 use Rattle.slab.specs.Slab as slab
 use Rattle.server_frame.proofs.RowLaws.{row_at, admits_closed, open_closed}
-use Rattle.layer_tests.proofs.server.Machine.close.Goals as goal
+use Rattle.service_tests.proofs.server.Machine.close.Goals as goal
 
 pub invariant_of-self : goal.invariant_of-self
 invariant_of-self g c =

@@ -3,7 +3,7 @@ use Rattle.std.proofs.Common.{rules, ap, sym, ◌∙◌}
 use Rattle.slab.specs.Slab.{slab_len}
 use Rattle.slab.specs.Slab as slab
 use Rattle.server_frame.proofs.RowLaws.{row_at, admits_upgraded}
-use Rattle.layer_tests.proofs.server.Machine.upgrade.Goals as goal
+use Rattle.service_tests.proofs.server.Machine.upgrade.Goals as goal
 
 pub invariant_of-self : goal.invariant_of-self
 invariant_of-self g c =

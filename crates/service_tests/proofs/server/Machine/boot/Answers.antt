@@ -4,7 +4,7 @@ use Rattle.dataspace_core.specs.Store.{Part, ram_limits_in, room_in, places_in}
 use Rattle.dataspace_core.proofs.PartLaws.{open_in_part}
 use Rattle.dataspace_core.proofs.LimitLaws.{fresh_limits}
 use Rattle.server_frame.proofs.RowLaws.{admits_at_first}
-use Rattle.layer_tests.proofs.server.Machine.boot.Goals as goal
+use Rattle.service_tests.proofs.server.Machine.boot.Goals as goal
 
 pub invariant_of-result : goal.invariant_of-result
 invariant_of-result g c =

@@ -13,8 +13,11 @@ fn booted(rt: &impl Abort, alloc: Global, pages: usize) -> Machine<LogService> {
     Machine::boot(rt, alloc, LogService, pages)
 }
 
-/// Requests of two sessions in turn, each with its reply and the lines that it finishes.
-const TOLD: [(bool, &str, &str, &str); 23] = [
+/// A request of the first of two sessions or of the second, with its reply and the lines that it finishes.
+type Row = (bool, &'static str, &'static str, &'static str);
+
+/// Requests of two sessions in turn.
+const TOLD: &[Row] = &[
     (true, "WRITE 6869", "OK 2", ""),
     (false, "WRITE 07410a", "OK 3", "[bob] .A\n"),
     (true, "WRITE 0a62", "OK 2", "[alice -> main] hi\n"),
@@ -42,15 +45,18 @@ const TOLD: [(bool, &str, &str, &str); 23] = [
     (false, "WRITE 0a", "OK 1", "[bob] b\n"),
 ];
 
-#[test]
-fn log_lines_are_cut_and_labelled(rt: HostRuntime) {
-    let mut machine = booted(&rt, rt.alloc(), 16);
-    let alice = machine.opened(&rt, b"alice -> main", 4096, 2);
-    let bob = machine.opened(&rt, b"bob", 4096, 2);
-    for (is_alice, request, text, lines) in TOLD {
-        let id = if is_alice { alice } else { bob };
+/// Each request is answered as its row says, of these two sessions.
+fn are_told(
+    rt: &impl Abort,
+    machine: &mut Machine<LogService>,
+    first: SessionId,
+    second: SessionId,
+    rows: &[Row],
+) {
+    for (is_first, request, text, lines) in rows {
+        let id = if *is_first { first } else { second };
         let told = machine.tells(
-            &rt,
+            rt,
             id,
             request.as_bytes(),
             text.as_bytes(),
@@ -58,6 +64,14 @@ fn log_lines_are_cut_and_labelled(rt: HostRuntime) {
         );
         assert!(rt; told, "of {request}");
     }
+}
+
+#[test]
+fn log_lines_are_cut_and_labelled(rt: HostRuntime) {
+    let mut machine = booted(&rt, rt.alloc(), 16);
+    let alice = machine.opened(&rt, b"alice -> main", 4096, 2);
+    let bob = machine.opened(&rt, b"bob", 4096, 2);
+    are_told(&rt, &mut machine, alice, bob, TOLD);
     // What isn't finished goes with the session.
     machine.close(&rt, alice);
     let again = machine.opened(&rt, b"alice", 4096, 2);
@@ -188,32 +202,56 @@ fn two_thousand_sessions_come_and_go(rt: HostRuntime) {
     assert!(rt; machine.has(4096 * 4096, 4096));
 }
 
+/// What an open, or an upgrade, names, and why it is refused.
+type Refused = (u64, u32, Refusal);
+
+/// Of a client that has sixteen pages and as many capabilities.
+const OPENS: &[Refused] = &[
+    (65537, 17, Refusal::OutOfRam),
+    (u64::MAX, u32::MAX, Refusal::OutOfRam),
+    (65536, 17, Refusal::OutOfCaps),
+    (0, 17, Refusal::OutOfCaps),
+    (4095, 16, Refusal::InsufficientRamQuota),
+    (0, 0, Refusal::InsufficientRamQuota),
+    (4096, 1, Refusal::InsufficientCapQuota),
+    (65536, 0, Refusal::InsufficientCapQuota),
+];
+
+/// Of a client that has a page and two capabilities less.
+const UPGRADES: &[Refused] = &[
+    (61441, 15, Refusal::OutOfRam),
+    (61440, 15, Refusal::OutOfCaps),
+    (0, u32::MAX, Refusal::OutOfCaps),
+];
+
+/// Each open is refused, and leaves the client's limits.
+fn opens_are_refused(rt: &impl Abort, machine: &mut Machine<LogService>, rows: &[Refused]) {
+    for (ram, caps, refusal) in rows {
+        assert_eq!(rt; machine.open(rt, b"a", *ram, *caps), Err(*refusal));
+        assert!(rt; machine.has(65536, 16));
+    }
+}
+
+/// Each upgrade of a session is refused, and leaves both limits.
+fn upgrades_are_refused(
+    rt: &impl Abort,
+    machine: &mut Machine<LogService>,
+    id: SessionId,
+    rows: &[Refused],
+) {
+    for (ram, caps, refusal) in rows {
+        assert_eq!(rt; machine.upgrade(rt, id, *ram, *caps), Err(*refusal));
+        assert!(rt; machine.has(61440, 14));
+        assert!(rt; machine.session(rt, id) == ((4096, 2), (4096, 2)));
+    }
+}
+
 #[test]
 fn donations_are_refused_in_order(rt: HostRuntime) {
     let mut machine = booted(&rt, rt.alloc(), 16);
-    for (ram, caps, refusal) in [
-        (65537, 17, Refusal::OutOfRam),
-        (u64::MAX, u32::MAX, Refusal::OutOfRam),
-        (65536, 17, Refusal::OutOfCaps),
-        (0, 17, Refusal::OutOfCaps),
-        (4095, 16, Refusal::InsufficientRamQuota),
-        (0, 0, Refusal::InsufficientRamQuota),
-        (4096, 1, Refusal::InsufficientCapQuota),
-        (65536, 0, Refusal::InsufficientCapQuota),
-    ] {
-        assert_eq!(rt; machine.open(&rt, b"a", ram, caps), Err(refusal));
-        assert!(rt; machine.has(65536, 16));
-    }
+    opens_are_refused(&rt, &mut machine, OPENS);
     let id = machine.opened(&rt, b"a", 4096, 2);
-    for (ram, caps, refusal) in [
-        (61441, 15, Refusal::OutOfRam),
-        (61440, 15, Refusal::OutOfCaps),
-        (0, u32::MAX, Refusal::OutOfCaps),
-    ] {
-        assert_eq!(rt; machine.upgrade(&rt, id, ram, caps), Err(refusal));
-        assert!(rt; machine.has(61440, 14));
-        assert!(rt; machine.session(&rt, id) == ((4096, 2), (4096, 2)));
-    }
+    upgrades_are_refused(&rt, &mut machine, id, UPGRADES);
     machine.close(&rt, id);
     assert!(rt; machine.has(65536, 16));
 }

@@ -1,7 +1,7 @@
 -- A session is opened in one of the places.
 use Rattle.std.proofs.Common.{arith}
 use Rattle.server_frame.proofs.RowLaws.{admits_opened, open_opened}
-use Rattle.layer_tests.proofs.server.Machine.open.Goals as goal
+use Rattle.service_tests.proofs.server.Machine.open.Goals as goal
 
 pub invariant_of-self-2 : goal.invariant_of-self-2
 invariant_of-self-2 g c =

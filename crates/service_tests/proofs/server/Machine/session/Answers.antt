@@ -2,7 +2,7 @@
 use Rattle.std.proofs.Common.{rules}
 use Rattle.slab.specs.Slab as slab
 use Rattle.server_frame.proofs.RowLaws.{account_open}
-use Rattle.layer_tests.proofs.server.Machine.session.Goals as goal
+use Rattle.service_tests.proofs.server.Machine.session.Goals as goal
 
 pub used-requires : goal.used-requires
 used-requires g c =
