@@ -16,8 +16,6 @@ mod mixes;
 #[cfg(test)]
 mod rows;
 #[cfg(test)]
-mod starts;
-#[cfg(test)]
 mod tasks;
 #[cfg(test)]
 mod words;
