@@ -3,6 +3,7 @@ use crate::devices::Reader;
 use scenario::{ConfigFault, Input, LONGEST_CONFIG_READ, Source, read_config, read_config_at};
 use std::alloc::{AllocError, Global};
 use std::io::ErrorKind;
+use std::process::Abort;
 use std::test::Fail;
 
 // So many bytes, of which neighbours differ.
@@ -15,7 +16,7 @@ fn bytes_of(alloc: Global, length: usize) -> Result<Vec<u8>, AllocError> {
 }
 
 /// So many bytes, and how many a read gives at most.
-const LENGTHS: [(usize, usize); 15] = [
+const LENGTHS: &[(usize, usize)] = &[
     (0, 70_000),
     (1, 70_000),
     (4095, 70_000),
@@ -33,39 +34,56 @@ const LENGTHS: [(usize, usize); 15] = [
     (20_000, 4097),
 ];
 
-#[test]
-fn all_bytes_are_read_up_to_the_bound(rt: HostRuntime) -> Result<(), Fail> {
-    for (length, size) in LENGTHS {
-        let bytes = bytes_of(rt.alloc(), length)?;
-        let expected = length.min(LONGEST_CONFIG_READ);
-        let mut source = Input::new(Reader::new(&bytes, size));
-        let text = read_config(rt.alloc(), &mut source)?;
-        assert!(rt;
-            bytes.starts_with(text.as_slice()),
-            "{length} bytes by {size}"
-        );
-        assert!(rt; text.len() == expected, "how many of {length} bytes");
-        assert!(rt; !source.failed());
-        let left = source.into_inner().bytes.len();
-        assert!(rt; left == length - expected, "what {length} bytes leave");
+// So many bytes are read whole up to the bound, and no more of them.
+fn check_length<R: Abort + AllocGlobal>(rt: &R, length: usize, size: usize) -> Result<(), Fail> {
+    let bytes = bytes_of(rt.alloc(), length)?;
+    let expected = length.min(LONGEST_CONFIG_READ);
+    let mut source = Input::new(Reader::new(&bytes, size));
+    let text = read_config(rt.alloc(), &mut source)?;
+    assert!(rt;
+        bytes.starts_with(text.as_slice()),
+        "{length} bytes by {size}"
+    );
+    assert!(rt; text.len() == expected, "how many of {length} bytes");
+    assert!(rt; !source.failed());
+    let left = source.into_inner().bytes.len();
+    assert!(rt; left == length - expected, "what {length} bytes leave");
+    Ok(())
+}
+
+// The same of each length of a table.
+fn check_lengths<R: Abort + AllocGlobal>(rt: &R, lengths: &[(usize, usize)]) -> Result<(), Fail> {
+    for (length, size) in lengths {
+        check_length(rt, *length, *size)?;
     }
     Ok(())
 }
 
 #[test]
-fn a_read_that_fails_is_not_tried_again(rt: HostRuntime) -> Result<(), Fail> {
-    let bytes = bytes_of(rt.alloc(), 10_000)?;
-    for (failing, kind) in [
-        (1, ErrorKind::Interrupted),
-        (2, ErrorKind::Interrupted),
-        (3, ErrorKind::Interrupted),
-        (11, ErrorKind::Interrupted),
-        (1, ErrorKind::Other),
-    ] {
+fn all_bytes_are_read_up_to_the_bound(rt: HostRuntime) -> Result<(), Fail> {
+    check_lengths(&rt, LENGTHS)
+}
+
+/// Which read fails, and how.
+const FAILING: &[(usize, ErrorKind)] = &[
+    (1, ErrorKind::Interrupted),
+    (2, ErrorKind::Interrupted),
+    (3, ErrorKind::Interrupted),
+    (11, ErrorKind::Interrupted),
+    (1, ErrorKind::Other),
+];
+
+// A read of these bytes, a thousand at a time, fails and is the last one.
+fn check_failing<R: Abort + AllocGlobal>(
+    rt: &R,
+    bytes: &[u8],
+    failing: &[(usize, ErrorKind)],
+) -> Result<(), Fail> {
+    for (failing, kind) in failing {
         let mut source = Input::new(Reader {
-            failing,
-            kind,
-            ..Reader::new(&bytes, 1000)
+            failing: *failing,
+            kind: *kind,
+            ..Reader::new(bytes, 1000)
         });
         let read = read_config(rt.alloc(), &mut source);
         assert!(rt;
@@ -73,9 +91,15 @@ fn a_read_that_fails_is_not_tried_again(rt: HostRuntime) -> Result<(), Fail> {
             "read {failing}"
         );
         assert!(rt; source.failed());
-        assert!(rt; source.into_inner().reads == failing, "read {failing}");
+        assert!(rt; source.into_inner().reads == *failing, "read {failing}");
     }
     Ok(())
+}
+
+#[test]
+fn a_read_that_fails_is_not_tried_again(rt: HostRuntime) -> Result<(), Fail> {
+    let bytes = bytes_of(rt.alloc(), 10_000)?;
+    check_failing(&rt, &bytes, FAILING)
 }
 
 #[test]

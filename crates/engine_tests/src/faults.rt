@@ -112,7 +112,7 @@ const CALM: Case = Case {
     caps: b'0',
 };
 
-const CASES: [Case; 22] = [
+const CASES: &[Case] = &[
     CALM,
     Case {
         shows: "each line comes alone: answers are written before the next read",
@@ -354,7 +354,7 @@ fn check_all<R: Abort + AllocGlobal>(rt: &R, cases: &[Case]) -> Result<(), Fail>
 
 #[test]
 fn devices_that_fail(rt: HostRuntime) -> Result<(), Fail> {
-    check_all(&rt, &CASES)
+    check_all(&rt, CASES)
 }
 
 // Each byte comes alone, and one read fails: what was answered is what stands before it.

@@ -35,8 +35,11 @@ fn parts<'a>(call: &Call<'a>) -> Parts<'a> {
     }
 }
 
-/// Lines, each with its name and what its call has.
-const LINES: [(&[u8], &[u8], Parts<'static>); 36] = [
+/// A line, its name and what its call has.
+type Line<'a> = (&'a [u8], &'a [u8], Parts<'a>);
+
+/// Lines that are calls.
+const LINES: &[Line<'static>] = &[
     (b"bob free 007", b"bob", ("free", 7, 0, b"", b"")),
     (
         b"no-one_1.x quota",
@@ -144,7 +147,7 @@ const LINES: [(&[u8], &[u8], Parts<'static>); 36] = [
 ];
 
 // Each line of a table is read so.
-fn check_all<R: Abort>(rt: &R, lines: &[(&[u8], &[u8], Parts<'_>)]) -> Result<(), Fail> {
+fn check_all<R: Abort>(rt: &R, lines: &[Line<'_>]) -> Result<(), Fail> {
     for (line, name, want) in lines {
         let (caller, call) = read_line(line).ok().ok_or("a call")?;
         assert!(rt; caller == *name);
@@ -155,5 +158,5 @@ fn check_all<R: Abort>(rt: &R, lines: &[(&[u8], &[u8], Parts<'_>)]) -> Result<()
 
 #[test]
 fn lines_are_read_as_calls(rt: HostRuntime) -> Result<(), Fail> {
-    check_all(&rt, &LINES)
+    check_all(&rt, LINES)
 }

@@ -19,7 +19,7 @@ const FOUR: &str = r#"{"machine":{"pages":256,"caps":256},
   {"name":"dave","binary":"script","quantum":"64K","caps":16}]}"#;
 
 /// Calls of all kinds. The last is picked half as often as the others.
-const CALLS: [&[u8]; 29] = [
+const CALLS: &[&[u8]] = &[
     b"alloc 5000",
     b"alloc 4096",
     b"attach 1",
@@ -52,7 +52,7 @@ const CALLS: [&[u8]; 29] = [
 ];
 
 /// Calls around a buffer.
-const BUFFER_CALLS: [&[u8]; 29] = [
+const BUFFER_CALLS: &[&[u8]] = &[
     b"poke 0x10000000 61",
     b"poke 0x10000ffe 62636465",
     b"poke 0x10001ffe 6667",
@@ -85,7 +85,7 @@ const BUFFER_CALLS: [&[u8]; 29] = [
 ];
 
 /// Any call but an exit, with many sizes and selectors.
-const SOME_CALLS: [&[u8]; 84] = [
+const SOME_CALLS: &[&[u8]] = &[
     b"alloc 1",
     b"alloc 4096",
     b"alloc 5000",
@@ -334,9 +334,9 @@ fn compare<R: Abort + AllocGlobal>(
     Ok(())
 }
 
-const NAMES: [&str; 4] = ["alice", "bob", "al", "log"];
+const NAMES: &[&str] = &["alice", "bob", "al", "log"];
 
-const SCRIPTS: [&str; 4] = ["alice", "bob", "carol", "dave"];
+const SCRIPTS: &[&str] = &["alice", "bob", "carol", "dave"];
 
 // The same of each row of a table.
 fn compare_all<R: Abort + AllocGlobal>(
@@ -350,24 +350,28 @@ fn compare_all<R: Abort + AllocGlobal>(
     Ok(())
 }
 
+/// The callers of the worked rows.
+const CALLERS: &[&str] = &[
+    "alice",
+    "bob",
+    "carol",
+    "log",
+    "sub",
+    "sub/carol",
+    "sub/dave",
+];
+
+/// The scripts of `EIGHT`.
+const EIGHT_NAMES: &[&str] = &[
+    "anna", "bert", "cleo", "dora", "emil", "fred", "gina", "mallory",
+];
+
 #[test]
 fn rows_are_told_alone_as_among_others(rt: HostRuntime) -> Result<(), Fail> {
-    let names = [
-        "alice",
-        "bob",
-        "carol",
-        "log",
-        "sub",
-        "sub/carol",
-        "sub/dave",
-    ];
-    compare_all(&rt, &memory::ROWS, &names)?;
-    compare_all(&rt, &sessions::ROWS, &names)?;
-    compare_all(&rt, &machines::ROWS, &names)?;
-    let names = [
-        "anna", "bert", "cleo", "dora", "emil", "fred", "gina", "mallory",
-    ];
-    compare(&rt, EIGHT, &names, EIGHT_LINES)
+    compare_all(&rt, memory::ROWS, CALLERS)?;
+    compare_all(&rt, sessions::ROWS, CALLERS)?;
+    compare_all(&rt, machines::ROWS, CALLERS)?;
+    compare(&rt, EIGHT, EIGHT_NAMES, EIGHT_LINES)
 }
 
 #[test]
@@ -377,15 +381,15 @@ fn mixes_are_told_alone_as_among_others(rt: HostRuntime) -> Result<(), Fail> {
         let mut state = seed;
         scenario.clear();
         let (list, calls) = if seed % 4 == 0 {
-            (machines::RESERVED, CALLS.as_slice())
+            (machines::RESERVED, CALLS)
         } else if seed % 2 == 0 {
-            (MACHINE_A, CALLS.as_slice())
+            (MACHINE_A, CALLS)
         } else {
             scenario.extend_from_slice(LENT)?;
-            (MACHINE_A, BUFFER_CALLS.as_slice())
+            (MACHINE_A, BUFFER_CALLS)
         };
-        mix(&mut scenario, &mut state, 100, &NAMES, calls)?;
-        compare(&rt, list, &NAMES, &scenario)?;
+        mix(&mut scenario, &mut state, 100, NAMES, calls)?;
+        compare(&rt, list, NAMES, &scenario)?;
     }
     Ok(())
 }
@@ -426,7 +430,7 @@ fn exits_leave_other_scripts_alone(rt: HostRuntime) -> Result<(), Fail> {
     let mut scenario = Vec::new(rt.alloc());
     for name in SCRIPTS {
         for _ in 0..2 {
-            mix(&mut scenario, &mut state, 60, &SCRIPTS, &SOME_CALLS)?;
+            mix(&mut scenario, &mut state, 60, SCRIPTS, SOME_CALLS)?;
             let told = run_bytes(rt.alloc(), FOUR.as_bytes(), LISTED, &scenario)
                 .ok()
                 .ok_or("a run of all lines")?;
@@ -437,5 +441,5 @@ fn exits_leave_other_scripts_alone(rt: HostRuntime) -> Result<(), Fail> {
             scenario.extend_from_slice(piece)?;
         }
     }
-    compare(&rt, FOUR, &SCRIPTS, &scenario)
+    compare(&rt, FOUR, SCRIPTS, &scenario)
 }

@@ -45,7 +45,7 @@ pub struct Row<'a> {
 }
 
 // A row is answered so however its scenario comes, and from bytes to bytes.
-fn check<R: Abort + AllocGlobal>(rt: &R, row: Row<'_>) -> Result<(), Fail> {
+fn check<R: Abort + AllocGlobal>(rt: &R, row: &Row<'_>) -> Result<(), Fail> {
     let text = row.list.as_bytes();
     for size in [1, 7, 100_000] {
         let mut source = Input::new(Reader::new(row.scenario, size));
@@ -68,16 +68,16 @@ fn check<R: Abort + AllocGlobal>(rt: &R, row: Row<'_>) -> Result<(), Fail> {
 // All rows of a table.
 fn check_all<R: Abort + AllocGlobal>(rt: &R, rows: &[Row<'_>]) -> Result<(), Fail> {
     for row in rows {
-        check(rt, *row)?;
+        check(rt, row)?;
     }
     Ok(())
 }
 
 #[test]
 fn worked_rows(rt: HostRuntime) -> Result<(), Fail> {
-    check_all(&rt, &memory::ROWS)?;
-    check_all(&rt, &sessions::ROWS)?;
-    check_all(&rt, &machines::ROWS)
+    check_all(&rt, memory::ROWS)?;
+    check_all(&rt, sessions::ROWS)?;
+    check_all(&rt, machines::ROWS)
 }
 
 // Adds so many equal pieces to a text.
@@ -95,7 +95,7 @@ fn lines_end_and_overflow(rt: HostRuntime) -> Result<(), Fail> {
     scenario.extend_from_slice(b"\nbob quota")?;
     check(
         &rt,
-        Row {
+        &Row {
             shows: "lines_end_and_overflow",
             list: MACHINE_A,
             task: PLAIN,
@@ -112,7 +112,7 @@ bob: ram 0/65536 caps 0/16
     repeat(&mut scenario, b"x", 8179)?;
     check(
         &rt,
-        Row {
+        &Row {
             shows: "lines_end_and_overflow, of 8192 bytes",
             list: MACHINE_A,
             task: PLAIN,
@@ -140,7 +140,7 @@ fn region_limit_comes_first(rt: HostRuntime) -> Result<(), Fail> {
     )?;
     check(
         &rt,
-        Row {
+        &Row {
             shows: "region_limit_comes_first",
             list: MACHINE_A,
             task: PLAIN,
@@ -170,7 +170,7 @@ fn forty_sessions_on_one_server(rt: HostRuntime) -> Result<(), Fail> {
     transcript.extend_from_slice(b"alice: Out_of_caps\nalice: ram 0/245760 caps 0/0\n")?;
     check(
         &rt,
-        Row {
+        &Row {
             shows: "forty_sessions_on_one_server",
             list: r#"{"machine":{"pages":128,"caps":128},
  "default-route":[{"any-service":true,"any-child":true}],
@@ -221,7 +221,7 @@ aaaaaaaaaaaaaaaaaaaaaaaaaaaaaaaa/bbbbbbbbbbbbbbbbbbbbbbbbbbbbbbbb/cccccccccccccc
     )?;
     check(
         &rt,
-        Row {
+        &Row {
             shows: "longest_label_before_the_most_lines",
             list: LONGEST_NAMES,
             task: PLAIN,

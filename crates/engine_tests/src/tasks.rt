@@ -71,7 +71,7 @@ const UNWRITABLE: Case = Case {
     ..CHECK
 };
 
-const CASES: [Case; 9] = [
+const CASES: &[Case] = &[
     CHECK,
     UNCOVERED,
     Case {
@@ -150,7 +150,7 @@ fn check_all<R: Abort + AllocGlobal>(rt: &R, cases: &[Case]) -> Result<(), Fail>
 
 #[test]
 fn tasks_over_writers_that_fail(rt: HostRuntime) -> Result<(), Fail> {
-    check_all(&rt, &CASES)
+    check_all(&rt, CASES)
 }
 
 // A sink that has failed isn't written to for the next task, and an account list or many replies are tried once too.
@@ -189,27 +189,40 @@ fn bytes_stop_at_an_endless_line(rt: HostRuntime) -> Result<(), Fail> {
     Ok(())
 }
 
-#[test]
-fn failures_have_texts(rt: HostRuntime) -> Result<(), Fail> {
-    for (failure, text) in [
-        (Failure::Run(RunFault::ReadFault), "run: Read_fault"),
-        (Failure::Run(RunFault::WriteFault), "run: Write_fault"),
-        (Failure::Run(RunFault::TooManyLines), "run: Too_many_lines"),
-        (Failure::Boot(BootFault::NoMemory), "boot: No_memory"),
-        (
-            Failure::Boot(BootFault::BadConfig(Field::Pages)),
-            "boot: Bad_config pages",
-        ),
-    ] {
-        assert!(rt; told(rt.alloc(), &failure)?.as_str() == text);
+// Each failure and each fault is told so.
+fn are_told<R: Abort + AllocGlobal>(
+    rt: &R,
+    failures: &[(Failure, &str)],
+    faults: &[(ConfigFault, &str)],
+) -> Result<(), Fail> {
+    for (failure, text) in failures {
+        assert!(rt; told(rt.alloc(), failure)?.as_str() == *text);
     }
-    for (fault, text) in [
-        (ConfigFault::Unreadable, "Unreadable_config"),
-        (ConfigFault::NoMemory, "No_memory"),
-    ] {
-        assert!(rt; format!(in rt.alloc(); "{fault}")?.as_str() == text);
+    for (fault, text) in faults {
+        assert!(rt; format!(in rt.alloc(); "{fault}")?.as_str() == *text);
     }
     Ok(())
+}
+
+#[test]
+fn failures_have_texts(rt: HostRuntime) -> Result<(), Fail> {
+    are_told(
+        &rt,
+        &[
+            (Failure::Run(RunFault::ReadFault), "run: Read_fault"),
+            (Failure::Run(RunFault::WriteFault), "run: Write_fault"),
+            (Failure::Run(RunFault::TooManyLines), "run: Too_many_lines"),
+            (Failure::Boot(BootFault::NoMemory), "boot: No_memory"),
+            (
+                Failure::Boot(BootFault::BadConfig(Field::Pages)),
+                "boot: Bad_config pages",
+            ),
+        ],
+        &[
+            (ConfigFault::Unreadable, "Unreadable_config"),
+            (ConfigFault::NoMemory, "No_memory"),
+        ],
+    )
 }
 
 // Runs twice with an allocation refused somewhere (`rt try --test --fail-alloc N`): one of the two may want memory, and is

@@ -4,45 +4,61 @@ use clap::error::ErrorKind;
 use scenario::{Options, words_given};
 use std::alloc::Global;
 use std::env::{Env, FillError};
+use std::process::Abort;
 use std::test::Fail;
 
-// Words that no row of a file can have, or whose reading the program doesn't show: no words at all, an empty word, a flag
-// as the program's own name.
+/// Words, and what they ask for: whether a check, whose lines alone, and which file.
+type Words = (
+    &'static [&'static str],
+    bool,
+    Option<&'static str>,
+    Option<&'static str>,
+);
+
+/// Words that no row of a file can have, or whose reading the program doesn't show: no words at all, an empty word, a flag
+/// as the program's own name.
+const WORDS: &[Words] = &[
+    (&[], false, None, None),
+    (&["scenario_run", ""], false, None, Some("")),
+    (&["scenario_run", "-"], false, None, Some("-")),
+    (
+        &["scenario_run", "größe 1.json"],
+        false,
+        None,
+        Some("größe 1.json"),
+    ),
+    (&["", "check"], false, None, Some("check")),
+    (&["--check"], false, None, None),
+    (
+        &["scenario_run", "a.json", "--only", ""],
+        false,
+        Some(""),
+        Some("a.json"),
+    ),
+    (
+        &["scenario_run", "--check", "--only", "a/b", "a.json"],
+        true,
+        Some("a/b"),
+        Some("a.json"),
+    ),
+];
+
+// Each row of words is read so.
+fn are_read<R: Abort + AllocGlobal>(rt: &R, rows: &[Words]) -> Result<(), Fail> {
+    for (words, check, only, path) in rows {
+        let options = Options::read(rt.alloc(), words)?;
+        assert!(rt; options.check == *check, "{words:?}");
+        assert!(rt; !options.accounts, "{words:?}");
+        assert!(rt; options.only == *only, "{words:?}");
+        assert!(rt; options.path == *path, "{words:?}");
+    }
+    Ok(())
+}
+
 #[test]
 fn words_that_are_read(rt: HostRuntime) -> Result<(), Fail> {
     let alloc = rt.alloc();
-    let lines: [(&[&str], bool, Option<&str>, Option<&str>); 8] = [
-        (&[], false, None, None),
-        (&["scenario_run", ""], false, None, Some("")),
-        (&["scenario_run", "-"], false, None, Some("-")),
-        (
-            &["scenario_run", "größe 1.json"],
-            false,
-            None,
-            Some("größe 1.json"),
-        ),
-        (&["", "check"], false, None, Some("check")),
-        (&["--check"], false, None, None),
-        (
-            &["scenario_run", "a.json", "--only", ""],
-            false,
-            Some(""),
-            Some("a.json"),
-        ),
-        (
-            &["scenario_run", "--check", "--only", "a/b", "a.json"],
-            true,
-            Some("a/b"),
-            Some("a.json"),
-        ),
-    ];
-    for (words, check, only, path) in lines {
-        let options = Options::read(alloc, words)?;
-        assert!(rt; options.check == check, "{words:?}");
-        assert!(rt; !options.accounts, "{words:?}");
-        assert!(rt; options.only == only, "{words:?}");
-        assert!(rt; options.path == path, "{words:?}");
-    }
+    are_read(&rt, WORDS)?;
     let refused = Options::read(alloc, &["scenario_run", "a.json", ""])
         .err()
         .ok_or("refused")?;

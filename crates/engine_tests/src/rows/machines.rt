@@ -54,7 +54,7 @@ pub const NESTED: &str = r#"{"machine":{"pages":64,"caps":64},"start":[
     {"name":"dave","binary":"script","quantum":"32K","caps":8}]}}]}"#;
 
 /// The rows.
-pub const ROWS: [Row<'static>; 6] = [
+pub const ROWS: &[Row<'static>] = &[
     Row {
         shows: "routes_decide_between_providers",
         list: TWO_FILE_SERVERS,

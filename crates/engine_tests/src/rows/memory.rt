@@ -8,7 +8,7 @@ pub const MACHINE_B: &str = r#"{"machine":{"pages":64,"caps":64},
  "start":[{"name":"alice","binary":"script","quantum":"160K","caps":40}]}"#;
 
 /// The rows.
-pub const ROWS: [Row<'static>; 17] = [
+pub const ROWS: &[Row<'static>] = &[
     Row {
         shows: "empty_budget_is_told",
         list: MACHINE_A,

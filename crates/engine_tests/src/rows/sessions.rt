@@ -45,7 +45,7 @@ alice quota
 ";
 
 /// The rows.
-pub const ROWS: [Row<'static>; 11] = [
+pub const ROWS: &[Row<'static>] = &[
     Row {
         shows: "donation_pays_for_the_file_service",
         list: MACHINE_A,
