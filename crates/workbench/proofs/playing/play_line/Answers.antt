@@ -4,7 +4,7 @@ use Rattle.std.specs.Option.{option_copied}
 use Rattle.friendly_lines.specs.Says.{says}
 use Rattle.workbench.specs.declared.ending.PlayFault.{PlayFault}
 use Rattle.workbench.specs.Judging.{IsJudged}
-use Rattle.workbench.proofs.LineLemmas.{call_of-said, expects_by, judged_call, judged_log, judged_told, judged_unread, on_ok, told_said, told_silent}
+use Rattle.workbench.proofs.LineLemmas.{call_of-said, expects_by, judged_call, judged_log, judged_told, judged_unread, on_ok, seen_said, seen_silent, told_said, told_silent}
 use Rattle.workbench.proofs.FailLemmas.{fails_before, fails_beside, fails_for_room, line_takes, or_none}
 use Rattle.workbench.proofs.playing.play_line.Goals as goal
 
@@ -38,6 +38,26 @@ pub returns-in-Err-clause-told : goal.returns-in-Err-clause-told
 returns-in-Err-clause-told g c = λ start earlier watches.
     told_silent (option_copied c.args.run.now.only) c.args.line.now (call_of-said c.args.line.now _ c.requires.short c.in-Err.ensures.value)
     c.tell_unread.result (g.W.Watch.tells c.args.watch.now start) earlier c.args.number _ _
+
+-- what the watch has seen of it
+pub returns-in-Ok-Nothing-clause-seen : goal.returns-in-Ok-Nothing-clause-seen
+returns-in-Ok-Nothing-clause-seen g c = λ start earlier watches.
+    seen_silent (option_copied c.args.run.now.only) c.args.line.now (call_of-said c.args.line.now _ c.requires.short (ap (λ s. says (Ok s)) (sym c.in-Ok-Nothing.field-0-is) ∙ c.in-Ok-Nothing.ensures.value))
+    silent_ok watches
+
+pub returns-in-Ok-Log-clause-seen : goal.returns-in-Ok-Log-clause-seen
+returns-in-Ok-Log-clause-seen g c = λ start earlier watches.
+    seen_silent (option_copied c.args.run.now.only) c.args.line.now (call_of-said c.args.line.now _ c.requires.short (ap (λ s. says (Ok s)) (sym c.in-Ok-Log.field-0-is) ∙ c.in-Ok-Log.ensures.value))
+    c.expect_line.result watches
+
+pub returns-in-Ok-clause-seen : goal.returns-in-Ok-clause-seen
+returns-in-Ok-clause-seen g c = λ start earlier watches.
+    seen_said (option_copied c.args.run.now.only) c.args.line.now _ (call_of-said c.args.line.now _ c.requires.short (ap (λ s. says (Ok s)) (sym c.in-Ok-Call.field-0-is) ∙ c.in-Ok-Call.ensures.value))
+    c.judge.result (g.W.Watch.sees c.answer_call.new.watch c.args.run.now.list.now) start c.answer_call.new.core earlier (on_ok c.judge.result (c.in-Ok.ensures.seen start earlier watches))
+
+pub returns-in-Err-clause-seen : goal.returns-in-Err-clause-seen
+returns-in-Err-clause-seen g c = λ start earlier watches.
+    seen_silent (option_copied c.args.run.now.only) c.args.line.now (call_of-said c.args.line.now _ c.requires.short c.in-Err.ensures.value) c.tell_unread.result watches
 
 -- which faults come of it
 pub returns-in-Ok-Nothing-clause-failing : goal.returns-in-Ok-Nothing-clause-failing
