@@ -1,7 +1,7 @@
 //! The command line as `clap` reads it.
 ghost use Rattle.std.specs.Prelude.{◌≡◌, [], IfOk, MatchResult, false};
-ghost use Rattle.clap.specs.Words.{app_of, kind_of, rule_of};
-ghost use Rattle.workbench_options.specs.Line.{HasShape, alone as alone_shape, file_rule, flag_rule, of_list as list_shape, of_scenario as scenario_shape, option_rule, program, route as route_shape, run as run_shape, word_rule};
+ghost use Rattle.clap.specs.Words.{app_of, kind_of, rule_of, with_subcommand};
+ghost use Rattle.workbench_options.specs.Line.{HasShape, alone as alone_shape, bare as bare_app, file_rule, flag_rule, of_list as list_shape, of_scenario as scenario_shape, option_rule, program, route as route_shape, run as run_shape, word_rule};
 
 use crate::help;
 use clap::error::ErrorKind;
@@ -15,25 +15,85 @@ pub(crate) fn commands<'a>(alloc: Global) -> Result<Words<'a>, Error>
     ensures { MatchResult result (λ made. app_of made ≡ program)
         (λ error. kind_of error ≡ ErrorKind.OutOfMemory) }
 {
-    let words = Words::new(alloc, "nethrywel")
+    let words = with_run(alloc, bare(alloc))?;
+    let words = with_list(alloc, words, "check", help::CHECK, "strict", help::STRICT)?;
+    let words = with_list(alloc, words, "tree", help::TREE, "dot", help::DOT)?;
+    let words = with_list(alloc, words, "reach", help::REACH, "csv", help::CSV)?;
+    let words = with_route(alloc, words)?;
+    let words = with_scenario(alloc, words, "trace", help::TRACE)?;
+    let words = with_scenario(alloc, words, "accounts", help::ACCOUNTS)?;
+    let words = with_alone(alloc, words)?;
+    Ok(words)
+}
+
+// The program without its commands.
+fn bare<'a>(alloc: Global) -> Words<'a>
+    ensures { app_of result ≡ bare_app }
+{
+    Words::new(alloc, "nethrywel")
         .version(help::VERSION)
         .about(help::ABOUT)
         .after_help(help::FIRST_STEPS)
-        .disable_help_subcommand(true);
+        .disable_help_subcommand(true)
+}
+
+// Adds the command that answers a scenario.
+fn with_run<'a>(alloc: Global, words: Words<'a>) -> Result<Words<'a>, AllocError>
+    ensures { IfOk result (λ made. app_of made
+        ≡ with_subcommand (app_of words.entry) run_shape) }
+{
     let run = run(alloc)?;
     let words = words.subcommand(run)?;
-    let check = of_list(alloc, "check", help::CHECK, "strict", help::STRICT)?;
-    let words = words.subcommand(check)?;
-    let tree = of_list(alloc, "tree", help::TREE, "dot", help::DOT)?;
-    let words = words.subcommand(tree)?;
-    let reach = of_list(alloc, "reach", help::REACH, "csv", help::CSV)?;
-    let words = words.subcommand(reach)?;
+    Ok(words)
+}
+
+// Adds a command on a start list, with a flag.
+fn with_list<'a>(
+    alloc: Global,
+    words: Words<'a>,
+    name: &'a str,
+    about: &'a str,
+    id: &'a str,
+    help: &'a str,
+) -> Result<Words<'a>, AllocError>
+    ensures { IfOk result (λ made. app_of made
+        ≡ with_subcommand (app_of words.entry) (list_shape name.entry.now id.entry.now)) }
+{
+    let command = of_list(alloc, name, about, id, help)?;
+    let words = words.subcommand(command)?;
+    Ok(words)
+}
+
+// Adds the command that tells where one wish leads.
+fn with_route<'a>(alloc: Global, words: Words<'a>) -> Result<Words<'a>, AllocError>
+    ensures { IfOk result (λ made. app_of made
+        ≡ with_subcommand (app_of words.entry) route_shape) }
+{
     let route = route(alloc)?;
     let words = words.subcommand(route)?;
-    let trace = of_scenario(alloc, "trace", help::TRACE)?;
-    let words = words.subcommand(trace)?;
-    let accounts = of_scenario(alloc, "accounts", help::ACCOUNTS)?;
-    let words = words.subcommand(accounts)?;
+    Ok(words)
+}
+
+// Adds a command on a scenario and a machine.
+fn with_scenario<'a>(
+    alloc: Global,
+    words: Words<'a>,
+    name: &'a str,
+    about: &'a str,
+) -> Result<Words<'a>, AllocError>
+    ensures { IfOk result (λ made. app_of made
+        ≡ with_subcommand (app_of words.entry) (scenario_shape name.entry.now [])) }
+{
+    let command = of_scenario(alloc, name, about)?;
+    let words = words.subcommand(command)?;
+    Ok(words)
+}
+
+// Adds the command that shows a component's two runs.
+fn with_alone<'a>(alloc: Global, words: Words<'a>) -> Result<Words<'a>, AllocError>
+    ensures { IfOk result (λ made. app_of made
+        ≡ with_subcommand (app_of words.entry) alone_shape) }
+{
     let alone = alone(alloc)?;
     let words = words.subcommand(alone)?;
     Ok(words)
