@@ -1,8 +1,10 @@
 //! What is told of a start list: its faults and findings, and where its wishes lead.
 use crate::ends::{REFUSED, UNWRITTEN, status_of};
 use crate::files::read_list;
+use init_core::StartList;
 use reach::{Course, NoCourse, Table};
 use start_review::{Fault, Review, Whereabouts};
+use std::io;
 
 /// The exit status of a wish that leads nowhere.
 const DENIED: u8 = 3;
@@ -37,19 +39,40 @@ pub(crate) fn tree(rt: &HostRuntime, path: &str, dot: bool) -> u8 {
 
 /// Shows which scripts of a start list reach which servers, as a table or as comma-separated values, and answers the exit status.
 pub(crate) fn reach(rt: &HostRuntime, path: &str, csv: bool) -> u8 {
-    let Some(review) = review(rt, path) else {
-        return REFUSED;
-    };
-    let Ok(table) = Table::of(rt.alloc(), review.list()) else {
-        let _ = eprintln!(rt; "{path}: {}", NoCourse::NoMemory);
-        return UNWRITTEN;
-    };
-    let shown = if csv {
-        print!(rt; "{}", table.into_csv())
-    } else {
-        print!(rt; "{table}")
-    };
-    status_of(rt, shown)
+    match review(rt, path) {
+        Some(review) => show_reach(rt, path, review.list(), csv),
+        None => REFUSED,
+    }
+}
+
+// Shows which scripts of a list reach which servers, and answers the exit status.
+fn show_reach(rt: &HostRuntime, path: &str, list: &StartList, csv: bool) -> u8 {
+    match Table::of(rt.alloc(), list) {
+        Ok(table) => status_of(rt, print_reach(rt, table, csv)),
+        Err(_) => {
+            let _ = eprintln!(rt; "{path}: {}", NoCourse::NoMemory);
+            UNWRITTEN
+        }
+    }
+}
+
+// Prints a table in one of its two forms.
+fn print_reach(rt: &HostRuntime, table: Table<'_>, csv: bool) -> io::Result<()> {
+    if csv {
+        return print_values(rt, table);
+    }
+    print_table(rt, table)
+}
+
+// Prints a table as people read it.
+fn print_table(rt: &HostRuntime, table: Table<'_>) -> io::Result<()> {
+    print!(rt; "{table}")
+}
+
+// Prints a table as comma-separated values.
+fn print_values(rt: &HostRuntime, table: Table<'_>) -> io::Result<()> {
+    let values = table.into_csv();
+    print!(rt; "{values}")
 }
 
 /// Shows where a wish of a script for a session leads, and answers the exit status: where it leads nowhere that of what isn't

@@ -2,9 +2,9 @@
 use crate::ends::{Played, REFUSED};
 use crate::files::{STANDARD_INPUT, read_list};
 use crate::lists::tell_fault;
-use init_core::{BootFault, MACHINE_A, StartList};
+use init_core::{BootFault, MACHINE_A};
 use scenario::{Input, Output, Source};
-use start_review::Review;
+use start_review::{Fault, Review};
 use std::{fs, io};
 use workbench::{Play, accounts, alone, run, trace};
 
@@ -68,14 +68,8 @@ fn play_on<'a>(
     viewing: Viewing<'_>,
 ) -> u8 {
     if let Some(name) = viewing.name() {
-        match (Review::read(rt.alloc(), text), machine) {
-            (Ok(review), _) => warn_of_stranger(rt, review.list(), name),
-            (Err(fault), Some(path)) => {
-                tell_fault(rt, path, &fault);
-                return REFUSED;
-            }
-            // The built-in list is none in want of memory alone, which the play tells.
-            (Err(_), None) => {}
+        if warn_of_stranger(rt, text, machine, name) {
+            return REFUSED;
         }
     }
     let play = Play {
@@ -99,11 +93,26 @@ fn play_on<'a>(
     played.tell(rt, scenario)
 }
 
-// Warns of a name that no component has.
-fn warn_of_stranger(rt: &HostRuntime, list: &StartList, name: &str) {
-    if list.find(name.as_bytes()).is_none() {
-        let _ = eprintln!(rt; "{name}: no component of the machine has this name");
+// Warns of a name that no component has. Where the list of a file is none it tells that, and answers that it did.
+fn warn_of_stranger(rt: &HostRuntime, text: &[u8], machine: Option<&str>, name: &str) -> bool {
+    match Review::read(rt.alloc(), text) {
+        Ok(review) => {
+            if review.list().find(name.as_bytes()).is_none() {
+                let _ = eprintln!(rt; "{name}: no component of the machine has this name");
+            }
+            false
+        }
+        Err(fault) => tell_no_list(rt, machine, &fault),
     }
+}
+
+// Tells why a list of a path is none, and whether there is a path.
+fn tell_no_list(rt: &HostRuntime, machine: Option<&str>, fault: &Fault) -> bool {
+    if let Some(path) = machine {
+        tell_fault(rt, path, fault);
+        return true;
+    }
+    false
 }
 
 // Plays the scenario of a source over the standard streams.
