@@ -1,7 +1,6 @@
 //! The texts of requests and of their replies.
 
-use server_frame::Reply;
-use server_frame::Quotas;
+use server_frame::{Quotas, Reply};
 use session_proto::{FileError, FileReply, FileRequest, LogReply, LogRequest};
 use std::alloc::{AllocError, Global};
 use std::test::Fail;
