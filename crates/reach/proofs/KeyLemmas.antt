@@ -1,5 +1,5 @@
 -- Labels of one key lead alike, and so do all longer labels that begin with them.
-use Rattle.std.proofs.Common.{◌≡◌, ◌≢◌, ℕ, ◌<◌, ◌≤◌, zero, suc, ◌-◌, ◌+◌, Bool, true, false, ◌&&◌, List, [], ◌∷◌, ◌++◌, length, take, drop, Option, Some, None, refl, sym, ap, ◌∙◌, nat_eq, arith, ◌⊎◌, inl, inr}
+use Rattle.std.proofs.Common.{◌≡◌, ◌≢◌, ℕ, ◌<◌, ◌≤◌, zero, suc, ◌-◌, ◌+◌, Bool, true, false, ◌&&◌, ◌||◌, List, [], ◌∷◌, ◌++◌, length, take, drop, Option, Some, None, refl, sym, ap, ◌∙◌, nat_eq, arith, ◌⊎◌, inl, inr}
 use Rattle.std.specs.Prelude.{codes, if◌then◌else◌, Result, Ok, Err, OnOk}
 use Rattle.std.specs.List.{starts_with, ends_with, slice_get}
 use Rattle.std.specs.Option.{option_and_then, option_map, unwrap_or}
@@ -8,11 +8,11 @@ use Rattle.std.proofs.lemmas.Bool.Decides.{Decides-eqb}
 use Rattle.std.proofs.lemmas.Slice.Eq.{bytes_eq-Decides, starts_is, ends_is}
 use Rattle.std.proofs.lemmas.List.{append_assoc, length-append, take-append-le}
 use Rattle.std.proofs.Common.{length-drop}
-use Rattle.std.proofs.Math.Seq.{drop-append_seam, take-append_seam, take-append-add}
+use Rattle.std.proofs.Math.Seq.{take-append-add}
 use Rattle.own_model.specs.Routes.{as_asked, label_with}
-use Rattle.own_model.specs.Listed.{Listed, ListedEntry, ListedRule, Way, asks_for, end_of, init_entry, most_lists, route_within, rules_for, way_by, way_to}
+use Rattle.own_model.specs.Listed.{Listed, ListedEntry, ListedRule, asks_for, end_of, init_entry, most_lists, route_within, rules_for, way_by, way_to}
 use Rattle.reach.specs.Reach.{leads_to}
-use Rattle.reach.specs.Keys.{end_mark, front_mark, key_of, key_within, mark, marks_by, marks_of, whole_mark}
+use Rattle.reach.specs.Keys.{end_mark, front_mark, is_lost, key_of, key_within, lost_of, mark, marks_by, marks_of, whole_mark}
 
 -- ---- tests
 
@@ -30,6 +30,20 @@ begins_from text front rest is = (starts_is Decides-eqb text front _ refl).1 res
 
 begins_take : (text front : List ℕ) → starts_with nat_eq text front ≡ true → take (length front) text ≡ front
 begins_take text front begins = sym ((bytes_eq-Decides front (take (length front) text)).0 begins)
+
+-- ---- heads and tails
+
+heads_same : (a b : ℕ) (us vs : List ℕ) → a ∷ us ≡ b ∷ vs → a ≡ b
+heads_same a b us vs same = cc
+
+below_apart : (a b : ℕ) → a < b → a ≡ b → ⊥
+below_apart a b less same = omega arith
+
+heads_apart : (us vs : List ℕ) → 0 ∷ us ≡ 1 ∷ vs → ⊥
+heads_apart us vs same = below_apart 0 1 (omega arith) (heads_same 0 1 us vs same)
+
+tails_same : (a b : ℕ) (us vs : List ℕ) → a ∷ us ≡ b ∷ vs → us ≡ vs
+tails_same a b us vs same = cc
 
 -- ---- a whole text
 
@@ -149,64 +163,117 @@ end_alike (Some asked) seen other rest alike =
     end_read asked seen rest
     ∙ (ap (λ n. ends_with nat_eq (take n asked ++ rest) asked) alike ∙ sym (end_read asked other rest))
 
-heads_alike : (a b c d e f : ℕ) → a ∷ b ∷ c ∷ [] ≡ d ∷ e ∷ f ∷ [] → (a ≡ d) × (b ≡ e) × (c ≡ f)
+-- what a lost rule asks is not so, whatever stands behind the bytes seen
+lost_zero : (asked : Option (List ℕ)) (n : ℕ) → is_lost asked n ≡ true → n ≡ 0
+lost_zero None n lost = cc
+lost_zero (Some asked) n lost = (Decides-eqb n 0).0 lost
+
+lost_whole : (asked : Option (List ℕ)) (seen rest : List ℕ) → is_lost asked (mark whole_mark asked seen) ≡ true
+    → as_asked (bytes_eq (seen ++ rest)) asked ≡ false
+unfolding whole_by
+lost_whole None seen rest lost = cc
+lost_whole (Some asked) seen rest lost =
+    whole_read asked seen rest ∙ ap (λ n. whole_by n asked rest) (lost_zero (Some asked) (whole_mark asked seen) lost)
+
+lost_front : (asked : Option (List ℕ)) (seen rest : List ℕ) → is_lost asked (mark front_mark asked seen) ≡ true
+    → as_asked (starts_with nat_eq (seen ++ rest)) asked ≡ false
+unfolding front_by
+lost_front None seen rest lost = cc
+lost_front (Some asked) seen rest lost =
+    front_read asked seen rest ∙ ap (λ n. front_by n asked rest) (lost_zero (Some asked) (front_mark asked seen) lost)
+
+none_holds : (whole front end lost_by_whole lost_by_front : Bool) → (lost_by_whole ≡ true → whole ≡ false)
+    → (lost_by_front ≡ true → front ≡ false) → (lost_by_whole || lost_by_front) ≡ true → (whole && (front && end)) ≡ false
+none_holds whole front end true by_front no_whole no_front lost = ap (λ t. t && (front && end)) (no_whole refl)
+none_holds true front end false true no_whole no_front lost = ap (λ t. t && end) (no_front refl)
+none_holds false front end false true no_whole no_front lost = refl
+none_holds whole front end false false no_whole no_front lost = cc
+
+-- a rule's three texts are as asked
+texts_ask : ListedRule → List ℕ → Bool
+texts_ask rule label =
+    as_asked (bytes_eq label) rule.label
+    && (as_asked (starts_with nat_eq label) rule.label_prefix && as_asked (ends_with nat_eq label) rule.label_suffix)
+
+lost_asks : (rule : ListedRule) (seen rest : List ℕ) → lost_of rule seen ≡ true → texts_ask rule (seen ++ rest) ≡ false
+unfolding texts_ask
+lost_asks rule seen rest lost =
+    none_holds _ _ _ _ _ (lost_whole rule.label seen rest) (lost_front rule.label_prefix seen rest) lost
+
+heads_alike : (a b c d e f : ℕ) → 1 ∷ a ∷ b ∷ c ∷ [] ≡ 1 ∷ d ∷ e ∷ f ∷ [] → (a ≡ d) × (b ≡ e) × (c ≡ f)
 heads_alike a b c d e f alike = (cc, cc, cc)
 
-asks_case : (asks : Bool) (rule : ListedRule) (seen other rest : List ℕ)
-    → (if asks then mark whole_mark rule.label seen ∷ mark front_mark rule.label_prefix seen ∷ mark end_mark rule.label_suffix seen ∷ [] else [])
-    ≡ (if asks then mark whole_mark rule.label other ∷ mark front_mark rule.label_prefix other ∷ mark end_mark rule.label_suffix other ∷ [] else [])
-    → (asks && (as_asked (bytes_eq (seen ++ rest)) rule.label
-    && (as_asked (starts_with nat_eq (seen ++ rest)) rule.label_prefix && as_asked (ends_with nat_eq (seen ++ rest)) rule.label_suffix)))
-    ≡ (asks && (as_asked (bytes_eq (other ++ rest)) rule.label
-    && (as_asked (starts_with nat_eq (other ++ rest)) rule.label_prefix && as_asked (ends_with nat_eq (other ++ rest)) rule.label_suffix)))
-asks_case false rule seen other rest alike = refl
-asks_case true rule seen other rest alike =
+live_asks : (rule : ListedRule) (seen other rest : List ℕ)
+    → 1 ∷ mark whole_mark rule.label seen ∷ mark front_mark rule.label_prefix seen ∷ mark end_mark rule.label_suffix seen ∷ []
+    ≡ 1 ∷ mark whole_mark rule.label other ∷ mark front_mark rule.label_prefix other ∷ mark end_mark rule.label_suffix other ∷ []
+    → texts_ask rule (seen ++ rest) ≡ texts_ask rule (other ++ rest)
+unfolding texts_ask
+live_asks rule seen other rest alike =
     let heads = heads_alike _ _ _ _ _ _ alike in
     let whole = whole_alike rule.label seen other rest heads.0 in
     let front = front_alike rule.label_prefix seen other rest heads.1 in
     let end = end_alike rule.label_suffix seen other rest heads.2 in
     cc
 
+asks_case : (asks one two : Bool) (rule : ListedRule) (seen other rest : List ℕ) → lost_of rule seen ≡ one → lost_of rule other ≡ two
+    → (if asks then if one then 0 ∷ []
+    else 1 ∷ mark whole_mark rule.label seen ∷ mark front_mark rule.label_prefix seen ∷ mark end_mark rule.label_suffix seen ∷ [] else [])
+    ≡ (if asks then if two then 0 ∷ []
+    else 1 ∷ mark whole_mark rule.label other ∷ mark front_mark rule.label_prefix other ∷ mark end_mark rule.label_suffix other ∷ [] else [])
+    → (asks && texts_ask rule (seen ++ rest)) ≡ (asks && texts_ask rule (other ++ rest))
+asks_case false one two rule seen other rest first second alike = refl
+asks_case true true true rule seen other rest first second alike =
+    lost_asks rule seen rest first ∙ sym (lost_asks rule other rest second)
+asks_case true true false rule seen other rest first second alike = absurd (heads_apart _ _ alike)
+asks_case true false true rule seen other rest first second alike = absurd (heads_apart _ _ (sym alike))
+asks_case true false false rule seen other rest first second alike = live_asks rule seen other rest alike
+
 rule_alike : (service : List ℕ) (rule : ListedRule) (seen other rest : List ℕ) → marks_of service rule seen ≡ marks_of service rule other
     → asks_for rule service (seen ++ rest) ≡ asks_for rule service (other ++ rest)
-rule_alike service rule seen other rest alike = asks_case (as_asked (bytes_eq service) rule.service) rule seen other rest alike
+unfolding texts_ask
+rule_alike service rule seen other rest alike =
+    asks_case (as_asked (bytes_eq service) rule.service) (lost_of rule seen) (lost_of rule other) rule seen other rest refl refl alike
 
 -- ---- lists of rules
 
-same_split : (a b c d : List ℕ) → length a ≡ length c → a ++ b ≡ c ++ d → (a ≡ c) × (b ≡ d)
-same_split [] b [] d long same = (refl, same)
-same_split [] b (y ∷ c) d long same = absurd (omega arith)
-same_split (x ∷ a) b [] d long same = absurd (omega arith)
-same_split (x ∷ a) b (y ∷ c) d long same =
-    let rest = same_split a b c d (omega arith) (cc) in
-    let head : x ≡ y = cc in
-    (cc (rest.0, head), rest.1)
+split_case : (asks one two : Bool) (a b c d e f : ℕ) (us vs : List ℕ)
+    → (if asks then if one then 0 ∷ [] else 1 ∷ a ∷ b ∷ c ∷ [] else []) ++ us
+    ≡ (if asks then if two then 0 ∷ [] else 1 ∷ d ∷ e ∷ f ∷ [] else []) ++ vs
+    → ((if asks then if one then 0 ∷ [] else 1 ∷ a ∷ b ∷ c ∷ [] else []) ≡ (if asks then if two then 0 ∷ [] else 1 ∷ d ∷ e ∷ f ∷ [] else []))
+    × (us ≡ vs)
+split_case false one two a b c d e f us vs same = (refl, same)
+split_case true true true a b c d e f us vs same = (refl, tails_same 0 0 us vs same)
+split_case true true false a b c d e f us vs same = absurd (heads_apart _ _ same)
+split_case true false true a b c d e f us vs same = absurd (heads_apart _ _ (sym same))
+split_case true false false a b c d e f us vs same =
+    let first : a ≡ d = cc in
+    let second : b ≡ e = cc in
+    let third : c ≡ f = cc in
+    (cc, cc)
 
-case_length : (asks : Bool) (a b c d e f : ℕ)
-    → length (if asks then a ∷ b ∷ c ∷ [] else []) ≡ length (if asks then d ∷ e ∷ f ∷ [] else [])
-case_length true a b c d e f = refl
-case_length false a b c d e f = refl
+marks_split : (service : List ℕ) (rule : ListedRule) (seen other us vs : List ℕ)
+    → marks_of service rule seen ++ us ≡ marks_of service rule other ++ vs
+    → (marks_of service rule seen ≡ marks_of service rule other) × (us ≡ vs)
+marks_split service rule seen other us vs same =
+    split_case (as_asked (bytes_eq service) rule.service) (lost_of rule seen) (lost_of rule other) _ _ _ _ _ _ us vs same
 
-marks_length : (service : List ℕ) (rule : ListedRule) (seen other : List ℕ)
-    → length (marks_of service rule seen) ≡ length (marks_of service rule other)
-marks_length service rule seen other = case_length (as_asked (bytes_eq service) rule.service) _ _ _ _ _ _
-
-rules_length : (service : List ℕ) (rules : List ListedRule) (seen other : List ℕ)
-    → length (marks_by service rules seen) ≡ length (marks_by service rules other)
-rules_length service [] seen other = refl
-rules_length service (rule ∷ rules) seen other =
-    length-append (marks_of service rule seen) (marks_by service rules seen)
-    ∙ (ap (λ n. n + length (marks_by service rules seen)) (marks_length service rule seen other)
-    ∙ (ap (λ n. length (marks_of service rule other) + n) (rules_length service rules seen other)
-    ∙ sym (length-append (marks_of service rule other) (marks_by service rules other))))
+rules_split : (service : List ℕ) (rules : List ListedRule) (seen other us vs : List ℕ)
+    → marks_by service rules seen ++ us ≡ marks_by service rules other ++ vs
+    → (marks_by service rules seen ≡ marks_by service rules other) × (us ≡ vs)
+rules_split service [] seen other us vs same = (refl, same)
+rules_split service (rule ∷ rules) seen other us vs same =
+    let first = marks_split service rule seen other (marks_by service rules seen ++ us) (marks_by service rules other ++ vs)
+    (sym (append_assoc (marks_of service rule seen) (marks_by service rules seen) us)
+    ∙ (same ∙ append_assoc (marks_of service rule other) (marks_by service rules other) vs)) in
+    let others = rules_split service rules seen other us vs first.1 in
+    (ap (λ m. m ++ marks_by service rules seen) first.0 ∙ ap (λ m. marks_of service rule other ++ m) others.0, others.1)
 
 rules_alike : (entries : List ListedEntry) (init : ℕ) (service : List ℕ) (rules : List ListedRule) (seen other rest : List ℕ)
     → marks_by service rules seen ≡ marks_by service rules other
     → way_by entries init rules service (seen ++ rest) ≡ way_by entries init rules service (other ++ rest)
 rules_alike entries init service [] seen other rest alike = refl
 rules_alike entries init service (rule ∷ rules) seen other rest alike =
-    let both = same_split (marks_of service rule seen) (marks_by service rules seen) (marks_of service rule other) (marks_by service rules other)
-    (marks_length service rule seen other) alike in
+    let both = marks_split service rule seen other (marks_by service rules seen) (marks_by service rules other) alike in
     let first = rule_alike service rule seen other rest both.0 in
     let others = rules_alike entries init service rules seen other rest both.1 in
     ap (λ t. if t then way_to entries init rule.target service else way_by entries init rules service (seen ++ rest)) first
@@ -241,8 +308,7 @@ lists_alike : (lists : ℕ) (list : Listed) (entry : ListedEntry) (service seen 
     → route_within lists list entry service (seen ++ rest) ≡ route_within lists list entry service (other ++ rest)
 lists_alike zero list entry service seen other rest some more alike = refl
 lists_alike (suc lists) list entry service seen other rest some more alike =
-    let both = same_split (marks_by service (rules_for list entry) seen) _ (marks_by service (rules_for list entry) other) _
-    (rules_length service (rules_for list entry) seen other) alike in
+    let both = rules_split service (rules_for list entry) seen other _ _ alike in
     let here = rules_alike list.entries entry.home service (rules_for list entry) seen other rest both.0 in
     let out = outer_case lists list entry.name service seen other rest (init_entry list entry.home)
     (λ init same. lists_alike lists list init service (label_with entry.name seen) (label_with entry.name other) rest
@@ -264,18 +330,6 @@ entry_alike list service seen other rest (Some entry) some more alike =
 
 some_long : (b : ℕ) (bs : List ℕ) → 0 < length (b ∷ bs)
 some_long b bs = omega arith
-
-heads_same : (a b : ℕ) (us vs : List ℕ) → a ∷ us ≡ b ∷ vs → a ≡ b
-heads_same a b us vs same = cc
-
-below_apart : (a b : ℕ) → a < b → a ≡ b → ⊥
-below_apart a b less same = omega arith
-
-heads_apart : (us vs : List ℕ) → 0 ∷ us ≡ 1 ∷ vs → ⊥
-heads_apart us vs same = below_apart 0 1 (omega arith) (heads_same 0 1 us vs same)
-
-tails_same : (a b : ℕ) (us vs : List ℕ) → a ∷ us ≡ b ∷ vs → us ≡ vs
-tails_same a b us vs same = cc
 
 -- labels of one key lead alike with anything behind them
 pub key_alike : (list : Listed) (client : ℕ) (service seen other rest : List ℕ)

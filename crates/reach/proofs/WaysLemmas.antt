@@ -1,14 +1,12 @@
 -- What is told of a server, by labels that show where all given ones lead.
-use Rattle.std.proofs.Common.{◌≡◌, ◌≢◌, ℕ, ◌<◌, ◌≤◌, ◌+◌, zero, suc, Bool, true, false, ◌&&◌, List, [], ◌∷◌, ◌++◌, length, get_or, refl, sym, subst, ap, ◌∙◌, arith, ◌⊎◌, inl, inr, nat_lt, Option, Some, None}
-use Rattle.std.specs.Prelude.{All, Any}
+use Rattle.std.proofs.Common.{◌≡◌, ℕ, ◌<◌, ◌≤◌, ◌+◌, zero, suc, Bool, true, false, ◌&&◌, List, [], ◌∷◌, length, get_or, refl, sym, ap, ◌∙◌, arith, ◌⊎◌, inl, inr, nat_lt, Option, Some, None}
 use Rattle.std.specs.List.{list_all}
 use Rattle.std.proofs.lemmas.Bool.Decides.{nat_tests}
-use Rattle.std.proofs.lemmas.Grind.{common_steps}
 use Rattle.std.proofs.lemmas.List.{append-nil}
 use Rattle.std.proofs.lemmas.List.Elements.{All-contains}
 use Rattle.std.proofs.lemmas.List.Sums.{AllPass-from_list_all}
 use Rattle.own_model.specs.Listed.{Listed}
-use Rattle.reach.specs.Reach.{AllLead, IsGiven, IsShortest, NoneLeads, SomeStray, leads_to}
+use Rattle.reach.specs.Reach.{AllLead, IsShortest, NoneLeads, SomeStray, leads_to}
 use Rattle.reach.specs.Closure.{AreKept, IsKept, KeptLabel, StandsFor}
 use Rattle.reach.proofs.ClosureLemmas.{same_at}
 use Rattle.reach.specs.Ways.{AreWays, IsBest, IsLeast, IsTold, LeadsAlike, is_child, is_shorter, leads}

@@ -1,6 +1,5 @@
 -- Where a client's wishes for a service lead, for every given label.
-use Rattle.std.specs.Prelude.{◌≡◌, ◌≢◌, ℕ, ◌<◌, ◌≤◌, ◌==◌, ◌&&◌, Bool, true, false, List, length, nat_lt, slice_index_or, Option, Some, None, All, Any}
-use Rattle.std.specs.List.{slice_get}
+use Rattle.std.specs.Prelude.{◌≡◌, ℕ, ◌<◌, ◌≤◌, ◌==◌, Bool, true, false, List, length, nat_lt, slice_index_or, Option, Some, None, All, Any}
 use Rattle.own_model.specs.Listed.{Listed}
 use Rattle.reach.specs.Reach.{IsGiven, IsShortest, AllLead, NoneLeads, SomeStray, leads_to}
 use Rattle.reach.specs.Closure.{KeptLabel}

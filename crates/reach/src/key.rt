@@ -4,7 +4,7 @@ ghost use Rattle.std.specs.Option.{option_copied};
 ghost use Rattle.std.specs.Str.{bytes_eq};
 ghost use Rattle.own_model.specs.Routes.{as_asked};
 ghost use Rattle.own_model.specs.Listed.{init_entry, rules_for};
-ghost use Rattle.reach.specs.Keys.{whole_mark, front_mark, end_mark, filled, key_of, key_within, mark, marks_by, marks_of};
+ghost use Rattle.reach.specs.Keys.{whole_mark, front_mark, end_mark, filled, is_lost, key_of, key_within, mark, marks_by, marks_of};
 
 use crate::label::{Label, label_with};
 use crate::wishes::Wishes;
@@ -112,7 +112,7 @@ fn add_marks(
     Ok(())
 }
 
-// The marks of a rule's three texts, where it asks for the service.
+// The marks of a rule's three texts, where it asks for the service, and of a lost rule that it is lost.
 fn add_rule(
     key: &mut Vec<usize>,
     rule: &Rule,
@@ -123,12 +123,30 @@ fn add_rule(
     ensures { OnOk result (key.new.items
         ≡ key.old.items ++ marks_of service.now rule.now seen.now) }
 {
-    if asks_service(rule, service) {
-        key.push(mark_of_whole(rule.label(), seen))?;
-        key.push(mark_of_front(rule.label_prefix(), seen))?;
-        key.push(mark_of_end(rule.label_suffix(), seen))?;
+    if !asks_service(rule, service) {
+        return Ok(());
     }
+    let whole = mark_of_whole(rule.label(), seen);
+    let front = mark_of_front(rule.label_prefix(), seen);
+    if is_lost(rule.label(), whole) || is_lost(rule.label_prefix(), front) {
+        key.push(0)?;
+        return Ok(());
+    }
+    key.push(1)?;
+    key.push(whole)?;
+    key.push(front)?;
+    key.push(mark_of_end(rule.label_suffix(), seen))?;
     Ok(())
+}
+
+// Whether a text is asked and its mark is 0: then no longer label is as asked.
+fn is_lost(asked: Option<&str>, mark: usize) -> bool
+    ensures { result ≡ is_lost (option_copied asked.entry) mark }
+{
+    match asked {
+        Some(_) => mark == 0,
+        None => false,
+    }
 }
 
 /// Whether a rule asks for a service.

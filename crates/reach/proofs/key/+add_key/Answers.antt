@@ -1,5 +1,5 @@
 -- What the lists around add.
-use Rattle.std.proofs.Common.{◌∙◌, ◌++◌, ap, arith, refl, suc, sym}
+use Rattle.std.proofs.Common.{◌∙◌, ◌++◌, ap, arith, sym}
 use Rattle.own_model.specs.Listed.{init_entry}
 use Rattle.own_model.specs.Routes.{label_with}
 use Rattle.reach.specs.Keys.{marks_by}
