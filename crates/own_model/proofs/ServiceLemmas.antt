@@ -1,9 +1,11 @@
 -- What is so of each service: all that lemmas say of one service and not of another.
-use Rattle.std.proofs.Common.{◌≡◌, ℕ, ◌+◌, ◌||◌, Bool, true, false, true≢false, List, length, codes, refl, sym, ap, ◌∙◌, arith, Some}
+use Rattle.std.proofs.Common.{◌≡◌, ℕ, ◌+◌, ◌^◌, ◌||◌, Bool, true, false, true≢false, List, length, codes, refl, sym, ap, ◌∙◌, arith, Some}
+use Rattle.std.proofs.lemmas.Bool.Decides.{nat_tests}
 use Rattle.std.proofs.lemmas.List.Elements.{All-nil}
 use Rattle.std.proofs.lemmas.Option.{none-some}
 use Rattle.std.specs.List.{list_any}
-use Rattle.std.specs.Prelude.{Option, None}
+use Rattle.std.specs.Option.{option_and_then}
+use Rattle.std.specs.Prelude.{Option, None, if◌then◌else◌, nat_lt}
 use Rattle.std.specs.Str.{bytes_eq}
 use Rattle.trade_base.specs.Service.{binary_name, served_by_binary, service_name, services}
 use Rattle.trade_base.specs.declared.service.Service.{Service}
@@ -15,12 +17,13 @@ use Rattle.own_model.proofs.LogLemmas.{writes_lines}
 use Rattle.own_model.specs.Account.{WithinLimits}
 use Rattle.own_model.specs.BufferLaws.{FitsBuffer}
 use Rattle.own_model.specs.BufferService.{buffer_caps, buffer_ram, session_request}
+use Rattle.own_model.specs.CounterService.{IsCount, counted, counter_request, counts_to}
 use Rattle.own_model.specs.FileService.{IsCharged}
 use Rattle.own_model.specs.LogService.{IsUnbroken, IsPartial, log_served_bytes}
 use Rattle.own_model.specs.LogText.{log_request}
 use Rattle.own_model.specs.OwnState.{zeros}
 use Rattle.own_model.specs.Services.{IsKept, Served, ServiceState, Session, served_by, state_at_first, state_caps, state_ram}
-use Rattle.own_model.specs.Services.ServiceState.{Logging, Filing}
+use Rattle.own_model.specs.Services.ServiceState.{Logging, Filing, Counting}
 use Rattle.own_model.specs.Session.{session_caps, session_ram}
 use Rattle.own_model.specs.Text.{is_name}
 use Rattle.own_model.specs.Use.{UsesItsCharge}
@@ -39,25 +42,31 @@ rest_false true b none = absurd (true≢false none)
 pub none_named : (asked : List ℕ) (of : Service) → list_any (λ service. bytes_eq asked (service_name service)) services ≡ false → bytes_eq asked (service_name of) ≡ false
 none_named asked service.Log none = first_false (bytes_eq asked (service_name service.Log)) _ none
 none_named asked service.Files none = first_false (bytes_eq asked (service_name service.Files)) _ (rest_false (bytes_eq asked (service_name service.Log)) _ none)
+none_named asked service.Counter none =
+    first_false (bytes_eq asked (service_name service.Counter)) _ (rest_false (bytes_eq asked (service_name service.Files)) _ (rest_false (bytes_eq asked (service_name service.Log)) _ none))
 
 -- it is found again by its binary's name
 pub found_again : (of : Service) → served_by_binary (binary_name of) ≡ Some of
 found_again service.Log = refl
 found_again service.Files = refl
+found_again service.Counter = refl
 
 -- which is no script's and no init's
 pub is_no_script : (of : Service) → bytes_eq (binary_name of) (codes "script") ≡ false
 is_no_script service.Log = refl
 is_no_script service.Files = refl
+is_no_script service.Counter = refl
 
 pub is_no_init : (of : Service) → bytes_eq (binary_name of) (codes "init") ≡ false
 is_no_init service.Log = refl
 is_no_init service.Files = refl
+is_no_init service.Counter = refl
 
 -- each service's name is one that an entry could have
 pub is_named : (of : Service) → is_name (service_name of) ≡ true
 is_named service.Log = refl
 is_named service.Files = refl
+is_named service.Counter = refl
 
 -- ---- its server
 
@@ -70,11 +79,13 @@ pub there_by : (server : ℕ) (state : ServiceState) (buffer : Option (List ℕ)
     served_by state buffer (record x { server = server }) request ≡ served_there server (served_by state buffer x request)
 there_by server (Logging partial) buffer x request = refl
 there_by server (Filing files) buffer x request = refl
+there_by server (Counting count) buffer x request = refl
 
 -- a request leaves the session with its server
 pub server_stays : (state : ServiceState) (buffer : Option (List ℕ)) (x : Session) (request : List ℕ) → (served_by state buffer x request).session.server ≡ x.server
 server_stays (Logging partial) buffer x request = refl
 server_stays (Filing files) buffer x request = refl
+server_stays (Counting count) buffer x request = refl
 
 -- ---- charges
 
@@ -82,6 +93,7 @@ server_stays (Filing files) buffer x request = refl
 pub nothing_at_first : (service : Service) → (state_ram (state_at_first service) ≡ 0) × (state_caps (state_at_first service) ≡ 0)
 nothing_at_first service.Log = (refl, refl)
 nothing_at_first service.Files = (refl, refl)
+nothing_at_first service.Counter = (refl, refl)
 
 -- a session that has served uses what it is charged for
 pub serve_charges : (state : ServiceState) (buffer : Option (List ℕ)) (x : Session) (request : List ℕ) → x.state ≡ state → UsesItsCharge x buffer →
@@ -91,6 +103,7 @@ serve_charges (Filing files) buffer x request is h =
     let before : IsCharged (session_ram + buffer_ram buffer) (session_caps + buffer_caps buffer) files x.account = record { ram = omega (arith, h.ram, ap state_ram is); caps = omega (arith, h.caps, ap state_caps is) } in
     let after = all_keep_charges session_ram session_caps (session_request request) buffer files x.account before in
     record { ram = omega (arith, after.ram); caps = omega (arith, after.caps) }
+serve_charges (Counting count) buffer x request is h = record { ram = omega (arith, h.ram, ap state_ram is); caps = omega (arith, h.caps, ap state_caps is) }
 
 -- ---- limits
 
@@ -102,12 +115,14 @@ IsWithin session = WithinLimits session.account
 pub serve_within : (state : ServiceState) (buffer : Option (List ℕ)) (x : Session) (request : List ℕ) → IsWithin x → IsWithin (served_by state buffer x request).session
 serve_within (Logging partial) buffer x request within = within
 serve_within (Filing files) buffer x request within = all_keep_within (session_request request) buffer files x.account within
+serve_within (Counting count) buffer x request within = within
 
 -- a session that serves keeps its limits
 pub serve_keeps : (state : ServiceState) (buffer : Option (List ℕ)) (x : Session) (request : List ℕ) →
     ((served_by state buffer x request).session.account.ram_limit ≡ x.account.ram_limit) × ((served_by state buffer x request).session.account.caps_limit ≡ x.account.caps_limit)
 serve_keeps (Logging partial) buffer x request = (refl, refl)
 serve_keeps (Filing files) buffer x request = all_keep_limits (session_request request) buffer files x.account
+serve_keeps (Counting count) buffer x request = (refl, refl)
 
 -- ---- what is kept
 
@@ -119,15 +134,26 @@ Keeps x = IsKept x.state
 pub kept_at_first : (service : Service) → IsKept (state_at_first service)
 kept_at_first service.Log = record { short = omega arith; whole = All-nil IsUnbroken }
 kept_at_first service.Files = no_files_are
+kept_at_first service.Counter = omega arith
 
 -- after a request that has bytes or none
 partial_after : (partial : List ℕ) (bytes : Option (List ℕ)) → IsPartial partial → IsPartial (log_served_bytes partial bytes).partial
 partial_after partial None h = h
 partial_after partial (Some bytes) h = (writes_lines partial bytes h).1
 
+-- after a request that adds a number or none
+counted_after : (count more : ℕ) (below : Bool) → nat_lt (count + more) (2 ^ 64) ≡ below → IsCount count → IsCount (counts_to count (if below then Some (count + more) else None)).count
+counted_after count more true below h = grind (arith, nat_tests, below)
+counted_after count more false below h = h
+
+count_after : (count : ℕ) (added : Option ℕ) → IsCount count → IsCount (counts_to count (option_and_then (counted count) added)).count
+count_after count None h = h
+count_after count (Some more) h = counted_after count more (nat_lt (count + more) (2 ^ 64)) refl h
+
 pub kept_after : (state : ServiceState) (buffer : Option (List ℕ)) (x : Session) (request : List ℕ) → IsKept state → Keeps (served_by state buffer x request).session
 kept_after (Logging partial) buffer x request h = partial_after partial (log_request request) h
 kept_after (Filing files) buffer x request h = all_keep_files (session_request request) buffer files x.account h
+kept_after (Counting count) buffer x request h = count_after count (counter_request request) h
 
 -- ---- its buffer
 
@@ -135,9 +161,11 @@ kept_after (Filing files) buffer x request h = all_keep_files (session_request r
 pub serve_fits : (state : ServiceState) (buffer : Option (List ℕ)) (x : Session) (request : List ℕ) → FitsBuffer buffer (served_by state buffer x request).buffer
 serve_fits (Logging partial) buffer x request = same_fits buffer
 serve_fits (Filing files) buffer x request = all_fit (session_request request) buffer files x.account
+serve_fits (Counting count) buffer x request = same_fits buffer
 
 -- a session that had no buffer and has one has it all zero, and the reply waits for its selector
 pub serve_new : (state : ServiceState) (x : Session) (request bytes : List ℕ) → (served_by state None x request).buffer ≡ Some bytes →
     (bytes ≡ zeros (length bytes)) × ((served_by state None x request).reply ≡ codes "OK cap ")
 serve_new (Logging partial) x request bytes is = absurd (none-some bytes is)
 serve_new (Filing files) x request bytes is = request_new files x.account (session_request request) bytes is
+serve_new (Counting count) x request bytes is = absurd (none-some bytes is)

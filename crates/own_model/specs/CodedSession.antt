@@ -80,9 +80,9 @@ coded_files =
     (λ p. record { files = p.0; shape = p.1 })
     (λ _. refl)
 
--- what a server keeps is stored as the line that isn't finished yet, or as the files
+-- what a server keeps is stored as the line that isn't finished yet, as the files, or as the count
 abbrev pub coded_state : Coded ServiceState
-coded_state = code_by (List ℕ ⊎ Files) (coded⊎ (coded_list coded_ℕ) coded_files) state_parts state_from state_back
+coded_state = code_by (List ℕ ⊎ (Files ⊎ ℕ)) (coded⊎ (coded_list coded_ℕ) (coded⊎ coded_files coded_ℕ)) state_parts state_from state_back
 
 abbrev pub coded_session : Coded Session
 coded_session =

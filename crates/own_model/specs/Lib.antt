@@ -37,6 +37,7 @@ pub mod SessionArgs
 pub mod LogText
 pub mod FileText
 pub mod LogService
+pub mod CounterService
 pub mod FileService
 pub mod BufferService
 pub mod FileRows

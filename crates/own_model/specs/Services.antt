@@ -6,14 +6,17 @@ use Rattle.trade_base.specs.declared.service.Service.{Service}
 use Rattle.trade_base.specs.declared.service.Service.TheVariants as service
 use Rattle.own_model.specs.Account.{Account}
 use Rattle.own_model.specs.BufferService.{BufferServed, text_served}
+use Rattle.own_model.specs.CounterService.{CounterServed, IsCount, counter_served}
 use Rattle.own_model.specs.FileService.{Files, AreFiles, files_caps, files_ram, no_files}
 use Rattle.own_model.specs.LogService.{LogServed, IsPartial, labelled, log_served}
 use Rattle.own_model.specs.Reply.{LogLine}
 
--- what a server keeps for a session: the log server the line that isn't finished yet, the file server the files
+-- what a server keeps for a session: the log server the line that isn't finished yet, the file server the files, the
+-- counter its count
 pub data ServiceState : Type 0 where
   Logging : List ℕ → ServiceState
   Filing : Files → ServiceState
+  Counting : ℕ → ServiceState
 
 -- a session: its label, its account, of which all is what its client donated, what its server keeps for it, and the place of
 -- that server among the entries
@@ -23,31 +26,37 @@ pub record Session : Type 0 where
   pub state : ServiceState
   pub server : ℕ
 
--- what is true of it: a line that isn't finished yet is shorter than the longest, and has no newline; files are as files are
+-- what is true of it: a line that isn't finished yet is shorter than the longest, and has no newline; files are as files are;
+-- a count is a word
 abbrev pub IsKept : ServiceState → Type 0
 IsKept (Logging partial) = IsPartial partial
 IsKept (Filing files) = AreFiles files
+IsKept (Counting count) = IsCount count
 
 -- the kind of server that keeps this
 abbrev pub service_of : ServiceState → Service
 service_of (Logging partial) = service.Log
 service_of (Filing files) = service.Files
+service_of (Counting count) = service.Counter
 
 -- what a server keeps at first
 abbrev pub state_at_first : Service → ServiceState
 state_at_first service.Log = Logging []
 state_at_first service.Files = Filing no_files
+state_at_first service.Counter = Counting 0
 
 -- ---- charges
 
--- what a server charges to a session for what it keeps: for files, and for no line
+-- what a server charges to a session for what it keeps: for files, and for no line or count
 abbrev pub state_ram : ServiceState → ℕ
 state_ram (Logging partial) = 0
 state_ram (Filing files) = files_ram files
+state_ram (Counting count) = 0
 
 abbrev pub state_caps : ServiceState → ℕ
 state_caps (Logging partial) = 0
 state_caps (Filing files) = files_caps files
+state_caps (Counting count) = 0
 
 -- ---- requests
 
@@ -76,9 +85,19 @@ filed_by session o = record {
   buffer = o.buffer;
 }
 
+-- a request of a counter leaves the account and a buffer, and finishes no lines
+abbrev pub counted_by : Option (List ℕ) → Session → CounterServed → Served
+counted_by buffer session o = record {
+  reply = o.reply;
+  lines = [];
+  session = record session { state = Counting o.count };
+  buffer = buffer;
+}
+
 abbrev pub served_by : ServiceState → Option (List ℕ) → Session → List ℕ → Served
 served_by (Logging partial) buffer session request = logged_by buffer session (log_served partial request)
 served_by (Filing files) buffer session request = filed_by session (text_served buffer files session.account request)
+served_by (Counting count) buffer session request = counted_by buffer session (counter_served count request)
 
 -- ---- as parts of a model's value
 
@@ -86,24 +105,30 @@ served_by (Filing files) buffer session request = filed_by session (text_served 
 abbrev pub service_number : Service → ℕ
 service_number service.Log = 0
 service_number service.Files = 1
+service_number service.Counter = 2
 
 abbrev pub service_from : ℕ → Service
 service_from zero = service.Log
-service_from (suc n) = service.Files
+service_from (suc zero) = service.Files
+service_from (suc (suc n)) = service.Counter
 
 abbrev pub service_back : (s : Service) → service_from (service_number s) ≡ s
 service_back service.Log = refl
 service_back service.Files = refl
+service_back service.Counter = refl
 
--- what a server keeps is stored as the line that isn't finished yet, or as the files
-abbrev pub state_parts : ServiceState → List ℕ ⊎ Files
+-- what a server keeps is stored as the line that isn't finished yet, as the files, or as the count
+abbrev pub state_parts : ServiceState → List ℕ ⊎ (Files ⊎ ℕ)
 state_parts (Logging partial) = inl partial
-state_parts (Filing files) = inr files
+state_parts (Filing files) = inr (inl files)
+state_parts (Counting count) = inr (inr count)
 
-abbrev pub state_from : List ℕ ⊎ Files → ServiceState
+abbrev pub state_from : List ℕ ⊎ (Files ⊎ ℕ) → ServiceState
 state_from (inl partial) = Logging partial
-state_from (inr files) = Filing files
+state_from (inr (inl files)) = Filing files
+state_from (inr (inr count)) = Counting count
 
 abbrev pub state_back : (s : ServiceState) → state_from (state_parts s) ≡ s
 state_back (Logging partial) = refl
 state_back (Filing files) = refl
+state_back (Counting count) = refl

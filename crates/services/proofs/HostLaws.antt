@@ -27,12 +27,14 @@ use Rattle.server_frame.proofs.PlaceLaws.{table_has_place}
 use Rattle.server_frame.proofs.RowLaws.{IsNoRows, read_from, no_session_by_rows}
 use Rattle.log_service.specs.Session.{LabelledLine}
 use Rattle.log_service.specs.declared.service.LogService.{LogService}
+use Rattle.counter_service.specs.Session.{LabelledCount}
+use Rattle.counter_service.specs.declared.service.CounterService.{CounterService}
 use Rattle.file_service.specs.Aside.{lends_aside}
 use Rattle.file_service.specs.declared.service.FileService.{FileService}
 use Rattle.file_service.specs.declared.session.FileSession.{FileSession}
 use Rattle.services.specs.Host.{Table, table_of, rows_by, rows_of, capacity_of, HasSession, HasPlace, Works, HasNoSessions, IsNew}
 use Rattle.services.specs.declared.host.Host.{Host}
-use Rattle.services.specs.declared.host.Host.TheVariants.{Log, Files}
+use Rattle.services.specs.declared.host.Host.TheVariants.{Log, Files, Counter}
 
 -- ---- rows
 
@@ -71,6 +73,9 @@ log_open store host server id is there = has_session store (Log server) id (ap (
 
 pub files_open : (store : Store) (host : Host) (server : Server FileService FileSession) (id : ℕ) → host ≡ Files server → IsSome (get (rows_of store host) id) → ContainsKey server.sessions id
 files_open store host server id is there = has_session store (Files server) id (ap (λ h. is_some (get (rows_of store h) id)) (sym is) ∙ there)
+
+pub counter_open : (store : Store) (host : Host) (server : Server CounterService LabelledCount) (id : ℕ) → host ≡ Counter server → IsSome (get (rows_of store host) id) → ContainsKey server.sessions id
+counter_open store host server id is there = has_session store (Counter server) id (ap (λ h. is_some (get (rows_of store h) id)) (sym is) ∙ there)
 
 -- as many keys have a row as a session
 mapped : {T X : Type 0} (f : T → X) (o : Option T) → is_some o ≡ is_some (option_map f o)
@@ -126,6 +131,7 @@ row_paid store host works id row there =
 aside : (host : Host) → AllLendAside (table_of host).kept (table_of host).value (table_of host).buffer
 aside (Log server) = lends_nothing
 aside (Files server) = lends_aside
+aside (Counter server) = lends_nothing
 
 -- it is a dataspace that the session's account pays for
 pub lent_paid : (store : Store) (host : Host) → Works store host → (id key : ℕ) (row : Row Labelled) → get (rows_of store host) id ≡ Some row → row.buffer ≡ Some key →

@@ -12,16 +12,18 @@ use Rattle.dataspace_core.specs.Store.{Store, account_in, room_in, ram_limits_in
 use Rattle.server_frame.specs.Frame.{Row, sessions_of, IsServer}
 use Rattle.server_frame.specs.declared.server.Session.{Session}
 use Rattle.log_service.specs.Session.{LabelledLine, as_kept, IsSession as IsLogSession}
+use Rattle.counter_service.specs.Session.{LabelledCount, as_kept as as_counted, IsSession as IsCounterSession}
 use Rattle.file_service.specs.Lent.{buffer_key}
 use Rattle.file_service.specs.Session.{value_of, IsSession as IsFileSession}
 use Rattle.file_service.specs.declared.session.FileSession.{FileSession}
 use Rattle.services.specs.declared.host.Host.{Host}
-use Rattle.services.specs.declared.host.Host.TheVariants.{Log, Files}
+use Rattle.services.specs.declared.host.Host.TheVariants.{Log, Files, Counter}
 
 -- the service that it serves
 abbrev pub service_of : Host → Service
 service_of (Log server) = service.Log
 service_of (Files server) = service.Files
+service_of (Counter server) = service.Counter
 
 -- what a server keeps: its sessions and its map; and of what its service keeps for a session what that is to its client, what it
 -- lends it, and what is true of it
@@ -55,9 +57,21 @@ file_table sessions map = record {
   map = map;
 }
 
+-- the counter keeps blocks of its sliced heap in the memory as the log service does
+abbrev pub counter_table : Slab (Session LabelledCount) → Regions → Table
+counter_table sessions map = record {
+  State = LabelledCount;
+  value = λ session share. as_counted session;
+  buffer = λ session. None;
+  kept = IsCounterSession;
+  sessions = sessions;
+  map = map;
+}
+
 abbrev pub table_of : Host → Table
 table_of (Log server) = log_table server.sessions server.map
 table_of (Files server) = file_table server.sessions server.map
+table_of (Counter server) = counter_table server.sessions server.map
 
 -- the sessions that it serves, by their keys
 abbrev pub rows_by : Store → Table → NatMap (Row Labelled)

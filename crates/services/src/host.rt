@@ -11,6 +11,7 @@ ghost use Rattle.server_frame.specs.Lent.{key_of};
 ghost use Rattle.server_frame.specs.Session.{service_step};
 ghost use Rattle.server_frame.specs.Told.{nothing_told};
 
+use counter_service::CounterService;
 use dataspace_core::Memory;
 use file_service::FileService;
 use log_service::LogService;
@@ -25,6 +26,8 @@ pub enum Host {
     Log(Server<LogService>),
     /// Of the file service.
     Files(Server<FileService>),
+    /// Of the counter service.
+    Counter(Server<CounterService>),
 }
 
 impl Host {
@@ -54,6 +57,10 @@ impl Host {
                 let server = Server::boot(alloc, FileService, sessions, pages)?;
                 Ok(Host::Files(server))
             }
+            Service::Counter => {
+                let server = Server::boot(alloc, CounterService, sessions, pages)?;
+                Ok(Host::Counter(server))
+            }
         }
     }
 
@@ -64,6 +71,7 @@ impl Host {
         match self {
             Host::Log(server) => server.is_open(id),
             Host::Files(server) => server.is_open(id),
+            Host::Counter(server) => server.is_open(id),
         }
     }
 
@@ -76,6 +84,7 @@ impl Host {
         match self {
             Host::Log(server) => server.account(id),
             Host::Files(server) => server.account(id),
+            Host::Counter(server) => server.account(id),
         }
     }
 
@@ -88,6 +97,7 @@ impl Host {
         match self {
             Host::Log(server) => server.buffer(id),
             Host::Files(server) => server.buffer(id),
+            Host::Counter(server) => server.buffer(id),
         }
     }
 
@@ -118,11 +128,12 @@ impl Host {
         match self {
             Host::Log(server) => server.open(memory, client, label, ram, caps),
             Host::Files(server) => server.open(memory, client, label, ram, caps),
+            Host::Counter(server) => server.open(memory, client, label, ram, caps),
         }
     }
 
     /// Moves so much more of its client's limits to a session's account, or why not: `OutOfRam`, then `OutOfCaps`.
-    #[tactic(auto, using(crate::proofs::HostLaws::log_open, crate::proofs::HostLaws::files_open))]
+    #[tactic(auto, using(crate::proofs::HostLaws::log_open, crate::proofs::HostLaws::files_open, crate::proofs::HostLaws::counter_open))]
     pub fn raise(
         &mut self,
         memory: &mut Memory,
@@ -146,11 +157,12 @@ impl Host {
         match self {
             Host::Log(server) => server.upgrade(memory, id, ram, caps),
             Host::Files(server) => server.upgrade(memory, id, ram, caps),
+            Host::Counter(server) => server.upgrade(memory, id, ram, caps),
         }
     }
 
     /// Answers a request of a session, and tells what it did to what the session lends.
-    #[tactic(auto, using(crate::proofs::HostLaws::log_open, crate::proofs::HostLaws::files_open))]
+    #[tactic(auto, using(crate::proofs::HostLaws::log_open, crate::proofs::HostLaws::files_open, crate::proofs::HostLaws::counter_open))]
     pub fn serve(
         &mut self,
         memory: &mut Memory,
@@ -172,11 +184,12 @@ impl Host {
         match self {
             Host::Log(server) => server.serve(memory, id, request, reply),
             Host::Files(server) => server.serve(memory, id, request, reply),
+            Host::Counter(server) => server.serve(memory, id, request, reply),
         }
     }
 
     /// Closes a session: its client's limits are raised by those of its account.
-    #[tactic(auto, using(crate::proofs::HostLaws::log_open, crate::proofs::HostLaws::files_open))]
+    #[tactic(auto, using(crate::proofs::HostLaws::log_open, crate::proofs::HostLaws::files_open, crate::proofs::HostLaws::counter_open))]
     pub fn close(&mut self, memory: &mut Memory, id: SessionId)
         requires { Serves memory.old self.old id.0 }
         ensures closes { AtRow (rows_of memory.old self.old) id.0 (λ row.
@@ -188,6 +201,7 @@ impl Host {
         match self {
             Host::Log(server) => server.close(memory, id),
             Host::Files(server) => server.close(memory, id),
+            Host::Counter(server) => server.close(memory, id),
         }
     }
 }

@@ -2,5 +2,6 @@ pub mod View
 pub mod Pairs
 pub mod Pieces
 pub mod LogReply
+pub mod CounterReply
 pub mod File
 pub mod FileReply

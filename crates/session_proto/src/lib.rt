@@ -3,6 +3,7 @@
 
 mod args;
 mod buffer;
+mod counter;
 mod file;
 mod file_reply;
 mod hex_text;
@@ -11,6 +12,7 @@ mod pair;
 mod text;
 
 pub use args::SessionArgs;
+pub use counter::{CounterReply, CounterRequest};
 pub use file::FileRequest;
 pub use file_reply::{FileError, FileReply};
 pub use log::{LogReply, LogRequest};

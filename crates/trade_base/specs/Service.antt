@@ -3,21 +3,23 @@ use Rattle.std.specs.Prelude.{List, ℕ, [], ◌∷◌, codes, Option}
 use Rattle.std.specs.List.{find}
 use Rattle.std.specs.Str.{bytes_eq}
 use Rattle.trade_base.specs.declared.service.Service.{Service}
-use Rattle.trade_base.specs.declared.service.Service.TheVariants.{Log, Files}
+use Rattle.trade_base.specs.declared.service.Service.TheVariants.{Log, Files, Counter}
 
 -- every service
 abbrev pub services : List Service
-services = Log ∷ Files ∷ []
+services = Log ∷ Files ∷ Counter ∷ []
 
 -- the name by which clients ask for it
 abbrev pub service_name : Service → List ℕ
 service_name Log = codes "LOG"
 service_name Files = codes "File_system"
+service_name Counter = codes "Counter"
 
 -- the name of the binary that serves it
 abbrev pub binary_name : Service → List ℕ
 binary_name Log = codes "log"
 binary_name Files = codes "files"
+binary_name Counter = codes "counter"
 
 -- the service of a binary's name, if it is one's
 abbrev pub served_by_binary : List ℕ → Option Service

@@ -6,10 +6,12 @@ pub enum Service {
     Log,
     /// It keeps the files of each session.
     Files,
+    /// It keeps the count of each session.
+    Counter,
 }
 
 /// Every service, in the order in which what is said of each is told.
-pub const SERVICES: [Service; 2] = [Service::Log, Service::Files];
+pub const SERVICES: [Service; 3] = [Service::Log, Service::Files, Service::Counter];
 
 impl Service {
     ghost use Rattle.std.specs.Prelude.{◌≡◌};
@@ -22,6 +24,7 @@ impl Service {
         match self {
             Service::Log => "LOG",
             Service::Files => "File_system",
+            Service::Counter => "Counter",
         }
     }
 
@@ -32,6 +35,7 @@ impl Service {
         match self {
             Service::Log => "log",
             Service::Files => "files",
+            Service::Counter => "counter",
         }
     }
 

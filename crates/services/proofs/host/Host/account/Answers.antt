@@ -7,3 +7,6 @@ returns-in-Log c = λ store. account_told store c.in-Log.is c.args.id.0 c.accoun
 
 pub returns-in-Files : goal.returns-in-Files
 returns-in-Files c = λ store. account_told store c.in-Files.is c.args.id.0 c.account-in-Files.result c.account-in-Files.ensures
+
+pub returns-in-Counter : goal.returns-in-Counter
+returns-in-Counter c = λ store. account_told store c.in-Counter.is c.args.id.0 c.account-in-Counter.result c.account-in-Counter.ensures

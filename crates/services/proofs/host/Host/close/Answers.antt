@@ -9,3 +9,6 @@ returns-in-Log-clause-closes c = λ row there. c.close.ensures.closes row (ap (�
 
 pub returns-in-Files-clause-closes : goal.returns-in-Files-clause-closes
 returns-in-Files-clause-closes c = λ row there. c.close-in-Files.ensures.closes row (ap (λ h. get (rows_of c.args.memory.now h) c.args.id.0) (sym c.in-Files.is) ∙ there)
+
+pub returns-in-Counter-clause-closes : goal.returns-in-Counter-clause-closes
+returns-in-Counter-clause-closes c = λ row there. c.close-in-Counter.ensures.closes row (ap (λ h. get (rows_of c.args.memory.now h) c.args.id.0) (sym c.in-Counter.is) ∙ there)

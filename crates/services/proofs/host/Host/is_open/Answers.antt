@@ -8,3 +8,6 @@ returns-in-Log c = λ store. c.is_open.ensures ∙ open_told store c.in-Log.is c
 
 pub returns-in-Files : goal.returns-in-Files
 returns-in-Files c = λ store. c.is_open-in-Files.ensures ∙ open_told store c.in-Files.is c.args.id.0
+
+pub returns-in-Counter : goal.returns-in-Counter
+returns-in-Counter c = λ store. c.is_open-in-Counter.ensures ∙ open_told store c.in-Counter.is c.args.id.0

@@ -1,0 +1,6 @@
+-- The heap goes as it came.
+use Rattle.server_frame.proofs.HoldingLemmas.{session_heap}
+use Rattle.counter_service.proofs.service.CounterServiceService.end.Goals as goal
+
+pub returns-clause-heap : goal.returns-clause-heap
+returns-clause-heap c = rw c.into_heap.ensures (session_heap _ _ _ c.requires.account c.requires.kept.linked)
