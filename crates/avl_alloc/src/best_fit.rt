@@ -9,13 +9,16 @@ ghost use Rattle.avl_alloc.specs.Context.{Context, heap_with, Stand, StandSomewh
 ghost use Rattle.avl_alloc.specs.Walk.{block_there};
 ghost use Rattle.avl_alloc.specs.Found.{used_block, block_addr};
 
-use super::chunk::{Block, HEADER, HOLE, LEAST, USED, hole_at, set_header, set_state, walk};
+use super::chunk::{Block, HEADER, HOLE, LEAST, USED, hole_at, set_header, set_state, walk, walk_from};
 use super::holes::{HoleKey, Holes};
 use super::memory::{SPAN, WordMemory, load, place_of};
 use avl_tree::{find, insert, remove};
 
 /// The most chunks of a heap.
 pub const MOST_CHUNKS: usize = 64;
+
+/// How many marks a chunk has, one behind another at equal steps.
+const MARKS: usize = 64;
 
 /// Where a block starts. Its payload is 16 bytes on.
 #[derive(Clone, Copy, Debug, PartialEq, Eq)]
@@ -47,6 +50,9 @@ pub struct BestFit {
     count: usize,
     /// The bytes of each chunk.
     sizes: [u64; MOST_CHUNKS],
+    /// Of each chunk, for each of its equal parts, where a block starts that starts no later than the part, in steps of 16
+    /// bytes. A release walks from there. The heap writes them as it walks, and no word of a chunk is believed for them.
+    marks: [[u16; MARKS]; MOST_CHUNKS],
 }
 
 impl BestFit {
@@ -60,6 +66,7 @@ impl BestFit {
             root: 0,
             count: 0,
             sizes: [0; MOST_CHUNKS],
+            marks: [[0; MARKS]; MOST_CHUNKS],
         }
     }
 
@@ -152,13 +159,14 @@ impl BestFit {
             M.loads memory.new ≤ M.loads memory.old + 256 * (binary_digits (hole_count old) + 2)
             + 4 * length (chunk_of old addr.chunk) }
     {
-        let block = self.reach(memory, addr)?;
+        let block = self.walk_to(memory, addr)?;
         if !block.used || block.offset != addr.offset {
             return None;
         }
         let start = place_of(addr.chunk);
         let place = start + addr.offset;
         let behind = self.hole_behind(memory, place + block.size, start + self.sizes[addr.chunk]);
+        self.join_marks(addr.chunk, addr.offset - block.before, block.before, block.size, behind);
         self.give_back(
             memory,
             place - block.before,
@@ -167,6 +175,60 @@ impl BestFit {
             behind,
         );
         Some(block.size)
+    }
+
+    /// The bytes of a part of a chunk.
+    fn part(&self, chunk: usize) -> u64 {
+        (self.sizes[chunk] / MARKS as u64).max(64)
+    }
+
+    /// The block in which an address lies, walked to from the mark before it. What is directly before it is told where the
+    /// address is the block's first byte.
+    fn walk_to<M: WordMemory>(&mut self, memory: &mut M, addr: BlockAddr) -> Option<Block> {
+        if addr.chunk >= self.count || addr.offset >= self.sizes[addr.chunk] {
+            return None;
+        }
+        let part = self.part(addr.chunk);
+        let slot = (addr.offset.saturating_sub(1) / part) as usize;
+        let from = 16 * self.marks[addr.chunk][slot.min(MARKS - 1)] as u64;
+        if addr.offset - from > 2 * part {
+            self.mark(memory, addr.chunk, from, addr.offset, part);
+        }
+        let from = 16 * self.marks[addr.chunk][slot.min(MARKS - 1)] as u64;
+        Some(walk_from(memory, addr.chunk, from, addr.offset))
+    }
+
+    /// Marks the blocks that are walked over up to an offset.
+    fn mark<M: WordMemory>(&mut self, memory: &mut M, chunk: usize, from: u64, to: u64, part: u64) {
+        let mut offset = from;
+        let mut slot = (from + part - 1) / part;
+        while offset < to {
+            let size = memory.load(chunk, offset);
+            while slot * part < offset + size && slot * part <= to && slot < MARKS as u64 {
+                if offset < 1048576 {
+                    self.marks[chunk][slot as usize] = (offset / 16) as u16;
+                }
+                slot += 1;
+            }
+            offset += size;
+        }
+    }
+
+    /// Where blocks become one hole, no block starts within it any more.
+    fn join_marks(&mut self, chunk: usize, start: u64, before: u64, size: u64, behind: u64) {
+        if before == 0 && behind == 0 {
+            return;
+        }
+        let first = ((start + before) / 16) as u16;
+        let second = ((start + before + size) / 16) as u16;
+        let to = (start / 16) as u16;
+        let first = if before == 0 { to } else { first };
+        let second = if behind == 0 { to } else { second };
+        for mark in self.marks[chunk].iter_mut() {
+            if *mark == first || *mark == second {
+                *mark = to;
+            }
+        }
     }
 
     /// The used block whose payload holds an address, or `None` where no payload does. It believes
@@ -212,7 +274,10 @@ impl BestFit {
         if addr.offset >= self.sizes[addr.chunk] {
             return None;
         }
-        Some(walk(memory, addr.chunk, addr.offset))
+        let part = self.part(addr.chunk);
+        let slot = (addr.offset / part) as usize;
+        let from = 16 * self.marks[addr.chunk][slot.min(MARKS - 1)] as u64;
+        Some(walk_from(memory, addr.chunk, from, addr.offset))
     }
 
     /// Takes the hole at a place for a block of `size` bytes. What is left stays a hole, unless it is

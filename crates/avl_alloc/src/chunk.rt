@@ -109,6 +109,27 @@ pub fn walk<M: WordMemory>(memory: &mut M, chunk: usize, target: u64) -> Block
     }
 }
 
+/// The same, from the block that starts at an offset on. What is directly before that one isn't told.
+pub fn walk_from<M: WordMemory>(memory: &mut M, chunk: usize, from: u64, target: u64) -> Block {
+    let mut offset = from;
+    let mut before = 0;
+    'steps: loop {
+        let header = whole(offset);
+        let size = memory.load(chunk, header);
+        let used = memory.load(chunk, header + STATE) == USED;
+        if target < offset + size {
+            return Block {
+                offset,
+                size,
+                used,
+                before,
+            };
+        }
+        before = if used { 0 } else { size };
+        offset += size;
+    }
+}
+
 /// The same offset. Where it is taken in, the compiler knows that its lowest bits are 0.
 fn whole(offset: u64) -> u64
     requires { offset % HEADER ≡ 0 }
