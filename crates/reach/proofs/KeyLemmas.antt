@@ -337,10 +337,10 @@ pub key_alike : (list : Listed) (client : ℕ) (service seen other rest : List �
     → leads_to list client service (seen ++ rest) ≡ leads_to list client service (other ++ rest)
 unfolding key_of leads_to
 key_alike list client service [] [] rest alike = refl
-key_alike list client service [] (b ∷ other) rest alike = absurd (heads_apart _ _ alike)
-key_alike list client service (a ∷ seen) [] rest alike = absurd (heads_apart _ _ (sym alike))
+key_alike list client service [] (b ∷ other) rest alike = absurd (heads_apart _ _ (tails_same _ _ _ _ alike))
+key_alike list client service (a ∷ seen) [] rest alike = absurd (heads_apart _ _ (sym (tails_same _ _ _ _ alike)))
 key_alike list client service (a ∷ seen) (b ∷ other) rest alike =
-    entry_alike list service (a ∷ seen) (b ∷ other) rest (slice_get list.entries client) (some_long a seen) (some_long b other) (tails_same 1 1 _ _ alike)
+    entry_alike list service (a ∷ seen) (b ∷ other) rest (slice_get list.entries client) (some_long a seen) (some_long b other) (tails_same 1 1 _ _ (tails_same _ _ _ _ alike))
 
 -- ---- the longest end
 

@@ -1,5 +1,5 @@
 -- What of a label matters to where it and all longer ones lead: how far it stands in each text that some rule asks for.
-use Rattle.std.specs.Prelude.{ℕ, zero, suc, Bool, false, ◌||◌, List, [], ◌∷◌, ◌++◌, length, nat_eq, if◌then◌else◌, Option, Some, None}
+use Rattle.std.specs.Prelude.{ℕ, zero, suc, Bool, false, ◌||◌, List, [], ◌∷◌, ◌++◌, length, nat_eq, if◌then◌else◌, position, Option, Some, None}
 use Rattle.std.specs.List.{starts_with, slice_get}
 use Rattle.std.specs.Option.{option_map, unwrap_or}
 use Rattle.std.specs.Str.{bytes_eq}
@@ -59,8 +59,20 @@ abbrev pub filled : List ℕ → ℕ
 filled [] = 0
 filled (b ∷ bs) = 1
 
+-- of all rules that a client's wishes meet
+abbrev pub marks_met : Listed → ℕ → List ℕ → List ℕ → List ℕ
+marks_met list client service label =
+    unwrap_or (option_map (λ entry. key_within most_lists list entry service label) (slice_get list.entries client)) []
+
+-- a mark that stands before those of a rule that isn't lost
+abbrev pub is_live : ℕ → Bool
+is_live n = nat_eq n 1
+
+-- where the first rule that isn't lost stands: most keys differ in it
+abbrev pub first_live : List ℕ → ℕ
+first_live marks = unwrap_or (position is_live marks) 0
+
 -- the key of a client's label
 unfoldable pub key_of : Listed → ℕ → List ℕ → List ℕ → List ℕ
 key_of list client service label =
-    filled label
-    ∷ unwrap_or (option_map (λ entry. key_within most_lists list entry service label) (slice_get list.entries client)) []
+    first_live (marks_met list client service label) ∷ filled label ∷ marks_met list client service label

@@ -1,10 +1,10 @@
 //! What of a label matters to where it and all longer ones lead.
-ghost use Rattle.std.specs.Prelude.{◌≡◌, ◌+◌, ◌*◌, ◌≤◌, ◌<◌, ◌++◌, length, IfOk, OnOk};
+ghost use Rattle.std.specs.Prelude.{◌≡◌, ◌+◌, ◌*◌, ◌≤◌, ◌<◌, ◌++◌, length, position, IfOk, OnOk};
 ghost use Rattle.std.specs.Option.{option_copied};
 ghost use Rattle.std.specs.Str.{bytes_eq};
 ghost use Rattle.own_model.specs.Routes.{as_asked};
 ghost use Rattle.own_model.specs.Listed.{init_entry, rules_for};
-ghost use Rattle.reach.specs.Keys.{whole_mark, front_mark, end_mark, filled, is_lost, key_of, key_within, mark, marks_by, marks_of};
+ghost use Rattle.reach.specs.Keys.{whole_mark, front_mark, end_mark, filled, first_live, is_live, is_lost, key_of, key_within, mark, marks_by, marks_met, marks_of};
 
 use crate::label::{Label, label_with};
 use crate::wishes::Wishes;
@@ -26,11 +26,23 @@ pub(crate) fn key_of(
         ≡ key_of wishes.entry.list.now wishes.entry.client wishes.entry.service.now label.now) }
 {
     let mut key = Vec::new(alloc);
-    let label = label.as_bytes();
-    key.push(filled(label))?;
+    let marks = marks_met(alloc, wishes, label.as_bytes())?;
+    key.push(first_live(marks.as_slice()))?;
+    key.push(filled(label.as_bytes()))?;
+    key.extend_from_slice(marks.as_slice())?;
+    Ok(key)
+}
+
+// The marks of all rules that the client's wishes meet.
+fn marks_met(alloc: Global, wishes: Wishes<'_>, label: &[u8]) -> Result<Vec<usize>, AllocError>
+    requires { length label.now ≤ 64 }
+    ensures { IfOk result (λ marks. marks.items
+        ≡ marks_met wishes.entry.list.now wishes.entry.client wishes.entry.service.now label.now) }
+{
+    let mut marks = Vec::new(alloc);
     if let Some(entry) = wishes.list.entries().get(wishes.client) {
         add_key(
-            &mut key,
+            &mut marks,
             wishes.list,
             MOST_LISTS,
             entry,
@@ -38,7 +50,31 @@ pub(crate) fn key_of(
             label,
         )?;
     }
-    Ok(key)
+    Ok(marks)
+}
+
+// Where the first rule that isn't lost stands among the marks.
+fn first_live(marks: &[usize]) -> usize
+    ensures { result ≡ first_live marks.now }
+{
+    match live_place(marks) {
+        Some(place) => place,
+        None => 0,
+    }
+}
+
+// The same, or that all are lost.
+fn live_place(marks: &[usize]) -> Option<usize>
+    ensures { result ≡ position is_live marks.now }
+{
+    marks.iter().position(|mark| is_live(*mark))
+}
+
+// Whether a mark stands before those of a rule that isn't lost.
+fn is_live(mark: usize) -> bool
+    ensures { result ≡ is_live mark }
+{
+    mark == 1
 }
 
 // 0 of the empty label, which stands by itself, and 1 of every other.
