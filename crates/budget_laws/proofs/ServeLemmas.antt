@@ -21,7 +21,7 @@ use Rattle.own_model.specs.FileText.FileError.{BadRequest, BadName, Exists, NotF
 use Rattle.own_model.specs.FileText.FileReply.{Done, Count, Bytes, Named, Refused}
 use Rattle.own_model.specs.Growth.{Growth, most_chunks, hole_for, least_growth, growth_of, new_hole, small_refusal, shape_grown}
 use Rattle.own_model.specs.Session.{ServiceState, Session, Served, served_by, served}
-use Rattle.own_model.specs.Services.ServiceState.{Logging, Filing}
+use Rattle.own_model.specs.Services.ServiceState.{Filing}
 use Rattle.own_model.specs.Sliced.{sliced_size}
 use Rattle.own_model.specs.Text.{is_name}
 use Rattle.budget_laws.proofs.TestLemmas.{IsAlike, IsLed, lacks, short_alike, least_alike, growth_alike, decided, growth_decided}
@@ -333,7 +333,6 @@ module _ (x : Amounts) (session : Session) (buffer : Option (List ℕ)) (request
 
   serves_by : (state : ServiceState) → AllByRecursion (IsAlike x session.account) (tests_by state buffer session.account request) →
       ServesAlike x session buffer (served_by state buffer session request) (served_by state buffer (donating x session) request)
-  serves_by (Logging partial) each = record { answers = record { reply = Same _; lines = refl; buffer = refl }; whole = inl refl; after = refl; ram = refl; caps = refl }
   serves_by (Filing files) each =
       let agree = requests_agree x session.account files (session_request request) buffer each in
       record {
@@ -343,6 +342,8 @@ module _ (x : Amounts) (session : Session) (buffer : Option (List ℕ)) (request
         ram = agree.ram;
         caps = agree.caps;
       }
+  -- a service that leaves its account
+  serves_by state each = record { answers = record { reply = Same _; lines = refl; buffer = refl }; whole = inl refl; after = refl; ram = refl; caps = refl }
 
   pub serves : AllByRecursion (IsAlike x session.account) (request_tests buffer session request) →
       ServesAlike x session buffer (served buffer session request) (served buffer (donating x session) request)
@@ -351,8 +352,8 @@ module _ (x : Amounts) (session : Session) (buffer : Option (List ℕ)) (request
   decides_by : (state : ServiceState) → AllByRecursion (IsLed x session.account) (tests_by state buffer session.account request) →
       AllByRecursion (IsAlike x session.account) (tests_by state buffer session.account request)
       ⊎ (tells_short (served_by state buffer (donating x session) request).reply ≡ true)
-  decides_by (Logging partial) each = inl tt
   decides_by (Filing files) each = requests_decide x session.account files (session_request request) buffer each
+  decides_by state each = inl tt
 
   pub serve_decides : AllByRecursion (IsLed x session.account) (request_tests buffer session request) →
       AllByRecursion (IsAlike x session.account) (request_tests buffer session request) ⊎ (tells_short (served buffer (donating x session) request).reply ≡ true)

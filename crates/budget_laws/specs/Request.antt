@@ -13,7 +13,7 @@ use Rattle.own_model.specs.FileText.FileRequest.{Create, Write}
 use Rattle.own_model.specs.FileText.FileReply.{Refused}
 use Rattle.own_model.specs.FileText.FileError.{OutOfRam, OutOfCaps}
 use Rattle.own_model.specs.Session.{ServiceState, Session}
-use Rattle.own_model.specs.Services.ServiceState.{Logging, Filing}
+use Rattle.own_model.specs.Services.ServiceState.{Filing}
 use Rattle.own_model.specs.Sliced.{sliced_size}
 use Rattle.own_model.specs.Text.{is_name}
 use Rattle.budget_laws.specs.Need.{limited}
@@ -56,10 +56,10 @@ filing_tests (Some (OfBuffer (Put name offset place count))) buffer files accoun
     put_tests offset place count buffer (file_named name files)
 filing_tests request buffer files account = []
 
--- a log tests nothing
+-- files and a buffer test; a service that leaves its account tests nothing
 abbrev pub tests_by : ServiceState → Option (List ℕ) → Account → List ℕ → List Test
-tests_by (Logging partial) buffer account request = []
 tests_by (Filing files) buffer account request = filing_tests (session_request request) buffer files account
+tests_by state buffer account request = []
 
 abbrev pub request_tests : Option (List ℕ) → Session → List ℕ → List Test
 request_tests buffer session request = tests_by session.state buffer session.account request

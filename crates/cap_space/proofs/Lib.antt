@@ -1,2 +1,3 @@
+pub mod PaddedLemmas
 pub mod SlotsLemmas
 pub mod PlacesLemmas

@@ -1,9 +1,10 @@
 -- What the slots hold, and what a change of one slot does to it.
-use Rattle.std.proofs.Common.{◌≡◌, ℕ, zero, suc, ◌+◌, ◌-◌, ◌<◌, ◌≤◌, ◌^◌, ◌≢◌, true, true≢false, cond, eqb, List, [], ◌∷◌, length, replicate, get_or, ◌⊎◌, set, Some, is_some, IsSome, count_by, subst, refl, sym, ap, ◌∙◌, arith, inl, inr}
+use Rattle.std.proofs.Common.{◌≡◌, ℕ, zero, suc, ◌+◌, ◌-◌, ◌<◌, ◌≤◌, ◌^◌, true, true≢false, cond, eqb, List, [], ◌∷◌, length, replicate, get_or, ◌⊎◌, set, Some, is_some, IsSome, count_by, subst, refl, sym, ap, ◌∙◌, arith, inl, inr}
 use Rattle.std.proofs.lemmas.Bool.{cases_eq, cases_lt}
 use Rattle.std.proofs.lemmas.Bool.Decides.{nat_tests}
 use Rattle.std.proofs.lemmas.List.{get_or-set_same, get_or-set_other, get_or-replicate, get_or_past, length-replicate, length-set}
 use Rattle.std.proofs.lemmas.Option.{none-some}
+use Rattle.std.proofs.lemmas.List.Folds.{sum_by-replicate}
 use Rattle.std.proofs.lemmas.List.Sums.{sum_by-cons, sum_by-set, get_or-le-sum_by, count_by-le-length}
 use Rattle.std.specs.Prelude.{Option, None}
 use Rattle.std.specs.Ordering.{nat_cmp}
@@ -13,8 +14,9 @@ use Rattle.own_model.specs.OwnState.{new_selector}
 use Rattle.own_model.proofs.NatMapLemmas.{same, get-insert, get-remove, get-empty}
 use Rattle.own_model.proofs.NewSelector.{new_selector_is}
 use Rattle.own_model.proofs.SlotLemmas.{get-held_from, get-held_from_below, len-held_from}
-use Rattle.cap_space.specs.Slots.{held, space_of, IsTakenBefore, IsKept}
+use Rattle.cap_space.specs.Slots.{padded, held, space_of, IsTakenBefore, IsKept}
 use Rattle.cap_space.specs.Places.{mark_at, AreSummed, IsMarked}
+use Rattle.cap_space.proofs.PaddedLemmas.{get_or-padded, length-padded}
 use Rattle.cap_space.proofs.PlacesLemmas.{taken-full, IsLeast}
 use Rattle.cap_space.specs.Space.{Space, fresh_space, with_cap, without_cap}
 use Rattle.cap_space.specs.declared.cap.Cap.{Cap}
@@ -120,7 +122,7 @@ module _ {X : Type 0} where
   held_le slots = count_by-le-length is_some slots
 
 -- the equations by which `grind` reads slots
-pub ruleset slots = (nat_tests, get-held_zero, get-held, len-held, new_selector-held, held-replicate, held_cases, held_le)
+pub ruleset slots = (nat_tests, get-held_zero, get-held, get_or-padded, len-held, new_selector-held, held-replicate, held_cases, held_le)
 
 -- ---- the space that the slots keep
 
@@ -138,6 +140,18 @@ same_space caps places i = record { caps = caps i; places = places i }
 -- free slots are an empty space
 pub space_fresh : (slots : List (Option Cap)) (places : ℕ) → slots ≡ replicate places None → space_of slots ≡ fresh_space places
 space_fresh slots places free = same_space (ap held free ∙ held-replicate places) (ap length free ∙ length-replicate places None)
+
+-- so no slot is taken
+pub kept_fresh : (slots : List (Option Cap)) (capacity : ℕ) (words : List ℕ) → slots ≡ replicate capacity None → capacity ≤ 4096 → ((place : ℕ) → mark_at words place ≡ 0) → IsKept slots capacity words 0
+kept_fresh slots capacity words fresh few free =
+    let long : length slots ≡ capacity = ap length fresh ∙ length-replicate capacity None in
+    record {
+      reserved = sym long;
+      few = omega (arith, few, long);
+      taken = λ place bit. absurd (omega (arith, bit, free place));
+      free = λ place bit. ap (λ s. get_or s place None) fresh ∙ grind (arith, get_or-replicate, get_or_past, length-replicate, cases_lt place capacity);
+      counted = ap (count_by is_some) fresh ∙ omega (arith, sum_by-replicate (λ (o : Option Cap). cond (is_some o) 1 0) capacity None);
+    }
 
 module _ (slots : List (Option Cap)) (space : Space) (keeps : space_of slots ≡ space) where
   -- a place is free where the space has room
@@ -181,6 +195,17 @@ module _ (slots : List (Option Cap)) (space : Space) (keeps : space_of slots ≡
           ];
           counted = omega (arith, count-vacated slots selector here at.0 at.1, kept.counted);
         }
+
+-- the slot of a selector in use has been in use
+pub vacated_within : (slots : List (Option Cap)) (places : ℕ) (space : Space) → space_of (padded slots places) ≡ space → (selector : ℕ) → IsSome (get space.caps selector) → selector - 1 < length slots
+vacated_within slots places space keeps selector taken =
+    let held_there : IsSome (get (held (padded slots places)) selector) = subst (λ (s : Space). IsSome (get s.caps selector)) (sym keeps) taken in
+    let at = in_use (padded slots places) selector held_there in
+    let some : is_some (get_or slots (selector - 1) None) ≡ true = ap is_some (sym (get-held (padded slots places) selector at.0 ∙ get_or-padded slots places (selector - 1))) ∙ held_there in
+    elim (cases_lt (selector - 1) (length slots)) as (λ _. selector - 1 < length slots) [
+      | inl below ↦ below
+      | inr past ↦ absurd (true≢false (sym some ∙ ap is_some (get_or_past slots (selector - 1) None past)))
+    ]
 
 -- ---- the least free place
 

@@ -1,9 +1,9 @@
 //! The capability space: a table with a place for each selector.
-ghost use Rattle.std.specs.Prelude.{◌≡◌, ℕ, ◌<◌, ◌≤◌, ◌↔◌, None, IsTrue, IsFalse, IsSome, IfOk, IfSome, IfNone};
+ghost use Rattle.std.specs.Prelude.{◌≡◌, ℕ, [], ◌<◌, ◌≤◌, ◌↔◌, Some, None, IsTrue, IsFalse, IsSome, IfOk, IfSome, IfNone, slice_set, vec_len, vec_capacity};
 ghost use Rattle.std.specs.FinMap.{get, len};
 ghost use Rattle.own_model.specs.OwnState.{new_selector, IsLeastUnused};
 ghost use Rattle.cap_space.specs.Space.{dataspace_of, is_rpc_object, session_of, is_buffer, fresh_space, with_cap, without_cap};
-ghost use Rattle.cap_space.specs.Slots.{IsTakenBefore};
+ghost use Rattle.cap_space.specs.Slots.{IsTakenBefore, padded};
 
 use crate::cap::Cap;
 use crate::places::Places;
@@ -16,7 +16,7 @@ use trade_base::{DsId, NoMemory, Selector, SessionId};
 /// All memory is taken at the boot, so that no later call fails for want of it.
 #[derive(Drop)]
 pub struct CapSpace {
-    // The place of a selector is one less.
+    // Of the places that have been in use, with room for all: the place of a selector is one less.
     slots: Vec<Option<Cap>>,
     // Which of them are taken. Places past the last one are free.
     taken: Places,
@@ -32,11 +32,12 @@ impl Model for CapSpace {
     ghost coded = { coded_space };
 
     ghost use Rattle.std.specs.Prelude.{vec_capacity};
-    ghost use Rattle.cap_space.specs.Slots.{space_of, IsKept};
+    ghost use Rattle.cap_space.specs.Slots.{padded, space_of, IsKept};
 
-    ghost view = { λ s. space_of s.slots.items };
+    ghost view = { λ s. space_of (padded s.slots.items (vec_capacity s.slots)) };
 
-    ghost invariant = { λ s. IsKept s.slots.items (vec_capacity s.slots) s.taken.words s.used };
+    ghost invariant = { λ s.
+        IsKept (padded s.slots.items (vec_capacity s.slots)) (vec_capacity s.slots) s.taken.words s.used };
 }
 
 #[tactic(auto, using(crate::proofs::SlotsLemmas::slots))]
@@ -48,10 +49,7 @@ impl CapSpace {
         requires { places ≤ 4096 }
         ensures { IfOk result (λ space. space ≡ fresh_space places) }
     {
-        let mut slots = Vec::with_capacity(alloc, places).map_err(|_| NoMemory)?;
-        for _place in 0..places {
-            slots.push_reserved(None);
-        }
+        let slots = no_slots(alloc, places)?;
         Ok(CapSpace {
             slots,
             taken: Places::all_free(),
@@ -68,7 +66,7 @@ impl CapSpace {
         ensures taken { self.new ≡ with_cap self.old result.0 cap }
     {
         let place = self.taken.least_free();
-        self.slots[place] = Some(cap);
+        put(&mut self.slots, place, cap);
         self.taken.take(place);
         self.used += 1;
         Selector((place + 1) as u32)
@@ -159,7 +157,7 @@ impl CapSpace {
         ensures none { IfNone result
             ((s : ℕ) → IsFalse (is_buffer space.0 (get self.now.caps s))) }
     {
-        let places = self.slots.len();
+        let places = self.slots.capacity();
         let mut selector = 0;
         while selector < places {
             selector += 1;
@@ -192,7 +190,7 @@ impl CapSpace {
             → (1 ≤ selector)
             × (selector ≤ self.now.places) }
     {
-        self.slots.len()
+        self.slots.capacity()
     }
 
     /// Whether each place has a capability.
@@ -200,6 +198,30 @@ impl CapSpace {
         ensures full { IsTrue result ↔ (len self.now.caps ≡ self.now.places) }
         ensures within { len self.now.caps ≤ self.now.places }
     {
-        self.used == self.slots.len()
+        self.used == self.slots.capacity()
+    }
+}
+
+// No slots, with room for so many.
+fn no_slots(alloc: Global, places: usize) -> Result<Vec<Option<Cap>>, NoMemory>
+    ensures none { IfOk result (λ slots. slots.items ≡ []) }
+    ensures room { IfOk result (λ slots. vec_capacity slots ≡ places) }
+{
+    Vec::with_capacity(alloc, places).map_err(|_| NoMemory)
+}
+
+// Puts a capability at a place that has been in use, or at the next one.
+#[tactic(auto, using(crate::proofs::PaddedLemmas::padded_slots))]
+fn put(slots: &mut Vec<Option<Cap>>, place: usize, cap: Cap)
+    requires next { place ≤ vec_len slots.old }
+    requires room { place < vec_capacity slots.old }
+    ensures put { padded slots.new.items (vec_capacity slots.new)
+        ≡ slice_set (padded slots.old.items (vec_capacity slots.old)) place (Some cap) }
+    ensures capacity { vec_capacity slots.new ≡ vec_capacity slots.old }
+{
+    if place < slots.len() {
+        slots[place] = Some(cap);
+    } else {
+        slots.push_reserved(Some(cap));
     }
 }

@@ -5,7 +5,7 @@ use workbench_options::Command;
 #[test]
 fn each_command_is_read(rt: HostRuntime) -> Result<(), Fail> {
     let alloc = rt.alloc();
-    let lines: [(&[&str], Command<'_>); 14] = [
+    let lines: [(&[&str], Command<'_>); 18] = [
         (
             &["nethrywel", "run", "a.txt"],
             Command::Run {
@@ -73,13 +73,15 @@ fn each_command_is_read(rt: HostRuntime) -> Result<(), Fail> {
             &["nethrywel", "trace", "run"],
             Command::Trace {
                 machine: None,
+                json: false,
                 scenario: "run",
             },
         ),
         (
-            &["", "trace", "--machine=", "a"],
+            &["", "trace", "--machine=", "--json", "a"],
             Command::Trace {
                 machine: Some(""),
+                json: true,
                 scenario: "a",
             },
         ),
@@ -87,13 +89,15 @@ fn each_command_is_read(rt: HostRuntime) -> Result<(), Fail> {
             &["nethrywel", "accounts", "a"],
             Command::Accounts {
                 machine: None,
+                json: false,
                 scenario: "a",
             },
         ),
         (
-            &["nethrywel", "accounts", "a", "--machine", "b"],
+            &["nethrywel", "accounts", "--json", "a", "--machine", "b"],
             Command::Accounts {
                 machine: Some("b"),
+                json: true,
                 scenario: "a",
             },
         ),
@@ -101,24 +105,64 @@ fn each_command_is_read(rt: HostRuntime) -> Result<(), Fail> {
             &["nethrywel", "alone", "bob", "a"],
             Command::Alone {
                 machine: None,
+                all: false,
+                summary: false,
                 name: "bob",
-                scenario: "a",
+                scenario: Some("a"),
             },
         ),
         (
             &["nethrywel", "alone", "bob", "--machine", "b", "a"],
             Command::Alone {
                 machine: Some("b"),
+                all: false,
+                summary: false,
                 name: "bob",
-                scenario: "a",
+                scenario: Some("a"),
             },
         ),
         (
             &["nethrywel", "alone", "", "größe"],
             Command::Alone {
                 machine: None,
+                all: false,
+                summary: false,
                 name: "",
-                scenario: "größe",
+                scenario: Some("größe"),
+            },
+        ),
+        (
+            &["nethrywel", "alone", "--all", "a", "--summary"],
+            Command::Alone {
+                machine: None,
+                all: true,
+                summary: true,
+                name: "a",
+                scenario: None,
+            },
+        ),
+        (
+            &["nethrywel", "diff", "a", "b"],
+            Command::Diff {
+                before: "a",
+                after: "b",
+                scenario: None,
+            },
+        ),
+        (
+            &["nethrywel", "diff", "a", "b", "c"],
+            Command::Diff {
+                before: "a",
+                after: "b",
+                scenario: Some("c"),
+            },
+        ),
+        (
+            &["nethrywel", "test", "a", "--junit", "b", "c", "--machine", "d", "e"],
+            Command::Test {
+                machine: Some("d"),
+                junit: Some("b"),
+                paths: vec![in alloc; "a", "c", "e"]?,
             },
         ),
     ];

@@ -1,7 +1,7 @@
 //! The exit status, and what is told on standard error of a result that can't be written or a scenario that can't be read.
 use init_core::BootFault;
-use std::io;
 use std::io::ErrorKind;
+use std::{fmt, io};
 use workbench::{Ending, PlayFault, exit_status};
 
 /// The exit status of a result that can't be written.
@@ -43,7 +43,14 @@ impl Played {
         if let Ok(ending) = &self.ended {
             match ending.fault {
                 Some(PlayFault::WriteFault) if self.unread => return UNREAD,
-                Some(fault) => tell_fault(rt, scenario, ending.lines, fault),
+                Some(fault) => {
+                    let stopped = Stopped {
+                        scenario,
+                        lines: ending.lines,
+                        fault,
+                    };
+                    let _ = eprintln!(rt; "{stopped}");
+                }
                 None => (),
             }
         }
@@ -51,12 +58,25 @@ impl Played {
     }
 }
 
-// Tells a fault of the run after so many lines, and where it came while a line was read, which one.
-fn tell_fault(rt: &HostRuntime, scenario: &str, lines: u64, fault: PlayFault) {
-    let _ = match fault {
-        PlayFault::ReadFault | PlayFault::TooManyLines => {
-            eprintln!(rt; "{scenario}:{}: {fault}", lines.saturating_add(1))
+/// A fault of the run after so many lines of a scenario; where it came while a line was read, with that line.
+#[derive(Clone, Copy)]
+pub(crate) struct Stopped<'a> {
+    /// The path of the scenario.
+    pub(crate) scenario: &'a str,
+    /// How many lines were read.
+    pub(crate) lines: u64,
+    /// The fault.
+    pub(crate) fault: PlayFault,
+}
+
+impl fmt::Display for Stopped<'_> {
+    fn fmt<W: fmt::Write>(&self, f: &mut fmt::Formatter<W>) -> fmt::Result {
+        let fault = self.fault;
+        match fault {
+            PlayFault::ReadFault | PlayFault::TooManyLines => {
+                write!(f, "{}:{}: {fault}", self.scenario, self.lines.saturating_add(1))
+            }
+            PlayFault::WriteFault | PlayFault::NoMemory => write!(f, "run: {fault}"),
         }
-        PlayFault::WriteFault | PlayFault::NoMemory => eprintln!(rt; "run: {fault}"),
-    };
+    }
 }

@@ -4,7 +4,7 @@ use crate::files::read_list;
 use init_core::StartList;
 use reach::{Course, NoCourse, Table};
 use start_review::{Fault, Review, Whereabouts};
-use std::io;
+use std::{fmt, io};
 
 /// The exit status of a wish that leads nowhere.
 const DENIED: u8 = 3;
@@ -12,16 +12,22 @@ const DENIED: u8 = 3;
 /// Tells what is wrong with a start list, a line each on standard error, and `ok` where nothing is that counts: findings
 /// count where the check is strict. Answers the exit status.
 pub(crate) fn check(rt: &HostRuntime, path: &str, strict: bool) -> u8 {
-    let Some(review) = review(rt, path) else {
-        return REFUSED;
-    };
+    match checked(rt, path, strict) {
+        Some(_) => status_of(rt, println!(rt; "ok")),
+        None => REFUSED,
+    }
+}
+
+/// The start list of a path with its findings told, or none where it has a fault, or findings that count.
+pub(crate) fn checked(rt: &HostRuntime, path: &str, strict: bool) -> Option<Review> {
+    let review = review(rt, path)?;
     for finding in review.findings() {
         let _ = eprintln!(rt; "{path}: {finding}");
     }
     if strict && !review.findings().is_empty() {
-        return REFUSED;
+        return None;
     }
-    status_of(rt, println!(rt; "ok"))
+    Some(review)
 }
 
 /// Shows the components of a start list as text or as a graph, and answers the exit status.
@@ -121,12 +127,29 @@ fn review(rt: &HostRuntime, path: &str) -> Option<Review> {
     }
 }
 
-/// Tells the fault of a start list with its place: a place in a text as editors look for it.
+/// Tells the fault of a start list with its place.
 pub(crate) fn tell_fault(rt: &HostRuntime, path: &str, fault: &Fault) {
-    let _ = match &fault.place {
-        Whereabouts::Text(line, column) => {
-            eprintln!(rt; "{path}:{line}:{column}: {}", fault.fault)
+    let told = Told { path, fault };
+    let _ = eprintln!(rt; "{told}");
+}
+
+/// The fault of a start list with its place: a place in a text as editors look for it.
+#[derive(Clone, Copy)]
+pub(crate) struct Told<'a> {
+    /// The path of the start list.
+    pub(crate) path: &'a str,
+    /// The fault.
+    pub(crate) fault: &'a Fault,
+}
+
+impl fmt::Display for Told<'_> {
+    fn fmt<W: fmt::Write>(&self, f: &mut fmt::Formatter<W>) -> fmt::Result {
+        let path = self.path;
+        match &self.fault.place {
+            Whereabouts::Text(line, column) => {
+                write!(f, "{path}:{line}:{column}: {}", self.fault.fault)
+            }
+            _ => write!(f, "{path}: {}", self.fault),
         }
-        _ => eprintln!(rt; "{path}: {fault}"),
-    };
+    }
 }

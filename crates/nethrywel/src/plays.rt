@@ -1,4 +1,5 @@
 //! A scenario's play on a machine, over files and the standard streams.
+use crate::documents::{accounts_document, trace_documents};
 use crate::ends::{Played, REFUSED};
 use crate::files::{STANDARD_INPUT, read_list};
 use crate::lists::tell_fault;
@@ -19,9 +20,15 @@ pub(crate) enum Viewing<'a> {
         accounts: bool,
     },
     /// A table of its lines.
-    Trace,
+    Trace {
+        /// Whether it is told as documents of JSON.
+        json: bool,
+    },
     /// The accounts after it.
-    Accounts,
+    Accounts {
+        /// Whether they are told as a document of JSON.
+        json: bool,
+    },
     /// What a component is told in it, and alone.
     Alone {
         /// The component.
@@ -35,7 +42,7 @@ impl<'a> Viewing<'a> {
         match self {
             Viewing::Run { only, .. } => only,
             Viewing::Alone { name } => Some(name),
-            Viewing::Trace | Viewing::Accounts => None,
+            Viewing::Trace { .. } | Viewing::Accounts { .. } => None,
         }
     }
 }
@@ -144,8 +151,10 @@ fn play_from<S: Source>(
                 &mut complaints,
             )
         }
-        Viewing::Trace => trace(alloc, play, reader, &mut writer, &mut complaints),
-        Viewing::Accounts => accounts(alloc, play, reader, &mut writer, &mut complaints),
+        Viewing::Trace { json: true } => return trace_documents(rt, play, reader),
+        Viewing::Accounts { json: true } => return accounts_document(rt, play, reader),
+        Viewing::Trace { .. } => trace(alloc, play, reader, &mut writer, &mut complaints),
+        Viewing::Accounts { .. } => accounts(alloc, play, reader, &mut writer, &mut complaints),
         Viewing::Alone { name } => alone(
             alloc,
             play,
@@ -161,8 +170,8 @@ fn play_from<S: Source>(
     }
 }
 
-// Tells why no machine was booted, with the place in its start list where that is a file's.
-fn tell_unbooted(rt: &HostRuntime, text: &[u8], machine: Option<&str>, fault: &BootFault) {
+/// Tells why no machine was booted, with the place in its start list where that is a file's.
+pub(crate) fn tell_unbooted(rt: &HostRuntime, text: &[u8], machine: Option<&str>, fault: &BootFault) {
     if let Some(path) = machine {
         if let Err(placed) = Review::read(rt.alloc(), text) {
             tell_fault(rt, path, &placed);

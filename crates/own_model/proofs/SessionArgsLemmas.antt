@@ -20,12 +20,12 @@ use Rattle.own_model.specs.SessionArgs.Value.{Bare, Quoted}
 -- ---- tests
 
 -- each of two tests that pass
-both : (x y : Bool) → (x && y) ≡ true → (x ≡ true) × (y ≡ true)
+pub both : (x y : Bool) → (x && y) ≡ true → (x ≡ true) × (y ≡ true)
 both true y e = (refl, e)
 both false y e = absurd (cc)
 
 -- each of three that fail
-none_of_three : (x y z : Bool) → (not x && (not y && not z)) ≡ true → (x ≡ false) × (y ≡ false) × (z ≡ false)
+pub none_of_three : (x y z : Bool) → (not x && (not y && not z)) ≡ true → (x ≡ false) × (y ≡ false) × (z ≡ false)
 none_of_three false false false e = (refl, refl, refl)
 none_of_three true y z e = absurd (cc)
 none_of_three false true z e = absurd (cc)
@@ -37,14 +37,14 @@ not_first false y e = refl
 not_first true y e = absurd (cc)
 
 -- what doesn't begin with a quote isn't quoted
-not_quoted : (x y z t : Bool) → y ≡ false → ((x && (y && z)) && t) ≡ false
+pub not_quoted : (x y z t : Bool) → y ≡ false → ((x && (y && z)) && t) ≡ false
 not_quoted true y z t e = ap (λ b. (b && z) && t) e
 not_quoted false y z t e = refl
 
 -- ---- bytes
 
 -- neither a space, a quote nor a comma
-abbrev is_plain : ℕ → Bool
+abbrev pub is_plain : ℕ → Bool
 is_plain b = not (nat_eq b 32) && (not (nat_eq b 34) && not (nat_eq b 44))
 
 -- a digit is plain, may stand in a name, and is no suffix of an amount
@@ -71,7 +71,7 @@ digit_at (b ∷ bs) (suc i) within digits = digit_at bs i (omega arith) (both _ 
 -- ---- pieces
 
 -- a text without quotes up to a comma is a piece
-pieces-plain : (xs rest : List ℕ) → list_all is_plain xs ≡ true → pieces_of false (xs ++ 44 ∷ rest) ≡ xs ∷ pieces_of false rest
+pub pieces-plain : (xs rest : List ℕ) → list_all is_plain xs ≡ true → pieces_of false (xs ++ 44 ∷ rest) ≡ xs ∷ pieces_of false rest
 pieces-plain [] rest plain = refl
 pieces-plain (b ∷ bs) rest plain =
     let parts = both _ _ plain in
@@ -80,7 +80,7 @@ pieces-plain (b ∷ bs) rest plain =
     ∙ ap (onto_first b) (pieces-plain bs rest parts.1)
 
 -- what is quoted to the end of a text is one
-pieces-quoted : (label : List ℕ) → list_all is_quotable label ≡ true → pieces_of true (label ++ 34 ∷ []) ≡ (label ++ 34 ∷ []) ∷ []
+pub pieces-quoted : (label : List ℕ) → list_all is_quotable label ≡ true → pieces_of true (label ++ 34 ∷ []) ≡ (label ++ 34 ∷ []) ∷ []
 pieces-quoted [] quotable = refl
 pieces-quoted (b ∷ bs) quotable =
     let parts = both _ _ quotable in
@@ -89,7 +89,7 @@ pieces-quoted (b ∷ bs) quotable =
     ∙ ap (onto_first b) (pieces-quoted bs parts.1)
 
 -- bytes in front of a first piece
-abbrev onto : List ℕ → List (List ℕ) → List (List ℕ)
+abbrev pub onto : List ℕ → List (List ℕ) → List (List ℕ)
 onto [] pieces = pieces
 onto (b ∷ bs) pieces = onto_first b (onto bs pieces)
 
@@ -108,11 +108,11 @@ list_all-reverse p (x ∷ xs) all =
     ap (list_all p) (reverse-append (x ∷ []) xs) ∙ list_all-append p (reverse xs) (x ∷ []) ∙ (λ i. list_all-reverse p xs parts.1 i && (parts.0 i && true))
 
 -- so nothing is trimmed
-trimmed-plain : (xs : List ℕ) → list_all is_plain xs ≡ true → trimmed xs ≡ xs
+pub trimmed-plain : (xs : List ℕ) → list_all is_plain xs ≡ true → trimmed xs ≡ xs
 trimmed-plain xs plain = grind (arith, nat_tests, skip-plain, list_all-reverse, reverse-reverse)
 
 -- nothing is trimmed after a quote
-trimmed-quote : (front : List ℕ) → reverse (skip_spaces (reverse (front ++ 34 ∷ []))) ≡ front ++ 34 ∷ []
+pub trimmed-quote : (front : List ℕ) → reverse (skip_spaces (reverse (front ++ 34 ∷ []))) ≡ front ++ 34 ∷ []
 trimmed-quote front = grind (arith, nat_tests, reverse-append, reverse-reverse)
 
 -- ---- values
@@ -132,7 +132,7 @@ last-quoted label =
     ap (λ n. get_or (34 ∷ (label ++ 34 ∷ [])) n 0) place ∙ get_or-append-add label (34 ∷ []) 0 0
 
 -- a label is a value within quotes
-value-quoted : (label : List ℕ) → list_all is_quotable label ≡ true → value_of (34 ∷ (label ++ 34 ∷ [])) ≡ Some (Quoted label)
+pub value-quoted : (label : List ℕ) → list_all is_quotable label ≡ true → value_of (34 ∷ (label ++ 34 ∷ [])) ≡ Some (Quoted label)
 value-quoted label quotable = grind (arith, nat_tests, length-append, inner-quoted, last-quoted)
 
 -- ---- numbers
@@ -164,7 +164,7 @@ module _ (n : ℕ) (small : n < 2 ^ 64) where
 -- ---- pairs
 
 -- the pair of a text that was trimmed
-abbrev pair_in : List ℕ → Option Pair
+abbrev pub pair_in : List ℕ → Option Pair
 pair_in text =
     cond (is_key (before_first is_equals text))
     (option_map (λ value. record { key = before_first is_equals text; value = value }) (value_of (after_first is_equals text))) None

@@ -1,19 +1,12 @@
 -- How routes and sessions are stored as parts of a model's value.
-use Rattle.std.specs.Prelude.{◌≡◌, ◌⊎◌, ℕ, List, Option, Some, None}
+use Rattle.std.specs.Prelude.{◌≡◌, ℕ, List, Option, Some, None}
 use Rattle.std.proofs.Common.{refl}
-use Rattle.std.specs.Coded.{Coded, code_by, coded×, coded⊎, coded_ℕ, coded_list, coded_option}
+use Rattle.std.specs.Coded.{Coded, code_by, coded×, coded_ℕ, coded_list, coded_option}
 use Rattle.trade_base.specs.declared.service.Service.{Service}
 use Rattle.own_model.specs.Account.{Account, coded_account}
-use Rattle.own_model.specs.FileService.{File, Files}
-use Rattle.own_model.specs.Growth.{Shape}
-use Rattle.own_model.specs.OwnHeap.{coded_shape}
 use Rattle.own_model.specs.Routes.{Lead, Level, Rule, ServerAt}
 use Rattle.own_model.specs.Routes.Lead.{To, Nowhere, Outward}
-use Rattle.own_model.specs.Services.{Session, ServiceState, service_back, service_from, service_number, state_back, state_from, state_parts}
-
--- a kind of server is stored as a number
-abbrev pub coded_service : Coded Service
-coded_service = code_by ℕ coded_ℕ service_number service_from service_back
+use Rattle.own_model.specs.Services.{Session, ServiceState, coded_service, coded_state}
 
 -- a text that is there or not
 abbrev pub coded_text : Coded (Option (List ℕ))
@@ -61,29 +54,7 @@ coded_level =
     (λ p. record { name = p.0; rules = p.1 })
     (λ _. refl)
 
--- a file, and files with the heap of their nodes, are stored as the tuples of their fields
-abbrev pub coded_file : Coded File
-coded_file =
-    code_by
-    (List ℕ × (List ℕ × (ℕ × ℕ)))
-    (coded× (coded_list coded_ℕ) (coded× (coded_list coded_ℕ) (coded× coded_ℕ coded_ℕ)))
-    (λ f. (f.name, (f.bytes, (f.chunk, f.offset))))
-    (λ p. record { name = p.0; bytes = p.1.0; chunk = p.1.1.0; offset = p.1.1.1 })
-    (λ _. refl)
-
-abbrev pub coded_files : Coded Files
-coded_files =
-    code_by
-    (List File × Shape)
-    (coded× (coded_list coded_file) coded_shape)
-    (λ f. (f.files, f.shape))
-    (λ p. record { files = p.0; shape = p.1 })
-    (λ _. refl)
-
--- what a server keeps is stored as the line that isn't finished yet, or as the files
-abbrev pub coded_state : Coded ServiceState
-coded_state = code_by (List ℕ ⊎ Files) (coded⊎ (coded_list coded_ℕ) coded_files) state_parts state_from state_back
-
+-- a session is stored as the tuple of its fields
 abbrev pub coded_session : Coded Session
 coded_session =
     code_by

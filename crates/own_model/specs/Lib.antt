@@ -49,6 +49,7 @@ pub mod FileLaws
 pub mod BufferLaws
 pub mod SessionLaws
 pub mod LentLaws
+pub mod CodedFiles
 pub mod CodedSession
 pub mod Listed
 pub mod MachineA

@@ -2,10 +2,12 @@
 -- another.
 use Rattle.std.specs.Prelude.{◌≡◌, ◌⊎◌, ℕ, List, [], Option}
 use Rattle.std.proofs.Common.{zero, suc, refl, inl, inr}
+use Rattle.std.specs.Coded.{Coded, code_by, coded⊎, coded_ℕ, coded_list}
 use Rattle.trade_base.specs.declared.service.Service.{Service}
 use Rattle.trade_base.specs.declared.service.Service.TheVariants as service
 use Rattle.own_model.specs.Account.{Account}
 use Rattle.own_model.specs.BufferService.{BufferServed, text_served}
+use Rattle.own_model.specs.CodedFiles.{coded_files}
 use Rattle.own_model.specs.FileService.{Files, AreFiles, files_caps, files_ram, no_files}
 use Rattle.own_model.specs.LogService.{LogServed, IsPartial, labelled, log_served}
 use Rattle.own_model.specs.Reply.{LogLine}
@@ -95,6 +97,9 @@ abbrev pub service_back : (s : Service) → service_from (service_number s) ≡ 
 service_back service.Log = refl
 service_back service.Files = refl
 
+abbrev pub coded_service : Coded Service
+coded_service = code_by ℕ coded_ℕ service_number service_from service_back
+
 -- what a server keeps is stored as the line that isn't finished yet, or as the files
 abbrev pub state_parts : ServiceState → List ℕ ⊎ Files
 state_parts (Logging partial) = inl partial
@@ -107,3 +112,6 @@ state_from (inr files) = Filing files
 abbrev pub state_back : (s : ServiceState) → state_from (state_parts s) ≡ s
 state_back (Logging partial) = refl
 state_back (Filing files) = refl
+
+abbrev pub coded_state : Coded ServiceState
+coded_state = code_by (List ℕ ⊎ Files) (coded⊎ (coded_list coded_ℕ) coded_files) state_parts state_from state_back

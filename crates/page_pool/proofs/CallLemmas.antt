@@ -1,60 +1,39 @@
 -- What each call makes of the pool's fields.
-use Rattle.std.proofs.Common.{◌≡◌, ◌≢◌, ℕ, ◌+◌, ◌-◌, ◌*◌, ◌<◌, ◌≤◌, ◌^◌, true, false, List, [], ◌∷◌, ◌++◌, length, get_or, Option, Some, None, cond, eqb, ⊎_elim, ◌||◌, ◌&&◌, not, add-zero, refl, sym, ap, arith, ◌∙◌}
-use Rattle.std.specs.Prelude.{slice_range, slice_set, slice_get, nat_lt, nat_le}
+use Rattle.std.proofs.Common.{◌≡◌, ◌≢◌, ℕ, ◌+◌, ◌-◌, ◌*◌, ◌<◌, ◌≤◌, ◌^◌, true, false, List, [], ◌∷◌, ◌++◌, length, get_or, Option, Some, None, cond, eqb, ◌||◌, ◌&&◌, not, add-zero, refl, sym, ap, arith, ◌∙◌}
+use Rattle.std.specs.Prelude.{slice_range, slice_set, slice_get}
 use Rattle.std.specs.List.{range_with_len}
-use Rattle.std.proofs.lemmas.List.{same_lists, length_push, get_or_past, get_or_default, get_or-replicate, length-replicate}
+use Rattle.std.proofs.lemmas.List.{length_push}
 use Rattle.std.proofs.lemmas.Option.{slice_get-get_or}
-use Rattle.std.proofs.lemmas.Bool.{cases_lt}
 use Rattle.std.proofs.lemmas.Bool.Decides.{nat_tests}
 use Rattle.trade_base.specs.Bytes.{with_bytes}
 use Rattle.trade_base.specs.Word.{word_bytes}
 use Rattle.trade_base.proofs.BytesLemmas.{length-with_bytes, with_bytes-whole}
 use Rattle.trade_base.proofs.WordLemmas.{length-word_bytes}
-use Rattle.page_pool.specs.Pages.{fresh_pages, free_count, is_taken, page_bytes, zero_page}
+use Rattle.page_pool.specs.Pages.{free_count, is_taken, page_bytes, zero_page}
 use Rattle.page_pool.proofs.PageLaws.{length-zero_page}
 use Rattle.page_pool.specs.Layout.{word_at, linked, is_listed, has_no_repeat, page_count, bytes_at, pages_of, IsLaidOut}
 use Rattle.page_pool.proofs.NumberLemmas.{is_listed-push, has_no_repeat-push}
 use Rattle.page_pool.proofs.ByteLemmas.{range_with_part, range_of_range}
-use Rattle.page_pool.proofs.CountLemmas.{free_count-take, free_count-give, free_count-write, free_count-le-length, free_count-unlisted}
+use Rattle.page_pool.proofs.CountLemmas.{free_count-take, free_count-give, free_count-write, free_count-unlisted}
 use Rattle.page_pool.proofs.LayoutLemmas.{LiesIn, LiesIn-from_listed, length-pages_of, get_or-pages_of, pages_of-set, IsHeld-from_taken, page_bytes-pages_of, length-bytes_at, bytes_at_other}
-use Rattle.page_pool.proofs.LinkLemmas.{length-linked, linked-last, linked-kept, word_at-written}
+use Rattle.page_pool.proofs.LinkLemmas.{linked-last, linked-kept, word_at-written}
 
 -- what bytes are in which no page is listed
-pub record AllTaken (bytes : List ℕ) (size : ℕ) : Type 0 where
+pub record AllTaken (bytes : List ℕ) : Type 0 where
   -- they are laid out
   pub layout : IsLaidOut [] bytes
-  -- there are so many pages
-  pub sized : length (pages_of [] bytes) ≡ size
-  -- each of them is taken
-  pub taken : (page : ℕ) → is_taken (pages_of [] bytes) page ≡ nat_lt page size
   -- none is free
   pub count : free_count (pages_of [] bytes) ≡ 0
 
 -- the bytes of so many pages
-pub taken_pages : (bytes : List ℕ) (size : ℕ) → size ≤ 4096 → length bytes ≡ size * 4096 → AllTaken bytes size
-unfolding is_taken
+pub taken_pages : (bytes : List ℕ) (size : ℕ) → size ≤ 4096 → length bytes ≡ size * 4096 → AllTaken bytes
 taken_pages bytes size few long =
     let counted : page_count bytes ≡ size = omega (arith, long) in
-    let sized : length (pages_of [] bytes) ≡ size = length-pages_of [] bytes ∙ counted in
     let none : free_count (pages_of [] bytes) ≡ 0 = unfold pages_of in free_count-unlisted bytes (range_with_len 0 (page_count bytes)) in
     record {
       layout = record { whole = rw counted long; few = rw counted few; in_range = λ page is. grind (arith, is); once = refl; counted = none };
-      sized = sized;
-      taken = λ page. ⊎_elim
-          (λ (here : page < size). let e = get_or-pages_of [] bytes page None (omega (arith, here, counted)) in grind (arith, nat_tests, e))
-          (λ (past : size ≤ page). let e = get_or_past (pages_of [] bytes) page None (omega (arith, past, sized)) in grind (arith, nat_tests, e))
-          (cases_lt page size);
       count = none;
     }
-
--- pages of which only those from their end on are taken are fresh
-pub fresh_pages-untaken : (pages : List (Option (List ℕ))) (count from : ℕ) → length pages ≡ count → ((page : ℕ) → is_taken pages page ≡ (nat_le from page && nat_lt page count)) → count ≤ from → pages ≡ fresh_pages count
-unfolding is_taken
-fresh_pages-untaken pages count from sized taken past = same_lists _ _ (sized ∙ sym (length-replicate count None)) (λ k d h.
-    let inside : k < count = omega (arith, h, sized) in
-    let t = taken k in
-    let e : get_or pages k None ≡ None = grind (arith, nat_tests, t) in
-    get_or_default pages k d None h ∙ e ∙ sym (get_or-replicate count k None d inside))
 
 -- what a page handed out makes of the pool
 pub record Took (rest bytes' : List ℕ) (pages : List (Option (List ℕ))) (page : ℕ) : Type 0 where
@@ -233,7 +212,3 @@ write_page bytes bytes' count head pages page offset part laid view taken fits c
     let held = IsHeld-from_taken (linked bytes count head) bytes page (rw view taken) in
     let kept : linked bytes' count head ≡ linked bytes count head = rw change (linked-kept bytes part page offset count head laid.whole held.here fits held.unlisted) in
     rw kept (write_part (linked bytes count head) bytes bytes' pages page offset part laid view taken fits change)
-
--- with a taken page, fewer pages are linked than there are
-pub room_for_page : (bytes : List ℕ) (count head : ℕ) (pages : List (Option (List ℕ))) (page : ℕ) → IsLaidOut (linked bytes count head) bytes → pages_of (linked bytes count head) bytes ≡ pages → is_taken pages page ≡ true → count ≤ 4096
-room_for_page bytes count head pages page laid view taken = grind (arith, nat_tests, free_count-le-length, length-pages_of, length-linked)

@@ -1,4 +1,3 @@
-pub mod Walks
 pub mod PageLaws
 pub mod NumberLemmas
 pub mod ByteLemmas
@@ -6,3 +5,4 @@ pub mod CountLemmas
 pub mod LayoutLemmas
 pub mod LinkLemmas
 pub mod CallLemmas
+pub mod PoolLemmas

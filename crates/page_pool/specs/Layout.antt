@@ -2,7 +2,7 @@
 use Rattle.std.specs.Prelude.{◌≡◌, ℕ, zero, suc, ◌+◌, ◌*◌, ◌/◌, ◌<◌, ◌≤◌, ◌==◌, Bool, true, false, ◌||◌, ◌&&◌, not, if◌then◌else◌, List, [], ◌∷◌, ◌++◌, length, map, Option, Some, None, slice_range}
 use Rattle.std.specs.List.{range_with_len}
 use Rattle.trade_base.specs.Word.{word_of}
-use Rattle.page_pool.specs.Pages.{free_count}
+use Rattle.page_pool.specs.Pages.{fresh_pages, free_count}
 
 -- whether a number stands in the list
 abbrev pub is_listed : List ℕ → ℕ → Bool
@@ -36,11 +36,11 @@ bytes_at bytes page = slice_range bytes (page * 4096) (page * 4096 + 4096)
 abbrev pub page_at : List ℕ → List ℕ → ℕ → Option (List ℕ)
 page_at free bytes page = if is_listed free page then None else Some (bytes_at bytes page)
 
--- every page
+-- every page that has been handed out once
 unfoldable pub pages_of : List ℕ → List ℕ → List (Option (List ℕ))
 pages_of free bytes = map (page_at free bytes) (range_with_len 0 (page_count bytes))
 
--- what is true of a pool between calls
+-- what is true of the pages that have been handed out once
 pub record IsLaidOut (free bytes : List ℕ) : Type 0 where
   -- the bytes are those of whole pages, at most 4096 of them
   pub whole : length bytes ≡ page_count bytes * 4096
@@ -50,3 +50,14 @@ pub record IsLaidOut (free bytes : List ℕ) : Type 0 where
   pub once : has_no_repeat free ≡ true
   -- as many are listed as are free
   pub counted : free_count (pages_of free bytes) ≡ length free
+
+-- every page: behind those of the bytes come so many that have never been handed out
+abbrev pub pool_of : List ℕ → List ℕ → ℕ → List (Option (List ℕ))
+pool_of free bytes fresh = pages_of free bytes ++ fresh_pages fresh
+
+-- what is true of a pool between calls, which has room for so many bytes
+pub record IsPool (free bytes : List ℕ) (fresh size : ℕ) : Type 0 where
+  pub laid : IsLaidOut free bytes
+  -- there is room for the pages that have never been handed out
+  pub room : length bytes + fresh * 4096 ≤ size
+  pub few : page_count bytes + fresh ≤ 4096

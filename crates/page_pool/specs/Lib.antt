@@ -1,4 +1,2 @@
 pub mod Pages
 pub mod Layout
-pub mod Memory
-pub mod Lends

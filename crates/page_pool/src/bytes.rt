@@ -1,106 +1,77 @@
 //! Bytes of host memory, read and written by ranges, by words and by pages.
-ghost use Rattle.std.specs.Prelude.{◌≡◌, ◌+◌, ◌^◌, ◌<◌, ◌≤◌, length, replicate, slice_range, IfOk};
+ghost use Rattle.std.specs.Prelude.{◌≡◌, ◌+◌, ◌≤◌, [], ◌++◌, length, slice_range, vec_len, vec_capacity, IfOk};
 ghost use Rattle.trade_base.specs.Bytes.{with_bytes};
 ghost use Rattle.trade_base.specs.Word.{word_bytes};
 ghost use Rattle.page_pool.specs.Pages.{zero_page};
 ghost use Rattle.page_pool.specs.Layout.{word_at};
 
-use crate::memory::{Block, Lease, Memory};
 use std::alloc::Global;
-use std::marker::Model;
 use trade_base::{NoMemory, PAGE};
 
 /// The bytes of a page, as a length.
 pub(crate) const PAGE_BYTES: usize = PAGE as usize;
 
-/// A block of the host, given back when this is dropped. Contracts see it as its bytes.
-pub(crate) struct Bytes {
-    block: Block,
-    lease: Lease<Global>,
-    alloc: Global,
+/// A page that is all zero.
+pub(crate) static ZEROS: [u8; PAGE_BYTES] = [0; PAGE_BYTES];
+
+/// No bytes, with room for so many.
+pub(crate) fn no_bytes(alloc: Global, size: usize) -> Result<Vec<u8>, NoMemory>
+    ensures none { IfOk result (λ bytes. bytes.items ≡ []) }
+    ensures room { IfOk result (λ bytes. vec_capacity bytes ≡ size) }
+{
+    Vec::with_capacity(alloc, size).map_err(|_| NoMemory)
 }
 
-impl Model for Bytes {
-    ghost use Rattle.std.specs.Prelude.{◌≡◌, List, ℕ};
-
-    ghost Value = { List ℕ };
-
-    ghost view = { λ b. b.block.bytes };
-
-    ghost invariant = { λ b. (b.lease.alloc ≡ b.alloc) × (b.lease.ptr ≡ b.block.ptr)
-        × (b.lease.size ≡ b.block.size) };
+/// Fills `buffer` with the bytes from `start` on.
+pub(crate) fn read(bytes: &[u8], start: usize, buffer: &mut [u8])
+    requires { start + length buffer.old ≤ length bytes.now }
+    ensures { buffer.new ≡ slice_range bytes.now start (start + length buffer.old) }
+{
+    buffer.copy_from_slice(&bytes[start..start + buffer.len()]);
 }
 
-impl Drop for Bytes {
-    fn drop(self) {
-        let Bytes {
-            block,
-            lease,
-            alloc,
-        } = self;
-        block.free(lease, &alloc);
-    }
+/// Puts `part` at `start`.
+pub(crate) fn write(bytes: &mut [u8], start: usize, part: &[u8])
+    requires { start + length part.now ≤ length bytes.old }
+    ensures { bytes.new ≡ with_bytes bytes.old start part.now }
+{
+    bytes[start..start + part.len()].copy_from_slice(part);
 }
 
-impl Bytes {
-    /// `size` bytes, all zero, or `NoMemory` where the host has no room for them.
-    pub(crate) fn zeroed(alloc: Global, size: usize) -> Result<Bytes, NoMemory>
-        requires { size < 2 ^ 63 }
-        ensures { IfOk result (λ bytes. bytes ≡ replicate size 0) }
-    {
-        let (memory, lease) = Memory::new(&alloc, size).ok_or(NoMemory)?;
-        let block = memory.zeroed();
-        Ok(Bytes {
-            block,
-            lease,
-            alloc,
-        })
-    }
+/// The word at `start`, its lowest byte first.
+#[tactic(auto, unfolding(crate::specs::Layout::word_at, trade_base::specs::Word::word_of))]
+pub(crate) fn load(bytes: &[u8], start: usize) -> u64
+    requires { start + 8 ≤ length bytes.now }
+    ensures { result ≡ word_at bytes.now start }
+{
+    let mut word = [0; 8];
+    read(bytes, start, &mut word);
+    u64::from_le_bytes(word)
+}
 
-    /// Fills `buffer` with the bytes from `start` on.
-    pub(crate) fn read(&self, start: usize, buffer: &mut [u8])
-        requires { start + length buffer.old ≤ length self.now }
-        ensures { buffer.new ≡ slice_range self.now start (start + length buffer.old) }
-    {
-        let bytes = self.block.bytes();
-        buffer.copy_from_slice(&bytes[start..start + buffer.len()]);
-    }
+/// Puts `word` at `start`, its lowest byte first.
+#[tactic(auto, unfolding(trade_base::specs::Word::word_bytes))]
+pub(crate) fn store(bytes: &mut [u8], start: usize, word: u64)
+    requires { start + 8 ≤ length bytes.old }
+    ensures { bytes.new ≡ with_bytes bytes.old start (word_bytes word) }
+{
+    write(bytes, start, &word.to_le_bytes());
+}
 
-    /// Puts `part` at `start`.
-    pub(crate) fn write(&mut self, start: usize, part: &[u8])
-        requires { start + length part.now ≤ length self.old }
-        ensures { self.new ≡ with_bytes self.old start part.now }
-    {
-        let bytes = self.block.bytes_mut();
-        bytes[start..start + part.len()].copy_from_slice(part);
-    }
+/// Makes the page that begins at `start` all zero.
+pub(crate) fn clear_page(bytes: &mut [u8], start: usize)
+    requires { start + 4096 ≤ length bytes.old }
+    ensures { bytes.new ≡ with_bytes bytes.old start zero_page }
+{
+    bytes[start..start + PAGE_BYTES].fill(0);
+}
 
-    /// The word at `start`, its lowest byte first.
-    #[tactic(auto, unfolding(crate::specs::Layout::word_at, trade_base::specs::Word::word_of))]
-    pub(crate) fn load(&self, start: usize) -> u64
-        requires { start + 8 ≤ length self.now }
-        ensures { result ≡ word_at self.now start }
-    {
-        let mut word = [0; 8];
-        self.read(start, &mut word);
-        u64::from_le_bytes(word)
-    }
-
-    /// Puts `word` at `start`, its lowest byte first.
-    #[tactic(auto, unfolding(trade_base::specs::Word::word_bytes))]
-    pub(crate) fn store(&mut self, start: usize, word: u64)
-        requires { start + 8 ≤ length self.old }
-        ensures { self.new ≡ with_bytes self.old start (word_bytes word) }
-    {
-        self.write(start, &word.to_le_bytes());
-    }
-
-    /// Makes the page that begins at `start` all zero.
-    pub(crate) fn clear_page(&mut self, start: usize)
-        requires { start + 4096 ≤ length self.old }
-        ensures { self.new ≡ with_bytes self.old start zero_page }
-    {
-        let bytes = self.block.bytes_mut();
-        bytes[start..start + PAGE_BYTES].fill(0);
-    }
+/// Puts a page of zeros behind the bytes, for which they have room.
+#[tactic(auto, unfolding(crate::specs::Pages::zero_page))]
+pub(crate) fn add_page(bytes: &mut Vec<u8>)
+    requires { vec_len bytes.old + 4096 ≤ vec_capacity bytes.old }
+    ensures items { bytes.new.items ≡ bytes.old.items ++ zero_page }
+    ensures capacity { vec_capacity bytes.old ≤ vec_capacity bytes.new }
+{
+    let _ = bytes.extend_from_slice(&ZEROS);
 }

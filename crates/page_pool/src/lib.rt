@@ -3,7 +3,6 @@
 #![tactic(auto)]
 
 mod bytes;
-mod memory;
 mod pool;
 
 pub use pool::{PageNo, Pool};

@@ -1,10 +1,11 @@
-//! The pool over one block of host memory. Each free page begins with the number of the next.
+//! The pool over one block of host memory. Each free page that has been handed out before begins with the number of the next;
+//! pages that have never been handed out are not touched.
 ghost use Rattle.std.specs.Prelude.{◌≡◌, ◌+◌, ◌%◌, ◌≤◌, length, IsTrue, IfOk, IfSome, IfNone, Some, None, is_some, nat_lt, slice_get, slice_set, slice_range};
 ghost use Rattle.trade_base.specs.Bytes.{with_bytes};
 ghost use Rattle.trade_base.specs.Word.{word_bytes, word_of};
 ghost use Rattle.page_pool.specs.Pages.{fresh_pages, free_count, is_taken, page_bytes, zero_page};
 
-use crate::bytes::{Bytes, PAGE_BYTES};
+use crate::bytes::{self, PAGE_BYTES};
 use std::alloc::Global;
 use std::marker::Model;
 use trade_base::NoMemory;
@@ -17,23 +18,29 @@ pub struct PageNo(pub u16);
 /// where it is free, and its 4096 bytes where it is taken.
 #[derive(Drop)]
 pub struct Pool {
-    /// Page after page. The first word of a free page is the number of the next free one.
-    bytes: Bytes,
-    /// The free page that is taken next, where there is one.
+    /// Page after page, of those that have been handed out once; room for all is taken at the boot. The first word of a free page is
+    /// the number of the next free one.
+    bytes: Vec<u8>,
+    /// The free page that is taken next, where one is linked.
     head: usize,
-    /// How many pages are free.
+    /// How many free pages are linked.
     free: usize,
+    /// How many pages have never been handed out. They come behind the others.
+    fresh: usize,
 }
 
 impl Model for Pool {
-    ghost use Rattle.std.specs.Prelude.{List, Option, ℕ};
-    ghost use Rattle.page_pool.specs.Layout.{linked, pages_of, IsLaidOut};
+    ghost use Rattle.std.specs.Prelude.{List, Option, ℕ, vec_capacity};
+    ghost use Rattle.page_pool.specs.Layout.{linked, pool_of, IsPool};
 
     ghost Value = { List (Option (List ℕ)) };
 
-    ghost view = { λ p. pages_of (linked p.bytes p.free p.head) p.bytes };
+    ghost view = { λ p.
+        pool_of (linked p.bytes.items p.free p.head) p.bytes.items p.fresh };
 
-    ghost invariant = { λ p. IsLaidOut (linked p.bytes p.free p.head) p.bytes };
+    ghost invariant = { λ p.
+        IsPool (linked p.bytes.items p.free p.head) p.bytes.items p.fresh
+        (vec_capacity p.bytes) };
 }
 
 impl Pool {
@@ -43,16 +50,13 @@ impl Pool {
         ensures fresh { IfOk result (λ pool. pool ≡ fresh_pages pages) }
         ensures count { IfOk result (λ pool. free_count pool ≡ pages) }
     {
-        let bytes = Bytes::zeroed(alloc, pages * PAGE_BYTES)?;
-        let mut pool = Pool {
+        let bytes = bytes::no_bytes(alloc, pages * PAGE_BYTES)?;
+        Ok(Pool {
             bytes,
             head: 0,
             free: 0,
-        };
-        for page in 0..pages {
-            pool.give(PageNo(page as u16));
-        }
-        Ok(pool)
+            fresh: pages,
+        })
     }
 
     /// Any free page, all zero from now on, or `None` where no page is free.
@@ -64,14 +68,20 @@ impl Pool {
         ensures count { IfSome result (λ _. free_count self.new + 1 ≡ free_count self.old) }
         ensures none { IfNone result (self.new ≡ self.old) }
     {
-        if self.free == 0 {
+        if self.free > 0 {
+            let page = self.head;
+            let start = page * PAGE_BYTES;
+            self.head = bytes::load(&self.bytes, start) as usize;
+            self.free -= 1;
+            bytes::clear_page(&mut self.bytes, start);
+            return Some(PageNo(page as u16));
+        }
+        if self.fresh == 0 {
             return None;
         }
-        let page = self.head;
-        let start = page * PAGE_BYTES;
-        self.head = self.bytes.load(start) as usize;
-        self.free -= 1;
-        self.bytes.clear_page(start);
+        let page = self.bytes.len() / PAGE_BYTES;
+        bytes::add_page(&mut self.bytes);
+        self.fresh -= 1;
         Some(PageNo(page as u16))
     }
 
@@ -81,8 +91,8 @@ impl Pool {
         ensures freed { self.new ≡ slice_set self.old page.0 None }
         ensures count { free_count self.new ≡ free_count self.old + 1 }
     {
-        self.bytes
-            .store(page.0 as usize * PAGE_BYTES, self.head as u64);
+        let start = page.0 as usize * PAGE_BYTES;
+        bytes::store(&mut self.bytes, start, self.head as u64);
         self.head = page.0 as usize;
         self.free += 1;
     }
@@ -95,8 +105,8 @@ impl Pool {
             buffer.new ≡ slice_range (page_bytes self.now page.0) offset end }
         ensures size { length (page_bytes self.now page.0) ≡ 4096 }
     {
-        self.bytes
-            .read(page.0 as usize * PAGE_BYTES + offset, buffer);
+        let start = page.0 as usize * PAGE_BYTES + offset;
+        bytes::read(&self.bytes, start, buffer);
     }
 
     /// Puts `part` at `offset` into a taken page. Nothing else changes.
@@ -108,8 +118,8 @@ impl Pool {
         ensures size { length (page_bytes self.old page.0) ≡ 4096 }
         ensures count { free_count self.new ≡ free_count self.old }
     {
-        self.bytes
-            .write(page.0 as usize * PAGE_BYTES + offset, part);
+        let start = page.0 as usize * PAGE_BYTES + offset;
+        bytes::write(&mut self.bytes, start, part);
     }
 
     /// The word of a taken page that stands at `offset`, its lowest byte first.
@@ -146,6 +156,6 @@ impl Pool {
     pub fn free_pages(&self) -> usize
         ensures { result ≡ free_count self.now }
     {
-        self.free
+        self.free + self.fresh
     }
 }

@@ -27,8 +27,11 @@ use Rattle.pd_core.specs.Core.Owner.{Place, ReserveAt}
 use Rattle.pd_core.specs.Own.{Sessions, HasSessions, own_of, own_at, part_at}
 use Rattle.pd_core.specs.SessionCalls.{Goes}
 use Rattle.pd_core.specs.Sound.{session_weight, IsSoundScript}
+use Rattle.pd_core.specs.Way.{call_by, giver, taker}
 use Rattle.pd_core.specs.declared.component.Component.{Component}
 use Rattle.pd_core.specs.declared.component.Role.TheVariants.{Script as AScript}
+use Rattle.pd_core.specs.declared.reserves.Way.{Way}
+use Rattle.pd_core.specs.declared.reserves.Way.TheVariants.{FromReserve, ToReserve}
 use Rattle.pd_core.specs.declared.script.Script.{Script}
 use Rattle.pd_core.proofs.ScriptCostLemmas.{placed_with_reserve}
 use Rattle.pd_core.proofs.CoreHeldLemmas.{names_open, no_reserve_place, owned_open, place_outer, reserve_outer}
@@ -110,10 +113,10 @@ module _ (places : Places) {store : Store} (components : List Component) {i : �
   kept_open = owned_open core (ReserveAt i) kept has_reserve
 
   -- so they are siblings
-  pub from_reserve : AreSiblingsIn store script.reserve.0 script.account.0
+  from_reserve : AreSiblingsIn store script.reserve.0 script.account.0
   from_reserve = record { apart = λ e. apart (sym e); child = ap is_some kept_child; same = home.child ∙ sym kept_child }
 
-  pub to_reserve : AreSiblingsIn store script.account.0 script.reserve.0
+  to_reserve : AreSiblingsIn store script.account.0 script.reserve.0
   to_reserve = record { apart = apart; child = ap is_some home.child; same = kept_child ∙ sym home.child }
 
   -- nothing is used of the reserve
@@ -130,18 +133,18 @@ module _ (places : Places) {store : Store} (components : List Component) {i : �
   -- ---- a refusal
 
   module _ (text : List ℕ) where
-    pub request_unread : arguments_of text ≡ None → Goes places (Request text) i (told_alone (reply_text (Refused BadArgs))) store components store components
+    request_unread : arguments_of text ≡ None → Goes places (Request text) i (told_alone (reply_text (Refused BadArgs))) store components store components
     request_unread none = refused_call (Request text) BadArgs (ap (λ o. requested_by o before) none)
 
-    pub yield_unread : arguments_of text ≡ None → Goes places (Yield text) i (told_alone (reply_text (Refused BadArgs))) store components store components
+    yield_unread : arguments_of text ≡ None → Goes places (Yield text) i (told_alone (reply_text (Refused BadArgs))) store components store components
     yield_unread none = refused_call (Yield text) BadArgs (ap (λ o. yielded_by o before) none)
 
     module _ {more : Arguments} (reads : arguments_of text ≡ Some more) where
-      pub request_short : (refusal : Refusal) → Some refusal ≡ shortage (account_in store script.reserve.0) more.ram more.caps → Goes places (Request text) i (told_alone (reply_text (Refused refusal))) store components store components
+      request_short : (refusal : Refusal) → Some refusal ≡ shortage (account_in store script.reserve.0) more.ram more.caps → Goes places (Request text) i (told_alone (reply_text (Refused refusal))) store components store components
       request_short refusal short =
           refused_call (Request text) refusal (ap (λ o. requested_by o before) reads ∙ ap (λ o. unless o before (reserve_requested more before)) (ap (λ a. shortage a more.ram more.caps) (sym reserve_is) ∙ sym short))
 
-      pub yield_short : (refusal : Refusal) → Some refusal ≡ shortage (account_in store script.account.0) more.ram more.caps → Goes places (Yield text) i (told_alone (reply_text (Refused refusal))) store components store components
+      yield_short : (refusal : Refusal) → Some refusal ≡ shortage (account_in store script.account.0) more.ram more.caps → Goes places (Yield text) i (told_alone (reply_text (Refused refusal))) store components store components
       unfolding own_of
       yield_short refusal short =
           refused_call (Yield text) refusal (ap (λ o. yielded_by o before) reads ∙ ap (λ o. unless o before (reserve_yielded more before)) (ap (λ a. shortage a more.ram more.caps) (account_of-part payer store) ∙ sym short))
@@ -165,7 +168,7 @@ module _ (places : Places) {store : Store} (components : List Component) {i : �
 
   module _ {store' : Store} (text : List ℕ) {more : Arguments} (reads : arguments_of text ≡ Some more) (ram : ram_limits_in store' ≡ ram_limits_in store) (caps : caps_limits_in store' ≡ caps_limits_in store) where
     -- from the reserve
-    pub request_goes : None ≡ shortage (account_in store script.reserve.0) more.ram more.caps → ShiftsPart script.reserve.0 script.account.0 more.ram more.caps store store' →
+    request_goes : None ≡ shortage (account_in store script.reserve.0) more.ram more.caps → ShiftsPart script.reserve.0 script.account.0 more.ram more.caps store store' →
         Goes places (Request text) i (told_alone (reply_text Done)) store components store' components
     unfolding own_of
     request_goes enough moves =
@@ -188,7 +191,7 @@ module _ (places : Places) {store : Store} (components : List Component) {i : �
         (steps (Request text) ∙ ap (λ o. requested_by o before) reads ∙ ap (λ o. unless o before (reserve_requested more before)) (ap (λ a. shortage a more.ram more.caps) (sym reserve_is) ∙ sym enough))
 
     -- and to it
-    pub yield_goes : None ≡ shortage (account_in store script.account.0) more.ram more.caps → ShiftsPart script.account.0 script.reserve.0 more.ram more.caps store store' →
+    yield_goes : None ≡ shortage (account_in store script.account.0) more.ram more.caps → ShiftsPart script.account.0 script.reserve.0 more.ram more.caps store store' →
         Goes places (Yield text) i (told_alone (reply_text Done)) store components store' components
     unfolding own_of
     yield_goes enough moves =
@@ -215,3 +218,24 @@ module _ (places : Places) {store : Store} (components : List Component) {i : �
         })
         (omega (arith, sound.own.paid.placed)) (Yield text) refl
         (steps (Yield text) ∙ ap (λ o. yielded_by o before) reads ∙ ap (λ o. unless o before (reserve_yielded more before)) (ap (λ a. shortage a more.ram more.caps) account ∙ sym enough))
+
+  -- ---- either way
+
+  pub way_siblings : (way : Way) → AreSiblingsIn store (giver way script) (taker way script)
+  way_siblings FromReserve = from_reserve
+  way_siblings ToReserve = to_reserve
+
+  pub way_unread : (way : Way) (text : List ℕ) → arguments_of text ≡ None → Goes places (call_by way text) i (told_alone (reply_text (Refused BadArgs))) store components store components
+  way_unread FromReserve = request_unread
+  way_unread ToReserve = yield_unread
+
+  pub way_short : (way : Way) (text : List ℕ) {more : Arguments} → arguments_of text ≡ Some more → (refusal : Refusal) → Some refusal ≡ shortage (account_in store (giver way script)) more.ram more.caps →
+      Goes places (call_by way text) i (told_alone (reply_text (Refused refusal))) store components store components
+  way_short FromReserve text reads = request_short text reads
+  way_short ToReserve text reads = yield_short text reads
+
+  pub way_goes : (way : Way) {store' : Store} (text : List ℕ) {more : Arguments} → arguments_of text ≡ Some more → ram_limits_in store' ≡ ram_limits_in store → caps_limits_in store' ≡ caps_limits_in store →
+      None ≡ shortage (account_in store (giver way script)) more.ram more.caps → ShiftsPart (giver way script) (taker way script) more.ram more.caps store store' →
+      Goes places (call_by way text) i (told_alone (reply_text Done)) store components store' components
+  way_goes FromReserve text reads ram caps = request_goes text reads ram caps
+  way_goes ToReserve text reads ram caps = yield_goes text reads ram caps

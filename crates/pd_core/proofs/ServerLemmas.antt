@@ -1,5 +1,5 @@
 -- Servers, whichever their service is: what is so of each that is sound.
-use Rattle.std.proofs.Common.{◌≡◌, ◌≢◌, ℕ, ◌+◌, ◌*◌, ◌≤◌, Some, false, true, true≢false, refl, sym, ap, subst, ◌∙◌}
+use Rattle.std.proofs.Common.{◌≡◌, ℕ, ◌+◌, ◌*◌, ◌≤◌, Some, false, true≢false, refl, sym, ap, subst, ◌∙◌}
 use Rattle.std.proofs.lemmas.Option.{none-some}
 use Rattle.std.specs.Prelude.{None, IsSome}
 use Rattle.std.specs.FinMap.{get, empty}
@@ -115,7 +115,7 @@ as_it_is component key host is j = record component { role = sym is j }
 
 -- it serves its sessions
 pub host_serves_in : {store : Store} {id : ℕ} (component : Component) (key : AccountId) (host : Host) → Serves store (serving_as component key host) id → HostServes store host id
-host_serves_in component key host serves = record { works = serves.sound.works; row = serves.row }
+host_serves_in {store} {id} component key host serves = record { works = serves.sound.works; session = laws.has_session store host id serves.row }
 
 -- and after a call of one it is the same but for its server
 pub component_stays : {store store' : Store} (component : Component) (key : AccountId) {host host' : Host} → HostStays store host store' host' → StaysServer store (serving_as component key host) store' (serving_as component key host')

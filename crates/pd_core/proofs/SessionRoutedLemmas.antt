@@ -22,6 +22,7 @@ use Rattle.dataspace_core.specs.Store.{Store, account_in}
 use Rattle.dataspace_core.proofs.PartLaws.{account_of-part}
 use Rattle.server_frame.specs.Frame.{OpensSession}
 use Rattle.server_frame.proofs.RowLaws.{IsNoRows}
+use Rattle.services.proofs.HostLaws.{is_none}
 use Rattle.services.specs.Host.{service_of, rows_of as rows_of_host, Admits, StaysServer}
 use Rattle.services.specs.declared.host.Host.{Host}
 use Rattle.pd_core.specs.Answer.{told_alone}
@@ -109,7 +110,7 @@ module _ {places : Places} {leads : Leads} {store : Store} {components : List Co
     led_admits = record {
       works = (subst (IsSoundRole store) at_place (core.sound s)).works;
       is_open = payer_open led_two;
-      no_session = subst (λ r. IsNoRows (rows_in store r) script.account.0) at_place (no_session led_two);
+      no_session = is_none store host script.account.0 (subst (λ r. IsNoRows (rows_in store r) script.account.0) at_place (no_session led_two));
       place = λ accepted. subst HasPlace at_place (has_place led_two args.ram args.caps accepted);
       room = has_room led_two args.ram args.caps;
     }

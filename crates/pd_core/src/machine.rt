@@ -7,7 +7,7 @@ use crate::answer::tell;
 use crate::call::Call;
 use crate::component::Component;
 use crate::exiting::exit;
-use crate::reserves::{give, request, reserve};
+use crate::reserves::{Way, reserve, shift};
 use crate::router::Router;
 use crate::session_calls::{self, close, open, upgrade};
 use dataspace_core::Memory;
@@ -120,8 +120,8 @@ fn carry_out<R: Router>(
         Call::Upgrade { selector, args } => upgrade(memory, components, caller, selector, args),
         Call::Close(selector) => close(memory, components, caller, selector),
         Call::Reserve => reserve(memory, components, caller),
-        Call::Request(args) => request(memory, components, caller, args),
-        Call::Yield(args) => give(memory, components, caller, args),
+        Call::Request(args) => shift(memory, components, caller, Way::FromReserve, args),
+        Call::Yield(args) => shift(memory, components, caller, Way::ToReserve, args),
         Call::Exit => exit(memory, components, caller),
         Call::CallSession { selector, request } => {
             return session_calls::call(memory, components, caller, selector, request, reply);

@@ -13,9 +13,10 @@ use Rattle.std.proofs.Math.ListN.{get_or-append}
 use Rattle.own_model.specs.Listed.{Listed}
 use Rattle.own_model.specs.SessionArgs.{is_quotable}
 use Rattle.reach.specs.Reach.{IsGiven, leads_to}
+use Rattle.reach.specs.Deciding.{trail_of}
 use Rattle.reach.specs.Keys.{key_of}
 use Rattle.reach.specs.Closure.{AreKept, HasKey, IsGrown, IsKept, IsLengthened, IsLengthenedAt, Keeps, KeptLabel, StandsFor}
-use Rattle.reach.proofs.KeyLemmas.{key_alike}
+use Rattle.reach.proofs.KeyLemmas.{key_alike, trail_alike}
 
 -- ---- more of them
 
@@ -33,7 +34,7 @@ grown_then old between new first then =
     let longer : length between ≤ length new = then.longer in
     record { longer = omega arith; stays = λ k d within. then.stays k d (omega arith) ∙ first.stays k d within }
 
-grown_push : (kept : List KeptLabel) (one : KeptLabel) → IsGrown kept (kept ++ one ∷ [])
+pub grown_push : (kept : List KeptLabel) (one : KeptLabel) → IsGrown kept (kept ++ one ∷ [])
 grown_push kept one =
     record { longer = omega (arith, length-append kept (one ∷ [])); stays = λ k d within. get_or-append kept (one ∷ []) d k within }
 
@@ -76,11 +77,11 @@ keeps_new list client service label one kept sound given is keyed leads =
 
 -- ---- a byte more
 
-both_true : (a b : Bool) → a ≡ true → b ≡ true → (a && b) ≡ true
+pub both_true : (a b : Bool) → a ≡ true → b ≡ true → (a && b) ≡ true
 both_true true b is this = this
 both_true false b is this = cc
 
-two_true : (a b : Bool) → (a && b) ≡ true → (a ≡ true) × (b ≡ true)
+pub two_true : (a b : Bool) → (a && b) ≡ true → (a ≡ true) × (b ≡ true)
 two_true true b is = (refl, is)
 two_true false b is = cc
 
@@ -100,7 +101,7 @@ given_less label byte given =
     let less : length label < 64 = omega (arith, length-append label (byte ∷ [])) in
     (record { short = omega arith; plain = both.0 }, (two_true _ _ both.1).0, less)
 
-quotable_within : (byte : ℕ) → is_quotable byte ≡ true → (32 ≤ byte) × (byte < 127)
+pub quotable_within : (byte : ℕ) → is_quotable byte ≡ true → (32 ≤ byte) × (byte < 127)
 quotable_within byte plain = grind (arith, nat_tests)
 
 -- a label that isn't empty is one with a byte behind it
@@ -121,7 +122,11 @@ stands list client service label most kept sound long any =
       any.1,
       any.2,
       any.3,
-      record { short = omega arith; alike = λ rest. key_alike list client service any.1.label label rest (sym one.keyed ∙ any.4) },
+      record {
+        short = omega arith;
+        alike = λ rest. key_alike list client service any.1.label label rest (sym one.keyed ∙ any.4);
+        decided = λ rest. trail_alike list client service any.1.label label rest (sym one.keyed ∙ any.4);
+      },
     )
 
 -- who stands for a label with a byte behind it stands for those for which that label stands, with the byte behind them
@@ -137,6 +142,9 @@ stands_on list client service front label byte one kept first is then =
       alike = λ rest. then.alike rest
           ∙ (ap (λ t. leads_to list client service t) (append_assoc one.label (byte ∷ []) rest)
           ∙ (first.alike (byte ∷ rest) ∙ sym (ap (λ t. leads_to list client service t) (append_assoc front (byte ∷ []) rest))));
+      decided = λ rest. then.decided rest
+          ∙ (ap (λ t. trail_of list client service t) (append_assoc one.label (byte ∷ []) rest)
+          ∙ (first.decided (byte ∷ rest) ∙ sym (ap (λ t. trail_of list client service t) (append_assoc front (byte ∷ []) rest))));
     })
 
 any_on : (list : Listed) (client : ℕ) (service front label : List ℕ) (byte : ℕ) (one : KeptLabel) (kept : List KeptLabel)
@@ -162,7 +170,7 @@ lengthened list client service most byte old new k one kept grown sound longer w
     stands list client service (one.label ++ byte ∷ []) (most + 1) new sound (omega (arith, length-append one.label (byte ∷ [])))
     (subst (λ (o : KeptLabel). Any (HasKey list client service (o.label ++ byte ∷ [])) new) is made)
 
-below_or_at : (n most : ℕ) → n ≤ most → (n < most) ⊎ (n ≡ most)
+pub below_or_at : (n most : ℕ) → n ≤ most → (n < most) ⊎ (n ≡ most)
 below_or_at zero zero within = inr refl
 below_or_at zero (suc most) within = inl (omega arith)
 below_or_at (suc n) zero within = absurd (omega arith)

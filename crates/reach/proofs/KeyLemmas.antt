@@ -1,7 +1,7 @@
 -- Labels of one key lead alike, and so do all longer labels that begin with them.
 use Rattle.std.proofs.Common.{◌≡◌, ◌≢◌, ℕ, ◌<◌, ◌≤◌, zero, suc, ◌-◌, ◌+◌, Bool, true, false, ◌&&◌, ◌||◌, List, [], ◌∷◌, ◌++◌, length, take, drop, Option, Some, None, refl, sym, ap, ◌∙◌, nat_eq, arith, ◌⊎◌, inl, inr}
-use Rattle.std.specs.Prelude.{codes, if◌then◌else◌, Result, Ok, Err, OnOk}
-use Rattle.std.specs.List.{starts_with, ends_with, slice_get}
+use Rattle.std.specs.Prelude.{codes, flat_map, if◌then◌else◌, nat_lt, not, position, Result, Ok, Err, OnOk}
+use Rattle.std.specs.List.{starts_with, ends_with, prefix_len, slice_get}
 use Rattle.std.specs.Option.{option_and_then, option_map, unwrap_or}
 use Rattle.std.specs.Str.{bytes_eq}
 use Rattle.std.proofs.lemmas.Bool.Decides.{Decides-eqb}
@@ -11,6 +11,8 @@ use Rattle.std.proofs.Common.{length-drop}
 use Rattle.std.proofs.Math.Seq.{take-append-add}
 use Rattle.own_model.specs.Routes.{as_asked, label_with}
 use Rattle.own_model.specs.Listed.{Listed, ListedEntry, ListedRule, asks_for, end_of, init_entry, most_lists, route_within, rules_for, way_by, way_to}
+use Rattle.reach.specs.Deciding.{decided, trail_of}
+use Rattle.reach.specs.Hops.{HopAt, hops_of, hops_within, leads_out}
 use Rattle.reach.specs.Reach.{leads_to}
 use Rattle.reach.specs.Keys.{end_mark, front_mark, is_lost, key_of, key_within, lost_of, mark, marks_by, marks_of, whole_mark}
 
@@ -20,12 +22,12 @@ not_true : (b : Bool) → (b ≡ true → ⊥) → b ≡ false
 not_true true is = absurd (is refl)
 not_true false is = refl
 
-same_tests : (a b : Bool) → (a ≡ true → b ≡ true) → (b ≡ true → a ≡ true) → a ≡ b
+pub same_tests : (a b : Bool) → (a ≡ true → b ≡ true) → (b ≡ true → a ≡ true) → a ≡ b
 same_tests true b there back = sym (there refl)
 same_tests false true there back = cc (back refl)
 same_tests false false there back = refl
 
-begins_from : (text front rest : List ℕ) → text ≡ front ++ rest → starts_with nat_eq text front ≡ true
+pub begins_from : (text front rest : List ℕ) → text ≡ front ++ rest → starts_with nat_eq text front ≡ true
 begins_from text front rest is = (starts_is Decides-eqb text front _ refl).1 rest is
 
 begins_take : (text front : List ℕ) → starts_with nat_eq text front ≡ true → take (length front) text ≡ front
@@ -114,7 +116,7 @@ front_read asked seen rest =
 
 -- ---- an end
 
-ends_from : (text front end : List ℕ) → text ≡ front ++ end → ends_with nat_eq text end ≡ true
+pub ends_from : (text front end : List ℕ) → text ≡ front ++ end → ends_with nat_eq text end ≡ true
 ends_from text front end is = (ends_is Decides-eqb text end _ refl).1 front is
 
 ends_less : (b : ℕ) (text asked front : List ℕ) → b ∷ text ≡ front ++ asked → asked ≢ b ∷ text → ends_with nat_eq text asked ≡ true
@@ -342,6 +344,84 @@ key_alike list client service (a ∷ seen) [] rest alike = absurd (heads_apart _
 key_alike list client service (a ∷ seen) (b ∷ other) rest alike =
     entry_alike list service (a ∷ seen) (b ∷ other) rest (slice_get list.entries client) (some_long a seen) (some_long b other) (tails_same 1 1 _ _ alike)
 
+-- ---- the rules that decide
+
+places_alike : (service : List ℕ) (rules : List ListedRule) (seen other rest : List ℕ)
+    → marks_by service rules seen ≡ marks_by service rules other
+    → prefix_len (λ rule. not (asks_for rule service (seen ++ rest))) rules ≡ prefix_len (λ rule. not (asks_for rule service (other ++ rest))) rules
+places_alike service [] seen other rest alike = refl
+places_alike service (rule ∷ rules) seen other rest alike =
+    let both = marks_split service rule seen other (marks_by service rules seen) (marks_by service rules other) alike in
+    let first = rule_alike service rule seen other rest both.0 in
+    let others = places_alike service rules seen other rest both.1 in
+    ap (λ t. if not t then 1 + prefix_len (λ rule. not (asks_for rule service (seen ++ rest))) rules else 0) first
+    ∙ ap (λ n. if not (asks_for rule service (other ++ rest)) then 1 + n else 0) others
+
+place_alike : (service : List ℕ) (rules : List ListedRule) (seen other rest : List ℕ)
+    → marks_by service rules seen ≡ marks_by service rules other
+    → position (λ rule. asks_for rule service (seen ++ rest)) rules ≡ position (λ rule. asks_for rule service (other ++ rest)) rules
+place_alike service rules seen other rest alike =
+    ap (λ n. if nat_lt n (length rules) then Some n else None) (places_alike service rules seen other rest alike)
+
+-- the places of the rules that hops tell
+abbrev places_of : List HopAt → List ℕ
+places_of hops = flat_map (λ (hop : HopAt). decided hop.rule) hops
+
+hops_out : (lists : ℕ) (list : Listed) (name service seen other rest : List ℕ) (out : Bool) (outer : Option ListedEntry)
+    → ((init : ListedEntry) → key_within lists list init service (label_with name seen) ≡ key_within lists list init service (label_with name other)
+    → places_of (hops_within lists list init service (label_with name seen ++ rest))
+    ≡ places_of (hops_within lists list init service (label_with name other ++ rest)))
+    → 0 < length seen → 0 < length other
+    → unwrap_or (option_map (λ init. key_within lists list init service (label_with name seen)) outer) []
+    ≡ unwrap_or (option_map (λ init. key_within lists list init service (label_with name other)) outer) []
+    → places_of (if out then unwrap_or (option_map (λ init. hops_within lists list init service (label_with name (seen ++ rest))) outer) [] else [])
+    ≡ places_of (if out then unwrap_or (option_map (λ init. hops_within lists list init service (label_with name (other ++ rest))) outer) [] else [])
+hops_out lists list name service seen other rest false outer within some more alike = refl
+hops_out lists list name service seen other rest true None within some more alike = refl
+hops_out lists list name service seen other rest true (Some init) within some more alike =
+    ap (λ t. places_of (hops_within lists list init service t)) (with_name name seen rest some)
+    ∙ (within init alike ∙ ap (λ t. places_of (hops_within lists list init service t)) (sym (with_name name other rest more)))
+
+hops_alike : (lists : ℕ) (list : Listed) (entry : ListedEntry) (service seen other rest : List ℕ)
+    → 0 < length seen → 0 < length other
+    → key_within lists list entry service seen ≡ key_within lists list entry service other
+    → places_of (hops_within lists list entry service (seen ++ rest)) ≡ places_of (hops_within lists list entry service (other ++ rest))
+hops_alike zero list entry service seen other rest some more alike = refl
+hops_alike (suc lists) list entry service seen other rest some more alike =
+    let both = rules_split service (rules_for list entry) seen other _ _ alike in
+    let here = place_alike service (rules_for list entry) seen other rest both.0 in
+    let out = hops_out lists list entry.name service seen other rest
+    (leads_out (rules_for list entry) (position (λ rule. asks_for rule service (other ++ rest)) (rules_for list entry)))
+    (init_entry list entry.home)
+    (λ init same. hops_alike lists list init service (label_with entry.name seen) (label_with entry.name other) rest
+    (name_more entry.name seen some) (name_more entry.name other more) same)
+    some more both.1 in
+    ap (λ p. decided p ++ places_of (if leads_out (rules_for list entry) p
+    then unwrap_or (option_map (λ init. hops_within lists list init service (label_with entry.name (seen ++ rest))) (init_entry list entry.home)) []
+    else [])) here
+    ∙ ap (λ t. decided (position (λ rule. asks_for rule service (other ++ rest)) (rules_for list entry)) ++ t) out
+
+trail_case : (list : Listed) (service seen other rest : List ℕ) (entry : Option ListedEntry) → 0 < length seen → 0 < length other
+    → unwrap_or (option_map (λ entry. key_within most_lists list entry service seen) entry) []
+    ≡ unwrap_or (option_map (λ entry. key_within most_lists list entry service other) entry) []
+    → places_of (unwrap_or (option_map (λ entry. hops_within most_lists list entry service (seen ++ rest)) entry) [])
+    ≡ places_of (unwrap_or (option_map (λ entry. hops_within most_lists list entry service (other ++ rest)) entry) [])
+trail_case list service seen other rest None some more alike = refl
+trail_case list service seen other rest (Some entry) some more alike =
+    hops_alike most_lists list entry service seen other rest some more alike
+
+-- labels of one key are decided by the same rules with anything behind them
+pub trail_alike : (list : Listed) (client : ℕ) (service seen other rest : List ℕ)
+    → key_of list client service seen ≡ key_of list client service other
+    → trail_of list client service (seen ++ rest) ≡ trail_of list client service (other ++ rest)
+unfolding key_of hops_of trail_of
+trail_alike list client service [] [] rest alike = refl
+trail_alike list client service [] (b ∷ other) rest alike = absurd (heads_apart _ _ alike)
+trail_alike list client service (a ∷ seen) [] rest alike = absurd (heads_apart _ _ (sym alike))
+trail_alike list client service (a ∷ seen) (b ∷ other) rest alike =
+    trail_case list service (a ∷ seen) (b ∷ other) rest (slice_get list.entries client) (some_long a seen) (some_long b other)
+    (tails_same 1 1 _ _ alike)
+
 -- ---- the longest end
 
 end_lost : (asked : List ℕ) (b : ℕ) (seen : List ℕ) (t : Bool) → t ≡ false
@@ -380,6 +460,11 @@ key_goes_on (suc lists) less list entry init service seen outer old between new 
     (ap (λ n. key_within n list init service outer) same
     ∙ (ap (λ o. key_within lists list init service o) sees
     ∙ ap (λ o. unwrap_or (option_map (λ i. key_within lists list i service (label_with entry.name seen)) o) []) (sym found)))))
+
+-- what a call promises by two clauses where it answers Ok
+pub ok_map₂ : {V E : Type 0} → (P Q S : Type 0) (r : Result V E) → (P → Q → S) → OnOk r P → OnOk r Q → OnOk r S
+ok_map₂ P Q S (Ok v) goes one two = goes one two
+ok_map₂ P Q S (Err e) goes one two = one
 
 -- what a call promises where it answers Ok
 pub ok_map : {V E : Type 0} → (P Q : Type 0) (r : Result V E) → (P → Q) → OnOk r P → OnOk r Q

@@ -2,4 +2,8 @@ pub mod ClosureLemmas
 pub mod HopLemmas
 pub mod KeyLemmas
 pub mod TableLemmas
+pub mod TrailLemmas
 pub mod WaysLemmas
+pub mod AskedLemmas
+pub mod CandidateLemmas
+pub mod WishLemmas

@@ -13,7 +13,7 @@ use Rattle.reach.specs.Ways.{AreWays, IsBest, IsLeast, IsTold, LeadsAlike, is_ch
 
 -- ---- from labels that stand for all others
 
-told_kept : (list : Listed) (client : ℕ) (service : List ℕ) (one : KeptLabel) → IsKept list client service 64 one → IsTold list client service one
+pub told_kept : (list : Listed) (client : ℕ) (service : List ℕ) (one : KeptLabel) → IsKept list client service 64 one → IsTold list client service one
 told_kept list client service one kept = record { given = kept.given; leads = kept.leads }
 
 alike_kept : (list : Listed) (client : ℕ) (service label : List ℕ) (one : KeptLabel)

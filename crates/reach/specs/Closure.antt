@@ -2,6 +2,7 @@
 use Rattle.std.specs.Prelude.{◌≡◌, ℕ, ◌<◌, ◌≤◌, true, List, [], ◌∷◌, ◌++◌, length, slice_index_or, Option, All, Any}
 use Rattle.own_model.specs.Listed.{Listed}
 use Rattle.own_model.specs.SessionArgs.{is_quotable}
+use Rattle.reach.specs.Deciding.{trail_of}
 use Rattle.reach.specs.Reach.{IsGiven, leads_to}
 use Rattle.reach.specs.Keys.{key_of}
 
@@ -18,10 +19,11 @@ pub record IsKept (list : Listed) (client : ℕ) (service : List ℕ) (most : �
   pub keyed : kept.key ≡ key_of list client service kept.label
   pub leads : kept.child ≡ leads_to list client service kept.label
 
--- a kept label is no longer than another one, and with anything behind them both lead alike
+-- a kept label is no longer than another one, and with anything behind them both lead alike, by the same rules
 pub record StandsFor (list : Listed) (client : ℕ) (service label : List ℕ) (kept : KeptLabel) : Type 0 where
   pub short : length kept.label ≤ length label
   pub alike : (rest : List ℕ) → leads_to list client service (kept.label ++ rest) ≡ leads_to list client service (label ++ rest)
+  pub decided : (rest : List ℕ) → trail_of list client service (kept.label ++ rest) ≡ trail_of list client service (label ++ rest)
 
 -- the labels that are kept stand for all given ones of at most so many bytes
 pub record AreKept (list : Listed) (client : ℕ) (service : List ℕ) (most : ℕ) (kept : List KeptLabel) : Type 0 where

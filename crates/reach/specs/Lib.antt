@@ -4,3 +4,7 @@ pub mod Closure
 pub mod Ways
 pub mod Hops
 pub mod Table
+pub mod Asked
+pub mod Paths
+pub mod WishLaws
+pub mod Deciding

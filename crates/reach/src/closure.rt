@@ -18,7 +18,7 @@ use text_codec::is_quotable;
 #[derive(Drop)]
 pub(crate) struct Kept {
     pub(crate) label: Label,
-    key: Vec<usize>,
+    pub(crate) key: Vec<usize>,
     pub(crate) child: Option<usize>,
 }
 

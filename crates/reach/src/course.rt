@@ -32,6 +32,17 @@ impl Model for Hop {
     } };
 }
 
+impl Hop {
+    ghost use Rattle.std.specs.Prelude.{◌≡◌};
+
+    /// The place of the rule that decides, or none where none matches.
+    pub fn rule(&self) -> Option<usize>
+        ensures { result ≡ self.now.rule }
+    {
+        self.rule
+    }
+}
+
 /// Where a wish leads, and by which rules.
 #[derive(Drop)]
 pub struct Course<'a> {
@@ -85,6 +96,27 @@ impl<'a> Course<'a> {
             Ok(course) => Ok(course),
             Err(_) => Err(NoCourse::NoMemory),
         }
+    }
+
+    /// The start list.
+    pub fn list(&self) -> &StartList
+        ensures { result.now ≡ self.now.list.now }
+    {
+        self.list
+    }
+
+    /// The number of the client.
+    pub fn client(&self) -> usize
+        ensures { result ≡ self.now.client }
+    {
+        self.client
+    }
+
+    /// What each list decides, from the client's own outward.
+    pub fn hops(&self) -> &[Hop]
+        ensures { result.now ≡ self.now.hops.items }
+    {
+        self.hops.as_slice()
     }
 
     /// The number of the component to which it leads, if it leads to one.
@@ -291,8 +323,8 @@ fn show_rule<W: fmt::Write>(f: &mut fmt::Formatter<W>, entry: &Entry, hop: &Hop)
     }
 }
 
-// The member that holds the rules for an entry.
-fn route_name(entry: &Entry) -> &'static str {
+/// The member that holds the rules for an entry.
+pub(crate) fn route_name(entry: &Entry) -> &'static str {
     match entry.route() {
         Some(_) => "route",
         None => "default-route",

@@ -1,6 +1,7 @@
 //! What of a label matters to where it and all longer ones lead.
 ghost use Rattle.std.specs.Prelude.{◌≡◌, ◌+◌, ◌*◌, ◌≤◌, ◌<◌, ◌++◌, length, IfOk, OnOk};
 ghost use Rattle.std.specs.Option.{option_copied};
+ghost use Rattle.std.specs.List.{slice_get};
 ghost use Rattle.std.specs.Str.{bytes_eq};
 ghost use Rattle.own_model.specs.Routes.{as_asked};
 ghost use Rattle.own_model.specs.Listed.{init_entry, rules_for};
@@ -72,6 +73,13 @@ fn add_key(
         }
         None => Ok(()),
     }
+}
+
+/// The entry of the client.
+pub(crate) fn client_entry<'a>(wishes: Wishes<'a>) -> Option<&'a Entry>
+    ensures { option_copied result ≡ slice_get wishes.entry.list.now.entries wishes.entry.client }
+{
+    wishes.list.entries().get(wishes.client)
 }
 
 /// The entry of the init of a number; the machine's has none.

@@ -1,10 +1,14 @@
 //! Labels that a client gives, and what the lists around it see of them.
 ghost use Rattle.std.specs.Prelude.{◌≡◌, ◌+◌, ◌≤◌, length};
+ghost use Rattle.std.specs.List.{list_all};
 ghost use Rattle.own_model.specs.Routes.{label_with};
+ghost use Rattle.own_model.specs.SessionArgs.{is_quotable};
+ghost use Rattle.reach.specs.Asked.{behind};
 
 use arrayvec::ArrayVec;
 use std::fmt;
 use std::marker::Model;
+use text_codec::is_quotable;
 
 /// The most bytes of a label that a client gives.
 pub(crate) const LONGEST_GIVEN: usize = 64;
@@ -28,6 +32,20 @@ impl Model for Label {
 
 impl Label {
     ghost use Rattle.std.specs.Prelude.{[], ◌∷◌, ◌++◌, ◌<◌};
+    ghost use Rattle.std.specs.Prelude.{Some, None, if◌then◌else◌};
+    ghost use Rattle.reach.specs.Asked.{is_given};
+
+    /// The label that a text is, if it can be given.
+    pub fn read(text: &[u8]) -> Option<Label>
+        ensures { result ≡ (if is_given text.now then Some text.now else None) }
+    {
+        if LONGEST_GIVEN < text.len() || !is_plain(text) {
+            return None;
+        }
+        let mut kept = ArrayVec::new();
+        let _ = kept.try_extend_from_slice(text);
+        Some(Label { text: kept })
+    }
 
     /// The empty label.
     pub(crate) fn empty() -> Label
@@ -39,7 +57,7 @@ impl Label {
     }
 
     /// The same label once more.
-    pub(crate) fn copy(&self) -> Label
+    pub fn copy(&self) -> Label
         ensures { result ≡ self.now }
     {
         let mut text = ArrayVec::new();
@@ -66,6 +84,13 @@ impl Label {
     }
 }
 
+// Whether each byte may stand between quotes.
+fn is_plain(text: &[u8]) -> bool
+    ensures { result ≡ list_all is_quotable text.now }
+{
+    text.iter().all(|byte| is_quotable(*byte))
+}
+
 /// Each byte is a sign that can be printed.
 impl fmt::Display for Label {
     fn fmt<W: fmt::Write>(&self, f: &mut fmt::Formatter<W>) -> fmt::Result {
@@ -87,5 +112,17 @@ pub(crate) fn label_with(name: &[u8], given: &[u8]) -> ArrayVec<u8, LONGEST_SEEN
         let _ = label.try_extend_from_slice(b" -> ");
         let _ = label.try_extend_from_slice(given);
     }
+    label
+}
+
+/// A name before a text, with the arrow between them.
+pub(crate) fn behind(name: &[u8], text: &[u8]) -> ArrayVec<u8, LONGEST_SEEN>
+    requires { length name.now + 4 + length text.now ≤ 208 }
+    ensures { result.items ≡ behind name.now text.now }
+{
+    let mut label = ArrayVec::<u8, LONGEST_SEEN>::new();
+    let _ = label.try_extend_from_slice(name);
+    let _ = label.try_extend_from_slice(b" -> ");
+    let _ = label.try_extend_from_slice(text);
     label
 }

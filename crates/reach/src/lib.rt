@@ -1,16 +1,26 @@
 //! Which labels lead a component's wishes for sessions to which server, for every label that arguments let through.
 #![tactic(auto)]
 
+mod asked;
+mod brief;
+mod candidates;
 mod closure;
 mod course;
+mod deciding;
 mod key;
 mod label;
+mod laws;
+mod paths;
 mod table;
 mod ways;
 mod wishes;
 
+pub use brief::Brief;
 pub use course::{Course, Hop, NoCourse};
+pub use deciding::{Trail, Trails};
 pub use label::Label;
+pub use laws::wishes_are_answered;
+pub use paths::selects;
 pub use table::{Cell, Csv, Table};
 pub use ways::{Reach, Ways};
 pub use wishes::Wishes;

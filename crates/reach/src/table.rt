@@ -9,6 +9,7 @@ use crate::wishes::Wishes;
 use init_core::{Binary, StartList};
 use std::alloc::{AllocError, Global};
 use std::fmt;
+use trade_base::SERVICES;
 
 /// Whether a script's wishes for a service reach a server.
 #[derive(Debug, Drop)]
@@ -70,8 +71,10 @@ fn add_client(
     if list.entries()[client].binary() != Binary::Script {
         return Ok(());
     }
-    add_service(alloc, cells, list, client, "LOG")?;
-    add_service(alloc, cells, list, client, "File_system")
+    for place in 0..SERVICES.len() {
+        add_service(alloc, cells, list, client, SERVICES[place].name())?;
+    }
+    Ok(())
 }
 
 // The cells of a client for one service.

@@ -4,6 +4,7 @@ ghost use Rattle.std.specs.List.{list_all};
 ghost use Rattle.own_model.specs.Listed.{Listed};
 ghost use Rattle.reach.specs.Ways.{AreWays, IsBest, TellsReach, is_shorter, leads};
 
+use crate::candidates::few_labels;
 use crate::closure::{Kept, labels};
 use crate::label::Label;
 use crate::wishes::Wishes;
@@ -44,9 +45,12 @@ impl Ways {
         ensures { IfOk result (λ ways.
             AreWays wishes.entry.list.now wishes.entry.client wishes.entry.service.now ways) }
     {
-        Ok(Ways {
-            kept: labels(alloc, wishes)?,
-        })
+        match few_labels(alloc, wishes)? {
+            Some(kept) => Ok(Ways { kept }),
+            None => Ok(Ways {
+                kept: labels(alloc, wishes)?,
+            }),
+        }
     }
 
     /// Whether they lead to the component of a number.

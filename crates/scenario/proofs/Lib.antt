@@ -2,6 +2,7 @@ pub mod AccountLemmas
 pub mod ConfigLemmas
 pub mod BlockLemmas
 pub mod ComponentLines
+pub mod BesideLemmas
 pub mod LineLemmas
 pub mod OptionsLemmas
 pub mod GatheredLemmas

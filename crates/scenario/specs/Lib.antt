@@ -9,6 +9,7 @@ pub mod Options
 pub mod Stops
 pub mod Answered
 pub mod Answer
+pub mod Read
 pub mod Serves
 pub mod Runs
 pub mod Program

@@ -2,11 +2,12 @@
 ghost use Rattle.std.specs.Prelude.{◌≡◌, ◌+◌, ◌≤◌, ◌++◌, length};
 ghost use Rattle.arrayvec.specs.ArrayVec.{array_vec_len};
 ghost use Rattle.own_model.specs.Reply.{amounts_text, quota_text, share_text};
-ghost use Rattle.pd_core.specs.Answer.{quotas_account, reserve_amounts};
+ghost use Rattle.pd_core.specs.Answer.{quotas_account};
 
 use arrayvec::ArrayVec;
 use itoa::{Buffer, Integer};
-use pd_core::{Quotas, Reserve};
+use pd_core::Quotas;
+use trade_base::{Caps, Ram};
 
 /// Appends use and limit of RAM and of capabilities.
 pub fn add_quotas<const N: usize>(text: &mut ArrayVec<u8, N>, quotas: Quotas)
@@ -24,16 +25,17 @@ pub fn add_quotas<const N: usize>(text: &mut ArrayVec<u8, N>, quotas: Quotas)
     );
 }
 
-/// Appends the RAM and the capabilities of a reserve.
-pub fn add_reserve<const N: usize>(text: &mut ArrayVec<u8, N>, reserve: Reserve)
-    requires { array_vec_len text.old + 100 ≤ N }
-    ensures items { text.new.items ≡ text.old.items ++ amounts_text (reserve_amounts reserve) }
-    ensures len { array_vec_len text.new ≤ array_vec_len text.old + 100 }
+/// Appends bytes of RAM and a number of capabilities.
+pub fn add_amounts<const N: usize>(text: &mut ArrayVec<u8, N>, ram: Ram, caps: Caps)
+    requires { array_vec_len text.old + 50 ≤ N }
+    ensures items { text.new.items ≡ text.old.items ++ amounts_text
+        (record { ram = ram.0; caps = caps.0 }) }
+    ensures len { array_vec_len text.new ≤ array_vec_len text.old + 50 }
 {
     add(text, b"ram ");
-    add_number(text, reserve.ram.0);
+    add_number(text, ram.0);
     add(text, b" caps ");
-    add_number(text, u64::from(reserve.caps.0));
+    add_number(text, u64::from(caps.0));
 }
 
 // Appends a use and a limit.

@@ -9,9 +9,10 @@ ghost use Rattle.own_model.specs.World.{World, world_after_heard};
 ghost use Rattle.pd_core.specs.Call.{model_call, IsWellFormed};
 ghost use Rattle.scenario.specs.Answer.{AnswersLine, IsAnswer, IsNoCall, IsRefusal};
 ghost use Rattle.scenario.specs.Answered.{BeginsAsSaid, BeginsWithName, IsUnsaid, after_all, hears, is_meant};
+ghost use Rattle.scenario.specs.Read.{IsReadAs, Reads};
 
 use crate::block::LONGEST_LINE;
-use crate::line::read_line;
+use crate::line::{NamedCall, read_named};
 use init_core::StartList;
 use pd_core::{Call, Core, Reply, Router};
 use trade_base::Refusal;
@@ -82,15 +83,57 @@ impl<'a> Run<'a> {
         if !may_mean(self.only, line) {
             return None;
         }
-        match read_line(line) {
-            Ok((name, call)) => {
-                if means(self.only, name) {
-                    Some(self.answer_call(core, name, call, reply))
-                } else {
-                    None
-                }
-            }
+        match read_named(line) {
+            Ok(said) => self.answer_said(core, said, reply),
             Err(_) => self.answer_no_call(),
+        }
+    }
+
+    /// Answers a line of which this was read already: its call, or nothing where it is none. It does what `answer` does.
+    #[inline]
+    pub fn answer_read<'b, R: Router + Drop>(
+        &self,
+        core: &mut Core<R>,
+        line: &'b [u8],
+        said: Option<NamedCall<'b>>,
+        reply: &'b mut Reply,
+    ) -> Option<LineAnswer<'b>>
+    where
+        'a: 'b,
+        requires read { IsReadAs line.now said }
+        requires listed { core.old.entries ≡ entries_of (start_list_of self.now.list.now) }
+        ensures world { core.new
+            ≡ after_all (option_copied self.now.only) core.old (line.now ∷ []) }
+        ensures answered { AnswersLine (option_copied self.now.only) core.old line.now result }
+    {
+        let _ = line;
+        match said {
+            Some(said) => self.answer_said(core, said, reply),
+            None => self.answer_no_call(),
+        }
+    }
+
+    // Answers a line by what it says, if that is to be answered.
+    #[inline(always)]
+    fn answer_said<'b, R: Router + Drop>(
+        &self,
+        core: &mut Core<R>,
+        said: NamedCall<'b>,
+        reply: &'b mut Reply,
+    ) -> Option<LineAnswer<'b>>
+    where
+        'a: 'b,
+        requires formed { IsWellFormed said.call }
+        requires listed { core.old.entries ≡ entries_of (start_list_of self.now.list.now) }
+        ensures world { (line : List ℕ) → Reads line said.entry →
+            core.new ≡ after_all (option_copied self.now.only) core.old (line ∷ []) }
+        ensures answered { (line : List ℕ) → Reads line said.entry →
+            AnswersLine (option_copied self.now.only) core.old line result }
+    {
+        if means(self.only, said.name) {
+            Some(self.answer_call(core, said.name, said.call, reply))
+        } else {
+            None
         }
     }
 

@@ -6,10 +6,31 @@ ghost use Rattle.own_model.specs.Text.{address_of, number_of};
 ghost use Rattle.own_model.specs.Call.{call_of, form_of, name_of, of_none, of_text, of_two, some_bytes_of_hex, spoken, Spoken};
 ghost use Rattle.own_model.specs.Call.Call.{AttachAt, Peek, Poke, Open, Upgrade, CallSession};
 ghost use Rattle.pd_core.specs.Call.{model_call, IsWellFormed};
+ghost use Rattle.scenario.specs.Read.{IsReadAs, spoken_as};
 
+use crate::block::LONGEST_LINE;
 use pd_core::Call;
 use text_codec::{read_address, read_hex, split_first_word, split_name, split_path};
 use trade_base::{Refusal, read_number};
+
+/// A call, with the path of the component that makes it.
+#[derive(Clone, Copy, Debug)]
+pub struct NamedCall<'a> {
+    /// The component's path.
+    pub name: &'a [u8],
+    /// The call.
+    pub call: Call<'a>,
+}
+
+/// The call of a line, or none where the line isn't a call, also for its length.
+pub fn call_in(line: &[u8]) -> Option<NamedCall<'_>>
+    ensures { IsReadAs line.now result }
+{
+    if line.len() > LONGEST_LINE {
+        return None;
+    }
+    read_named(line).ok()
+}
 
 /// The component's path and the call of a line, or `Refusal::BadLine` where the line isn't a call. The line's length
 /// isn't looked at.
@@ -20,11 +41,24 @@ pub fn read_line(line: &[u8]) -> Result<(&[u8], Call<'_>), Refusal>
     ensures refused { IfErr result (λ refusal. refusal ≡ BadLine) }
     ensures none { OnErr result (spoken line.now ≡ None) }
 {
+    match read_named(line) {
+        Ok(said) => Ok((said.name, said.call)),
+        Err(refusal) => Err(refusal),
+    }
+}
+
+/// The same as one value.
+pub(crate) fn read_named(line: &[u8]) -> Result<NamedCall<'_>, Refusal>
+    ensures value { IfOk result (λ said. spoken line.now ≡ Some (spoken_as said)) }
+    ensures well_formed { IfOk result (λ said. IsWellFormed said.call) }
+    ensures refused { IfErr result (λ refusal. refusal ≡ BadLine) }
+    ensures none { OnErr result (spoken line.now ≡ None) }
+{
     let Some((name, Some(text))) = split_path(line) else {
         return Err(Refusal::BadLine);
     };
     match read_call(text) {
-        Some(call) => Ok((name, call)),
+        Some(call) => Ok(NamedCall { name, call }),
         None => Err(Refusal::BadLine),
     }
 }

@@ -8,6 +8,7 @@ use Rattle.slab.specs.Slab as slab
 use Rattle.own_model.specs.Account.{Account}
 use Rattle.own_model.specs.NatMap.{NatMap}
 use Rattle.own_model.proofs.NatMapLemmas.{before_remove, get-remove_other}
+use Rattle.quota_core.proofs.SlabMap.{get-map_of_at}
 use Rattle.region_map.specs.Regions.{Regions}
 use Rattle.dataspace_core.specs.Store.{Store, Part, part, account_of, account_in, parents_in, parent_in, root_in, raised_part, IsChildIn, IsLeafIn, ClosesPart}
 use Rattle.dataspace_core.specs.Share.{Share}
@@ -15,7 +16,7 @@ use Rattle.dataspace_core.proofs.PartLaws.{account_of-part}
 use Rattle.sliced_heap.specs.Heap.{payer_of, share_at, MapsMemory, KeepsOthers}
 use Rattle.sliced_heap.specs.declared.heap.SlicedHeap.{SlicedHeap}
 use Rattle.server_frame.specs.Session.{holding, PaysFor}
-use Rattle.server_frame.specs.Frame.{Row, row_of, sessions_of, Holds, IsServer}
+use Rattle.server_frame.specs.Frame.{row_of, sessions_of, Holds, IsServer, ClosesSession}
 use Rattle.server_frame.specs.declared.server.Session.{Session}
 use Rattle.server_frame.proofs.HoldingLemmas.{same_part}
 use Rattle.server_frame.proofs.FrameLemmas.{Stays, row_stays, map_of-emptied, server_without}
@@ -83,7 +84,7 @@ module _ {T V : Type 0} (kept : T → ℕ → Share → Type 0) (value : T → S
         (λ s found. ap (λ (x : Session T). x.account.0) (same_Some _ _ (sym found ∙ there)))
         removed (ap (λ (p : Part). p.spaces) closes.closed_one)
 
-    pub rows_close : sessions_of value buffer now new after ≡ remove (sessions_of value buffer sessions old regions) id
+    rows_close : sessions_of value buffer now new after ≡ remove (sessions_of value buffer sessions old regions) id
     rows_close = map_of-emptied (row_of value buffer old regions) (row_of value buffer new after) sessions now id (λ q x other found. row_stays old new regions after x value buffer (stays q x other found)) removed
 
     -- the client's part has the limits
@@ -94,8 +95,8 @@ module _ {T V : Type 0} (kept : T → ℕ → Share → Type 0) (value : T → S
         ∙ ap (λ n. raised_part (part session.client.0 old) n (account_of (part session.account.0 mid)).caps_limit) (same_limit (λ a. a.ram_limit) ram)
         ∙ ap (λ n. raised_part (part session.client.0 old) (account_of (part session.account.0 old)).ram_limit n) (same_limit (λ a. a.caps_limit) caps)
 
-    closes_session : ClosesPart session.account.0 session.client.0 old new
-    closes_session = record {
+    closes_part : ClosesPart session.account.0 session.client.0 old new
+    closes_part = record {
       closed_one = closes.closed_one;
       raised_one = raised_one;
       others = λ other apart not_client. closes.others other apart not_client ∙ same_part other old mid regions between (others.shares other apart);
@@ -104,5 +105,5 @@ module _ {T V : Type 0} (kept : T → ℕ → Share → Type 0) (value : T → S
       room = closes.room ∙ ap (λ n. n + 1) others.room;
     }
 
-    pub closes_row : (row : Row V) → row_of value buffer old regions session ≡ row → ClosesPart row.key row.client old new
-    closes_row row is = subst (λ (r : Row V). ClosesPart r.key r.client old new) is closes_session
+    pub session_closes : ClosesSession id old new (sessions_of value buffer sessions old regions) (sessions_of value buffer now new after)
+    session_closes = record { row = row_of value buffer old regions session; there = get-map_of_at (row_of value buffer old regions) sessions id session there; closes = closes_part; sessions = rows_close }

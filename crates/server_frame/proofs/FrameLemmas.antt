@@ -1,20 +1,20 @@
 -- What a call for one session leaves of the others, and of the server.
-use Rattle.std.proofs.Common.{◌≡◌, ◌≢◌, ℕ, cond, Some, IsSome, is_some, refl, sym, ap, subst, ◌∙◌, inl, inr}
+use Rattle.std.proofs.Common.{◌≡◌, ◌≢◌, ℕ, Some, IsSome, is_some, refl, sym, ap, subst, ◌∙◌, inl, inr}
 use Rattle.std.proofs.lemmas.Bool.{cases_eq}
 use Rattle.std.proofs.lemmas.Option.{none-some, same_Some}
 use Rattle.std.specs.Prelude.{Option, None}
-use Rattle.std.specs.Option.{option_map, option_and_then}
+use Rattle.std.specs.Option.{option_map}
 use Rattle.std.specs.FinMap.{get, insert, remove, empty}
 use Rattle.slab.specs.Slab.{Slab, Updates}
 use Rattle.slab.specs.Slab as slab
 use Rattle.own_model.specs.Account.{Account}
 use Rattle.own_model.specs.Region.{Region}
-use Rattle.own_model.proofs.NatMapLemmas.{same, value_at, get-empty, get-picked, get-insert_same, get-insert_other, get-remove_same, get-remove_other}
+use Rattle.own_model.proofs.NatMapLemmas.{same, value_at, get-empty, get-insert_same, get-insert_other, get-remove_same, get-remove_other}
 use Rattle.quota_core.specs.SlabMap.{map_of}
 use Rattle.quota_core.proofs.SlabMap.{get-map_of}
 use Rattle.region_map.specs.Regions.{Regions}
 use Rattle.dataspace_core.specs.Store.{Store, Part, part, account_of, account_in, space_at, parents_in, IsOpenIn, IsLeafIn}
-use Rattle.dataspace_core.specs.Share.{Share, share_in, shown}
+use Rattle.dataspace_core.specs.Share.{Share}
 use Rattle.dataspace_core.proofs.PartLaws.{account_of-part, open_in_part, part_open, part_of_payer, paid_in_part}
 use Rattle.sliced_heap.specs.Heap.{share_at, MapsMemory}
 use Rattle.dataspace_core.proofs.ShareLaws.{in_share}

@@ -1,5 +1,5 @@
 -- Laws for callers: what sessions lend is paid by their accounts, and what is written there leaves the server.
-use Rattle.std.proofs.Common.{◌≡◌, ◌≢◌, ℕ, ◌+◌, ◌≤◌, List, [], length, Some, IsSome, is_some, unwrap_or, refl, sym, ap, subst, ◌∙◌, inl, inr}
+use Rattle.std.proofs.Common.{◌≡◌, ◌≢◌, ℕ, ◌+◌, ◌≤◌, List, [], length, Some, is_some, unwrap_or, refl, sym, ap, subst, ◌∙◌, inl, inr}
 use Rattle.std.proofs.lemmas.Bool.{cases_eq}
 use Rattle.std.proofs.lemmas.Option.{none-some, same_Some}
 use Rattle.std.specs.Prelude.{Option, None}
@@ -18,7 +18,7 @@ use Rattle.region_map.specs.Regions.{Regions}
 use Rattle.dataspace_core.specs.Store.{Store, Part, part, account_of, account_in, bytes_of, space_at, part_with_bytes, PartBecomes}
 use Rattle.dataspace_core.specs.Share.{Share, share_in}
 use Rattle.dataspace_core.proofs.PartLaws.{account_of-part, open_in_part, part_open, paid_in_part}
-use Rattle.dataspace_core.proofs.PokedLaws.{poked_other, poked_length}
+use Rattle.dataspace_core.proofs.PokedLaws.{poked_length}
 use Rattle.dataspace_core.proofs.ShareLaws.{some_alike, share_alike}
 use Rattle.dataspace_core.proofs.WindowLaws.{own_account}
 use Rattle.sliced_heap.specs.Laws.{KeepsHeapWindow}

@@ -7,7 +7,6 @@ use Rattle.slab.specs.Slab.{Slab, Updates}
 use Rattle.slab.specs.Slab as slab
 use Rattle.own_model.specs.Account.{Account, opened}
 use Rattle.own_model.specs.NatMap.{NatMap}
-use Rattle.own_model.specs.Session.{session_account}
 use Rattle.own_model.proofs.NatMapLemmas.{apart_from_free, after_insert, get-insert_same, get-insert_other}
 use Rattle.quota_core.proofs.SlabMap.{get-map_of_none}
 use Rattle.region_map.specs.Regions.{Regions}
@@ -38,11 +37,11 @@ module _ {T V : Type 0} (kept : T → ℕ → Share → Type 0) (value : T → S
 
   stays : (k : ℕ) (s : Session T) → k ≢ id → slab.get sessions k ≡ Some s → Stays s.account.0 old new regions after
   stays k s other found = record {
-    own = furnishes.parts s.account.0 (no_session k s found) (other_account k s found);
+    own = furnishes.parts s.account.0 (no_session.none k s found) (other_account k s found);
     held = furnishes.holdings s.account.0 (other_account k s found);
     parent = ap (λ (m : NatMap ℕ). get m s.account.0) furnishes.parents ∙ get-insert_other (parents_in old) session.account.0 session.client.0 s.account.0 (other_account k s found);
     leaf = λ leaf q is. elim (after_insert (parents_in old) session.account.0 session.client.0 q s.account.0 (ap (λ (m : NatMap ℕ). get m q) (sym furnishes.parents) ∙ is)) [
-      | inl same ↦ no_session k s found same.1
+      | inl same ↦ no_session.none k s found same.1
       | inr there ↦ leaf q there.1
     ];
   }

@@ -53,7 +53,7 @@ module _ {T : Type 0} (kept : T → ℕ → Share → Type 0) (heads : ℕ → B
     others = remove (accounts_in store) client
 
     apart : (id key : ℕ) → IsKey id key → key ≢ client
-    apart id key its e = no_session id its.session its.there (its.is ∙ e)
+    apart id key its e = no_session.none id its.session its.there (its.is ∙ e)
 
     -- have two capabilities a session
     sessions_paid : len keys * 2 ≤ total (λ (a : Account). a.caps_limit) others

@@ -13,14 +13,13 @@ use Rattle.own_model.proofs.Totals.{len-insert_new, len-insert_at, len-remove_at
 use Rattle.trade_base.specs.declared.id.AccountId.{AccountId}
 use Rattle.trade_base.specs.declared.refusal.Refusal.{Refusal}
 use Rattle.own_model.specs.Donation.{raised}
-use Rattle.own_model.specs.Session.{session_account}
 use Rattle.quota_core.proofs.SlabMap.{get-map_of, get-map_of_at, len-map_of}
 use Rattle.region_map.specs.Regions.{Regions}
 use Rattle.dataspace_core.specs.Store.{Store, Part, part, accounts_in, room_in, IsOpenIn, ClosesPart, RaisesPart}
 use Rattle.dataspace_core.specs.Share.{Share}
 use Rattle.dataspace_core.proofs.PartLaws.{open_in_part, part_open}
 use Rattle.server_frame.specs.Session.{Served}
-use Rattle.server_frame.specs.Frame.{Row, row_of, new_row, sessions_of, IsServer, IsNoSession, Admits, OpensSession, ServesSession}
+use Rattle.server_frame.specs.Frame.{Row, AtRow, row_of, new_row, sessions_of, IsServer, IsNoSession, Admits, OpensSession, ServesSession, ClosesSession}
 use Rattle.server_frame.specs.declared.effect.Effect.{Effect}
 use Rattle.server_frame.specs.declared.server.Session.{Session}
 
@@ -28,6 +27,24 @@ use Rattle.server_frame.specs.declared.server.Session.{Session}
 pub read_from : {T X : Type 0} (f : T → X) (o : Option T) (x : X) → option_map f o ≡ Some x → (t : T) × (o ≡ Some t) × (f t ≡ x)
 read_from f None x is = cc
 read_from f (Some t) x is = (t, refl, same_Some _ _ is)
+
+-- it is there where one is read
+mapped : {T X : Type 0} (f : T → X) (o : Option T) → is_some o ≡ is_some (option_map f o)
+mapped f None = refl
+mapped f (Some x) = refl
+
+-- an open session and its row
+module _ {T V : Type 0} (value : T → Share → V) (buffer : T → Option ℕ) (sessions : Slab (Session T)) (store : Store) (regions : Regions) (id : ℕ) where
+  abbrev seen : Session T → Row V
+  seen = row_of value buffer store regions
+
+  -- as many keys have a row as a session
+  pub open_row : is_some (slab.get sessions id) ≡ is_some (get (sessions_of value buffer sessions store regions) id)
+  open_row = mapped seen (slab.get sessions id) ∙ ap is_some (sym (get-map_of seen sessions id))
+
+  -- what is read of a session is its row
+  pub row_is : (session : Session T) → slab.get sessions id ≡ Some session → AtRow (sessions_of value buffer sessions store regions) id (λ row. seen session ≡ row)
+  row_is session is row there = same_Some _ _ (sym (get-map_of_at seen sessions id session is) ∙ there)
 
 -- an account is no session's in these rows
 abbrev pub IsNoRows : {V : Type 0} → NatMap (Row V) → ℕ → Type 0
@@ -38,11 +55,11 @@ module _ {T V : Type 0} (value : T → Share → V) (buffer : T → Option ℕ) 
   pub no_rows : IsNoSession sessions account → IsNoRows (sessions_of value buffer sessions store regions) account
   no_rows no_session id row there e =
       let was = read_from (row_of value buffer store regions) (slab.get sessions id) row (sym (get-map_of (row_of value buffer store regions) sessions id) ∙ there) in
-      no_session id was.0 was.1 (ap (λ (r : Row V). r.key) was.2 ∙ e)
+      no_session.none id was.0 was.1 (ap (λ (r : Row V). r.key) was.2 ∙ e)
 
   -- and the other way round
   pub no_session_by_rows : IsNoRows (sessions_of value buffer sessions store regions) account → IsNoSession sessions account
-  no_session_by_rows none id session there = none id (row_of value buffer store regions session) (get-map_of_at (row_of value buffer store regions) sessions id session there)
+  no_session_by_rows none = record { none = λ id session there. none id (row_of value buffer store regions session) (get-map_of_at (row_of value buffer store regions) sessions id session there) }
 
 -- an open session has a row
 pub row_at : {T V : Type 0} (value : T → Share → V) (buffer : T → Option ℕ) (sessions : Slab (Session T)) (store : Store) (regions : Regions) (id : ℕ) → slab.ContainsKey sessions id →
@@ -50,6 +67,10 @@ pub row_at : {T V : Type 0} (value : T → Share → V) (buffer : T → Option �
 row_at value buffer sessions store regions id present =
     let session = some_of (slab.get sessions id) present in
     (row_of value buffer store regions session.0, get-map_of_at (row_of value buffer store regions) sessions id session.0 session.1)
+
+-- the row that is closed is the one that is there
+pub closes_at : {V : Type 0} {id : ℕ} {old new : Store} {rows after : NatMap (Row V)} → ClosesSession id old new rows after → AtRow rows id (λ row. ClosesPart row.key row.client old new)
+closes_at {V} {id} {old} {new} its row there = subst (λ (r : Row V). ClosesPart r.key r.client old new) (same_Some _ _ (sym its.there ∙ there)) its.closes
 
 -- a session's account is open
 pub account_open : {T : Type 0} (kept : T → ℕ → Share → Type 0) (sessions : Slab (Session T)) (store : Store) (regions : Regions) → IsServer kept sessions store regions → (id : ℕ) (account : AccountId) →
@@ -179,7 +200,7 @@ pub admits_at_first : {T : Type 0} (kept : T → ℕ → Share → Type 0) (sess
 admits_at_first kept sessions client most store regions none places server opens room = record {
   server = server;
   is_open = opens;
-  no_session = λ id s there. absurd (none-some s (sym (ap (λ slots. get_or slots id None) none) ∙ there));
+  no_session = record { none = λ id s there. absurd (none-some s (sym (ap (λ slots. get_or slots id None) none) ∙ there)) };
   places = places;
   room = omega (arith, room);
 }

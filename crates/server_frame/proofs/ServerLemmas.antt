@@ -12,7 +12,7 @@ use Rattle.own_model.specs.Donation.{raised}
 use Rattle.own_model.specs.NatMap.{NatMap}
 use Rattle.quota_core.proofs.SlabMap.{get-map_of_at}
 use Rattle.region_map.specs.Regions.{Regions}
-use Rattle.dataspace_core.specs.Store.{Store, Part, account_of, account_in, IsOpenIn, with_moved_in, ram_limits_in, RaisesPart}
+use Rattle.dataspace_core.specs.Store.{Store, Part, account_of, account_in, with_moved_in, ram_limits_in, RaisesPart}
 use Rattle.dataspace_core.specs.Share.{Share}
 use Rattle.dataspace_core.proofs.PartLaws.{account_of-part, open_in_part}
 use Rattle.sliced_heap.specs.Heap.{share_at, MapsMemory, KeepsOthers}

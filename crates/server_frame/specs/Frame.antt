@@ -1,6 +1,6 @@
 -- What a contract sees of a server: its sessions, each by itself.
 use Rattle.std.specs.Prelude.{◌≡◌, ◌≢◌, ℕ, ◌+◌, ◌≤◌, List, Option, Some, None}
-use Rattle.std.specs.FinMap.{get, insert}
+use Rattle.std.specs.FinMap.{get, insert, remove}
 use Rattle.slab.specs.Slab.{Slab, slab_len}
 use Rattle.slab.specs.Slab as slab
 use Rattle.own_model.specs.Account.{Account}
@@ -9,7 +9,7 @@ use Rattle.own_model.specs.Region.{Region}
 use Rattle.own_model.specs.Session.{session_account}
 use Rattle.quota_core.specs.SlabMap.{map_of}
 use Rattle.region_map.specs.Regions.{Regions}
-use Rattle.dataspace_core.specs.Store.{Store, part, parted_part, space_at, accounts_in, account_in, root_in, room_in, parents_in, IsOpenIn, IsChildIn, IsLeafIn}
+use Rattle.dataspace_core.specs.Store.{Store, part, parted_part, space_at, accounts_in, account_in, root_in, room_in, parents_in, IsOpenIn, IsChildIn, IsLeafIn, ClosesPart}
 use Rattle.dataspace_core.specs.Share.{Share}
 use Rattle.sliced_heap.specs.Heap.{payer_of, MapsMemory}
 use Rattle.sliced_heap.specs.declared.heap.SlicedHeap.{SlicedHeap}
@@ -77,8 +77,8 @@ pub record IsServer {T : Type 0} (kept : T → ℕ → Share → Type 0) (sessio
   pub owned : (start : ℕ) (region : Region) → get regions.heap start ≡ Some region → IsSessions sessions (space_at store region.of).payer
 
 -- an account is no session's
-abbrev pub IsNoSession : {T : Type 0} → Slab (Session T) → ℕ → Type 0
-IsNoSession {T} sessions account = (id : ℕ) (session : Session T) → slab.get sessions id ≡ Some session → session.account.0 ≢ account
+pub record IsNoSession {T : Type 0} (sessions : Slab (Session T)) (account : ℕ) : Type 0 where
+  pub none : (id : ℕ) (session : Session T) → slab.get sessions id ≡ Some session → session.account.0 ≢ account
 
 -- so many sessions of a client can be open in all, those that are open among them: the client's account is open and no
 -- session's, and there are places for as many sessions and accounts
@@ -136,3 +136,10 @@ pub record ServesSession {V : Type 0} (row : Row V) (id : ℕ) (effect : Effect)
   pub root : root_in new ≡ root_in old
   pub parents : parents_in new ≡ parents_in old
   pub room : room_in new ≡ room_in old
+
+-- a session is closed: its row goes, its account closes, and its client's limits are raised by those of it
+pub record ClosesSession {V : Type 0} (id : ℕ) (old new : Store) (rows after : NatMap (Row V)) : Type 0 where
+  pub row : Row V
+  pub there : get rows id ≡ Some row
+  pub closes : ClosesPart row.key row.client old new
+  pub sessions : after ≡ remove rows id

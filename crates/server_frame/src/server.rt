@@ -1,15 +1,15 @@
 //! Sessions, each on an account of its own.
 ghost use Rattle.std.specs.Prelude.{◌≡◌, ◌*◌, ◌<◌, ◌≤◌, [], Some, None, is_some, IfOk, IfSome, OnOk, OnErr, length};
 ghost use Rattle.std.specs.Result.{result_err};
-ghost use Rattle.std.specs.FinMap.{insert, remove};
+ghost use Rattle.std.specs.FinMap.{get, insert};
 ghost use Rattle.slab.specs.Slab.{ContainsKey, slab_len};
 ghost use Rattle.slab.specs.Slab as slab;
 ghost use Rattle.own_model.specs.Account.{shortage};
 ghost use Rattle.own_model.specs.Donation.{raised};
 ghost use Rattle.own_model.specs.Session.{donation_refusal};
 ghost use Rattle.region_map.specs.Regions.{fresh_regions};
-ghost use Rattle.dataspace_core.specs.Store.{Store, account_in, ram_limits_in, IsOpenIn, room_in, RaisesPart, ClosesPart};
-ghost use Rattle.server_frame.specs.Frame.{sessions_of, row_served, AtSession, IsServer, IsNoSession, OpensSession, ServesSession};
+ghost use Rattle.dataspace_core.specs.Store.{Store, account_in, ram_limits_in, IsOpenIn, room_in, RaisesPart};
+ghost use Rattle.server_frame.specs.Frame.{sessions_of, row_served, AtSession, IsServer, IsNoSession, OpensSession, ServesSession, ClosesSession};
 ghost use Rattle.server_frame.specs.Lent.{key_of};
 ghost use Rattle.server_frame.specs.Told.{nothing_told};
 
@@ -67,7 +67,9 @@ impl<S: Service + Drop> Server<S> {
 
     /// Whether a session is open.
     pub fn is_open(&self, id: SessionId) -> bool
-        ensures { result ≡ is_some (slab.get self.now.sessions id.0) }
+        ensures session { result ≡ is_some (slab.get self.now.sessions id.0) }
+        ensures row { (store : Store) → result ≡ is_some (get
+            (sessions_of S.value S.buffer self.now.sessions store self.now.map) id.0) }
     {
         self.sessions.contains(id.0)
     }
@@ -75,8 +77,11 @@ impl<S: Service + Drop> Server<S> {
     /// The account of a session.
     pub fn account(&self, id: SessionId) -> AccountId
         requires { ContainsKey self.now.sessions id.0 }
-        ensures { IfSome (slab.get self.now.sessions id.0)
+        ensures session { IfSome (slab.get self.now.sessions id.0)
             (λ session. result ≡ session.account) }
+        ensures row { (store : Store) →
+            AtSession S.value S.buffer self.now.sessions store self.now.map id.0 (λ row.
+            result.0 ≡ row.key) }
     {
         self.sessions[id.0].account
     }
@@ -84,8 +89,11 @@ impl<S: Service + Drop> Server<S> {
     /// The dataspace that a session lends its client, if it lends one.
     pub fn buffer(&self, id: SessionId) -> Option<DsId>
         requires { ContainsKey self.now.sessions id.0 }
-        ensures { IfSome (slab.get self.now.sessions id.0) (λ session.
+        ensures session { IfSome (slab.get self.now.sessions id.0) (λ session.
             key_of result ≡ S.buffer session.state) }
+        ensures row { (store : Store) →
+            AtSession S.value S.buffer self.now.sessions store self.now.map id.0 (λ row.
+            key_of result ≡ row.buffer) }
     {
         self.service.buffer(&self.sessions[id.0].state)
     }
@@ -205,11 +213,9 @@ impl<S: Service + Drop> Server<S> {
         requires server { IsServer S.IsKept self.old.sessions memory.old self.old.map }
         requires open { ContainsKey self.old.sessions id.0 }
         ensures server { IsServer S.IsKept self.new.sessions memory.new self.new.map }
-        ensures closes { AtSession S.value S.buffer
-            self.old.sessions memory.old self.old.map id.0 (λ row.
-            ClosesPart row.key row.client memory.old memory.new) }
-        ensures sessions { sessions_of S.value S.buffer self.new.sessions memory.new self.new.map
-            ≡ remove (sessions_of S.value S.buffer self.old.sessions memory.old self.old.map) id.0 }
+        ensures closes { ClosesSession id.0 memory.old memory.new
+            (sessions_of S.value S.buffer self.old.sessions memory.old self.old.map)
+            (sessions_of S.value S.buffer self.new.sessions memory.new self.new.map) }
         ensures places { self.new.sessions.capacity ≡ self.old.sessions.capacity }
         ensures machine { ram_limits_in memory.new ≡ ram_limits_in memory.old }
     {

@@ -1,12 +1,10 @@
 -- Laws for callers: what is so of a server, whichever its service is.
-use Rattle.std.proofs.Common.{◌≡◌, ◌≢◌, ℕ, ◌+◌, ◌*◌, ◌≤◌, Bool, Some, false, is_some, refl, sym, ap, subst, ◌∙◌, arith}
-use Rattle.std.specs.Prelude.{Option, None, List, [], IsSome, IfSome}
+use Rattle.std.proofs.Common.{◌≡◌, ◌≢◌, ℕ, ◌+◌, ◌*◌, ◌≤◌, Bool, Some, false, refl, sym, ap, subst, ◌∙◌, arith}
+use Rattle.std.specs.Prelude.{Option, None, List, [], IsSome}
 use Rattle.std.specs.Option.{option_map}
 use Rattle.std.specs.FinMap.{get, empty}
 use Rattle.slab.specs.Slab.{Slab, ContainsKey}
 use Rattle.slab.specs.Slab as slab
-use Rattle.trade_base.specs.declared.id.AccountId.{AccountId}
-use Rattle.trade_base.specs.declared.id.DsId.{DsId}
 use Rattle.own_model.specs.Account.{Fits}
 use Rattle.own_model.specs.Session.{Labelled}
 use Rattle.own_model.proofs.NatMapLemmas.{same}
@@ -15,24 +13,16 @@ use Rattle.quota_core.proofs.SlabMap.{get-map_of, get-map_of_at, ContainsKey-map
 use Rattle.region_map.specs.Regions.{Regions, fresh_regions}
 use Rattle.dataspace_core.specs.Room.{HasRoom}
 use Rattle.dataspace_core.specs.Store.{Store, part, space_at, account_in, ram_limits_in, caps_limits_in, IsOpenIn, IsChildIn}
-use Rattle.server_frame.specs.Frame.{Row, AtRow, row_of, IsNoSession}
-use Rattle.server_frame.specs.Lent.{AllLendAside, key_of}
-use Rattle.server_frame.specs.declared.server.Server.{Server}
+use Rattle.server_frame.specs.Frame.{Row, row_of, IsNoSession}
 use Rattle.server_frame.specs.declared.server.Session.{Session}
 use Rattle.server_frame.proofs.FrameLaws.{server_at_first, server_stays}
 use Rattle.server_frame.proofs.FrameLemmas.{Stays, row_stays}
 use Rattle.server_frame.specs.Laws.{WritesLent}
-use Rattle.server_frame.proofs.LentLaws.{lends_nothing, lent_are_paid, writes_leave_sessions}
+use Rattle.server_frame.proofs.LentLaws.{lent_are_paid, writes_leave_sessions}
 use Rattle.server_frame.proofs.PlaceLaws.{table_has_place}
 use Rattle.server_frame.proofs.RowLaws.{IsNoRows, read_from, no_session_by_rows}
-use Rattle.log_service.specs.Session.{LabelledLine}
-use Rattle.log_service.specs.declared.service.LogService.{LogService}
-use Rattle.file_service.specs.Aside.{lends_aside}
-use Rattle.file_service.specs.declared.service.FileService.{FileService}
-use Rattle.file_service.specs.declared.session.FileSession.{FileSession}
 use Rattle.services.specs.Host.{Table, table_of, rows_by, rows_of, capacity_of, HasSession, HasPlace, Works, HasNoSessions, IsNew}
 use Rattle.services.specs.declared.host.Host.{Host}
-use Rattle.services.specs.declared.host.Host.TheVariants.{Log, Files}
 
 -- ---- rows
 
@@ -61,42 +51,6 @@ pub has_session : (store : Store) (host : Host) (id : ℕ) → IsSome (get (rows
 has_session store host id there =
     let table = table_of host in ContainsKey-map_of (row_of table.value table.buffer store table.map) table.sessions id there
 
--- a server that is known has the rows of the one that it is
-known_row : (store : Store) {host known : Host} → host ≡ known → (id : ℕ) (row : Row Labelled) → get (rows_of store host) id ≡ Some row → get (rows_of store known) id ≡ Some row
-known_row store is id row there = ap (λ h. get (rows_of store h) id) (sym is) ∙ there
-
--- so a session of a log server is open, and of a file server
-pub log_open : (store : Store) (host : Host) (server : Server LogService LabelledLine) (id : ℕ) → host ≡ Log server → IsSome (get (rows_of store host) id) → ContainsKey server.sessions id
-log_open store host server id is there = has_session store (Log server) id (ap (λ h. is_some (get (rows_of store h) id)) (sym is) ∙ there)
-
-pub files_open : (store : Store) (host : Host) (server : Server FileService FileSession) (id : ℕ) → host ≡ Files server → IsSome (get (rows_of store host) id) → ContainsKey server.sessions id
-files_open store host server id is there = has_session store (Files server) id (ap (λ h. is_some (get (rows_of store h) id)) (sym is) ∙ there)
-
--- as many keys have a row as a session
-mapped : {T X : Type 0} (f : T → X) (o : Option T) → is_some o ≡ is_some (option_map f o)
-mapped f None = refl
-mapped f (Some x) = refl
-
-pub open_told : (store : Store) {host known : Host} → host ≡ known → (id : ℕ) → is_some (slab.get (table_of known).sessions id) ≡ is_some (get (rows_of store host) id)
-open_told store {host} {known} is id =
-    let table = table_of known in
-    let seen = row_of table.value table.buffer store table.map in
-    mapped seen (slab.get table.sessions id) ∙ ap is_some (sym (get-map_of seen table.sessions id)) ∙ ap (λ h. is_some (get (rows_of store h) id)) (sym is)
-
--- the account that is told of a session is its row's
-pub account_told : (store : Store) {host known : Host} → host ≡ known → (id : ℕ) (told : AccountId) → IfSome (slab.get (table_of known).sessions id) (λ session. told ≡ session.account) →
-    AtRow (rows_of store host) id (λ row. told.0 ≡ row.key)
-account_told store {host} {known} is id told its row there =
-    let at = row_is (table_of known) store id row (known_row store is id row there) in
-    ap (λ (a : AccountId). a.0) (subst (λ o. IfSome o (λ (session : Session (table_of known).State). told ≡ session.account)) at.there its) ∙ ap (λ (r : Row Labelled). r.key) at.is
-
--- and so is the dataspace that it lends
-pub buffer_told : (store : Store) {host known : Host} → host ≡ known → (id : ℕ) (told : Option DsId) → IfSome (slab.get (table_of known).sessions id) (λ session. key_of told ≡ (table_of known).buffer session.state) →
-    AtRow (rows_of store host) id (λ row. key_of told ≡ row.buffer)
-buffer_told store {host} {known} is id told its row there =
-    let at = row_is (table_of known) store id row (known_row store is id row there) in
-    subst (λ o. IfSome o (λ (session : Session (table_of known).State). key_of told ≡ (table_of known).buffer session.state)) at.there its ∙ ap (λ (r : Row Labelled). r.buffer) at.is
-
 -- an account of no row is no session's
 pub is_none : (store : Store) (host : Host) (client : ℕ) → IsNoRows (rows_of store host) client → IsNoSession (table_of host).sessions client
 is_none store host client none = let table = table_of host in no_session_by_rows table.value table.buffer table.sessions store table.map client none
@@ -122,22 +76,17 @@ row_paid store host works id row there =
 
 -- ---- what sessions lend
 
--- it is such that its bytes tell nothing
-aside : (host : Host) → AllLendAside (table_of host).kept (table_of host).value (table_of host).buffer
-aside (Log server) = lends_nothing
-aside (Files server) = lends_aside
-
 -- it is a dataspace that the session's account pays for
 pub lent_paid : (store : Store) (host : Host) → Works store host → (id key : ℕ) (row : Row Labelled) → get (rows_of store host) id ≡ Some row → row.buffer ≡ Some key →
     get (part row.key store).spaces key ≡ Some (space_at store key).bytes
 lent_paid store host works id key row there lends =
-    let table = table_of host in lent_are_paid table.kept table.value table.buffer (aside host) table.sessions store table.map id key works row there lends
+    let table = table_of host in lent_are_paid table.kept table.value table.buffer table.aside table.sessions store table.map id key works row there lends
 
 -- where it is written, the server works, and its rows stay
 pub written : (store store' : Store) (host : Host) (id : ℕ) (row : Row Labelled) → get (rows_of store host) id ≡ Some row → (ds offset : ℕ) (bytes : List ℕ) → Works store host → WritesLent row ds offset bytes store store' →
     Works store' host × (rows_of store' host ≡ rows_of store host)
 written store store' host id row there ds offset bytes works writes =
-    let table = table_of host in writes_leave_sessions table.kept table.value table.buffer (aside host) table.sessions store store' table.map id ds offset bytes works row there writes
+    let table = table_of host in writes_leave_sessions table.kept table.value table.buffer table.aside table.sessions store store' table.map id ds offset bytes works row there writes
 
 -- ---- places
 

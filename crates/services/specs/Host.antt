@@ -1,6 +1,6 @@
 -- A server of any service, as the model sees it.
-use Rattle.std.specs.Prelude.{◌≡◌, ◌≢◌, ℕ, ◌+◌, ◌*◌, ◌<◌, ◌≤◌, [], Option, Some, None, IsSome}
-use Rattle.std.specs.FinMap.{get, empty}
+use Rattle.std.specs.Prelude.{◌≡◌, ℕ, ◌+◌, ◌*◌, ◌<◌, ◌≤◌, [], Option, None}
+use Rattle.std.specs.FinMap.{empty}
 use Rattle.slab.specs.Slab.{Slab, ContainsKey, slab_len}
 use Rattle.own_model.specs.NatMap.{NatMap}
 use Rattle.trade_base.specs.declared.service.Service.{Service}
@@ -9,9 +9,12 @@ use Rattle.own_model.specs.Session.{Labelled, donation_refusal}
 use Rattle.region_map.specs.Regions.{Regions}
 use Rattle.dataspace_core.specs.Share.{Share}
 use Rattle.dataspace_core.specs.Store.{Store, account_in, room_in, ram_limits_in, caps_limits_in, IsOpenIn}
-use Rattle.server_frame.specs.Frame.{Row, sessions_of, IsServer}
+use Rattle.server_frame.specs.Frame.{Row, sessions_of, IsServer, IsNoSession}
+use Rattle.server_frame.specs.Lent.{AllLendAside}
+use Rattle.server_frame.proofs.LentLaws.{lends_nothing}
 use Rattle.server_frame.specs.declared.server.Session.{Session}
 use Rattle.log_service.specs.Session.{LabelledLine, as_kept, IsSession as IsLogSession}
+use Rattle.file_service.specs.Aside.{lends_aside}
 use Rattle.file_service.specs.Lent.{buffer_key}
 use Rattle.file_service.specs.Session.{value_of, IsSession as IsFileSession}
 use Rattle.file_service.specs.declared.session.FileSession.{FileSession}
@@ -24,12 +27,13 @@ service_of (Log server) = service.Log
 service_of (Files server) = service.Files
 
 -- what a server keeps: its sessions and its map; and of what its service keeps for a session what that is to its client, what it
--- lends it, and what is true of it
+-- lends it, what is true of it, and that by the bytes of what is lent goes neither
 pub record Table : Type 1 where
   pub State : Type 0
   pub value : State → Share → Labelled
   pub buffer : State → Option ℕ
   pub kept : State → ℕ → Share → Type 0
+  pub aside : AllLendAside kept value buffer
   pub sessions : Slab (Session State)
   pub map : Regions
 
@@ -40,6 +44,7 @@ log_table sessions map = record {
   value = λ line share. as_kept line;
   buffer = λ line. None;
   kept = IsLogSession;
+  aside = lends_nothing;
   sessions = sessions;
   map = map;
 }
@@ -51,6 +56,7 @@ file_table sessions map = record {
   value = value_of;
   buffer = λ session. buffer_key session.buffer;
   kept = IsFileSession;
+  aside = lends_aside;
   sessions = sessions;
   map = map;
 }
@@ -98,16 +104,19 @@ IsNew store host = HasNoSessions store (table_of host).sessions (table_of host).
 -- it works, and serves a session
 pub record Serves (store : Store) (host : Host) (id : ℕ) : Type 0 where
   pub works : Works store host
-  pub row : IsSome (get (rows_of store host) id)
+  pub session : HasSession host id
 
--- it works, and can open a session for a client's account with this donation: the client is open and no session, and where it
--- covers the donation there is a place for the session and for its account
-pub record Admits (store : Store) (host : Host) (client ram caps : ℕ) : Type 0 where
-  pub works : Works store host
+-- sessions can be joined by one of a client's account with this donation: their server works, the client is open and no session, and
+-- where it covers the donation there is a place for the session and for its account
+pub record CanOpen {T : Type 0} (kept : T → ℕ → Share → Type 0) (sessions : Slab (Session T)) (store : Store) (map : Regions) (client ram caps : ℕ) : Type 0 where
+  pub works : IsServer kept sessions store map
   pub is_open : IsOpenIn store client
-  pub no_session : (id : ℕ) (row : Row Labelled) → get (rows_of store host) id ≡ Some row → row.key ≢ client
-  pub place : donation_refusal (account_in store client) ram caps ≡ None → HasPlace host
+  pub no_session : IsNoSession sessions client
+  pub place : donation_refusal (account_in store client) ram caps ≡ None → slab_len sessions < sessions.capacity
   pub room : donation_refusal (account_in store client) ram caps ≡ None → 0 < room_in store
+
+abbrev pub Admits : Store → Host → ℕ → ℕ → ℕ → Type 0
+Admits store host client ram caps = let table = table_of host in CanOpen table.kept table.sessions store table.map client ram caps
 
 -- after a call of one of its sessions it works on the memory, and is the same but for its sessions, and so are the limits of RAM
 -- in all

@@ -1,12 +1,13 @@
 //! A server of one of the services.
 ghost use Rattle.std.specs.Prelude.{◌≡◌, ◌+◌, ◌*◌, ◌≤◌, length, is_some, IfOk, OnOk, OnErr};
-ghost use Rattle.std.specs.FinMap.{get, insert, remove};
+ghost use Rattle.std.specs.FinMap.{get, insert};
 ghost use Rattle.std.specs.Result.{result_err};
 ghost use Rattle.own_model.specs.Account.{shortage};
 ghost use Rattle.own_model.specs.Donation.{raised};
 ghost use Rattle.own_model.specs.Session.{donation_refusal, state_at_first};
-ghost use Rattle.dataspace_core.specs.Store.{Store, account_in, ram_limits_in, caps_limits_in, RaisesPart, ClosesPart};
-ghost use Rattle.server_frame.specs.Frame.{AtRow, row_served, OpensSession, ServesSession};
+ghost use Rattle.dataspace_core.specs.Store.{Store, account_in, ram_limits_in, caps_limits_in, RaisesPart};
+ghost use Rattle.server_frame.specs.Frame.{AtRow, row_served, sessions_of, IsServer, OpensSession, ServesSession, ClosesSession};
+ghost use Rattle.services.specs.Host.{CanOpen};
 ghost use Rattle.server_frame.specs.Lent.{key_of};
 ghost use Rattle.server_frame.specs.Session.{service_step};
 ghost use Rattle.server_frame.specs.Told.{nothing_told};
@@ -116,13 +117,12 @@ impl Host {
         ensures memory_err { OnErr result (memory.new ≡ memory.old) }
     {
         match self {
-            Host::Log(server) => server.open(memory, client, label, ram, caps),
-            Host::Files(server) => server.open(memory, client, label, ram, caps),
+            Host::Log(server) => open(server, memory, client, label, ram, caps),
+            Host::Files(server) => open(server, memory, client, label, ram, caps),
         }
     }
 
     /// Moves so much more of its client's limits to a session's account, or why not: `OutOfRam`, then `OutOfCaps`.
-    #[tactic(auto, using(crate::proofs::HostLaws::log_open, crate::proofs::HostLaws::files_open))]
     pub fn raise(
         &mut self,
         memory: &mut Memory,
@@ -150,7 +150,6 @@ impl Host {
     }
 
     /// Answers a request of a session, and tells what it did to what the session lends.
-    #[tactic(auto, using(crate::proofs::HostLaws::log_open, crate::proofs::HostLaws::files_open))]
     pub fn serve(
         &mut self,
         memory: &mut Memory,
@@ -176,13 +175,10 @@ impl Host {
     }
 
     /// Closes a session: its client's limits are raised by those of its account.
-    #[tactic(auto, using(crate::proofs::HostLaws::log_open, crate::proofs::HostLaws::files_open))]
     pub fn close(&mut self, memory: &mut Memory, id: SessionId)
         requires { Serves memory.old self.old id.0 }
-        ensures closes { AtRow (rows_of memory.old self.old) id.0 (λ row.
-            ClosesPart row.key row.client memory.old memory.new) }
-        ensures sessions { rows_of memory.new self.new
-            ≡ remove (rows_of memory.old self.old) id.0 }
+        ensures closes { ClosesSession id.0 memory.old memory.new
+            (rows_of memory.old self.old) (rows_of memory.new self.new) }
         ensures stays { StaysServer memory.old self.old memory.new self.new }
     {
         match self {
@@ -190,4 +186,31 @@ impl Host {
             Host::Files(server) => server.close(memory, id),
         }
     }
+}
+
+// Opens a session of any server that can: what that is stands in one fact, so that it is shown of all servers alike.
+fn open<S: server_frame::Service + Drop>(
+    server: &mut Server<S>,
+    memory: &mut Memory,
+    client: AccountId,
+    label: &[u8],
+    ram: Ram,
+    caps: Caps,
+) -> Result<SessionId, Refusal>
+    requires can { CanOpen S.IsKept
+        server.old.sessions memory.old server.old.map client.0 ram.0 caps.0 }
+    requires label { length label.now ≤ LONGEST_LABEL }
+    ensures refusal { result_err result
+        ≡ donation_refusal (account_in memory.old client.0) ram.0 caps.0 }
+    ensures server { IsServer S.IsKept server.new.sessions memory.new server.new.map }
+    ensures opens { IfOk result (λ id.
+        OpensSession client.0 ram.0 caps.0 id.0 (S.first label.now) memory.old memory.new
+        (sessions_of S.value S.buffer server.old.sessions memory.old server.old.map)
+        (sessions_of S.value S.buffer server.new.sessions memory.new server.new.map)) }
+    ensures places { server.new.sessions.capacity ≡ server.old.sessions.capacity }
+    ensures machine { ram_limits_in memory.new ≡ ram_limits_in memory.old }
+    ensures err { OnErr result (server.new ≡ server.old) }
+    ensures memory_err { OnErr result (memory.new ≡ memory.old) }
+{
+    server.open(memory, client, label, ram, caps)
 }

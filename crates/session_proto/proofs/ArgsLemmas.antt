@@ -5,7 +5,7 @@ use Rattle.std.specs.Option.{option_map, option_and_then}
 use Rattle.std.specs.Str.{bytes_eq}
 use Rattle.own_model.specs.SessionArgs.{Arguments, Pair, Value, pair_of, pieces_of, each, value_under, ram_of, caps_of, label_of}
 use Rattle.own_model.proofs.SessionArgsLemmas.{made}
-use Rattle.session_proto.specs.Pairs.{Known, known_with, all_known, with_pair}
+use Rattle.session_proto.specs.Pairs.{Known, known_with, all_known, with_pair, BeginsWith}
 use Rattle.session_proto.specs.Pieces.{pieces_after}
 
 -- ---- one key
@@ -85,3 +85,7 @@ module _ (k : Known) (text piece : List ℕ) (rest : Option (List ℕ)) (cut : p
   -- a pair that is taken in leads on to the rest, and one that isn't makes no arguments
   pub pair_taken : (pair : Pair) → Some pair ≡ pair_of piece → arguments_from k (Some text) ≡ option_and_then (λ next. arguments_from next rest) (with_pair k pair)
   pair_taken pair is = from_text ∙ ap (option_and_then (λ pair. option_and_then (λ next. arguments_from next rest) (with_pair k pair))) (sym is)
+
+-- the same of a pair with which a text begins
+pub plain_taken : (k : Known) (text : List ℕ) (pair : Pair) (rest : Option (List ℕ)) → BeginsWith text pair rest → arguments_from k (Some text) ≡ option_and_then (λ next. arguments_from next rest) (with_pair k pair)
+plain_taken k text pair rest begins = ap (option_and_then (arguments_after k)) begins ∙ from_pair k pair (each pair_of (pieces_after rest))

@@ -1,11 +1,12 @@
 -- What the pairs so far have told: for each key the value of its first pair.
-use Rattle.std.specs.Prelude.{ℕ, Bool, List, [], codes, true, Option, Some, None}
+use Rattle.std.specs.Prelude.{◌≡◌, ℕ, Bool, false, List, [], ◌∷◌, codes, true, Option, Some, None}
 use Rattle.std.specs.Option.{option_map, option_and_then, option_copied, unwrap_or}
 use Rattle.std.specs.Str.{bytes_eq}
-use Rattle.own_model.specs.SessionArgs.{Arguments, Pair, Value, ram_of, caps_of, label_of}
+use Rattle.own_model.specs.SessionArgs.{Arguments, Pair, Value, pieces_of, pair_of, each, ram_of, caps_of, label_of}
 use Rattle.trade_base.specs.declared.id.Ram.{Ram}
 use Rattle.trade_base.specs.declared.id.Caps.{Caps}
 use Rattle.session_proto.specs.declared.args.Pairs.{Pairs}
+use Rattle.session_proto.specs.Pieces.{pieces_after}
 
 -- RAM, capabilities and label, as far as they are known
 pub record Known : Type 0 where
@@ -47,3 +48,7 @@ with_pair k pair =
 -- the arguments of what is known, where what isn't known is nothing
 abbrev pub told : Known → Arguments
 told k = record { ram = unwrap_or k.ram 0; caps = unwrap_or k.caps 0; label = unwrap_or k.label [] }
+
+-- the first pair of a text, and the text behind its comma, if there is one
+abbrev pub BeginsWith : List ℕ → Pair → Option (List ℕ) → Type 0
+BeginsWith text pair rest = each pair_of (pieces_of false text) ≡ option_map (λ pairs. pair ∷ pairs) (each pair_of (pieces_after rest))

@@ -17,3 +17,8 @@ first_len quoted (b ∷ bs) =
 abbrev pub pieces_after : Option (List ℕ) → List (List ℕ)
 pieces_after None = []
 pieces_after (Some text) = pieces_of false text
+
+-- a comma and what stands behind it, if it is there
+abbrev pub behind_comma : Option (List ℕ) → List ℕ
+behind_comma None = []
+behind_comma (Some text) = 44 ∷ text

@@ -1,13 +1,15 @@
 //! The arguments of a session.
-ghost use Rattle.std.specs.Prelude.{◌≡◌, None, Some, codes, IfOk, IfErr, OnErr};
+ghost use Rattle.std.specs.Prelude.{◌≡◌, true, None, Some, codes, IfOk, IfErr, OnErr};
 ghost use Rattle.std.specs.Str.{bytes_eq};
 ghost use Rattle.std.specs.Option.{option_map, option_copied};
 ghost use Rattle.trade_base.specs.declared.refusal.Refusal.TheVariants.{BadArgs};
 ghost use Rattle.own_model.specs.SessionArgs.{arguments_of, ram_of, caps_of, label_of};
-ghost use Rattle.session_proto.specs.View.{model_pair, model_value};
-ghost use Rattle.session_proto.specs.Pairs.{ram_in, caps_in, known, known_after, with_pair, told};
+ghost use Rattle.own_model.specs.SessionArgs.Value.{Bare, Quoted};
+ghost use Rattle.session_proto.specs.View.{model_pair, model_value, plain_pair};
+ghost use Rattle.session_proto.specs.Pairs.{ram_in, caps_in, known, known_with, known_after, with_pair, told};
 
 use crate::pair::{Pair, Value, read_pair};
+use crate::plain::{PlainPair, read_plain};
 use crate::text::{is_blank, split_piece};
 use std::marker::Model;
 use trade_base::{Caps, Ram, Refusal, read_amount, read_number};
@@ -80,6 +82,11 @@ fn read_arguments(text: &[u8]) -> Option<SessionArgs<'_>>
     }
     let mut rest = Some(text);
     while let Some(pairs) = rest {
+        if let Some((pair, more)) = read_plain(pairs) {
+            found = found.with_plain(pair)?;
+            rest = more;
+            continue;
+        }
         let (piece, more) = split_piece(pairs);
         found = found.with(read_pair(piece)?)?;
         rest = more;
@@ -104,6 +111,69 @@ impl<'a> Pairs<'a> {
             ram: ram_with(self.ram, pair)?,
             caps: caps_with(self.caps, pair)?,
             label: label_with(self.label, pair)?,
+        })
+    }
+
+    /// The same of a pair that says which key it has.
+    #[inline]
+    fn with_plain(self, pair: PlainPair<'a>) -> Option<Pairs<'a>>
+        ensures { option_map known result ≡ with_pair (known self.entry) (plain_pair pair.entry) }
+    {
+        match pair {
+            PlainPair::Ram(text) => self.with_ram(text),
+            PlainPair::Caps(text) => self.with_caps(text),
+            PlainPair::Label(text) => self.with_label(text),
+        }
+    }
+
+    /// With the RAM of a text, where it isn't known yet.
+    #[inline]
+    fn with_ram(self, text: &[u8]) -> Option<Pairs<'a>>
+        ensures { option_map known result
+            ≡ option_map (λ ram. record (known self.entry) { ram = ram })
+            (known_with (known self.entry).ram true ram_of (Bare text.now)) }
+    {
+        if self.ram.is_some() {
+            return Some(self);
+        }
+        let ram = read_ram(Value::Bare(text))?;
+        Some(Pairs {
+            ram: Some(ram),
+            ..self
+        })
+    }
+
+    /// With the capabilities of a text, where they aren't known yet.
+    #[inline]
+    fn with_caps(self, text: &[u8]) -> Option<Pairs<'a>>
+        ensures { option_map known result
+            ≡ option_map (λ caps. record (known self.entry) { caps = caps })
+            (known_with (known self.entry).caps true caps_of (Bare text.now)) }
+    {
+        if self.caps.is_some() {
+            return Some(self);
+        }
+        let caps = read_caps(Value::Bare(text))?;
+        Some(Pairs {
+            caps: Some(caps),
+            ..self
+        })
+    }
+
+    /// With the label of a text between quotes, where it isn't known yet.
+    #[inline]
+    fn with_label(self, text: &'a [u8]) -> Option<Pairs<'a>>
+        ensures { option_map known result
+            ≡ option_map (λ label. record (known self.entry) { label = label })
+            (known_with (known self.entry).label true label_of (Quoted text.now)) }
+    {
+        if self.label.is_some() {
+            return Some(self);
+        }
+        let label = read_label(Value::Quoted(text))?;
+        Some(Pairs {
+            label: Some(label),
+            ..self
         })
     }
 

@@ -8,6 +8,7 @@ mod file_reply;
 mod hex_text;
 mod log;
 mod pair;
+mod plain;
 mod text;
 
 pub use args::SessionArgs;

@@ -1,11 +1,11 @@
 -- The command line as `clap` has it, and what it asks for.
-use Rattle.std.specs.Prelude.{◌≡◌, Bool, false, true, List, [], ◌∷◌, ◌++◌, Option, Some, None, ⊤, ◌≢◌, codes, option_map, unwrap_or}
+use Rattle.std.specs.Prelude.{◌≡◌, Bool, false, true, List, [], ◌∷◌, ◌++◌, Option, Some, None, ⊤, ◌≢◌, codes, map, option_map, unwrap_or}
 use Rattle.std.specs.List.{All}
 use Rattle.std.specs.Option.{option_map_or}
 use Rattle.std.specs.Str.{bytes_eq}
-use Rattle.clap.specs.Words.{App, app_of, Row, Rule, Shape, Text, first_of, new_app, new_rule, one_of, with_subcommand}
+use Rattle.clap.specs.Words.{App, all_of, app_of, Row, Rule, Shape, Text, first_of, new_app, new_rule, one_of, with_subcommand}
 use Rattle.clap.specs.Simple.{new_shape}
-use Rattle.clap.specs.declared.builder.ArgAction.TheVariants.{SetTrue}
+use Rattle.clap.specs.declared.builder.ArgAction.TheVariants.{Append, SetTrue}
 use Rattle.clap.specs.declared.builder.command.Command.{Command as Words}
 use Rattle.clap.specs.declared.builder.command.Command.TheViews.{out-Command}
 use Rattle.workbench_options.specs.declared.command.Command.{Command}
@@ -26,6 +26,10 @@ file_rule name = record (new_rule name) { required = true; value_names = 1 }
 -- a word that may be left out
 abbrev pub word_rule : Text → Rule
 word_rule name = record (new_rule name) { value_names = 1 }
+
+-- one word or more
+abbrev pub words_rule : Text → Rule
+words_rule name = record (new_rule name) { required = true; value_names = 1; action = Some Append }
 
 -- a command with these rules
 abbrev pub with_rules : Text → List Rule → Shape
@@ -50,15 +54,45 @@ bare = record (new_app (codes "nethrywel")) {
 abbrev pub run : Shape
 run = of_scenario (codes "run") (option_rule (codes "only") ∷ flag_rule (codes "accounts") ∷ [])
 
--- the command that shows a component's two runs
+-- the command that tells what is wrong with a start list
+abbrev pub check : Shape
+check = with_rules (codes "check") (flag_rule (codes "strict") ∷ option_rule (codes "policy") ∷ file_rule (codes "list") ∷ [])
+
+-- the command that shows a component's two runs, or those of all scripts
 abbrev pub alone : Shape
-alone = of_scenario (codes "alone") (file_rule (codes "name") ∷ [])
+alone =
+    with_rules (codes "alone")
+    (option_rule (codes "machine") ∷ flag_rule (codes "all") ∷ flag_rule (codes "summary") ∷ file_rule (codes "name")
+    ∷ word_rule (codes "scenario") ∷ [])
 
 -- the command that tells where one wish leads
 abbrev pub route : Shape
 route =
     with_rules (codes "route")
     (file_rule (codes "list") ∷ file_rule (codes "client") ∷ file_rule (codes "service") ∷ word_rule (codes "args") ∷ [])
+
+-- the command that runs scenarios as tests
+abbrev pub test : Shape
+test =
+    with_rules (codes "test")
+    (option_rule (codes "machine") ∷ option_rule (codes "junit") ∷ words_rule (codes "path") ∷ [])
+
+-- the command that compares two start lists
+abbrev pub diff : Shape
+diff =
+    with_rules (codes "diff")
+    (file_rule (codes "before") ∷ file_rule (codes "after") ∷ word_rule (codes "scenario") ∷ [])
+
+-- what documents of JSON are asked for by
+abbrev pub json_flag : List Rule
+json_flag = flag_rule (codes "json") ∷ []
+
+-- the command that tells what accounts need
+abbrev pub least : Shape
+least =
+    with_rules (codes "least")
+    (option_rule (codes "machine") ∷ flag_rule (codes "as-donated") ∷ flag_rule (codes "csv") ∷ flag_rule (codes "list")
+    ∷ flag_rule (codes "scenario") ∷ file_rule (codes "played") ∷ [])
 
 -- a command has this shape, and no argument of it counts for others
 abbrev pub HasShape : Shape → Words → Type 0
@@ -67,10 +101,10 @@ HasShape shape made = (app_of made ≡ record { top = shape; subs = [] }) × ((o
 -- the program itself
 abbrev pub program : App
 program =
-    with_subcommand (with_subcommand (with_subcommand (with_subcommand (with_subcommand (with_subcommand (with_subcommand
-    (with_subcommand bare run) (of_list (codes "check") (codes "strict"))) (of_list (codes "tree") (codes "dot")))
+    with_subcommand (with_subcommand (with_subcommand (with_subcommand (with_subcommand (with_subcommand (with_subcommand (with_subcommand (with_subcommand (with_subcommand
+    (with_subcommand bare run) check) (of_list (codes "tree") (codes "dot")))
     (of_list (codes "reach") (codes "csv"))) route)
-    (of_scenario (codes "trace") [])) (of_scenario (codes "accounts") [])) alone
+    (of_scenario (codes "trace") json_flag)) (of_scenario (codes "accounts") json_flag)) alone) least) test) diff
 
 -- a text says that a flag was used
 abbrev pub is_true : Option Text → Bool
@@ -91,8 +125,9 @@ Asks (command.Run machine only accounts scenario) name rows = (name ≡ codes "r
     × (option_map (λ t. t.now) only ≡ first_of (codes "only") rows)
     × (accounts ≡ is_set (codes "accounts") rows)
     × (scenario.now ≡ first_or (codes "-") (codes "scenario") rows)
-Asks (command.Check strict list) name rows = (name ≡ codes "check")
+Asks (command.Check strict policy list) name rows = (name ≡ codes "check")
     × (strict ≡ is_set (codes "strict") rows)
+    × (option_map (λ t. t.now) policy ≡ first_of (codes "policy") rows)
     × (list.now ≡ first_or (codes "-") (codes "list") rows)
 Asks (command.Tree dot list) name rows = (name ≡ codes "tree")
     × (dot ≡ is_set (codes "dot") rows)
@@ -105,20 +140,40 @@ Asks (command.Route list client service args) name rows = (name ≡ codes "route
     × (client.now ≡ first_or [] (codes "client") rows)
     × (service.now ≡ first_or [] (codes "service") rows)
     × (args.now ≡ first_or [] (codes "args") rows)
-Asks (command.Trace machine scenario) name rows = (name ≡ codes "trace")
+Asks (command.Trace machine json scenario) name rows = (name ≡ codes "trace")
     × (option_map (λ t. t.now) machine ≡ first_of (codes "machine") rows)
+    × (json ≡ is_set (codes "json") rows)
     × (scenario.now ≡ first_or (codes "-") (codes "scenario") rows)
-Asks (command.Accounts machine scenario) name rows = (name ≡ codes "accounts")
+Asks (command.Accounts machine json scenario) name rows = (name ≡ codes "accounts")
     × (option_map (λ t. t.now) machine ≡ first_of (codes "machine") rows)
+    × (json ≡ is_set (codes "json") rows)
     × (scenario.now ≡ first_or (codes "-") (codes "scenario") rows)
-Asks (command.Alone machine name_looked_at scenario) name rows = (name ≡ codes "alone")
+Asks (command.Alone machine all summary name_looked_at scenario) name rows = (name ≡ codes "alone")
     × (option_map (λ t. t.now) machine ≡ first_of (codes "machine") rows)
+    × (all ≡ is_set (codes "all") rows)
+    × (summary ≡ is_set (codes "summary") rows)
     × (name_looked_at.now ≡ first_or [] (codes "name") rows)
-    × (scenario.now ≡ first_or (codes "-") (codes "scenario") rows)
+    × (option_map (λ t. t.now) scenario ≡ first_of (codes "scenario") rows)
+Asks (command.Least machine as_donated csv list donations scenario) name rows = (name ≡ codes "least")
+    × (option_map (λ t. t.now) machine ≡ first_of (codes "machine") rows)
+    × (as_donated ≡ is_set (codes "as-donated") rows)
+    × (csv ≡ is_set (codes "csv") rows)
+    × (list ≡ is_set (codes "list") rows)
+    × (donations ≡ is_set (codes "scenario") rows)
+    × (scenario.now ≡ first_or (codes "-") (codes "played") rows)
+Asks (command.Diff before after scenario) name rows = (name ≡ codes "diff")
+    × (before.now ≡ first_or [] (codes "before") rows)
+    × (after.now ≡ first_or [] (codes "after") rows)
+    × (option_map (λ t. t.now) scenario ≡ first_of (codes "scenario") rows)
+
+Asks (command.Test machine junit paths) name rows = (name ≡ codes "test")
+    × (option_map (λ t. t.now) machine ≡ first_of (codes "machine") rows)
+    × (option_map (λ t. t.now) junit ≡ first_of (codes "junit") rows)
+    × (map (λ t. t.now) paths.items ≡ unwrap_or (all_of (codes "path") rows) [])
 
 -- the names of all commands
 abbrev pub names : List Text
-names = codes "run" ∷ codes "check" ∷ codes "tree" ∷ codes "reach" ∷ codes "route" ∷ codes "trace" ∷ codes "accounts" ∷ codes "alone" ∷ []
+names = codes "run" ∷ codes "check" ∷ codes "tree" ∷ codes "reach" ∷ codes "route" ∷ codes "trace" ∷ codes "accounts" ∷ codes "alone" ∷ codes "least" ∷ codes "test" ∷ codes "diff" ∷ []
 
 -- a command, if one is asked for, is what a command line asks for
 abbrev pub AsksAs : Option Command → Option (Text × List Row) → Type 0

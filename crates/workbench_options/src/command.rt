@@ -1,16 +1,16 @@
 //! What is asked for.
-ghost use Rattle.std.specs.Prelude.{◌≡◌, [], IfErr, IfOk, Some, codes, map, true};
-ghost use Rattle.clap.specs.Words.{FailsBy, fault_of, found_of, kind_of, rows_of, subcommand_of, takes};
+ghost use Rattle.std.specs.Prelude.{◌≡◌, ◌≢◌, [], IfErr, IfOk, Some, codes, map, true, unwrap_or};
+ghost use Rattle.clap.specs.Words.{FailsBy, all_of, fault_of, found_of, kind_of, rows_of, subcommand_of, subcommand_rows_of, takes};
 ghost use Rattle.workbench_options.specs.Line.{AsksAs, first_or, is_set, program};
 
 use crate::commands::commands;
 use clap::error::ErrorKind;
 use clap::{ArgMatches, Error};
-use std::alloc::Global;
+use std::alloc::{AllocError, Global};
 use std::convert::AsStr;
 
 /// What the workbench is asked to do. Paths are as they stand, and `-` is standard input.
-#[derive(Clone, Copy, Debug, PartialEq, Eq)]
+#[derive(Debug, PartialEq, Eq, Drop)]
 pub enum Command<'a> {
     /// Answers a scenario, and tells where it isn't answered as it expects.
     Run {
@@ -27,6 +27,8 @@ pub enum Command<'a> {
     Check {
         /// Whether a finding is a fault.
         strict: bool,
+        /// The path of a policy that is held against it, or none.
+        policy: Option<&'a str>,
         /// The path of the start list.
         list: &'a str,
     },
@@ -59,6 +61,8 @@ pub enum Command<'a> {
     Trace {
         /// The path of a start list, or none for the built-in machine.
         machine: Option<&'a str>,
+        /// Whether documents of JSON are written in place of comma-separated values.
+        json: bool,
         /// The path of the scenario.
         scenario: &'a str,
     },
@@ -66,6 +70,23 @@ pub enum Command<'a> {
     Accounts {
         /// The path of a start list, or none for the built-in machine.
         machine: Option<&'a str>,
+        /// Whether a document of JSON is written in place of lines.
+        json: bool,
+        /// The path of the scenario.
+        scenario: &'a str,
+    },
+    /// Tells what each account of a scenario needs.
+    Least {
+        /// The path of a start list, or none for the built-in machine.
+        machine: Option<&'a str>,
+        /// Whether sessions are given what the scenario donates, and not the least.
+        as_donated: bool,
+        /// Whether comma-separated values are written in place of a text.
+        csv: bool,
+        /// Whether the start list with the least budgets is written.
+        list: bool,
+        /// Whether the scenario with the least donations is written.
+        donations: bool,
         /// The path of the scenario.
         scenario: &'a str,
     },
@@ -73,10 +94,32 @@ pub enum Command<'a> {
     Alone {
         /// The path of a start list, or none for the built-in machine.
         machine: Option<&'a str>,
-        /// The component.
+        /// Whether all scripts are looked at, one after the other.
+        all: bool,
+        /// Whether the last line alone is told of each.
+        summary: bool,
+        /// The component; of all scripts the path of the scenario.
         name: &'a str,
-        /// The path of the scenario.
-        scenario: &'a str,
+        /// The path of the scenario; of all scripts none.
+        scenario: Option<&'a str>,
+    },
+    /// Tells what a change of a start list changes.
+    Diff {
+        /// The path of the start list before it.
+        before: &'a str,
+        /// The path of the start list after it.
+        after: &'a str,
+        /// The path of a scenario whose replies are compared, if one is.
+        scenario: Option<&'a str>,
+    },
+    /// Runs scenarios as tests.
+    Test {
+        /// The path of a start list for the scenarios beside which none stands, or none for the built-in machine.
+        machine: Option<&'a str>,
+        /// The path of the document of all results, or none.
+        junit: Option<&'a str>,
+        /// The paths of scenarios, and of folders with scenarios.
+        paths: Vec<&'a str>,
     },
 }
 
@@ -91,14 +134,44 @@ impl<'a> Command<'a> {
             → kind_of error ≡ ErrorKind.OutOfMemory) }
     {
         let matches = commands(alloc)?.try_get_matches_from(words)?;
+        Ok(Command::in_matches(alloc, &matches)?)
+    }
+
+    // The command that these matches name, if they name one.
+    fn in_matches(
+        alloc: Global,
+        matches: &ArgMatches<'a>,
+    ) -> Result<Option<Command<'a>>, AllocError>
+        ensures { IfOk result (λ command. AsksAs command (subcommand_rows_of matches.now)) }
+    {
         match matches.subcommand() {
-            Some((name, found)) => Ok(Command::of(name, found)),
+            Some((name, found)) => Command::asked(alloc, name, found),
             None => Ok(None),
         }
     }
 
     // The command of a name, by what was found behind it.
+    fn asked(
+        alloc: Global,
+        name: &'a str,
+        found: &ArgMatches<'a>,
+    ) -> Result<Option<Command<'a>>, AllocError>
+        ensures { IfOk result (λ command.
+            AsksAs command (Some (name.entry.now, rows_of (found_of found.now)))) }
+    {
+        match name {
+            "test" => Ok(Some(Command::Test {
+                machine: found.get_str("machine"),
+                junit: found.get_str("junit"),
+                paths: words(alloc, found, "path")?,
+            })),
+            _ => Ok(Command::of(name, found)),
+        }
+    }
+
+    // The same of one that takes no list of words.
     fn of(name: &'a str, found: &ArgMatches<'a>) -> Option<Command<'a>>
+        requires { name.now ≢ codes "test" }
         ensures { AsksAs result (Some (name.entry.now, rows_of (found_of found.now))) }
     {
         match name {
@@ -110,6 +183,7 @@ impl<'a> Command<'a> {
             }),
             "check" => Some(Command::Check {
                 strict: is_set(found, "strict"),
+                policy: found.get_str("policy"),
                 list: path(found, "list"),
             }),
             "tree" => Some(Command::Tree {
@@ -128,16 +202,33 @@ impl<'a> Command<'a> {
             }),
             "trace" => Some(Command::Trace {
                 machine: found.get_str("machine"),
+                json: is_set(found, "json"),
                 scenario: path(found, "scenario"),
             }),
             "accounts" => Some(Command::Accounts {
                 machine: found.get_str("machine"),
+                json: is_set(found, "json"),
                 scenario: path(found, "scenario"),
+            }),
+            "least" => Some(Command::Least {
+                machine: found.get_str("machine"),
+                as_donated: is_set(found, "as-donated"),
+                csv: is_set(found, "csv"),
+                list: is_set(found, "list"),
+                donations: is_set(found, "scenario"),
+                scenario: path(found, "played"),
             }),
             "alone" => Some(Command::Alone {
                 machine: found.get_str("machine"),
+                all: is_set(found, "all"),
+                summary: is_set(found, "summary"),
                 name: word(found, "name"),
-                scenario: path(found, "scenario"),
+                scenario: found.get_str("scenario"),
+            }),
+            "diff" => Some(Command::Diff {
+                before: word(found, "before"),
+                after: word(found, "after"),
+                scenario: found.get_str("scenario"),
             }),
             _ => None,
         }
@@ -156,6 +247,21 @@ fn word<'a>(found: &ArgMatches<'a>, id: &str) -> &'a str
     ensures { result.now ≡ first_or [] id.now (rows_of (found_of found.now)) }
 {
     found.get_str(id).unwrap_or("")
+}
+
+// All words of an argument.
+fn words<'a>(
+    alloc: Global,
+    found: &ArgMatches<'a>,
+    id: &str,
+) -> Result<Vec<&'a str>, AllocError>
+    ensures { IfOk result (λ words. map (λ word. word.now) words.items
+        ≡ unwrap_or (all_of id.now (rows_of (found_of found.now))) []) }
+{
+    match found.get_strs(id) {
+        Some(values) => Vec::from_slice(alloc, values),
+        None => Ok(Vec::new(alloc)),
+    }
 }
 
 // Whether a flag was used. `get_flag` says this only of a text that is `true` or `false`, this of any.

@@ -1,9 +1,11 @@
 //! The command line as `clap` reads it.
-ghost use Rattle.std.specs.Prelude.{◌≡◌, [], IfOk, MatchResult, false};
+ghost use Rattle.std.specs.Prelude.{◌≡◌, IfOk, MatchResult, false};
 ghost use Rattle.clap.specs.Words.{app_of, kind_of, rule_of, with_subcommand};
-ghost use Rattle.workbench_options.specs.Line.{HasShape, alone as alone_shape, bare as bare_app, file_rule, flag_rule, of_list as list_shape, of_scenario as scenario_shape, option_rule, program, route as route_shape, run as run_shape, word_rule};
+ghost use Rattle.workbench_options.specs.Line.{HasShape, alone as alone_shape, bare as bare_app, file_rule, flag_rule, json_flag, least as least_shape, of_list as list_shape, of_scenario as scenario_shape, option_rule, program, route as route_shape, run as run_shape, word_rule};
 
+use crate::checking::with_check;
 use crate::help;
+use crate::pipeline::{with_diff, with_test};
 use clap::error::ErrorKind;
 use clap::{Arg, ArgAction, Command as Words, Error};
 use std::alloc::{AllocError, Global};
@@ -16,13 +18,16 @@ pub(crate) fn commands<'a>(alloc: Global) -> Result<Words<'a>, Error>
         (λ error. kind_of error ≡ ErrorKind.OutOfMemory) }
 {
     let words = with_run(alloc, bare(alloc))?;
-    let words = with_list(alloc, words, "check", help::CHECK, "strict", help::STRICT)?;
+    let words = with_check(alloc, words)?;
     let words = with_list(alloc, words, "tree", help::TREE, "dot", help::DOT)?;
     let words = with_list(alloc, words, "reach", help::REACH, "csv", help::CSV)?;
     let words = with_route(alloc, words)?;
     let words = with_scenario(alloc, words, "trace", help::TRACE)?;
     let words = with_scenario(alloc, words, "accounts", help::ACCOUNTS)?;
     let words = with_alone(alloc, words)?;
+    let words = with_least(alloc, words)?;
+    let words = with_test(alloc, words)?;
+    let words = with_diff(alloc, words)?;
     Ok(words)
 }
 
@@ -82,7 +87,7 @@ fn with_scenario<'a>(
     about: &'a str,
 ) -> Result<Words<'a>, AllocError>
     ensures { IfOk result (λ made. app_of made
-        ≡ with_subcommand (app_of words.entry) (scenario_shape name.entry.now [])) }
+        ≡ with_subcommand (app_of words.entry) (scenario_shape name.entry.now json_flag)) }
 {
     let command = of_scenario(alloc, name, about)?;
     let words = words.subcommand(command)?;
@@ -96,6 +101,16 @@ fn with_alone<'a>(alloc: Global, words: Words<'a>) -> Result<Words<'a>, AllocErr
 {
     let alone = alone(alloc)?;
     let words = words.subcommand(alone)?;
+    Ok(words)
+}
+
+// Adds the command that tells what accounts need.
+fn with_least<'a>(alloc: Global, words: Words<'a>) -> Result<Words<'a>, AllocError>
+    ensures { IfOk result (λ made. app_of made
+        ≡ with_subcommand (app_of words.entry) least_shape) }
+{
+    let least = least(alloc)?;
+    let words = words.subcommand(least)?;
     Ok(words)
 }
 
@@ -134,13 +149,15 @@ fn of_list<'a>(
 
 // A command on a scenario and a machine.
 fn of_scenario<'a>(alloc: Global, name: &'a str, about: &'a str) -> Result<Words<'a>, AllocError>
-    ensures { IfOk result (HasShape (scenario_shape name.entry.now [])) }
+    ensures { IfOk result (HasShape (scenario_shape name.entry.now json_flag)) }
 {
     let machine = option(alloc, "machine", "FILE", help::MACHINE);
+    let json = flag(alloc, "json", help::JSON);
     let scenario = file(alloc, "scenario", "SCENARIO", help::SCENARIO);
     let command = Words::new(alloc, name)
         .about(about)
         .arg(machine)?
+        .arg(json)?
         .arg(scenario)?;
     Ok(command)
 }
@@ -150,11 +167,15 @@ fn alone<'a>(alloc: Global) -> Result<Words<'a>, AllocError>
     ensures { IfOk result (HasShape alone_shape) }
 {
     let machine = option(alloc, "machine", "FILE", help::MACHINE);
+    let all = flag(alloc, "all", help::ALL);
+    let summary = flag(alloc, "summary", help::SUMMARY);
     let name = file(alloc, "name", "NAME", help::NAME);
-    let scenario = file(alloc, "scenario", "SCENARIO", help::SCENARIO);
+    let scenario = last(alloc, "scenario", "SCENARIO", help::SCENARIO);
     let command = Words::new(alloc, "alone")
         .about(help::ALONE)
         .arg(machine)?
+        .arg(all)?
+        .arg(summary)?
         .arg(name)?
         .arg(scenario)?;
     Ok(command)
@@ -177,8 +198,29 @@ fn route<'a>(alloc: Global) -> Result<Words<'a>, AllocError>
     Ok(command)
 }
 
-// A flag by its name.
-fn flag<'a>(alloc: Global, name: &'a str, help: &'a str) -> Arg<'a>
+// The command that tells what accounts need.
+fn least<'a>(alloc: Global) -> Result<Words<'a>, AllocError>
+    ensures { IfOk result (HasShape least_shape) }
+{
+    let machine = option(alloc, "machine", "FILE", help::MACHINE);
+    let as_donated = flag(alloc, "as-donated", help::AS_DONATED);
+    let csv = flag(alloc, "csv", help::CSV);
+    let list = flag(alloc, "list", help::LEAST_LIST);
+    let donations = flag(alloc, "scenario", help::LEAST_SCENARIO);
+    let scenario = file(alloc, "played", "SCENARIO", help::SCENARIO);
+    let command = Words::new(alloc, "least")
+        .about(help::LEAST)
+        .arg(machine)?
+        .arg(as_donated)?
+        .arg(csv)?
+        .arg(list)?
+        .arg(donations)?
+        .arg(scenario)?;
+    Ok(command)
+}
+
+/// A flag by its name.
+pub(crate) fn flag<'a>(alloc: Global, name: &'a str, help: &'a str) -> Arg<'a>
     ensures rule { rule_of result ≡ flag_rule name.entry.now }
     ensures local { result.global ≡ false }
 {
@@ -188,8 +230,8 @@ fn flag<'a>(alloc: Global, name: &'a str, help: &'a str) -> Arg<'a>
         .help(help)
 }
 
-// An option with a value.
-fn option<'a>(alloc: Global, name: &'a str, value: &'a str, help: &'a str) -> Arg<'a>
+/// An option with a value.
+pub(crate) fn option<'a>(alloc: Global, name: &'a str, value: &'a str, help: &'a str) -> Arg<'a>
     ensures rule { rule_of result ≡ option_rule name.entry.now }
     ensures local { result.global ≡ false }
 {
@@ -199,8 +241,8 @@ fn option<'a>(alloc: Global, name: &'a str, value: &'a str, help: &'a str) -> Ar
         .help(help)
 }
 
-// A word that has to be there.
-fn file<'a>(alloc: Global, name: &'a str, value: &'a str, help: &'a str) -> Arg<'a>
+/// A word that has to be there.
+pub(crate) fn file<'a>(alloc: Global, name: &'a str, value: &'a str, help: &'a str) -> Arg<'a>
     ensures rule { rule_of result ≡ file_rule name.entry.now }
     ensures local { result.global ≡ false }
 {
@@ -210,8 +252,8 @@ fn file<'a>(alloc: Global, name: &'a str, value: &'a str, help: &'a str) -> Arg<
         .help(help)
 }
 
-// A word that may be left out.
-fn last<'a>(alloc: Global, name: &'a str, value: &'a str, help: &'a str) -> Arg<'a>
+/// A word that may be left out.
+pub(crate) fn last<'a>(alloc: Global, name: &'a str, value: &'a str, help: &'a str) -> Arg<'a>
     ensures rule { rule_of result ≡ word_rule name.entry.now }
     ensures local { result.global ≡ false }
 {
@@ -222,7 +264,15 @@ fn last<'a>(alloc: Global, name: &'a str, value: &'a str, help: &'a str) -> Arg<
 pub fn needs_command(alloc: Global) -> Result<Error, Error> {
     Ok(commands(alloc)?.error(
         ErrorKind::MissingSubcommand,
-        "'nethrywel' requires a command: run, check, tree, reach, route, trace, accounts or alone",
+        "'nethrywel' requires a command: run, check, tree, reach, route, trace, accounts, alone, least, test or diff",
+    )?)
+}
+
+/// The error of `alone` with other words than a component and a scenario, or `--all` and a scenario.
+pub fn alone_takes_a_name_or_all(alloc: Global) -> Result<Error, Error> {
+    Ok(commands(alloc)?.error(
+        ErrorKind::MissingRequiredArgument,
+        "'nethrywel alone' takes NAME and SCENARIO, or --all and SCENARIO",
     )?)
 }
 

@@ -58,7 +58,22 @@ pub(crate) const ACCOUNTS: &str =
     "Tell all accounts after a scenario, with each session's server and each peak";
 
 pub(crate) const ALONE: &str =
-    "Show side by side what NAME is told among the others and in a run of its own";
+    "Show side by side what NAME, or with --all each script, is told among the others and alone";
+
+pub(crate) const TEST: &str =
+    "Run each scenario of files and folders, and tell whether it is answered as it expects (TAP 13)";
+
+pub(crate) const DIFF: &str =
+    "Tell what a change of a start list changes: entries, budgets, who reaches whom, and replies";
+
+pub(crate) const LEAST: &str =
+    "Tell which budgets serve each account of a scenario, all that do, and the least";
+
+pub(crate) const AS_DONATED: &str = "Leave what the scenario donates for sessions as it is";
+
+pub(crate) const LEAST_LIST: &str = "Write the start list with the least budgets in place";
+
+pub(crate) const LEAST_SCENARIO: &str = "Write the scenario with the least donations in place";
 
 pub(crate) const SCENARIO: &str = "The path of a scenario; - is standard input";
 
@@ -72,6 +87,8 @@ pub(crate) const WITH_ACCOUNTS: &str = "Print all accounts after the last reply"
 
 pub(crate) const STRICT: &str = "End with status 2 where there is a finding";
 
+pub(crate) const POLICY: &str = "A policy: lines that say which scripts may reach which servers";
+
 pub(crate) const DOT: &str = "Write a graph for Graphviz in place of the text";
 
 pub(crate) const CSV: &str = "Write comma-separated values in place of the table";
@@ -82,4 +99,24 @@ pub(crate) const SERVICE: &str = "The service: LOG or File_system";
 
 pub(crate) const ARGS: &str = "The arguments of the session; without them the label is empty";
 
-pub(crate) const NAME: &str = "The component that is looked at";
+pub(crate) const NAME: &str = "The component that is looked at; with --all the scenario";
+
+pub(crate) const ALL: &str = "Look at each script of the machine in turn";
+
+pub(crate) const SUMMARY: &str = "With --all, tell a line each";
+
+pub(crate) const JSON: &str = "Write JSON for programs";
+
+pub(crate) const BEFORE: &str = "The start list before the change, in JSON";
+
+pub(crate) const AFTER: &str = "The start list after the change, in JSON";
+
+pub(crate) const COMPARED: &str = "A scenario whose replies are compared, line by line";
+
+pub(crate) const PATHS: &str =
+    "A scenario, or a folder: each NAME.scenario in it and below, on NAME.json beside it";
+
+pub(crate) const OTHER_MACHINE: &str =
+    "A start list in JSON for scenarios without one beside them, in place of the built-in machine";
+
+pub(crate) const JUNIT: &str = "Write all results to FILE, as JUnit's XML";

@@ -56,7 +56,7 @@ returns g c =
       | in-Upgrade w ↦ rw (w.memory-is, w.components-is) (goes_as (ap model_call w.in-Upgrade.is) (told _ w.outcome-is) (w.upgrade-outcome.ensures places))
       | in-Close w ↦ rw (w.memory-is, w.components-is) (goes_as (ap model_call w.in-Close.is) (told _ w.outcome-is) (w.close-outcome.ensures places))
       | in-Reserve w ↦ rw (w.memory-is, w.components-is) (goes_as (ap model_call w.in-Reserve.is) (told _ w.outcome-is) (w.reserve-outcome.ensures places))
-      | in-Request w ↦ rw (w.memory-is, w.components-is) (goes_as (ap model_call w.in-Request.is) (told _ w.outcome-is) (w.request-outcome.ensures places))
-      | in-Yield w ↦ rw (w.memory-is, w.components-is) (goes_as (ap model_call w.in-Yield.is) (told _ w.outcome-is) (w.give-outcome.ensures places))
+      | in-Request w ↦ rw (w.memory-is, w.components-is) (goes_as (ap model_call w.in-Request.is) (told _ w.outcome-is) (w.shift-outcome.ensures places))
+      | in-Yield w ↦ rw (w.memory-is, w.components-is) (goes_as (ap model_call w.in-Yield.is) (told _ w.outcome-is) (w.shift-outcome-in-Yield.ensures places))
       | in-Exit w ↦ rw (w.memory-is, w.components-is) (goes_as (ap model_call w.in-Exit.is) (told _ w.outcome-is) (w.exit-outcome.ensures places c.requires.routes.homes))
     ]

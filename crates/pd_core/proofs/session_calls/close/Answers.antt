@@ -7,7 +7,7 @@ use Rattle.pd_core.proofs.CorePlainLemmas.{unlisted}
 use Rattle.pd_core.proofs.SessionRefusedLemmas.{close_asks, unnamed_goes, passed_on, unchanged}
 use Rattle.pd_core.proofs.SessionWorldLemmas.{Names, named_two, named_cap, host_within, host_read, host_serves}
 use Rattle.pd_core.proofs.SessionClosedLemmas.{closed_goes, lent_named, ended_goes}
-use Rattle.services.proofs.HostLaws.{has_session}
+use Rattle.server_frame.proofs.RowLaws.{closes_at}
 use Rattle.pd_core.proofs.ServerLemmas.{is_server, serving_as, as_it_is, host_serves_in, component_stays}
 use Rattle.pd_core.proofs.session_calls.close.Goals as goal
 
@@ -61,7 +61,7 @@ buffer-lent-requires c =
     let e = c.index-components-entry.result in
     let at = get_or (set components c.args.caller client) c.in_ok-entry.entry e in
     let host = serving_as at c.in-Server.field-0 c.in-Server.host in
-    has_session c.args.memory.now c.in-Server.host c.in_ok-entry.session.0 (host_serves_in at c.in-Server.field-0 c.in-Server.host (host_serves components two c.index-components-caller.result host (host_read components two client e ∙ c.in-Server.is) c.args.selector c.in_ok-entry.session (named_cap names))).row
+    (host_serves_in at c.in-Server.field-0 c.in-Server.host (host_serves components two c.index-components-caller.result host (host_read components two client e ∙ c.in-Server.is) c.args.selector c.in_ok-entry.session (named_cap names))).session
 
 pub returns-in_default-lent : goal.returns-in_default-lent
 returns-in_default-lent c = λ places.
@@ -75,7 +75,7 @@ returns-in_default-lent c = λ places.
     let key = c.in-Server.field-0 in
     let done = c.close in
     closed_goes components two c.index-components-caller.result (serving_as at key c.in-Server.host) (host_read components two client e ∙ c.in-Server.is) c.args.selector c.in_ok-entry.session (named_cap names)
-    done.new.memory (serving_as at key done.new.self) (component_stays at key done.ensures.stays) done.ensures.closes done.ensures.sessions client e (as_it_is at key c.in-Server.host c.in-Server.is) c.in_ok-entry.ensures.gone places c.buffer-lent.result c.buffer-lent.ensures c.in_default-lent.is
+    done.new.memory (serving_as at key done.new.self) (component_stays at key done.ensures.stays) (closes_at done.ensures.closes) done.ensures.closes.sessions client e (as_it_is at key c.in-Server.host c.in-Server.is) c.in_ok-entry.ensures.gone places c.buffer-lent.result c.buffer-lent.ensures c.in_default-lent.is
 
 -- its buffer goes after it
 pub drop_buffer-requires : goal.drop_buffer-requires
@@ -91,7 +91,7 @@ drop_buffer-requires c =
     let done = c.close in
     record {
       lent = lent_named components two c.index-components-caller.result (serving_as at key c.in-Server.host) (host_read components two client e ∙ c.in-Server.is) c.args.selector c.in_ok-entry.session (named_cap names)
-          done.new.memory (serving_as at key done.new.self) (component_stays at key done.ensures.stays) done.ensures.closes done.ensures.sessions client e (as_it_is at key c.in-Server.host c.in-Server.is) c.in_ok-entry.ensures.gone (λ _. unlisted) c.buffer-lent.result c.buffer-lent.ensures c.in-Some.space c.in-Some.is c.index-components-caller-in-Some.result;
+          done.new.memory (serving_as at key done.new.self) (component_stays at key done.ensures.stays) (closes_at done.ensures.closes) done.ensures.closes.sessions client e (as_it_is at key c.in-Server.host c.in-Server.is) c.in_ok-entry.ensures.gone (λ _. unlisted) c.buffer-lent.result c.buffer-lent.ensures c.in-Some.space c.in-Some.is c.index-components-caller-in-Some.result;
     }
 
 pub returns-in-Some : goal.returns-in-Some
@@ -106,5 +106,5 @@ returns-in-Some c = λ places.
     let key = c.in-Server.field-0 in
     let done = c.close in
     ended_goes components two c.index-components-caller.result (serving_as at key c.in-Server.host) (host_read components two client e ∙ c.in-Server.is) c.args.selector c.in_ok-entry.session (named_cap names)
-    done.new.memory (serving_as at key done.new.self) (component_stays at key done.ensures.stays) done.ensures.closes done.ensures.sessions client e (as_it_is at key c.in-Server.host c.in-Server.is) c.in_ok-entry.ensures.gone places c.buffer-lent.result c.buffer-lent.ensures c.in-Some.space c.in-Some.is c.index-components-caller-in-Some.result
+    done.new.memory (serving_as at key done.new.self) (component_stays at key done.ensures.stays) (closes_at done.ensures.closes) done.ensures.closes.sessions client e (as_it_is at key c.in-Server.host c.in-Server.is) c.in_ok-entry.ensures.gone places c.buffer-lent.result c.buffer-lent.ensures c.in-Some.space c.in-Some.is c.index-components-caller-in-Some.result
     c.drop_buffer.new.self c.drop_buffer.ensures

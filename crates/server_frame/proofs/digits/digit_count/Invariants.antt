@@ -1,5 +1,5 @@
 -- The digits that are counted and those of what is left are all digits.
-use Rattle.std.proofs.Common.{◌≡◌, ◌+◌, ◌≤◌, length}
+use Rattle.std.proofs.Common.{◌≡◌, ◌+◌, length}
 use Rattle.std.specs.Fmt.{decimal}
 use Rattle.server_frame.proofs.digits.digit_count.Given as goal
 

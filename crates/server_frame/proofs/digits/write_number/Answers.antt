@@ -1,5 +1,5 @@
 -- The digits find room, and end where they are counted to.
-use Rattle.std.proofs.Common.{◌+◌, ap, sym, arith}
+use Rattle.std.proofs.Common.{◌+◌, arith}
 use Rattle.std.specs.Fmt.{decimal}
 use Rattle.server_frame.proofs.DigitLemmas.{one_digit, written_from}
 use Rattle.std.proofs.lemmas.Fmt.{decimal_digit}

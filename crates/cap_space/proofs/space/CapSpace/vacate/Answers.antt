@@ -1,9 +1,19 @@
 -- The slot of the selector is emptied.
-use Rattle.cap_space.proofs.SlotsLemmas.{kept_emptied, space_emptied}
+use Rattle.std.proofs.Common.{◌-◌, arith}
+use Rattle.std.specs.Prelude.{vec_capacity, None}
+use Rattle.cap_space.proofs.PaddedLemmas.{set-padded}
+use Rattle.cap_space.proofs.SlotsLemmas.{kept_emptied, space_emptied, vacated_within}
 use Rattle.cap_space.proofs.space.CapSpace.vacate.Goals as goal
 
+pub index_mut-requires : goal.index_mut-requires
+index_mut-requires c = let within = vacated_within c.self.inside.slots.items (vec_capacity c.self.inside.slots) _ c.self.view_is c.args.selector c.requires.taken in omega (arith, within, c.self.inside.slots.ok)
+
 pub invariant_of-self : goal.invariant_of-self
-invariant_of-self c = kept_emptied _ _ c.self.view_is _ c.requires.taken _ _ _ _ c.self.invariant c.free.ensures.freed
+invariant_of-self c =
+    let within = vacated_within _ _ _ c.self.view_is _ c.requires.taken in
+    rw (set-padded c.self.inside.slots.items (vec_capacity c.self.inside.slots) (c.args.selector - 1) None within) (kept_emptied _ _ c.self.view_is _ c.requires.taken _ _ _ _ c.self.invariant c.free.ensures.freed)
 
 pub returns : goal.returns
-returns c = record { gone = space_emptied _ _ c.self.view_is _ c.requires.taken }
+returns c =
+    let within = vacated_within _ _ _ c.self.view_is _ c.requires.taken in
+    record { gone = rw (set-padded c.self.inside.slots.items (vec_capacity c.self.inside.slots) (c.args.selector - 1) None within) (space_emptied _ _ c.self.view_is _ c.requires.taken) }

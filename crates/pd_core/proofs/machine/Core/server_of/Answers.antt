@@ -1,13 +1,11 @@
 -- The server is the one that the world's session has.
 use Rattle.std.proofs.Common.{rules, ap, sym, ◌∙◌}
-use Rattle.std.specs.Prelude.{Option}
 use Rattle.std.specs.FinMap.{get}
 use Rattle.std.specs.Option.{option_map}
 use Rattle.own_model.specs.OwnState.{server_named}
-use Rattle.own_model.specs.Session.{Session as AnOpenSession, Labelled}
+use Rattle.own_model.specs.Session.{Session as AnOpenSession}
 use Rattle.own_model.specs.Transcript.{state_at}
 use Rattle.own_model.specs.World.{World}
-use Rattle.server_frame.specs.Frame.{Row}
 use Rattle.pd_core.specs.Core.{roles_of, sessions_in, world_of}
 use Rattle.pd_core.specs.SessionCalls.{named_in}
 use Rattle.pd_core.specs.Sessions.{row_session}

@@ -1,6 +1,6 @@
 -- The session goes, its client has its limits, and the others stay.
-use Rattle.server_frame.proofs.ServerLemmas.{paid, row_there}
-use Rattle.server_frame.proofs.CloseLemmas.{payer_is, child_there, leaf, server_closes, rows_close, closes_row}
+use Rattle.server_frame.proofs.ServerLemmas.{paid}
+use Rattle.server_frame.proofs.CloseLemmas.{payer_is, child_there, leaf, server_closes, session_closes}
 use Rattle.server_frame.proofs.server.Server.close.Goals as goal
 
 pub end-heap-requires-clause-account : goal.end-heap-requires-clause-account
@@ -31,14 +31,7 @@ returns-clause-server g c =
     c.dismiss.new.memory c.dismiss.new.map c.dismiss.ensures.closes c.dismiss.ensures.maps c.dismiss.ensures.holdings
 
 pub returns-clause-closes : goal.returns-clause-closes
-returns-clause-closes g c = λ row is.
-    closes_row g.S.Service.IsKept g.S.Service.value g.S.Service.buffer g.S.Service.payer c.args.self.now.sessions c.remove-session.new.self c.args.memory.now c.end-heap.new.memory c.args.self.now.map c.end-heap.new.map c.requires.server c.args.id.0 c.remove-session.result c.remove-session.ensures.value
-    c.remove-session.ensures.updates g.met.S.Service.pays c.end-heap.result c.end-heap.ensures.payer c.end-heap.ensures.others c.end-heap.ensures.ram c.end-heap.ensures.caps
-    c.dismiss.new.memory c.dismiss.new.map c.dismiss.ensures.closes c.dismiss.ensures.maps c.dismiss.ensures.holdings
-    row (row_there g.S.Service.IsKept g.S.Service.value g.S.Service.buffer c.args.self.now.sessions c.args.memory.now c.args.self.now.map c.requires.server c.args.id.0 c.remove-session.result c.remove-session.ensures.value row is)
-
-pub returns-clause-sessions : goal.returns-clause-sessions
-returns-clause-sessions g c =
-    rows_close g.S.Service.IsKept g.S.Service.value g.S.Service.buffer g.S.Service.payer c.args.self.now.sessions c.remove-session.new.self c.args.memory.now c.end-heap.new.memory c.args.self.now.map c.end-heap.new.map c.requires.server c.args.id.0 c.remove-session.result c.remove-session.ensures.value
+returns-clause-closes g c =
+    session_closes g.S.Service.IsKept g.S.Service.value g.S.Service.buffer g.S.Service.payer c.args.self.now.sessions c.remove-session.new.self c.args.memory.now c.end-heap.new.memory c.args.self.now.map c.end-heap.new.map c.requires.server c.args.id.0 c.remove-session.result c.remove-session.ensures.value
     c.remove-session.ensures.updates g.met.S.Service.pays c.end-heap.result c.end-heap.ensures.payer c.end-heap.ensures.others c.end-heap.ensures.ram c.end-heap.ensures.caps
     c.dismiss.new.memory c.dismiss.new.map c.dismiss.ensures.closes c.dismiss.ensures.maps c.dismiss.ensures.holdings

@@ -14,10 +14,19 @@ returns-in-run c =
       c.path.ensures,
     )
 
+pub returns-in-check : goal.returns-in-check
+returns-in-check c = (
+  c.in-check.is,
+  c.is_set-in-check.ensures,
+  c.get_str-in-check.ensures ∙ first_value-rows (found_of c.args.found.now) (codes "policy"),
+  c.path-in-check.ensures,
+)
+
 pub returns-in-trace : goal.returns-in-trace
 returns-in-trace c = (
   c.in-trace.is,
   c.get_str-in-trace.ensures ∙ first_value-rows (found_of c.args.found.now) (codes "machine"),
+  c.is_set-in-trace.ensures,
   c.path-in-trace.ensures,
 )
 
@@ -25,6 +34,7 @@ pub returns-in-accounts : goal.returns-in-accounts
 returns-in-accounts c = (
   c.in-accounts.is,
   c.get_str-in-accounts.ensures ∙ first_value-rows (found_of c.args.found.now) (codes "machine"),
+  c.is_set-in-accounts.ensures,
   c.path-in-accounts.ensures,
 )
 
@@ -32,6 +42,27 @@ pub returns-in-alone : goal.returns-in-alone
 returns-in-alone c = (
   c.in-alone.is,
   c.get_str-in-alone.ensures ∙ first_value-rows (found_of c.args.found.now) (codes "machine"),
+  c.is_set-in-alone.ensures,
+  c.is_set-in-alone-2.ensures,
   c.word-in-alone.ensures,
-  c.path-in-alone.ensures,
+  c.get_str-in-alone-2.ensures ∙ first_value-rows (found_of c.args.found.now) (codes "scenario"),
+)
+
+pub returns-in-diff : goal.returns-in-diff
+returns-in-diff c = (
+  c.in-diff.is,
+  c.word-in-diff.ensures,
+  c.word-in-diff-2.ensures,
+  c.get_str-in-diff.ensures ∙ first_value-rows (found_of c.args.found.now) (codes "scenario"),
+)
+
+pub returns-in-least : goal.returns-in-least
+returns-in-least c = (
+  c.in-least.is,
+  c.get_str-in-least.ensures ∙ first_value-rows (found_of c.args.found.now) (codes "machine"),
+  c.is_set-in-least.ensures,
+  c.is_set-in-least-2.ensures,
+  c.is_set-in-least-3.ensures,
+  c.is_set-in-least-4.ensures,
+  c.path-in-least.ensures,
 )

@@ -1,0 +1,23 @@
+-- Cells of a table as values of JSON.
+use Rattle.std.specs.Prelude.{ℕ, List, []}
+use Rattle.std.specs.Option.{option_map_or}
+use Rattle.std.specs.Str.Lossy.{utf8_lossy}
+use Rattle.serde_json.specs.Data.{Data, null, number, string, unsigned}
+use Rattle.trade_base.specs.Amount.{number_of}
+use Rattle.json_documents.specs.declared.column.Column.{Column}
+use Rattle.json_documents.specs.declared.column.Column.TheVariants.{Text, Filled, Number}
+
+abbrev pub filled : List ℕ → Data
+filled [] = null
+filled cell = string (utf8_lossy cell)
+
+abbrev pub column_name : Column → List ℕ
+column_name (Text name) = name.now
+column_name (Filled name) = name.now
+column_name (Number name) = name.now
+
+-- the value of a cell: a text, with a sign in place of what is no text; nothing where none is filled in; a number
+abbrev pub cell_data : Column → List ℕ → Data
+cell_data (Text name) cell = string (utf8_lossy cell)
+cell_data (Filled name) cell = filled cell
+cell_data (Number name) cell = option_map_or (λ n. number (unsigned n)) (number_of cell) null

@@ -1,0 +1,103 @@
+//! The account list with peaks, as documents.
+use crate::column::Column;
+use crate::document::Document;
+use crate::rows::listed;
+use std::alloc::{AllocError, Global};
+
+/// How many pieces a line has at most: what stands behind the word `label` is one.
+const PIECES: usize = 16;
+
+/// A list with a document for each line of the account list with peaks.
+pub fn account_documents(alloc: Global, lines: &[u8]) -> Result<Vec<u8>, AllocError> {
+    let mut documents = Vec::new(alloc);
+    for line in lines.split(|byte| *byte == b'\n') {
+        if !line.is_empty() {
+            let text = document_of(alloc, line)?;
+            documents.extend_from_slice(text.as_slice())?;
+            documents.push(b'\n')?;
+        }
+    }
+    listed(alloc, documents.as_slice())
+}
+
+// The document of a line.
+fn document_of(alloc: Global, line: &[u8]) -> Result<Vec<u8>, AllocError> {
+    let mut pieces: Vec<&[u8]> = Vec::new(alloc);
+    for piece in line.splitn(PIECES, |byte| *byte == b' ') {
+        pieces.push(piece)?;
+    }
+    let mut members = Members {
+        alloc,
+        document: Document::new(alloc),
+        pieces: pieces.as_slice(),
+    };
+    members.add(Column::Text("kind"), 0)?;
+    match members.piece(0) {
+        b"account" => {
+            members.add(Column::Text("name"), 1)?;
+            members.add_account(3)?;
+        }
+        b"session" => {
+            members.add(Column::Text("name"), 1)?;
+            members.add(Column::Number("session"), 2)?;
+            members.add_account(4)?;
+            members.add(Column::Text("server"), 13)?;
+            members.add(Column::Text("label"), 15)?;
+        }
+        b"reserve" => {
+            members.add(Column::Text("name"), 1)?;
+            members.add_two(3)?;
+        }
+        _ => members.add_two(2)?,
+    }
+    members.document.into_text(alloc)
+}
+
+// The members of a line's document, by the line's pieces.
+#[derive(Drop)]
+struct Members<'a> {
+    alloc: Global,
+    document: Document,
+    pieces: &'a [&'a [u8]],
+}
+
+impl<'a> Members<'a> {
+    // The piece at a place, or nothing.
+    fn piece(&self, place: usize) -> &'a [u8] {
+        self.pieces.get(place).copied().unwrap_or(b"")
+    }
+
+    // The piece at a place as a member.
+    fn add(&mut self, column: Column, place: usize) -> Result<(), AllocError> {
+        let cell = self.piece(place);
+        self.document.add(self.alloc, column, cell)
+    }
+
+    // RAM and capabilities, of which the first stands at this place.
+    fn add_two(&mut self, place: usize) -> Result<(), AllocError> {
+        self.add(Column::Number("ram"), place)?;
+        self.add(Column::Number("caps"), place.saturating_add(2))
+    }
+
+    // Use, limit and peak of RAM and of capabilities, of which the first stands at this place.
+    fn add_account(&mut self, place: usize) -> Result<(), AllocError> {
+        self.add_use("ram_used", "ram_limit", place)?;
+        self.add_use("caps_used", "caps_limit", place.saturating_add(2))?;
+        self.add(Column::Number("ram_peak"), place.saturating_add(5))?;
+        self.add(Column::Number("caps_peak"), place.saturating_add(7))
+    }
+
+    // What is used, and behind `/` the limit.
+    fn add_use(
+        &mut self,
+        used: &'static str,
+        limit: &'static str,
+        place: usize,
+    ) -> Result<(), AllocError> {
+        let piece = self.piece(place);
+        for (name, cell) in [used, limit].iter().zip(piece.split(|byte| *byte == b'/')) {
+            self.document.add(self.alloc, Column::Number(*name), cell)?;
+        }
+        Ok(())
+    }
+}

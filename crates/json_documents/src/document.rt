@@ -1,0 +1,81 @@
+//! A document: an object of JSON whose members are cells of a table.
+ghost use Rattle.std.specs.Prelude.{◌≡◌, Some, IfOk, OnOk};
+ghost use Rattle.serde_json.specs.Data.{members_depth, no_members, object, put as with_member, string};
+ghost use Rattle.std.specs.Str.Lossy.{utf8_lossy};
+ghost use Rattle.serde_json.specs.Read.{read};
+ghost use Rattle.serde_json.specs.View.{members_view, view};
+ghost use Rattle.json_documents.specs.Documents.{cell_data, column_name};
+
+use crate::column::Column;
+use serde_json::{Map, Value};
+use std::alloc::{AllocError, Global};
+use trade_base::read_number;
+
+/// An object whose members have cells for values.
+#[derive(Drop)]
+pub(crate) struct Document {
+    members: Map<String, Value>,
+    ghost flat: { members_depth (members_view members.entries) ≡ 0 },
+}
+
+impl Document {
+    /// An object without members.
+    pub(crate) fn new(alloc: Global) -> Document
+        ensures { members_view result.members.entries ≡ no_members }
+    {
+        Document {
+            members: Map::new(alloc),
+        }
+    }
+
+    /// The cell of a column as a member more.
+    #[tactic(auto, using(crate::proofs::DepthLemmas::cell_added))]
+    pub(crate) fn add(
+        &mut self,
+        alloc: Global,
+        column: Column,
+        cell: &[u8],
+    ) -> Result<(), AllocError>
+        ensures { OnOk result (members_view self.new.members.entries ≡ with_member
+            (column_name column) (cell_data column cell.now) (members_view self.old.members.entries)) }
+    {
+        let value = value_of(alloc, column, cell)?;
+        serde_json::put(&mut self.members, alloc, column.name(), value)?;
+        Ok(())
+    }
+
+    /// Its text: whoever reads it has the object.
+    pub(crate) fn into_text(self, alloc: Global) -> Result<Vec<u8>, AllocError>
+        ensures { IfOk result (λ text.
+            read text.items ≡ Some (object (members_view self.members.entries))) }
+    {
+        Value::Object(self.members).to_vec(alloc)
+    }
+}
+
+// The value of a cell.
+fn value_of(alloc: Global, column: Column, cell: &[u8]) -> Result<Value, AllocError>
+    ensures { IfOk result (λ value. view value ≡ cell_data column cell.now) }
+{
+    match column {
+        Column::Text(_) => text_of(alloc, cell),
+        Column::Filled(_) => {
+            if cell.is_empty() {
+                Ok(Value::Null)
+            } else {
+                text_of(alloc, cell)
+            }
+        }
+        Column::Number(_) => match read_number(cell) {
+            Some(number) => Ok(Value::from(number)),
+            None => Ok(Value::Null),
+        },
+    }
+}
+
+// A text as a value.
+fn text_of(alloc: Global, cell: &[u8]) -> Result<Value, AllocError>
+    ensures { IfOk result (λ value. view value ≡ string (utf8_lossy cell.now)) }
+{
+    Ok(Value::String(String::from_utf8_lossy(alloc, cell)?))
+}

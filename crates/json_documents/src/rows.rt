@@ -1,0 +1,124 @@
+//! Tables of comma-separated values, as documents.
+use crate::column::Column;
+use crate::document::Document;
+use csv::{ByteRecord, ReaderBuilder};
+use std::alloc::{AllocError, Global};
+use std::io;
+use std::io::Write;
+
+/// A writer of a table with a row of names: of each row behind that a line with its document goes to another writer.
+#[derive(Drop)]
+pub struct Rows<W: Write + Drop> {
+    alloc: Global,
+    columns: &'static [Column],
+    /// The part of a row whose end isn't there yet.
+    begun: Vec<u8>,
+    /// Whether the row of names has passed.
+    named: bool,
+    writer: W,
+}
+
+impl<W: Write + Drop> Rows<W> {
+    /// One for a table of these columns.
+    pub fn new(alloc: Global, columns: &'static [Column], writer: W) -> Rows<W> {
+        Rows {
+            alloc,
+            columns,
+            begun: Vec::new(alloc),
+            named: false,
+            writer,
+        }
+    }
+
+    // Writes the documents of the rows whose end is there.
+    fn write_whole(&mut self) -> io::Result<()> {
+        let Some(last) = self.begun.iter().rposition(|byte| *byte == b'\n') else {
+            return Ok(());
+        };
+        let (rows, rest) = self.begun.as_slice().split_at(last + 1);
+        let lines = document_lines(self.alloc, self.columns, rows, !self.named)?;
+        let rest = Vec::from_slice(self.alloc, rest)?;
+        self.begun = rest;
+        self.named = true;
+        self.writer.write_all(lines.as_slice())
+    }
+}
+
+impl<W: Write + Drop> Write for Rows<W> {
+    fn write(&mut self, buffer: &[u8]) -> io::Result<usize> {
+        self.begun.extend_from_slice(buffer)?;
+        self.write_whole()?;
+        Ok(buffer.len())
+    }
+
+    fn flush(&mut self) -> io::Result<()> {
+        self.writer.flush()
+    }
+}
+
+/// A list of the documents of a table's rows, behind the row of its names.
+pub fn row_documents(
+    alloc: Global,
+    columns: &[Column],
+    table: &[u8],
+) -> Result<Vec<u8>, AllocError> {
+    let lines = document_lines(alloc, columns, table, true)?;
+    listed(alloc, lines.as_slice())
+}
+
+/// Documents of a line each as a list.
+pub(crate) fn listed(alloc: Global, lines: &[u8]) -> Result<Vec<u8>, AllocError> {
+    let mut list = Vec::new(alloc);
+    list.push(b'[')?;
+    for (place, line) in lines.split(|byte| *byte == b'\n').enumerate() {
+        if !line.is_empty() {
+            if place > 0 {
+                list.extend_from_slice(b",\n")?;
+            }
+            list.extend_from_slice(line)?;
+        }
+    }
+    list.extend_from_slice(b"]\n")?;
+    Ok(list)
+}
+
+// A line with its document for each row, but the first where that has the names.
+fn document_lines(
+    alloc: Global,
+    columns: &[Column],
+    rows: &[u8],
+    named: bool,
+) -> Result<Vec<u8>, AllocError> {
+    let mut lines = Vec::new(alloc);
+    let mut reader = ReaderBuilder::new()
+        .has_headers(named)
+        .flexible(true)
+        .from_reader(alloc, rows);
+    let mut record = ByteRecord::new(alloc);
+    for _ in rows {
+        match reader.read_byte_record(&mut record) {
+            Ok(true) => {
+                let text = document_of(alloc, columns, &record)?;
+                lines.extend_from_slice(text.as_slice())?;
+                lines.push(b'\n')?;
+            }
+            Ok(false) => break,
+            Err(_) => return Err(AllocError),
+        }
+    }
+    Ok(lines)
+}
+
+// The document of a row.
+fn document_of(
+    alloc: Global,
+    columns: &[Column],
+    record: &ByteRecord,
+) -> Result<Vec<u8>, AllocError> {
+    let mut document = Document::new(alloc);
+    for (place, column) in columns.iter().enumerate() {
+        let cell = record.get(place).unwrap_or(b"");
+        document.add(alloc, *column, cell)?;
+    }
+    document.into_text(alloc)
+}

@@ -1,0 +1,76 @@
+//! The least start budget that the tests of an account need.
+ghost use Rattle.std.specs.Prelude.{◌≡◌, ◌+◌, ◌^◌, ◌<◌, max};
+ghost use Rattle.pd_core.specs.Answer.{quotas_account};
+ghost use Rattle.least.specs.Needs.{need_in};
+
+use crate::budget::Budget;
+use pd_core::Quotas;
+
+/// What the tests that passed so far need of the budget that an account started with.
+#[derive(Clone, Copy, Debug)]
+pub(crate) struct Meter {
+    /// What the account started with.
+    start: Budget,
+    /// The greatest needs, of each column by itself.
+    pub(crate) least: Budget,
+    /// The greatest need of bytes of a choice, or 0.
+    pub(crate) choice: u64,
+}
+
+impl Meter {
+    /// No test was made.
+    pub(crate) fn new(start: Budget) -> Meter {
+        Meter {
+            start,
+            least: Budget { ram: 0, caps: 0 },
+            choice: 0,
+        }
+    }
+
+    /// The need of a test that asks for so much beside what an account uses: that, and what is asked, less what the limit is above
+    /// the start budget.
+    pub(crate) fn need(&self, account: Quotas, asked: Budget) -> Budget
+        ensures ram { account.ram_used.0 + asked.ram + self.now.start.ram < 2 ^ 64
+            → result.ram ≡ (need_in self.now.start (quotas_account account) asked).ram }
+        ensures caps { account.caps_used.0 + asked.caps + self.now.start.caps < 2 ^ 64
+            → result.caps ≡ (need_in self.now.start (quotas_account account) asked).caps }
+    {
+        let ram = account.ram_used.0.saturating_add(asked.ram);
+        let caps = u64::from(account.caps_used.0).saturating_add(asked.caps);
+        Budget {
+            ram: ram
+                .saturating_add(self.start.ram)
+                .saturating_sub(account.ram_limit.0),
+            caps: caps
+                .saturating_add(self.start.caps)
+                .saturating_sub(u64::from(account.caps_limit.0)),
+        }
+    }
+
+    /// Takes a test in that passed.
+    pub(crate) fn pass(&mut self, account: Quotas, asked: Budget)
+        ensures ram { account.ram_used.0 + asked.ram + self.old.start.ram < 2 ^ 64
+            → self.new.least.ram
+            ≡ max self.old.least.ram (need_in self.old.start (quotas_account account) asked).ram }
+        ensures caps { account.caps_used.0 + asked.caps + self.old.start.caps < 2 ^ 64
+            → self.new.least.caps
+            ≡ max self.old.least.caps (need_in self.old.start (quotas_account account) asked).caps }
+        ensures start { self.new.start ≡ self.old.start }
+        ensures choice { self.new.choice ≡ self.old.choice }
+    {
+        let need = self.need(account, asked);
+        self.least.ram = self.least.ram.max(need.ram);
+        self.least.caps = self.least.caps.max(need.caps);
+    }
+
+    /// Takes the test in that passed last, by what the account uses since.
+    pub(crate) fn pass_last(&mut self, account: Quotas) {
+        self.pass(account, Budget { ram: 0, caps: 0 });
+    }
+
+    /// Takes in that the test that passed last was a choice.
+    pub(crate) fn choose(&mut self, account: Quotas) {
+        let need = self.need(account, Budget { ram: 0, caps: 0 });
+        self.choice = self.choice.max(need.ram);
+    }
+}

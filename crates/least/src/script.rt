@@ -1,0 +1,240 @@
+//! The accounts of a script: its sessions', and its own.
+
+use crate::account::{Account, Given, Session};
+use crate::budget::Budget;
+use crate::donation::args_with;
+use crate::draft::{Draft, LARGEST, reserve_of};
+use crate::opened::{Opened, Sessions};
+use crate::rows::{Rows, Trials};
+use crate::scene::Step;
+use crate::session_trial::{Client, Reached};
+use crate::trial::Trial;
+use init_core::{BootFault, StartList, boot};
+use pd_core::{Call, Router};
+use std::alloc::Global;
+use trade_base::PAGE;
+
+/// A script of a list, and the list's draft for runs of it.
+#[derive(Drop)]
+pub(crate) struct Script<'a> {
+    pub(crate) list: &'a StartList,
+    pub(crate) component: usize,
+    /// What the list gives it.
+    pub(crate) given: Budget,
+    pub(crate) draft: &'a mut Draft,
+}
+
+impl Script<'_> {
+    /// Adds what its accounts need: its sessions' first, each by its opening donation with every other account ample, and then its
+    /// own. Its lines donate the least from then on, unless they are to donate what they say.
+    pub(crate) fn add(
+        &mut self,
+        alloc: Global,
+        steps: &mut [Step],
+        as_donated: bool,
+        accounts: &mut Vec<Account>,
+    ) -> Result<(), BootFault> {
+        let given = trial(
+            alloc,
+            self.draft,
+            self.list,
+            self.component,
+            steps,
+            self.given,
+        )?;
+        self.add_sessions(alloc, steps, as_donated, accounts)?;
+        let own = self.own(alloc, steps, given)?;
+        accounts.push(own)?;
+        self.draft.clear(alloc, self.list, self.component)
+    }
+
+    // Adds what its sessions need.
+    fn add_sessions(
+        &mut self,
+        alloc: Global,
+        steps: &mut [Step],
+        as_donated: bool,
+        accounts: &mut Vec<Account>,
+    ) -> Result<(), BootFault> {
+        let most = self.most();
+        self.draft.fund(alloc, self.list, self.component, most)?;
+        let ample = self.draft.list(alloc)?;
+        let sessions = Sessions::of(alloc, &ample, self.component, steps)?;
+        let mut client = Client::new(alloc, boot(alloc, &ample)?, self.component)?;
+        for opened in sessions.opened.as_slice() {
+            let account = self.session(alloc, &mut client, steps, opened)?;
+            if !as_donated {
+                donate_least(alloc, steps, opened.step, &account)?;
+            }
+            accounts.push(account)?;
+        }
+        Ok(())
+    }
+
+    // The most that the script can have beside its reserve.
+    fn most(&self) -> Budget {
+        let reserve = reserve_of(self.list, self.component);
+        Budget {
+            ram: (LARGEST * PAGE).saturating_sub(reserve.ram),
+            caps: LARGEST.saturating_sub(reserve.caps),
+        }
+    }
+
+    // What its own account needs.
+    fn own(&mut self, alloc: Global, steps: &[Step], given: Trial) -> Result<Account, BootFault> {
+        let most = self.most();
+        let mut trials = OwnTrials {
+            caps: most.caps,
+            list: self.list,
+            component: self.component,
+            draft: self.draft,
+            steps,
+        };
+        let found = Rows::of(alloc, &mut trials, most.ram, replies_of(&given))?;
+        Ok(Account {
+            component: self.component,
+            session: None,
+            given: Given {
+                budget: self.given,
+                refused: given.refused,
+            },
+            reserve: reserve_of(self.list, self.component),
+            found,
+        })
+    }
+
+    // What a session's account needs, whose client has enough.
+    fn session<R: Router + Drop>(
+        &self,
+        alloc: Global,
+        client: &mut Client<R>,
+        steps: &[Step],
+        opened: &Opened,
+    ) -> Result<Account, BootFault> {
+        let reached = Reached { steps, opened };
+        let given = reached.trial(alloc, client, opened.donation)?;
+        let most = self.most();
+        let mut trials = SessionTrials {
+            reached,
+            client,
+            caps: most.caps.saturating_sub(opened.raised.caps),
+        };
+        let top = most.ram.saturating_sub(opened.raised.ram);
+        let found = Rows::of(alloc, &mut trials, top, replies_of(&given))?;
+        Ok(Account {
+            component: self.component,
+            session: Some(Session {
+                selector: opened.selector,
+                line: number_of(steps, opened.step),
+            }),
+            given: Given {
+                budget: opened.donation,
+                refused: given.refused,
+            },
+            reserve: Budget { ram: 0, caps: 0 },
+            found,
+        })
+    }
+}
+
+// Which line of the scenario a line of a script is.
+fn number_of(steps: &[Step], place: usize) -> u64 {
+    match steps.get(place) {
+        Some(step) => step.number,
+        None => 0,
+    }
+}
+
+// What a run is answered, where nothing is in want.
+fn replies_of(trial: &Trial) -> Option<&[u8]> {
+    if trial.refused.is_some() {
+        None
+    } else {
+        Some(trial.replies.as_slice())
+    }
+}
+
+// Lets a line that opens a session donate the least, where some budget serves.
+fn donate_least(
+    alloc: Global,
+    steps: &mut [Step],
+    place: usize,
+    account: &Account,
+) -> Result<(), BootFault> {
+    match account.least() {
+        Some(least) => donate(alloc, steps, place, least),
+        None => Ok(()),
+    }
+}
+
+// Lets a line that opens a session donate so much.
+fn donate(
+    alloc: Global,
+    steps: &mut [Step],
+    place: usize,
+    donation: Budget,
+) -> Result<(), BootFault> {
+    let Some(step) = steps.get_mut(place) else {
+        return Ok(());
+    };
+    let args = match step.said() {
+        Some(Call::Open { args, .. }) => args_with(alloc, donation, args)?,
+        _ => return Ok(()),
+    };
+    step.open_with(args);
+    Ok(())
+}
+
+// The run of a script's lines from a budget, on the machine on which it alone has one.
+fn trial(
+    alloc: Global,
+    draft: &mut Draft,
+    list: &StartList,
+    component: usize,
+    steps: &[Step],
+    budget: Budget,
+) -> Result<Trial, BootFault> {
+    draft.fund(alloc, list, component, budget)?;
+    let machine = draft.list(alloc)?;
+    Trial::of_account(alloc, &machine, component, steps, budget)
+}
+
+// Runs of a script's own account.
+#[derive(Drop)]
+struct OwnTrials<'a> {
+    caps: u64,
+    list: &'a StartList,
+    component: usize,
+    draft: &'a mut Draft,
+    steps: &'a [Step],
+}
+
+impl Trials for OwnTrials<'_> {
+    fn run(&mut self, alloc: Global, ram: u64) -> Result<Trial, BootFault> {
+        let caps = self.caps;
+        let budget = Budget { ram, caps };
+        trial(
+            alloc,
+            self.draft,
+            self.list,
+            self.component,
+            self.steps,
+            budget,
+        )
+    }
+}
+
+// Runs of a session's account.
+#[derive(Drop)]
+struct SessionTrials<'a, R: Router + Drop> {
+    reached: Reached<'a>,
+    client: &'a mut Client<R>,
+    caps: u64,
+}
+
+impl<R: Router + Drop> Trials for SessionTrials<'_, R> {
+    fn run(&mut self, alloc: Global, ram: u64) -> Result<Trial, BootFault> {
+        let caps = self.caps;
+        self.reached.trial(alloc, self.client, Budget { ram, caps })
+    }
+}

@@ -1,0 +1,59 @@
+-- What a change of a start list changes of its entries.
+use Rattle.std.specs.Prelude.{ℕ, ◌==◌, ◌&&◌, Bool, true, false, List, [], ◌∷◌, ◌++◌, codes, position, if◌then◌else◌, Option, Some, None}
+use Rattle.std.specs.List.{enumerate_from, flat_map, slice_index_or}
+use Rattle.std.specs.Str.{bytes_eq}
+use Rattle.trade_base.specs.Service.{service_name}
+use Rattle.own_model.specs.Amounts.{Amounts}
+use Rattle.own_model.specs.Listed.{Binary, Listed, ListedEntry}
+use Rattle.own_model.specs.Listed.Binary.{Script, Server, Init}
+use Rattle.list_diff.specs.declared.fates.Change.{Change}
+use Rattle.list_diff.specs.declared.fates.Change.TheVariants.{Gone, Changed, Came}
+
+-- what a binary is called
+abbrev pub binary_name : Binary → List ℕ
+binary_name Script = codes "script"
+binary_name (Server service) = service_name service
+binary_name Init = codes "init"
+
+abbrev pub same_flag : Bool → Bool → Bool
+same_flag true other = other
+same_flag false true = false
+same_flag false false = true
+
+abbrev pub same_reserves : Option Amounts → Option Amounts → Bool
+same_reserves None None = true
+same_reserves (Some one) (Some other) = one.ram == other.ram && one.caps == other.caps
+same_reserves _ _ = false
+
+-- two entries run the same, with the same means
+unfoldable pub same_means : ListedEntry → ListedEntry → Bool
+same_means one other =
+    bytes_eq (binary_name one.binary) (binary_name other.binary)
+    && (one.ram == other.ram && (one.caps == other.caps
+    && (same_flag one.provides other.provides && same_reserves one.reserve other.reserve)))
+
+-- the place of a path in a list
+abbrev pub place_of : Listed → List ℕ → Option ℕ
+place_of list path = position (λ entry. bytes_eq entry.path path) list.entries
+
+-- what became of an entry of this number, by its place in the list after
+abbrev pub fate_at : Listed → ℕ × ListedEntry → Option ℕ → List Change
+fate_at after entry None = Gone entry.0 ∷ []
+fate_at after entry (Some place) =
+    if same_means entry.1 (slice_index_or after.entries place entry.1) then [] else Changed entry.0 place ∷ []
+
+abbrev pub fate : Listed → ℕ × ListedEntry → List Change
+fate after entry = fate_at after entry (place_of after entry.1.path)
+
+-- an entry that came is told by its number
+abbrev pub arrival_at : ℕ → Option ℕ → List Change
+arrival_at number None = Came number ∷ []
+arrival_at number (Some place) = []
+
+abbrev pub arrival : Listed → ℕ × ListedEntry → List Change
+arrival before entry = arrival_at entry.0 (place_of before entry.1.path)
+
+-- what became of all entries
+abbrev pub changes_of : Listed → Listed → List Change
+changes_of before after =
+    flat_map (fate after) (enumerate_from 0 before.entries) ++ flat_map (arrival before) (enumerate_from 0 after.entries)

@@ -1,0 +1,12 @@
+//! What a change of a start list changes: entries that came, went or have other means, who reaches whom, and replies.
+#![tactic(auto)]
+
+mod fates;
+mod reaches;
+mod replies;
+mod texts;
+
+pub use fates::{Change, changes};
+pub use reaches::{Lead, Side, leads};
+pub use replies::changed_replies;
+pub use texts::Differences;

@@ -1,0 +1,145 @@
+//! What each script is told in a scenario, among the others and alone, one script after the other.
+use crate::ends::{Played, REFUSED, status_of};
+use crate::files::{STANDARD_INPUT, read_list};
+use crate::plays::tell_unbooted;
+use init_core::{Binary, MACHINE_A, StartList};
+use scenario::Output;
+use std::io::{Read, Write};
+use std::{fs, io};
+use workbench::{Play, alone};
+
+/// The exit status where something isn't as expected, or a script is told something else alone.
+const DIFFERENT: u8 = 3;
+
+/// What the last line of what is told of a script ends with, where it is told the same.
+const SAME: &[u8] = b": the same alone as in the whole run\n";
+
+/// What is asked of all scripts.
+#[derive(Clone, Copy)]
+pub(crate) struct All<'a> {
+    /// The path of a start list, or none for the built-in machine.
+    pub(crate) machine: Option<&'a str>,
+    /// The path of the scenario.
+    pub(crate) scenario: &'a str,
+    /// Whether the last line alone is told of each.
+    pub(crate) summary: bool,
+}
+
+/// Plays the scenario for each script of the machine in turn, and tells what `alone` tells of it; complaints are told once.
+/// Answers the exit status: 3 also where a script is told something else alone.
+pub(crate) fn all_alone(rt: &HostRuntime, all: All<'_>) -> u8 {
+    let Ok(scenario) = read_scenario(rt, all.scenario) else {
+        let _ = eprintln!(rt; "{}: Unreadable_scenario", all.scenario);
+        return REFUSED;
+    };
+    let Some(path) = all.machine else {
+        return all_on(rt, MACHINE_A.as_bytes(), &scenario, all);
+    };
+    match read_list(rt, path) {
+        Ok(text) => all_on(rt, &text, &scenario, all),
+        Err(fault) => {
+            let _ = eprintln!(rt; "{path}: {fault}");
+            REFUSED
+        }
+    }
+}
+
+// The bytes of a scenario.
+fn read_scenario(rt: &HostRuntime, path: &str) -> io::Result<Vec<u8>> {
+    if path == STANDARD_INPUT {
+        let mut bytes = Vec::new(rt.alloc());
+        let mut reader = rt.reader();
+        reader.read_to_end(&mut bytes)?;
+        return Ok(bytes);
+    }
+    fs::read(rt, path)
+}
+
+// The same on the machine of a text.
+fn all_on(rt: &HostRuntime, text: &[u8], scenario: &[u8], all: All<'_>) -> u8 {
+    let list = match StartList::read(rt.alloc(), text) {
+        Ok(list) => list,
+        Err(fault) => {
+            tell_unbooted(rt, text, all.machine, &fault);
+            return REFUSED;
+        }
+    };
+    let play = Play {
+        machine: text,
+        scenario: all.scenario.as_bytes(),
+    };
+    let mut status = 0;
+    let mut complained = false;
+    for entry in list.entries() {
+        if entry.binary() == Binary::Script {
+            let one = One {
+                play,
+                name: entry.path(),
+                scenario,
+                silent: complained,
+            };
+            match one.tell(rt, all) {
+                0 => (),
+                DIFFERENT => status = DIFFERENT,
+                fault => return fault,
+            }
+            complained = true;
+        }
+    }
+    status
+}
+
+// One script's play.
+#[derive(Clone, Copy)]
+struct One<'a> {
+    play: Play<'a>,
+    name: &'a [u8],
+    scenario: &'a [u8],
+    // Whether complaints were told already.
+    silent: bool,
+}
+
+impl<'a> One<'a> {
+    // Plays it, and answers the exit status.
+    fn tell(self, rt: &HostRuntime, all: All<'_>) -> u8 {
+        let alloc = rt.alloc();
+        let mut source = self.scenario;
+        let mut writer = Output::new(Vec::new(alloc));
+        let ended = if self.silent {
+            let mut complaints = Output::new(io::sink());
+            alone(alloc, self.play, self.name, &mut source, &mut writer, &mut complaints)
+        } else {
+            let mut complaints = Output::new(rt.stderr());
+            alone(alloc, self.play, self.name, &mut source, &mut writer, &mut complaints)
+        };
+        if let Err(fault) = &ended {
+            if !self.silent {
+                tell_unbooted(rt, self.play.machine, all.machine, fault);
+            }
+            return REFUSED;
+        }
+        let told = writer.into_inner();
+        let shown = if all.summary { last_line(&told) } else { told.as_slice() };
+        let printed = status_of(rt, io::writer(rt).write_all(shown));
+        if printed != 0 {
+            return printed;
+        }
+        let played = Played {
+            ended,
+            unread: false,
+        };
+        match played.tell(rt, all.scenario) {
+            0 if !told.as_slice().ends_with(SAME) => DIFFERENT,
+            status => status,
+        }
+    }
+}
+
+// The last of these lines, with its newline.
+fn last_line(lines: &[u8]) -> &[u8] {
+    let whole = &lines[..lines.len().saturating_sub(1)];
+    match whole.iter().rposition(|byte| *byte == b'\n') {
+        Some(end) => &lines[end.saturating_add(1)..],
+        None => lines,
+    }
+}

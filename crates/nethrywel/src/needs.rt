@@ -1,0 +1,197 @@
+//! What the accounts of a scenario need.
+use crate::ends::{REFUSED, UNWRITTEN, status_of};
+use crate::files::{STANDARD_INPUT, read_list};
+use crate::lists::tell_fault;
+use init_core::{BootFault, MACHINE_A};
+use least::{Question, Report};
+use scenario::{ConfigFault, Input, Source};
+use start_review::Review;
+use std::alloc::Global;
+use std::io::Write;
+use std::{fs, io};
+
+/// How many bytes of a scenario are asked for at once.
+const BLOCK: usize = 4096;
+
+/// The exit status of a scenario with lines that are no calls.
+const MISREAD: u8 = 3;
+
+/// In which form it is told.
+#[derive(Clone, Copy, Debug)]
+pub(crate) enum Telling {
+    /// As text.
+    Text,
+    /// As comma-separated values.
+    Values,
+    /// As the start list with the least budgets.
+    List,
+    /// As the scenario with the least donations.
+    Scenario,
+}
+
+impl Telling {
+    /// That of three flags, of which the first that is set counts.
+    pub(crate) fn of(csv: bool, list: bool, donations: bool) -> Telling {
+        if csv {
+            Telling::Values
+        } else if list {
+            Telling::List
+        } else if donations {
+            Telling::Scenario
+        } else {
+            Telling::Text
+        }
+    }
+}
+
+/// Tells what the accounts of a scenario need on the machine of a start list, or on the built-in machine. Answers the exit status.
+pub(crate) fn least(
+    rt: &HostRuntime,
+    machine: Option<&str>,
+    as_donated: bool,
+    telling: Telling,
+    scenario: &str,
+) -> u8 {
+    let Some(path) = machine else {
+        return least_on(
+            rt,
+            MACHINE_A.as_bytes(),
+            None,
+            as_donated,
+            telling,
+            scenario,
+        );
+    };
+    match read_list(rt, path) {
+        Ok(text) => least_on(rt, &text, machine, as_donated, telling, scenario),
+        Err(fault) => {
+            let _ = eprintln!(rt; "{path}: {fault}");
+            REFUSED
+        }
+    }
+}
+
+// The same on the machine of a text.
+fn least_on(
+    rt: &HostRuntime,
+    machine: &[u8],
+    path: Option<&str>,
+    as_donated: bool,
+    telling: Telling,
+    scenario: &str,
+) -> u8 {
+    let text = match read_scenario(rt, scenario) {
+        Ok(text) => text,
+        Err(status) => return status,
+    };
+    let question = Question {
+        machine,
+        scenario: text.as_slice(),
+        as_donated,
+    };
+    match Report::of(rt.alloc(), question) {
+        Ok(report) => {
+            let status = tell_misread(rt, scenario, &report);
+            let told = tell(rt, question, telling, report);
+            if told == 0 { status } else { told }
+        }
+        Err(fault) => tell_unbooted(rt, machine, path, &fault),
+    }
+}
+
+// The text of a scenario, or the exit status where it can't be read, which is told.
+fn read_scenario(rt: &HostRuntime, scenario: &str) -> Result<Vec<u8>, u8> {
+    let read = if scenario == STANDARD_INPUT {
+        read_all(rt.alloc(), &mut Input::new(rt.reader()))
+    } else {
+        match fs::open(rt, scenario) {
+            Ok(file) => read_all(rt.alloc(), &mut Input::new(file)),
+            Err(_) => {
+                let _ = eprintln!(rt; "{scenario}: Unreadable_scenario");
+                return Err(REFUSED);
+            }
+        }
+    };
+    match read {
+        Ok(text) => Ok(text),
+        Err(ConfigFault::Unreadable) => {
+            let _ = eprintln!(rt; "{scenario}: Read_fault");
+            Err(UNWRITTEN)
+        }
+        Err(ConfigFault::NoMemory) => {
+            let _ = eprintln!(rt; "run: No_memory");
+            Err(UNWRITTEN)
+        }
+    }
+}
+
+// Tells the lines that are no calls, and answers the exit status.
+fn tell_misread(rt: &HostRuntime, scenario: &str, report: &Report) -> u8 {
+    for misread in report.misread() {
+        let (number, fault) = (misread.number, misread.fault);
+        let _ = eprintln!(rt; "{scenario}:{number}:{fault}");
+    }
+    if report.misread().is_empty() {
+        0
+    } else {
+        MISREAD
+    }
+}
+
+// Tells a report in a form, and answers the exit status.
+fn tell(rt: &HostRuntime, question: Question<'_>, telling: Telling, report: Report) -> u8 {
+    match telling {
+        Telling::Text => status_of(rt, print!(rt; "{report}")),
+        Telling::Values => {
+            let values = report.into_csv();
+            status_of(rt, print!(rt; "{values}"))
+        }
+        Telling::List => match report.start_list(rt.alloc(), question.machine) {
+            Ok(text) => status_of(rt, println!(rt; "{text}")),
+            Err(fault) => tell_fault_of_run(rt, &fault),
+        },
+        Telling::Scenario => match report.scenario(rt.alloc(), question.scenario) {
+            Ok(text) => status_of(rt, io::writer(rt).write_all(text.as_slice())),
+            Err(fault) => tell_fault_of_run(rt, &fault),
+        },
+    }
+}
+
+// Tells a fault of the run.
+fn tell_fault_of_run(rt: &HostRuntime, fault: &BootFault) -> u8 {
+    let _ = eprintln!(rt; "run: {fault}");
+    UNWRITTEN
+}
+
+// Tells why no machine was booted, with the place in its start list where that is a file's, and answers the exit status.
+fn tell_unbooted(rt: &HostRuntime, text: &[u8], machine: Option<&str>, fault: &BootFault) -> u8 {
+    if let Some(path) = machine {
+        if let Err(placed) = Review::read(rt.alloc(), text) {
+            tell_fault(rt, path, &placed);
+            return REFUSED;
+        }
+    }
+    let _ = eprintln!(rt; "boot: {fault}");
+    if matches!(fault, BootFault::NoMemory) {
+        UNWRITTEN
+    } else {
+        REFUSED
+    }
+}
+
+// Reads a source to its end. One that has failed isn't read again.
+fn read_all<S: Source>(alloc: Global, source: &mut S) -> Result<Vec<u8>, ConfigFault> {
+    let mut text = Vec::new(alloc);
+    let mut block = [0; BLOCK];
+    for _ in 0..u64::MAX {
+        if source.failed() {
+            return Err(ConfigFault::Unreadable);
+        }
+        let count = source.read(&mut block)?;
+        if count == 0 {
+            break;
+        }
+        text.extend_from_slice(&block[..count])?;
+    }
+    Ok(text)
+}

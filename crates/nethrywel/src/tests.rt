@@ -1,0 +1,176 @@
+//! Scenarios that are run as tests, and what is told of them.
+use crate::ends::{Stopped, UNWRITTEN, status_of};
+use crate::files::read_list;
+use crate::lists::Told;
+use crate::scenarios::{Unfound, scenarios_at};
+use init_core::{BootFault, MACHINE_A};
+use scenario::{Input, Output};
+use start_review::Review;
+use std::alloc::AllocError;
+use std::io::Write;
+use std::{fs, io};
+use test_report::{Trial, failures, junit_document, machine_beside, tap_plan, tap_point};
+use workbench::{Ending, Play, exit_status, run};
+
+/// The exit status where a scenario isn't answered as it expects.
+const FAILED: u8 = 3;
+
+/// What is asked of tests.
+#[derive(Clone, Copy)]
+pub(crate) struct Wanted<'a> {
+    /// Files, and folders with scenarios.
+    pub(crate) paths: &'a [&'a str],
+    /// The machine of scenarios beside which none stands, in place of the built-in one.
+    pub(crate) machine: Option<&'a str>,
+    /// The file to which the document of all results is written.
+    pub(crate) junit: Option<&'a str>,
+}
+
+/// Runs the scenarios of all paths one after the other, each on a machine of its own: the one that stands beside it, or the one
+/// for the others. Tells a line each, and writes the document where one is asked for. Answers the exit status.
+pub(crate) fn test(rt: &HostRuntime, wanted: &Wanted<'_>) -> u8 {
+    match scenarios_at(rt, wanted.paths) {
+        Ok(scenarios) => match run_all(rt, scenarios.as_slice(), wanted.machine) {
+            Ok(trials) => end(rt, trials.as_slice(), wanted.junit),
+            Err(error) => status_of(rt, Err(error)),
+        },
+        Err(unfound) => unfound.tell(rt),
+    }
+}
+
+// Writes the document where one is asked for, and answers the exit status.
+fn end(rt: &HostRuntime, trials: &[Trial], junit: Option<&str>) -> u8 {
+    if let Some(path) = junit {
+        if write_document(rt, path, trials).is_err() {
+            let _ = eprintln!(rt; "{path}: Write_fault");
+            return UNWRITTEN;
+        }
+    }
+    if failures(trials) > 0 { FAILED } else { 0 }
+}
+
+// Writes the document of these results.
+fn write_document(rt: &HostRuntime, path: &str, trials: &[Trial]) -> io::Result<()> {
+    let document = junit_document(rt.alloc(), trials)?;
+    fs::write(rt, path, document)
+}
+
+// Runs all, and tells a line each.
+fn run_all(
+    rt: &HostRuntime,
+    scenarios: &[String],
+    machine: Option<&str>,
+) -> io::Result<Vec<Trial>> {
+    let alloc = rt.alloc();
+    let mut writer = io::writer(rt);
+    writer.write_all(tap_plan(alloc, scenarios.len())?.as_bytes())?;
+    let mut trials = Vec::new(alloc);
+    for scenario in scenarios {
+        let trial = run_one(rt, scenario.as_str(), machine)?;
+        let point = tap_point(alloc, trials.len().saturating_add(1), &trial)?;
+        writer.write_all(point.as_slice())?;
+        trials.push(trial)?;
+    }
+    Ok(trials)
+}
+
+// Runs a scenario on its machine.
+fn run_one(
+    rt: &HostRuntime,
+    scenario: &str,
+    machine: Option<&str>,
+) -> Result<Trial, AllocError> {
+    let beside = machine_beside(rt.alloc(), scenario)?;
+    let list = match fs::exists(rt, beside.as_str()) {
+        Ok(false) => machine,
+        _ => Some(beside.as_str()),
+    };
+    let Some(path) = list else {
+        return run_on(rt, scenario, MACHINE_A.as_bytes(), None);
+    };
+    match read_list(rt, path) {
+        Ok(text) => run_on(rt, scenario, &text, list),
+        Err(fault) => failed(rt, scenario, format!(in rt.alloc(); "{path}: {fault}\n")?),
+    }
+}
+
+// Runs a scenario on the machine of a text.
+fn run_on(
+    rt: &HostRuntime,
+    scenario: &str,
+    text: &[u8],
+    list: Option<&str>,
+) -> Result<Trial, AllocError> {
+    let alloc = rt.alloc();
+    let Ok(file) = fs::open(rt, scenario) else {
+        return failed(rt, scenario, format!(in alloc; "{scenario}: Unreadable_scenario\n")?);
+    };
+    let play = Play {
+        machine: text,
+        scenario: scenario.as_bytes(),
+    };
+    let mut complaints = Output::new(Vec::new(alloc));
+    let ended = run(
+        alloc,
+        play,
+        None,
+        false,
+        &mut Input::new(file),
+        &mut Output::new(io::sink()),
+        &mut complaints,
+    );
+    let mut told = complaints.into_inner();
+    if let Some(line) = last_line(rt, scenario, text, list, &ended)? {
+        told.extend_from_slice(line.as_bytes())?;
+    }
+    Ok(Trial {
+        path: String::from_str(alloc, scenario)?,
+        passed: exit_status(&ended) == 0,
+        told,
+    })
+}
+
+// What is told of a play that didn't begin or didn't come to its end.
+fn last_line(
+    rt: &HostRuntime,
+    scenario: &str,
+    text: &[u8],
+    list: Option<&str>,
+    ended: &Result<Ending, BootFault>,
+) -> Result<Option<String>, AllocError> {
+    let alloc = rt.alloc();
+    match ended {
+        Ok(ending) => match ending.fault {
+            Some(fault) => {
+                let stopped = Stopped {
+                    scenario,
+                    lines: ending.lines,
+                    fault,
+                };
+                Ok(Some(format!(in alloc; "{stopped}\n")?))
+            }
+            None => Ok(None),
+        },
+        Err(fault) => {
+            if let Some(path) = list {
+                if let Err(fault) = Review::read(alloc, text) {
+                    let told = Told {
+                        path,
+                        fault: &fault,
+                    };
+                    return Ok(Some(format!(in alloc; "{told}\n")?));
+                }
+            }
+            Ok(Some(format!(in alloc; "boot: {fault}\n")?))
+        }
+    }
+}
+
+// A scenario that failed before its first line.
+fn failed(rt: &HostRuntime, scenario: &str, told: String) -> Result<Trial, AllocError> {
+    Ok(Trial {
+        path: String::from_str(rt.alloc(), scenario)?,
+        passed: false,
+        told: told.into_bytes(),
+    })
+}

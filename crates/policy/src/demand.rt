@@ -1,0 +1,82 @@
+//! What a line of a policy demands.
+ghost use Rattle.std.specs.Prelude.{◌≡◌};
+ghost use Rattle.std.specs.List.{list_any};
+ghost use Rattle.policy.specs.Demand.{concerns, is_only, is_script, names, same_number};
+
+use init_core::{Binary, StartList};
+use reach::Label;
+
+/// What is demanded of the wishes of scripts for a server.
+#[derive(Debug, Drop)]
+pub enum Demand {
+    /// No label leads them there.
+    Deny,
+    /// Some label leads them there.
+    Allow,
+    /// This one does.
+    AllowWith(Label),
+    /// No label leads any other script there.
+    Only,
+}
+
+/// A line: its number in the text, from 1 on, what it demands, and the numbers of the scripts and the servers that it names.
+#[derive(Debug, Drop)]
+pub struct Line {
+    /// Its number in the text, from 1 on.
+    pub number: usize,
+    /// What it demands.
+    pub demand: Demand,
+    /// The numbers of the scripts that it names.
+    pub from: Vec<usize>,
+    /// The numbers of the servers that it names.
+    pub to: Vec<usize>,
+}
+
+// Whether a line is about the wishes of a component for a server: `only` is about those of all scripts that it doesn't name.
+pub(crate) fn concerns(list: &StartList, line: &Line, client: usize, server: usize) -> bool
+    ensures { result ≡ concerns list.now line.now.demand line.now.from.items line.now.to.items
+        client server }
+{
+    if !names(line.to.as_slice(), server) {
+        return false;
+    }
+    if is_only(&line.demand) {
+        is_script(list, client) && !names(line.from.as_slice(), client)
+    } else {
+        names(line.from.as_slice(), client)
+    }
+}
+
+// Whether a demand is about all others.
+fn is_only(demand: &Demand) -> bool
+    ensures { result ≡ is_only demand.now }
+{
+    match demand {
+        Demand::Deny | Demand::Allow | Demand::AllowWith(_) => false,
+        Demand::Only => true,
+    }
+}
+
+// Whether a number is one of these.
+fn names(numbers: &[usize], number: usize) -> bool
+    ensures { result ≡ names numbers.now number }
+{
+    numbers.iter().any(|other| same_number(number, *other))
+}
+
+// Whether both are one number.
+fn same_number(one: usize, other: usize) -> bool
+    ensures { result ≡ same_number one other }
+{
+    one == other
+}
+
+// Whether the component of a number is a script.
+fn is_script(list: &StartList, number: usize) -> bool
+    ensures { result ≡ is_script list.now number }
+{
+    match list.entries().get(number) {
+        Some(entry) => entry.binary() == Binary::Script,
+        None => false,
+    }
+}

@@ -1,0 +1,54 @@
+//! Why a text is no policy for a start list.
+use init_core::Path;
+use std::fmt;
+
+/// What is wrong with a line.
+#[derive(Debug, Drop)]
+pub enum Flaw<'a> {
+    /// It doesn't begin with `deny`, `allow` or `only`.
+    NoDemand,
+    /// It has no `->`.
+    NoArrow,
+    /// Something stands behind the paths that doesn't belong there.
+    TooMuch,
+    /// The label can't be given, or isn't between quotes.
+    BadLabel,
+    /// Nobody has this path; somebody has the other one, which is near.
+    Nobody(&'a str, Option<Path>),
+    /// Who has this path is no script.
+    NoScript(&'a str),
+    /// Who has this path is no server that provides its service.
+    NoServer(&'a str),
+    /// The host has no room.
+    NoMemory,
+}
+
+impl fmt::Display for Flaw<'_> {
+    fn fmt<W: fmt::Write>(&self, f: &mut fmt::Formatter<W>) -> fmt::Result {
+        match self {
+            Flaw::NoDemand => f.write_str("a line begins with deny, allow or only"),
+            Flaw::NoArrow => f.write_str("there is no ->"),
+            Flaw::TooMuch => f.write_str(
+                "behind the path may only stand, of allow, with label \"..\"",
+            ),
+            Flaw::BadLabel => f.write_str("this label can't be given"),
+            Flaw::Nobody(path, Some(near)) => write!(
+                f,
+                "nobody is called {path}: did you mean {near}?"
+            ),
+            Flaw::Nobody(path, None) => write!(f, "nobody is called {path}"),
+            Flaw::NoScript(path) => write!(f, "{path} is no script"),
+            Flaw::NoServer(path) => write!(f, "{path} provides no service"),
+            Flaw::NoMemory => f.write_str("no memory"),
+        }
+    }
+}
+
+/// What is wrong with which line.
+#[derive(Debug, Drop)]
+pub struct PolicyFault<'a> {
+    /// The number of the line, from 1 on.
+    pub line: usize,
+    /// What is wrong with it.
+    pub flaw: Flaw<'a>,
+}

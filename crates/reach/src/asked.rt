@@ -1,0 +1,268 @@
+//! What the rules that a client's wishes meet ask of a label that isn't empty.
+ghost use Rattle.std.specs.Prelude.{◌≡◌, ◌+◌, ◌*◌, ◌≤◌, ◌++◌, [], ◌∷◌, length, drop, if◌then◌else◌, nat_eq, Some, None, IfOk, OnOk};
+ghost use Rattle.std.specs.Option.{option_copied};
+ghost use Rattle.std.specs.List.{list_all, starts_with, ends_with};
+ghost use Rattle.own_model.specs.Routes.{as_asked};
+ghost use Rattle.reach.specs.Asked.{agrees, agrees_within, asked_by, asked_of, asked_of_rule, asked_texts, asked_within, asks_nothing, behind, is_open, rule_agrees, text_of};
+
+use crate::key::{MOST_LISTS, asks_service, init_entry, rules_of};
+use crate::label::{Label, behind};
+use crate::wishes::Wishes;
+use init_core::{Entry, Rule, StartList};
+use std::alloc::{AllocError, Global};
+use std::marker::Model;
+
+/// How a label has to begin and to end.
+#[derive(Drop)]
+pub(crate) struct Asked {
+    pub(crate) front: Label,
+    pub(crate) end: Label,
+}
+
+impl Model for Asked {
+    ghost use Rattle.reach.specs.Asked.{AskedLabel};
+
+    ghost Value = { AskedLabel };
+
+    ghost view = { λ asked. record {
+      front = asked.front;
+      end = asked.end;
+    } };
+}
+
+/// What the rules ask that match a label by how it begins and ends, and first of all nothing.
+#[tactic(auto, unfolding(crate::specs::Asked::asked_of))]
+pub(crate) fn asked_of(alloc: Global, wishes: Wishes<'_>) -> Result<Vec<Asked>, AllocError>
+    ensures { IfOk result (λ asked. asked.items
+        ≡ asked_of wishes.entry.list.now wishes.entry.client wishes.entry.service.now) }
+{
+    let mut asked = Vec::new(alloc);
+    asked.push(Asked {
+        front: Label::empty(),
+        end: Label::empty(),
+    })?;
+    if let Some(entry) = wishes.list.entries().get(wishes.client) {
+        add_asked(
+            &mut asked,
+            wishes.list,
+            MOST_LISTS,
+            entry,
+            wishes.service,
+            &[],
+        )?;
+    }
+    Ok(asked)
+}
+
+// What the rules for an entry ask and, through so many lists outward at most, those for the inits around it.
+fn add_asked(
+    asked: &mut Vec<Asked>,
+    list: &StartList,
+    lists: usize,
+    entry: &Entry,
+    service: &[u8],
+    before: &[u8],
+) -> Result<(), AllocError>
+    requires before { length before.now + lists * 36 ≤ 208 }
+    ensures { OnOk result (asked.new.items
+        ≡ asked.old.items ++ asked_within lists list.now entry.now service.now before.now) }
+{
+    if lists == 0 {
+        return Ok(());
+    }
+    add_by(asked, rules_of(list, entry), service, before.len())?;
+    match init_entry(list, entry.home()) {
+        Some(init) => {
+            let outer = behind(entry.name(), before);
+            add_asked(asked, list, lists - 1, init, service, outer.as_slice())
+        }
+        None => Ok(()),
+    }
+}
+
+// What the rules of a list ask of a label behind so many bytes.
+fn add_by(
+    asked: &mut Vec<Asked>,
+    rules: &[Rule],
+    service: &[u8],
+    before: usize,
+) -> Result<(), AllocError>
+    ensures { OnOk result (asked.new.items
+        ≡ asked.old.items ++ asked_by service.now before rules.now) }
+{
+    for rule in rules {
+        add_rule(asked, rule, service, before)?;
+    }
+    Ok(())
+}
+
+// What a rule asks of a label behind so many bytes.
+fn add_rule(
+    asked: &mut Vec<Asked>,
+    rule: &Rule,
+    service: &[u8],
+    before: usize,
+) -> Result<(), AllocError>
+    ensures { OnOk result (asked.new.items
+        ≡ asked.old.items ++ asked_of_rule service.now before rule.now) }
+{
+    if asks_service(rule, service) && asks_nothing(rule.label()) {
+        let front = text_of(rule.label_prefix());
+        let end = text_of(rule.label_suffix());
+        return add_texts(asked, text_behind(front, before), end);
+    }
+    Ok(())
+}
+
+// Both texts, where a given label can begin and end so.
+fn add_texts(asked: &mut Vec<Asked>, front: &[u8], end: &[u8]) -> Result<(), AllocError>
+    ensures { OnOk result (asked.new.items
+        ≡ asked.old.items ++ asked_texts front.now end.now) }
+{
+    if let (Some(front), Some(end)) = (Label::read(front), Label::read(end)) {
+        asked.push(Asked { front, end })?;
+    }
+    Ok(())
+}
+
+// Whether no text is asked.
+fn asks_nothing(asked: Option<&str>) -> bool
+    ensures { result ≡ asks_nothing (option_copied asked.entry) }
+{
+    match asked {
+        Some(_) => false,
+        None => true,
+    }
+}
+
+// The text that is asked, or the empty one.
+fn text_of(asked: Option<&str>) -> &[u8]
+    ensures { result.now ≡ text_of (option_copied asked.entry) }
+{
+    match asked {
+        Some(asked) => asked.as_bytes(),
+        None => &[],
+    }
+}
+
+/// What stands behind so many bytes of a text.
+pub(crate) fn text_behind(text: &[u8], before: usize) -> &[u8]
+    ensures { result.now ≡ drop before text.now }
+{
+    if before < text.len() {
+        &text[before..]
+    } else {
+        &[]
+    }
+}
+
+/// Whether each rule that is met matches a label exactly where it is open to all long enough labels that begin and end so.
+#[tactic(auto, unfolding(crate::specs::Asked::agrees))]
+pub(crate) fn agrees(wishes: Wishes<'_>, front: &[u8], label: &[u8], end: &[u8]) -> bool
+    requires front { length front.now ≤ 64 }
+    requires label { length label.now ≤ 64 }
+    ensures { result ≡ agrees wishes.entry.list.now wishes.entry.client wishes.entry.service.now
+        front.now label.now end.now }
+{
+    match wishes.list.entries().get(wishes.client) {
+        Some(entry) => agrees_within(
+            wishes.list,
+            MOST_LISTS,
+            entry,
+            wishes.service,
+            front,
+            label,
+            end,
+        ),
+        None => true,
+    }
+}
+
+// The same of the rules for an entry and, through so many lists outward at most, of those for the inits around it.
+fn agrees_within(
+    list: &StartList,
+    lists: usize,
+    entry: &Entry,
+    service: &[u8],
+    opened: &[u8],
+    seen: &[u8],
+    end: &[u8],
+) -> bool
+    requires opened { length opened.now + lists * 36 ≤ 208 }
+    requires seen { length seen.now + lists * 36 ≤ 208 }
+    ensures { result ≡ agrees_within lists list.now entry.now service.now
+        opened.now seen.now end.now }
+{
+    if lists == 0 {
+        return true;
+    }
+    if !agrees_by(rules_of(list, entry), service, opened, seen, end) {
+        return false;
+    }
+    match init_entry(list, entry.home()) {
+        Some(init) => {
+            let opened = behind(entry.name(), opened);
+            let seen = behind(entry.name(), seen);
+            agrees_within(
+                list,
+                lists - 1,
+                init,
+                service,
+                opened.as_slice(),
+                seen.as_slice(),
+                end,
+            )
+        }
+        None => true,
+    }
+}
+
+// The same of the rules of a list.
+fn agrees_by(rules: &[Rule], service: &[u8], opened: &[u8], seen: &[u8], end: &[u8]) -> bool
+    ensures { result ≡ list_all (rule_agrees service.now opened.now seen.now end.now) rules.now }
+{
+    rules
+        .iter()
+        .all(|rule| rule_agrees(rule, service, opened, seen, end))
+}
+
+// The same of a rule.
+fn rule_agrees(rule: &Rule, service: &[u8], opened: &[u8], seen: &[u8], end: &[u8]) -> bool
+    ensures { result ≡ rule_agrees service.now opened.now seen.now end.now rule.now }
+{
+    if rule.matches(service, seen) {
+        is_open(rule, service, opened, end)
+    } else {
+        !is_open(rule, service, opened, end)
+    }
+}
+
+// Whether a rule matches each long enough label that begins and ends so.
+fn is_open(rule: &Rule, service: &[u8], opened: &[u8], end: &[u8]) -> bool
+    ensures { result ≡ is_open rule.now service.now opened.now end.now }
+{
+    asks_service(rule, service)
+        && asks_nothing(rule.label())
+        && begins_with(rule.label_prefix(), opened)
+        && ends_with(rule.label_suffix(), end)
+}
+
+// Whether a text begins as asked.
+fn begins_with(asked: Option<&str>, text: &[u8]) -> bool
+    ensures { result ≡ as_asked (starts_with nat_eq text.now) (option_copied asked.entry) }
+{
+    match asked {
+        Some(asked) => text.starts_with(asked.as_bytes()),
+        None => true,
+    }
+}
+
+// Whether a text ends as asked.
+fn ends_with(asked: Option<&str>, text: &[u8]) -> bool
+    ensures { result ≡ as_asked (ends_with nat_eq text.now) (option_copied asked.entry) }
+{
+    match asked {
+        Some(asked) => text.ends_with(asked.as_bytes()),
+        None => true,
+    }
+}

@@ -1,0 +1,475 @@
+//! A few labels that stand for all that can be given: those that rules know by themselves, and those that begin as one rule asks
+//! and end as another, with nothing or one byte between.
+ghost use Rattle.std.specs.Prelude.{◌≡◌, ◌+◌, ◌*◌, ◌≤◌, ◌<◌, ◌++◌, ◌∷◌, true, List, ℕ, length, All, IfOk, IfNone, IfSome, OnOk};
+ghost use Rattle.std.specs.List.{list_any};
+ghost use Rattle.std.specs.Option.{option_copied};
+ghost use Rattle.reach.specs.Reach.{IsGiven};
+ghost use Rattle.reach.specs.Ways.{AreWays, IsTold};
+ghost use Rattle.reach.specs.Asked.{Adds, IsCut, AreJoined, AreOffered, IsFilled, IsHeld, IsOffered, behind, is_known, is_tail, is_whole, joins, known, known_within, leads_as_short, same_child};
+
+use crate::asked::{Asked, agrees, asked_of, text_behind};
+use crate::closure::Kept;
+use crate::key::{MOST_LISTS, client_entry, init_entry, rules_of};
+use crate::label::{LONGEST_GIVEN, Label, behind};
+use crate::wishes::Wishes;
+use arrayvec::ArrayVec;
+use init_core::{Entry, Rule, route};
+use std::alloc::{AllocError, Global};
+
+/// Labels that stand for all that can be given; none where no byte can stand between two texts for all that can.
+pub(crate) fn few_labels(alloc: Global, wishes: Wishes<'_>) -> Result<Option<Vec<Kept>>, AllocError>
+    requires client { wishes.client < length wishes.list.now.entries }
+    ensures { IfOk result (λ found. IfSome found (λ kept.
+        AreWays wishes.entry.list.now wishes.entry.client wishes.entry.service.now kept.items)) }
+{
+    let mut kept = Vec::new(alloc);
+    offer_known(alloc, &mut kept, wishes)?;
+    let asked = asked_of(alloc, wishes)?;
+    if offer_all(alloc, &mut kept, wishes, asked.as_slice())? {
+        Ok(Some(kept))
+    } else {
+        Ok(None)
+    }
+}
+
+// Keeps a label, if it can be given, unless one that is no longer leads there.
+fn offer(
+    alloc: Global,
+    kept: &mut Vec<Kept>,
+    wishes: Wishes<'_>,
+    text: &[u8],
+) -> Result<(), AllocError>
+    requires client { wishes.client < length wishes.list.now.entries }
+    requires told { All (IsTold wishes.list.now wishes.client wishes.service.now) kept.old.items }
+    ensures adds { OnOk result (Adds wishes.entry.list.now wishes.entry.client
+        wishes.entry.service.now kept.old.items kept.new.items) }
+    ensures held { OnOk result (IsGiven text.now → IsHeld wishes.entry.list.now wishes.entry.client
+        wishes.entry.service.now kept.new.items text.now) }
+{
+    let Some(label) = Label::read(text) else {
+        return Ok(());
+    };
+    let child = route(wishes.list, wishes.client, wishes.service, label.as_bytes());
+    if is_held(kept, child, label.as_bytes().len()) {
+        return Ok(());
+    }
+    let key = Vec::new(alloc);
+    kept.push(Kept { label, key, child })?;
+    Ok(())
+}
+
+// Whether a label of at most so many bytes is kept that leads there.
+fn is_held(kept: &[Kept], child: Option<usize>, most: usize) -> bool
+    ensures { result ≡ list_any (leads_as_short child most) kept.now }
+{
+    kept.iter().any(|one| leads_as_short(one, child, most))
+}
+
+// Whether it is one of at most so many bytes that leads there.
+fn leads_as_short(one: &Kept, child: Option<usize>, most: usize) -> bool
+    ensures { result ≡ leads_as_short child most one.now }
+{
+    one.label.as_bytes().len() <= most && same_child(one.child, child)
+}
+
+// Whether both are the same component, or none.
+fn same_child(one: Option<usize>, other: Option<usize>) -> bool
+    ensures { result ≡ same_child one other }
+{
+    match (one, other) {
+        (Some(one), Some(other)) => one == other,
+        (None, None) => true,
+        _ => false,
+    }
+}
+
+// Keeps labels for those that rules know by themselves.
+fn offer_known(alloc: Global, kept: &mut Vec<Kept>, wishes: Wishes<'_>) -> Result<(), AllocError>
+    requires client { wishes.client < length wishes.list.now.entries }
+    requires told { All (IsTold wishes.list.now wishes.client wishes.service.now) kept.old.items }
+    ensures adds { OnOk result (Adds wishes.entry.list.now wishes.entry.client
+        wishes.entry.service.now kept.old.items kept.new.items) }
+    ensures held { OnOk result ((label : List ℕ) → IsGiven label
+        → known wishes.entry.list.now wishes.entry.client label ≡ true
+        → IsHeld wishes.entry.list.now wishes.entry.client wishes.entry.service.now
+        kept.new.items label) }
+{
+    match client_entry(wishes) {
+        Some(entry) => offer_known_within(alloc, kept, wishes, MOST_LISTS, entry, &[]),
+        None => Ok(()),
+    }
+}
+
+// The same of the rules for an entry and, through so many lists outward at most, of those for the inits around it.
+fn offer_known_within(
+    alloc: Global,
+    kept: &mut Vec<Kept>,
+    wishes: Wishes<'_>,
+    lists: usize,
+    entry: &Entry,
+    before: &[u8],
+) -> Result<(), AllocError>
+    requires client { wishes.client < length wishes.list.now.entries }
+    requires told { All (IsTold wishes.list.now wishes.client wishes.service.now) kept.old.items }
+    requires before { length before.now + lists * 36 ≤ 208 }
+    ensures adds { OnOk result (Adds wishes.entry.list.now wishes.entry.client
+        wishes.entry.service.now kept.old.items kept.new.items) }
+    ensures held { OnOk result ((label : List ℕ) → IsGiven label
+        → known_within lists wishes.entry.list.now entry.now before.now label ≡ true
+        → IsHeld wishes.entry.list.now wishes.entry.client wishes.entry.service.now
+        kept.new.items label) }
+{
+    if lists == 0 {
+        return Ok(());
+    }
+    offer_known_by(alloc, kept, wishes, rules_of(wishes.list, entry), before)?;
+    match init_entry(wishes.list, entry.home()) {
+        Some(init) => {
+            let outer = behind(entry.name(), before);
+            offer_known_within(alloc, kept, wishes, lists - 1, init, outer.as_slice())
+        }
+        None => Ok(()),
+    }
+}
+
+// The same of the rules of a list.
+fn offer_known_by(
+    alloc: Global,
+    kept: &mut Vec<Kept>,
+    wishes: Wishes<'_>,
+    rules: &[Rule],
+    before: &[u8],
+) -> Result<(), AllocError>
+    requires client { wishes.client < length wishes.list.now.entries }
+    requires told { All (IsTold wishes.list.now wishes.client wishes.service.now) kept.old.items }
+    ensures adds { OnOk result (Adds wishes.entry.list.now wishes.entry.client
+        wishes.entry.service.now kept.old.items kept.new.items) }
+    ensures held { OnOk result ((label : List ℕ) → IsGiven label
+        → list_any (is_known before.now label) rules.now ≡ true
+        → IsHeld wishes.entry.list.now wishes.entry.client wishes.entry.service.now
+        kept.new.items label) }
+{
+    for place in 0..rules.len() {
+        offer_known_of(alloc, kept, wishes, &rules[place], before)?;
+    }
+    Ok(())
+}
+
+// The same of a rule.
+fn offer_known_of(
+    alloc: Global,
+    kept: &mut Vec<Kept>,
+    wishes: Wishes<'_>,
+    rule: &Rule,
+    before: &[u8],
+) -> Result<(), AllocError>
+    requires client { wishes.client < length wishes.list.now.entries }
+    requires told { All (IsTold wishes.list.now wishes.client wishes.service.now) kept.old.items }
+    ensures adds { OnOk result (Adds wishes.entry.list.now wishes.entry.client
+        wishes.entry.service.now kept.old.items kept.new.items) }
+    ensures held { OnOk result ((label : List ℕ) → IsGiven label
+        → is_known before.now label rule.now ≡ true
+        → IsHeld wishes.entry.list.now wishes.entry.client wishes.entry.service.now
+        kept.new.items label) }
+{
+    offer_whole(alloc, kept, wishes, rule.label(), before)?;
+    offer_tails(alloc, kept, wishes, rule.label_suffix(), before)
+}
+
+// The same of a whole label that is asked.
+fn offer_whole(
+    alloc: Global,
+    kept: &mut Vec<Kept>,
+    wishes: Wishes<'_>,
+    asked: Option<&str>,
+    before: &[u8],
+) -> Result<(), AllocError>
+    requires client { wishes.client < length wishes.list.now.entries }
+    requires told { All (IsTold wishes.list.now wishes.client wishes.service.now) kept.old.items }
+    ensures adds { OnOk result (Adds wishes.entry.list.now wishes.entry.client
+        wishes.entry.service.now kept.old.items kept.new.items) }
+    ensures held { OnOk result ((label : List ℕ) → IsGiven label
+        → is_whole before.now label (option_copied asked.entry) ≡ true
+        → IsHeld wishes.entry.list.now wishes.entry.client wishes.entry.service.now
+        kept.new.items label) }
+{
+    match asked {
+        Some(asked) => {
+            let rest = text_behind(asked.as_bytes(), before.len());
+            offer(alloc, kept, wishes, rest)
+        }
+        None => Ok(()),
+    }
+}
+
+// The same of an end that is asked.
+fn offer_tails(
+    alloc: Global,
+    kept: &mut Vec<Kept>,
+    wishes: Wishes<'_>,
+    asked: Option<&str>,
+    before: &[u8],
+) -> Result<(), AllocError>
+    requires client { wishes.client < length wishes.list.now.entries }
+    requires told { All (IsTold wishes.list.now wishes.client wishes.service.now) kept.old.items }
+    ensures adds { OnOk result (Adds wishes.entry.list.now wishes.entry.client
+        wishes.entry.service.now kept.old.items kept.new.items) }
+    ensures held { OnOk result ((label : List ℕ) → IsGiven label
+        → is_tail before.now label (option_copied asked.entry) ≡ true
+        → IsHeld wishes.entry.list.now wishes.entry.client wishes.entry.service.now
+        kept.new.items label) }
+{
+    match asked {
+        Some(asked) => offer_joined(alloc, kept, wishes, before, &[], asked.as_bytes()),
+        None => Ok(()),
+    }
+}
+
+// Keeps labels for those of a front and an end of another text, the rest of which is an end of what stands before.
+fn offer_joined(
+    alloc: Global,
+    kept: &mut Vec<Kept>,
+    wishes: Wishes<'_>,
+    before: &[u8],
+    front: &[u8],
+    end: &[u8],
+) -> Result<(), AllocError>
+    requires client { wishes.client < length wishes.list.now.entries }
+    requires told { All (IsTold wishes.list.now wishes.client wishes.service.now) kept.old.items }
+    ensures adds { OnOk result (Adds wishes.entry.list.now wishes.entry.client
+        wishes.entry.service.now kept.old.items kept.new.items) }
+    ensures joined { OnOk result (AreJoined wishes.entry.list.now wishes.entry.client
+        wishes.entry.service.now before.now front.now end.now kept.new.items) }
+{
+    for cut in 0..end.len() {
+        offer_cut(alloc, kept, wishes, before, front, end, cut)?;
+    }
+    offer_cut(alloc, kept, wishes, before, front, end, end.len())
+}
+
+// The same of the end behind so many bytes.
+fn offer_cut(
+    alloc: Global,
+    kept: &mut Vec<Kept>,
+    wishes: Wishes<'_>,
+    before: &[u8],
+    front: &[u8],
+    end: &[u8],
+    cut: usize,
+) -> Result<(), AllocError>
+    requires client { wishes.client < length wishes.list.now.entries }
+    requires told { All (IsTold wishes.list.now wishes.client wishes.service.now) kept.old.items }
+    requires cut { cut ≤ length end.now }
+    ensures adds { OnOk result (Adds wishes.entry.list.now wishes.entry.client
+        wishes.entry.service.now kept.old.items kept.new.items) }
+    ensures held { OnOk result (IsCut wishes.entry.list.now wishes.entry.client
+        wishes.entry.service.now before.now front.now end.now cut kept.new.items) }
+{
+    if before.ends_with(&end[..cut]) {
+        offer_both(alloc, kept, wishes, front, &end[cut..])
+    } else {
+        Ok(())
+    }
+}
+
+// Keeps a label of two parts, if it can be given.
+fn offer_both(
+    alloc: Global,
+    kept: &mut Vec<Kept>,
+    wishes: Wishes<'_>,
+    front: &[u8],
+    rest: &[u8],
+) -> Result<(), AllocError>
+    requires client { wishes.client < length wishes.list.now.entries }
+    requires told { All (IsTold wishes.list.now wishes.client wishes.service.now) kept.old.items }
+    ensures adds { OnOk result (Adds wishes.entry.list.now wishes.entry.client
+        wishes.entry.service.now kept.old.items kept.new.items) }
+    ensures held { OnOk result (IsGiven (front.now ++ rest.now)
+        → IsHeld wishes.entry.list.now wishes.entry.client wishes.entry.service.now
+        kept.new.items (front.now ++ rest.now)) }
+{
+    match joined(front, rest) {
+        Some(text) => offer(alloc, kept, wishes, text.as_slice()),
+        None => Ok(()),
+    }
+}
+
+// Both parts, unless they are too long for a label.
+fn joined(front: &[u8], rest: &[u8]) -> Option<ArrayVec<u8, LONGEST_GIVEN>>
+    ensures short { IfSome result (λ text. text.items ≡ front.now ++ rest.now) }
+    ensures long { IfNone result (64 < length (front.now ++ rest.now)) }
+{
+    let mut text = ArrayVec::<u8, LONGEST_GIVEN>::new();
+    text.try_extend_from_slice(front).ok()?;
+    text.try_extend_from_slice(rest).ok()?;
+    Some(text)
+}
+
+// Keeps labels for all that begin as one rule asks and end as another, of each two whose texts go together. Answers whether it
+// could.
+fn offer_all(
+    alloc: Global,
+    kept: &mut Vec<Kept>,
+    wishes: Wishes<'_>,
+    asked: &[Asked],
+) -> Result<bool, AllocError>
+    requires client { wishes.client < length wishes.list.now.entries }
+    requires told { All (IsTold wishes.list.now wishes.client wishes.service.now) kept.old.items }
+    ensures adds { IfOk result (λ done. Adds wishes.entry.list.now wishes.entry.client
+        wishes.entry.service.now kept.old.items kept.new.items) }
+    ensures offered { IfOk result (λ done. done ≡ true → All (λ first.
+        All (IsOffered wishes.entry.list.now wishes.entry.client wishes.entry.service.now
+        kept.new.items first) asked.now) asked.now) }
+{
+    for place in 0..asked.len() {
+        if !offer_first(alloc, kept, wishes, &asked[place], asked)? {
+            return Ok(false);
+        }
+    }
+    Ok(true)
+}
+
+// The same of one with all others.
+fn offer_first(
+    alloc: Global,
+    kept: &mut Vec<Kept>,
+    wishes: Wishes<'_>,
+    first: &Asked,
+    asked: &[Asked],
+) -> Result<bool, AllocError>
+    requires client { wishes.client < length wishes.list.now.entries }
+    requires told { All (IsTold wishes.list.now wishes.client wishes.service.now) kept.old.items }
+    ensures adds { IfOk result (λ done. Adds wishes.entry.list.now wishes.entry.client
+        wishes.entry.service.now kept.old.items kept.new.items) }
+    ensures offered { IfOk result (λ done. done ≡ true → All (IsOffered wishes.entry.list.now
+        wishes.entry.client wishes.entry.service.now kept.new.items first.now) asked.now) }
+{
+    for place in 0..asked.len() {
+        if !offer_if(alloc, kept, wishes, first, &asked[place])? {
+            return Ok(false);
+        }
+    }
+    Ok(true)
+}
+
+// The same of two, if they go together.
+fn offer_if(
+    alloc: Global,
+    kept: &mut Vec<Kept>,
+    wishes: Wishes<'_>,
+    first: &Asked,
+    last: &Asked,
+) -> Result<bool, AllocError>
+    requires client { wishes.client < length wishes.list.now.entries }
+    requires told { All (IsTold wishes.list.now wishes.client wishes.service.now) kept.old.items }
+    ensures adds { IfOk result (λ done. Adds wishes.entry.list.now wishes.entry.client
+        wishes.entry.service.now kept.old.items kept.new.items) }
+    ensures offered { IfOk result (λ done. done ≡ true → IsOffered wishes.entry.list.now
+        wishes.entry.client wishes.entry.service.now kept.new.items first.now last.now) }
+{
+    if joins(first, last) {
+        offer_between(
+            alloc,
+            kept,
+            wishes,
+            first.front.as_bytes(),
+            last.end.as_bytes(),
+        )
+    } else {
+        Ok(true)
+    }
+}
+
+// Whether the rule of the one can match where that of the other does.
+fn joins(first: &Asked, last: &Asked) -> bool
+    ensures { result ≡ joins first.now last.now }
+{
+    first.front.as_bytes().starts_with(last.front.as_bytes())
+        && last.end.as_bytes().ends_with(first.end.as_bytes())
+}
+
+// Keeps labels for all that begin and end so. Answers whether it could.
+fn offer_between(
+    alloc: Global,
+    kept: &mut Vec<Kept>,
+    wishes: Wishes<'_>,
+    front: &[u8],
+    end: &[u8],
+) -> Result<bool, AllocError>
+    requires client { wishes.client < length wishes.list.now.entries }
+    requires told { All (IsTold wishes.list.now wishes.client wishes.service.now) kept.old.items }
+    requires front { length front.now ≤ 64 }
+    requires end { length end.now ≤ 64 }
+    ensures adds { IfOk result (λ done. Adds wishes.entry.list.now wishes.entry.client
+        wishes.entry.service.now kept.old.items kept.new.items) }
+    ensures offered { IfOk result (λ done. done ≡ true → AreOffered wishes.entry.list.now
+        wishes.entry.client wishes.entry.service.now front.now end.now kept.new.items) }
+{
+    offer_joined(alloc, kept, wishes, front, front, end)?;
+    if front.len() + end.len() >= LONGEST_GIVEN {
+        return Ok(true);
+    }
+    match filled(wishes, front, end) {
+        Some(label) => {
+            offer(alloc, kept, wishes, label.as_bytes())?;
+            Ok(true)
+        }
+        None => Ok(false),
+    }
+}
+
+// A label that stands for all that begin and end so with something between: with a small letter if it can be, with a space last.
+fn filled(wishes: Wishes<'_>, front: &[u8], end: &[u8]) -> Option<Label>
+    requires room { length front.now + length end.now < 64 }
+    ensures { IfSome result (IsFilled wishes.entry.list.now wishes.entry.client
+        wishes.entry.service.now front.now end.now) }
+{
+    if let Some(label) = filled_by(wishes, front, end, b'a', 127) {
+        return Some(label);
+    }
+    if let Some(label) = filled_by(wishes, front, end, b'!', b'a') {
+        return Some(label);
+    }
+    filled_by(wishes, front, end, b' ', b'!')
+}
+
+// The same with a byte of a range.
+fn filled_by(wishes: Wishes<'_>, front: &[u8], end: &[u8], from: u8, until: u8) -> Option<Label>
+    requires room { length front.now + length end.now < 64 }
+    ensures { IfSome result (IsFilled wishes.entry.list.now wishes.entry.client
+        wishes.entry.service.now front.now end.now) }
+{
+    for byte in from..until {
+        if let Some(label) = filled_with(wishes, front, end, byte) {
+            return Some(label);
+        }
+    }
+    None
+}
+
+// The same with a byte.
+fn filled_with(wishes: Wishes<'_>, front: &[u8], end: &[u8], byte: u8) -> Option<Label>
+    requires room { length front.now + length end.now < 64 }
+    ensures { IfSome result (IsFilled wishes.entry.list.now wishes.entry.client
+        wishes.entry.service.now front.now end.now) }
+{
+    let text = with_between(front, byte, end);
+    let label = Label::read(text.as_slice())?;
+    if agrees(wishes, front, label.as_bytes(), end) {
+        Some(label)
+    } else {
+        None
+    }
+}
+
+// A front, a byte, and an end.
+fn with_between(front: &[u8], byte: u8, end: &[u8]) -> ArrayVec<u8, LONGEST_GIVEN>
+    requires room { length front.now + length end.now < 64 }
+    ensures { result.items ≡ front.now ++ byte ∷ end.now }
+{
+    let mut text = ArrayVec::<u8, LONGEST_GIVEN>::new();
+    let _ = text.try_extend_from_slice(front);
+    text.push(byte);
+    let _ = text.try_extend_from_slice(end);
+    text
+}

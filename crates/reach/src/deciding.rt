@@ -1,0 +1,174 @@
+//! Which rules decide a client's wishes for a service, list by list outward, for every label that can be given.
+ghost use Rattle.std.specs.Prelude.{◌≡◌, ◌<◌, length, All, IfOk, OnOk};
+ghost use Rattle.std.specs.List.{list_any};
+ghost use Rattle.reach.specs.Deciding.{AreTrails, IsTrail, KeepsTrail, is_same, same_child, trail_of};
+ghost use Rattle.reach.specs.Ways.{IsTold};
+
+use crate::closure::{Kept, labels};
+use crate::course::Course;
+use crate::label::Label;
+use crate::wishes::Wishes;
+use std::alloc::{AllocError, Global};
+use std::marker::Model;
+
+/// Rules that decide wishes of a client, list by list outward, with a label of such a wish.
+#[derive(Debug, Drop)]
+pub struct Trail {
+    label: Label,
+    rules: Vec<usize>,
+    child: Option<usize>,
+}
+
+impl Model for Trail {
+    ghost use Rattle.reach.specs.Deciding.{TrailAt};
+
+    ghost Value = { TrailAt };
+
+    ghost view = { λ trail. record {
+      label = trail.label;
+      rules = trail.rules.items;
+      child = trail.child;
+    } };
+}
+
+impl Trail {
+    /// The label.
+    pub fn label(&self) -> &Label
+        ensures { result.now ≡ self.now.label }
+    {
+        &self.label
+    }
+
+    /// The rules' places, list by list; where the last of them leads outward to a list of which no rule matches, that has no
+    /// place here.
+    pub fn rules(&self) -> &[usize]
+        ensures { result.now ≡ self.now.rules }
+    {
+        self.rules.as_slice()
+    }
+
+    /// The number of the component to which they lead, if they lead to one.
+    pub fn child(&self) -> Option<usize>
+        ensures { result ≡ self.now.child }
+    {
+        self.child
+    }
+}
+
+/// How the wishes of a client for a service are decided, for every label that can be given.
+#[derive(Debug, Drop)]
+pub struct Trails {
+    trails: Vec<Trail>,
+}
+
+impl Model for Trails {
+    ghost use Rattle.std.specs.Prelude.{List};
+    ghost use Rattle.reach.specs.Deciding.{TrailAt};
+
+    ghost Value = { List TrailAt };
+
+    ghost view = { λ trails. trails.trails.items };
+}
+
+impl Trails {
+    /// How wishes are decided. An error is want of memory.
+    #[tactic(auto, using(crate::proofs::TrailLemmas::seen_none, crate::proofs::TrailLemmas::seen_more, crate::proofs::TrailLemmas::told_at, crate::proofs::TrailLemmas::trails_of))]
+    pub fn of(alloc: Global, wishes: Wishes<'_>) -> Result<Trails, AllocError>
+        requires client { wishes.client < length wishes.list.now.entries }
+        ensures { IfOk result (λ trails.
+            AreTrails wishes.entry.list.now wishes.entry.client wishes.entry.service.now trails) }
+    {
+        let kept = labels(alloc, wishes)?;
+        let mut trails = Vec::new(alloc);
+        for place in 0..kept.len() {
+            let one = &kept[place];
+            keep(alloc, &mut trails, wishes, one)?;
+        }
+        Ok(Trails { trails })
+    }
+
+    /// The trails, each once.
+    pub fn as_slice(&self) -> &[Trail]
+        ensures { result.now ≡ self.now }
+    {
+        self.trails.as_slice()
+    }
+}
+
+// Keeps the trail of a label, unless it is there with one that is no longer.
+#[tactic(auto, using(crate::proofs::TrailLemmas::keeps_known, crate::proofs::TrailLemmas::keeps_new))]
+fn keep(
+    alloc: Global,
+    trails: &mut Vec<Trail>,
+    wishes: Wishes<'_>,
+    one: &Kept,
+) -> Result<(), AllocError>
+    requires client { wishes.client < length wishes.list.now.entries }
+    requires told { IsTold wishes.list.now wishes.client wishes.service.now one.now }
+    requires trails { All (IsTrail wishes.list.now wishes.client wishes.service.now) trails.old.items }
+    ensures { OnOk result (KeepsTrail wishes.entry.list.now wishes.entry.client wishes.entry.service.now
+        one.now.label trails.old.items trails.new.items) }
+{
+    let rules = rules_for(alloc, wishes, &one.label)?;
+    if is_known(trails, &one.label, rules.as_slice(), one.child) {
+        return Ok(());
+    }
+    trails.push(Trail {
+        label: one.label.copy(),
+        rules,
+        child: one.child,
+    })?;
+    Ok(())
+}
+
+// The places of the rules that decide a label's wish.
+#[tactic(auto, unfolding(crate::specs::Deciding::trail_of))]
+fn rules_for(alloc: Global, wishes: Wishes<'_>, label: &Label) -> Result<Vec<usize>, AllocError>
+    requires client { wishes.client < length wishes.list.now.entries }
+    ensures { IfOk result (λ rules. rules.items
+        ≡ trail_of wishes.entry.list.now wishes.entry.client wishes.entry.service.now label.now) }
+{
+    let course = Course::of(
+        alloc,
+        wishes.list,
+        wishes.client,
+        wishes.service,
+        label.as_bytes(),
+    )?;
+    let mut rules = Vec::new(alloc);
+    for hop in course.hops() {
+        if let Some(place) = hop.rule() {
+            rules.push(place)?;
+        }
+    }
+    Ok(rules)
+}
+
+// Whether a trail of these rules is there, with a label that is no longer.
+fn is_known(trails: &[Trail], label: &Label, rules: &[usize], child: Option<usize>) -> bool
+    ensures { result ≡ list_any (is_same label.now rules.now child) trails.now }
+{
+    trails
+        .iter()
+        .any(|trail| is_same(label, rules, child, trail))
+}
+
+// Whether a trail is of these rules, with a label that is no longer.
+fn is_same(label: &Label, rules: &[usize], child: Option<usize>, trail: &Trail) -> bool
+    ensures { result ≡ is_same label.now rules.now child trail.now }
+{
+    trail.rules.as_slice() == rules
+        && same_child(trail.child, child)
+        && trail.label.as_bytes().len() <= label.as_bytes().len()
+}
+
+// Whether two ends are the same.
+fn same_child(child: Option<usize>, other: Option<usize>) -> bool
+    ensures { result ≡ same_child child other }
+{
+    match (child, other) {
+        (None, None) => true,
+        (Some(child), Some(other)) => child == other,
+        _ => false,
+    }
+}

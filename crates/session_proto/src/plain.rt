@@ -1,0 +1,142 @@
+//! Pairs as they are mostly written: a key that is known, an equals sign and a value, with one space before them at most. Each is
+//! read in one pass. Any other text is read piece by piece.
+ghost use Rattle.std.specs.Prelude.{◌≡◌, ◌<◌, ◌≤◌, ◌++◌, ◌∷◌, length, take, position, not, true, IfSome};
+ghost use Rattle.std.specs.Option.{option_copied};
+ghost use Rattle.std.specs.List.{list_all};
+ghost use Rattle.own_model.specs.Text.{is_name_byte};
+ghost use Rattle.own_model.specs.SessionArgs.{is_bare, is_quotable};
+ghost use Rattle.session_proto.specs.Pairs.{BeginsWith};
+ghost use Rattle.session_proto.specs.Pieces.{behind_comma};
+ghost use Rattle.session_proto.specs.View.{plain_pair};
+
+use text_codec::{is_name_byte, is_quotable};
+
+/// A pair of a key that is known, by the text of its value.
+#[derive(Clone, Copy)]
+pub(crate) enum PlainPair<'a> {
+    /// Of `ram_quota`, as it stands.
+    Ram(&'a [u8]),
+    /// Of `cap_quota`, as it stands.
+    Caps(&'a [u8]),
+    /// Of `label`, what stands between the quotes.
+    Label(&'a [u8]),
+}
+
+/// The first pair of a text, and the text behind its comma if there is one, where it is so written.
+#[inline]
+pub(crate) fn read_plain(text: &[u8]) -> Option<(PlainPair<'_>, Option<&[u8]>)>
+    ensures first { IfSome result (λ found.
+        BeginsWith text.now (plain_pair found.0) (option_copied found.1)) }
+    ensures shorter { IfSome result (λ found.
+        IfSome found.1 (λ rest. length rest.now < length text.now)) }
+{
+    match text {
+        [b' ', pair @ ..] => read_unspaced(pair),
+        _ => read_unspaced(text),
+    }
+}
+
+/// The same without a space.
+#[inline]
+fn read_unspaced(text: &[u8]) -> Option<(PlainPair<'_>, Option<&[u8]>)>
+    ensures first { IfSome result (λ found.
+        BeginsWith text.now (plain_pair found.0) (option_copied found.1)) }
+    ensures shorter { IfSome result (λ found.
+        IfSome found.1 (λ rest. length rest.now < length text.now)) }
+{
+    if let Some(value) = text.strip_prefix(b"ram_quota=") {
+        let (value, rest) = split_bare(value)?;
+        return Some((PlainPair::Ram(value), rest));
+    }
+    if let Some(value) = text.strip_prefix(b"cap_quota=") {
+        let (value, rest) = split_bare(value)?;
+        return Some((PlainPair::Caps(value), rest));
+    }
+    let value = text.strip_prefix(b"label=\"")?;
+    let (value, rest) = split_quoted(value)?;
+    Some((PlainPair::Label(value), rest))
+}
+
+/// A value that stands as it is, up to the text's end or a comma, and what stands behind that comma.
+#[inline]
+fn split_bare(text: &[u8]) -> Option<(&[u8], Option<&[u8]>)>
+    ensures parts { IfSome result (λ parts.
+        text.now ≡ parts.0.now ++ behind_comma (option_copied parts.1)) }
+    ensures bare { IfSome result (λ parts. is_bare parts.0.now ≡ true) }
+    ensures shorter { IfSome result (λ parts.
+        IfSome parts.1 (λ rest. length rest.now < length text.now)) }
+{
+    let end = bare_len(text);
+    if end == 0 {
+        return None;
+    }
+    let rest = split_comma(&text[end..])?;
+    Some((&text[..end], rest))
+}
+
+/// A value up to the quote behind it, where the text ends there or a comma follows, and what stands behind that comma.
+#[inline]
+fn split_quoted(text: &[u8]) -> Option<(&[u8], Option<&[u8]>)>
+    ensures parts { IfSome result (λ parts.
+        text.now ≡ parts.0.now ++ 34 ∷ behind_comma (option_copied parts.1)) }
+    ensures quotable { IfSome result (λ parts. list_all is_quotable parts.0.now ≡ true) }
+    ensures shorter { IfSome result (λ parts.
+        IfSome parts.1 (λ rest. length rest.now < length text.now)) }
+{
+    let end = quotable_len(text);
+    let behind = text[end..].strip_prefix(b"\"")?;
+    let rest = split_comma(behind)?;
+    Some((&text[..end], rest))
+}
+
+/// What stands behind a comma, or that there is none as the text is at its end.
+#[inline]
+fn split_comma(text: &[u8]) -> Option<Option<&[u8]>>
+    ensures comma { IfSome result (λ rest. text.now ≡ behind_comma (option_copied rest)) }
+    ensures shorter { IfSome result (λ found.
+        IfSome found (λ rest. length rest.now < length text.now)) }
+{
+    match text {
+        [] => Some(None),
+        [b',', rest @ ..] => Some(Some(rest)),
+        _ => None,
+    }
+}
+
+/// How many bytes at the front may stand in a value without quotes.
+fn bare_len(text: &[u8]) -> usize
+    ensures inside { result ≤ length text.now }
+    ensures bare { list_all is_name_byte (take result text.now) ≡ true }
+{
+    match find_unnamed(text) {
+        Some(end) => end,
+        None => text.len(),
+    }
+}
+
+/// Where the first byte is that may not stand in one.
+fn find_unnamed(text: &[u8]) -> Option<usize>
+    ensures place { result ≡ position (λ b. not (is_name_byte b)) text.now }
+    ensures inside { IfSome result (λ at. at < length text.now) }
+{
+    text.iter().position(|byte| !is_name_byte(*byte))
+}
+
+/// How many bytes at the front may stand between quotes.
+fn quotable_len(text: &[u8]) -> usize
+    ensures inside { result ≤ length text.now }
+    ensures quotable { list_all is_quotable (take result text.now) ≡ true }
+{
+    match find_unquotable(text) {
+        Some(end) => end,
+        None => text.len(),
+    }
+}
+
+/// Where the first byte is that may not stand there.
+fn find_unquotable(text: &[u8]) -> Option<usize>
+    ensures place { result ≡ position (λ b. not (is_quotable b)) text.now }
+    ensures inside { IfSome result (λ at. at < length text.now) }
+{
+    text.iter().position(|byte| !is_quotable(*byte))
+}

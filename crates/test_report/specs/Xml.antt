@@ -1,0 +1,33 @@
+-- Texts within XML.
+use Rattle.std.specs.Prelude.{◌≡◌, ℕ, ◌==◌, ◌&&◌, ◌+◌, ◌<◌, ◌/◌, ◌%◌, Bool, true, not, List, [], ◌∷◌, ◌++◌, All, codes, flat_map, nat_le, nat_lt, if◌then◌else◌}
+use Rattle.std.specs.List.{list_all}
+
+abbrev pub hex_digit : ℕ → ℕ
+hex_digit value = if nat_lt value 10 then 48 + value else 87 + value
+
+-- a sign that marks something by its name, a newline by its number, what else can be printed as it is, and each other byte in
+-- hexadecimal digits
+abbrev pub escaped_byte : ℕ → List ℕ
+escaped_byte byte =
+    if byte == 38 then codes "&amp;"
+    else (if byte == 60 then codes "&lt;"
+    else (if byte == 62 then codes "&gt;"
+    else (if byte == 34 then codes "&quot;"
+    else (if byte == 10 then codes "&#10;"
+    else (if nat_le 32 byte && nat_le byte 126 then byte ∷ []
+    else 92 ∷ 120 ∷ hex_digit (byte / 16) ∷ hex_digit (byte % 16) ∷ [])))))
+
+abbrev pub escaped : List ℕ → List ℕ
+escaped bytes = flat_map escaped_byte bytes
+
+-- a text as XML has it, between two that stand there as they are
+unfoldable pub between : List ℕ → List ℕ → List ℕ → List ℕ
+between before bytes after = before ++ escaped bytes ++ after
+
+-- a byte that ends no text of XML: it can be printed, and is no sign that opens or closes a mark or a quote
+abbrev pub is_inside : ℕ → Bool
+is_inside byte = nat_le 32 byte && (nat_le byte 126 && (not (byte == 60) && (not (byte == 62) && not (byte == 34))))
+
+-- whatever bytes stand in a text, as XML has it, it doesn't end before its end
+abbrev pub AllStayInside : Type 0
+AllStayInside = (bytes : List ℕ) → All (λ byte. byte < 256) bytes → list_all is_inside (escaped bytes) ≡ true

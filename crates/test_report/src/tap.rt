@@ -1,0 +1,61 @@
+//! The Test Anything Protocol, version 13.
+ghost use Rattle.std.specs.Prelude.{◌≡◌, ◌++◌, string_bytes, IfOk, OnOk};
+ghost use Rattle.test_report.specs.Tap.{named, noted, tap_plan, tap_point};
+
+use crate::trial::Trial;
+use std::alloc::{AllocError, Global};
+
+/// The first lines of a report of so many trials.
+pub fn tap_plan(alloc: Global, count: usize) -> Result<String, AllocError>
+    ensures { IfOk result (λ text. string_bytes text ≡ tap_plan count) }
+{
+    format!(in alloc; "TAP version 13\n1..{count}\n")
+}
+
+/// What is told of a trial of this number, from 1 on: whether it passed, and behind `# ` each line that was told of it.
+pub fn tap_point(alloc: Global, number: usize, trial: &Trial) -> Result<Vec<u8>, AllocError>
+    ensures { IfOk result (λ text. text.items ≡ tap_point number trial.now) }
+{
+    let mut text = Vec::new(alloc);
+    let verdict = if trial.passed { "ok" } else { "not ok" };
+    text.extend_from_slice(verdict.as_bytes())?;
+    let number = format!(in alloc; " {number} - ")?;
+    text.extend_from_slice(number.as_bytes())?;
+    add_name(&mut text, trial.path.as_bytes())?;
+    text.push(b'\n')?;
+    add_notes(&mut text, trial.told.as_slice())?;
+    Ok(text)
+}
+
+// Adds a name: a backslash before each `#` and each backslash, and a question mark for each sign that isn't printed.
+fn add_name(text: &mut Vec<u8>, name: &[u8]) -> Result<(), AllocError>
+    ensures { OnOk result (text.new.items ≡ text.old.items ++ named name.now) }
+{
+    for byte in name {
+        match *byte {
+            b'#' => text.extend_from_slice(b"\\#")?,
+            b'\\' => text.extend_from_slice(b"\\\\")?,
+            byte if byte < b' ' || byte == 127 => text.push(b'?')?,
+            byte => text.push(byte)?,
+        }
+    }
+    Ok(())
+}
+
+// Adds lines, each behind `# `.
+fn add_notes(text: &mut Vec<u8>, lines: &[u8]) -> Result<(), AllocError>
+    ensures { OnOk result (text.new.items ≡ text.old.items ++ noted lines.now) }
+{
+    let mut begins = true;
+    for byte in lines {
+        if begins {
+            text.extend_from_slice(b"# ")?;
+        }
+        text.push(*byte)?;
+        begins = *byte == b'\n';
+    }
+    if !begins {
+        text.push(b'\n')?;
+    }
+    Ok(())
+}

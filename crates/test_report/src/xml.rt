@@ -1,0 +1,59 @@
+//! Texts within XML.
+ghost use Rattle.std.specs.Prelude.{◌≡◌, ◌<◌, ◌++◌, OnOk};
+ghost use Rattle.test_report.specs.Xml.{between, escaped, escaped_byte, hex_digit};
+
+use std::alloc::AllocError;
+
+/// Adds a text as XML has it, between two that stand there as they are.
+#[tactic(auto, unfolding(crate::specs::Xml::between))]
+pub(crate) fn add_between(
+    text: &mut Vec<u8>,
+    before: &[u8],
+    bytes: &[u8],
+    after: &[u8],
+) -> Result<(), AllocError>
+    ensures { OnOk result
+        (text.new.items ≡ text.old.items ++ between before.now bytes.now after.now) }
+{
+    text.extend_from_slice(before)?;
+    add_escaped(text, bytes)?;
+    text.extend_from_slice(after)
+}
+
+// Adds a text, as XML has it between marks and within quotes: a newline and what can be printed, with a name for each sign that
+// marks something; each other byte in hexadecimal digits.
+fn add_escaped(text: &mut Vec<u8>, bytes: &[u8]) -> Result<(), AllocError>
+    ensures { OnOk result (text.new.items ≡ text.old.items ++ escaped bytes.now) }
+{
+    for byte in bytes {
+        add_byte(text, *byte)?;
+    }
+    Ok(())
+}
+
+// Adds a byte so.
+fn add_byte(text: &mut Vec<u8>, byte: u8) -> Result<(), AllocError>
+    ensures { OnOk result (text.new.items ≡ text.old.items ++ escaped_byte byte) }
+{
+    match byte {
+        b'&' => text.extend_from_slice(b"&amp;"),
+        b'<' => text.extend_from_slice(b"&lt;"),
+        b'>' => text.extend_from_slice(b"&gt;"),
+        b'"' => text.extend_from_slice(b"&quot;"),
+        b'\n' => text.extend_from_slice(b"&#10;"),
+        b' '..=b'~' => text.extend_from_slice(&[byte]),
+        _ => text.extend_from_slice(&[b'\\', b'x', hex_digit(byte / 16), hex_digit(byte % 16)]),
+    }
+}
+
+// A hexadecimal digit.
+fn hex_digit(value: u8) -> u8
+    requires { value < 16 }
+    ensures { result ≡ hex_digit value }
+{
+    if value < 10 {
+        b'0' + value
+    } else {
+        b'a' - 10 + value
+    }
+}

@@ -1,0 +1,14 @@
+-- The command that tells what is wrong with a start list, argument by argument.
+use Rattle.std.proofs.Common.{◌∙◌, ap, codes}
+use Rattle.clap.specs.Simple.{app_of_fields, new_shape}
+use Rattle.workbench_options.specs.Line.{HasShape}
+use Rattle.workbench_options.proofs.LineLemmas.{arg_added}
+use Rattle.workbench_options.proofs.checking.check.Goals as goal
+
+pub returns : goal.returns
+returns c =
+    let bare : HasShape (new_shape (codes "check")) c.about.result =
+    (ap app_of_fields c.about.ensures ∙ c.new.ensures.app, ap (λ f. f.has_globals) c.about.ensures ∙ c.new.ensures.local) in
+    arg_added _ _ _ _ _ c.in_ok-command.ensures c.file-list.ensures.rule c.file-list.ensures.local
+    (arg_added _ _ _ _ _ c.in_ok-arg-2.ensures c.option-policy.ensures.rule c.option-policy.ensures.local
+    (arg_added _ _ _ _ _ c.in_ok-arg.ensures c.flag-strict.ensures.rule c.flag-strict.ensures.local bare))

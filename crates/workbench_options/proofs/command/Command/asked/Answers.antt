@@ -1,0 +1,14 @@
+-- What is read of the command that takes a list of words.
+use Rattle.std.proofs.Common.{◌∙◌, codes}
+use Rattle.clap.specs.Words.{found_of}
+use Rattle.clap.proofs.WalkLemmas.{first_value-rows}
+use Rattle.workbench_options.proofs.command.Command.asked.Goals as goal
+
+pub returns-in_ok-words-in-test : goal.returns-in_ok-words-in-test
+returns-in_ok-words-in-test c =
+    let found = found_of c.args.found.now in (
+      c.in-test.is,
+      c.get_str.ensures ∙ first_value-rows found (codes "machine"),
+      c.get_str-in-test.ensures ∙ first_value-rows found (codes "junit"),
+      c.in_ok-words-in-test.ensures,
+    )

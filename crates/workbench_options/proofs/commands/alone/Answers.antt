@@ -1,0 +1,16 @@
+-- The command that shows a component's two runs, argument by argument.
+use Rattle.std.proofs.Common.{◌∙◌, ap, codes}
+use Rattle.clap.specs.Simple.{app_of_fields, new_shape}
+use Rattle.workbench_options.specs.Line.{HasShape}
+use Rattle.workbench_options.proofs.LineLemmas.{arg_added}
+use Rattle.workbench_options.proofs.commands.alone.Goals as goal
+
+pub returns : goal.returns
+returns c =
+    let bare : HasShape (new_shape (codes "alone")) c.about.result =
+    (ap app_of_fields c.about.ensures ∙ c.new.ensures.app, ap (λ f. f.has_globals) c.about.ensures ∙ c.new.ensures.local) in
+    arg_added _ _ _ _ _ c.in_ok-command.ensures c.last-scenario.ensures.rule c.last-scenario.ensures.local
+    (arg_added _ _ _ _ _ c.in_ok-arg-4.ensures c.file-name.ensures.rule c.file-name.ensures.local
+    (arg_added _ _ _ _ _ c.in_ok-arg-3.ensures c.flag-summary.ensures.rule c.flag-summary.ensures.local
+    (arg_added _ _ _ _ _ c.in_ok-arg-2.ensures c.flag-all.ensures.rule c.flag-all.ensures.local
+    (arg_added _ _ _ _ _ c.in_ok-arg.ensures c.option-machine.ensures.rule c.option-machine.ensures.local bare))))
