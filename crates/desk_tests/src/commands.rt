@@ -158,7 +158,17 @@ fn each_command_is_read(rt: HostRuntime) -> Result<(), Fail> {
             },
         ),
         (
-            &["nethrywel", "test", "a", "--junit", "b", "c", "--machine", "d", "e"],
+            &[
+                "nethrywel",
+                "test",
+                "a",
+                "--junit",
+                "b",
+                "c",
+                "--machine",
+                "d",
+                "e",
+            ],
             Command::Test {
                 machine: Some("d"),
                 junit: Some("b"),

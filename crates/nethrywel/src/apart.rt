@@ -107,10 +107,24 @@ impl<'a> One<'a> {
         let mut writer = Output::new(Vec::new(alloc));
         let ended = if self.silent {
             let mut complaints = Output::new(io::sink());
-            alone(alloc, self.play, self.name, &mut source, &mut writer, &mut complaints)
+            alone(
+                alloc,
+                self.play,
+                self.name,
+                &mut source,
+                &mut writer,
+                &mut complaints,
+            )
         } else {
             let mut complaints = Output::new(rt.stderr());
-            alone(alloc, self.play, self.name, &mut source, &mut writer, &mut complaints)
+            alone(
+                alloc,
+                self.play,
+                self.name,
+                &mut source,
+                &mut writer,
+                &mut complaints,
+            )
         };
         if let Err(fault) = &ended {
             if !self.silent {
@@ -119,7 +133,11 @@ impl<'a> One<'a> {
             return REFUSED;
         }
         let told = writer.into_inner();
-        let shown = if all.summary { last_line(&told) } else { told.as_slice() };
+        let shown = if all.summary {
+            last_line(&told)
+        } else {
+            told.as_slice()
+        };
         let printed = status_of(rt, io::writer(rt).write_all(shown));
         if printed != 0 {
             return printed;

@@ -74,7 +74,12 @@ impl fmt::Display for Stopped<'_> {
         let fault = self.fault;
         match fault {
             PlayFault::ReadFault | PlayFault::TooManyLines => {
-                write!(f, "{}:{}: {fault}", self.scenario, self.lines.saturating_add(1))
+                write!(
+                    f,
+                    "{}:{}: {fault}",
+                    self.scenario,
+                    self.lines.saturating_add(1)
+                )
             }
             PlayFault::WriteFault | PlayFault::NoMemory => write!(f, "run: {fault}"),
         }

@@ -171,7 +171,12 @@ fn play_from<S: Source>(
 }
 
 /// Tells why no machine was booted, with the place in its start list where that is a file's.
-pub(crate) fn tell_unbooted(rt: &HostRuntime, text: &[u8], machine: Option<&str>, fault: &BootFault) {
+pub(crate) fn tell_unbooted(
+    rt: &HostRuntime,
+    text: &[u8],
+    machine: Option<&str>,
+    fault: &BootFault,
+) {
     if let Some(path) = machine {
         if let Err(placed) = Review::read(rt.alloc(), text) {
             tell_fault(rt, path, &placed);

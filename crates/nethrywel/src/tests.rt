@@ -75,11 +75,7 @@ fn run_all(
 }
 
 // Runs a scenario on its machine.
-fn run_one(
-    rt: &HostRuntime,
-    scenario: &str,
-    machine: Option<&str>,
-) -> Result<Trial, AllocError> {
+fn run_one(rt: &HostRuntime, scenario: &str, machine: Option<&str>) -> Result<Trial, AllocError> {
     let beside = machine_beside(rt.alloc(), scenario)?;
     let list = match fs::exists(rt, beside.as_str()) {
         Ok(false) => machine,
@@ -103,7 +99,11 @@ fn run_on(
 ) -> Result<Trial, AllocError> {
     let alloc = rt.alloc();
     let Ok(file) = fs::open(rt, scenario) else {
-        return failed(rt, scenario, format!(in alloc; "{scenario}: Unreadable_scenario\n")?);
+        return failed(
+            rt,
+            scenario,
+            format!(in alloc; "{scenario}: Unreadable_scenario\n")?,
+        );
     };
     let play = Play {
         machine: text,

@@ -165,7 +165,6 @@ Asks (command.Diff before after scenario) name rows = (name ≡ codes "diff")
     × (before.now ≡ first_or [] (codes "before") rows)
     × (after.now ≡ first_or [] (codes "after") rows)
     × (option_map (λ t. t.now) scenario ≡ first_of (codes "scenario") rows)
-
 Asks (command.Test machine junit paths) name rows = (name ≡ codes "test")
     × (option_map (λ t. t.now) machine ≡ first_of (codes "machine") rows)
     × (option_map (λ t. t.now) junit ≡ first_of (codes "junit") rows)

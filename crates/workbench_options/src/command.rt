@@ -250,11 +250,7 @@ fn word<'a>(found: &ArgMatches<'a>, id: &str) -> &'a str
 }
 
 // All words of an argument.
-fn words<'a>(
-    alloc: Global,
-    found: &ArgMatches<'a>,
-    id: &str,
-) -> Result<Vec<&'a str>, AllocError>
+fn words<'a>(alloc: Global, found: &ArgMatches<'a>, id: &str) -> Result<Vec<&'a str>, AllocError>
     ensures { IfOk result (λ words. map (λ word. word.now) words.items
         ≡ unwrap_or (all_of id.now (rows_of (found_of found.now))) []) }
 {
