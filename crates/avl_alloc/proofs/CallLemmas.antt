@@ -9,6 +9,8 @@ use Rattle.std.specs.List.{AllByRecursion}
 use Rattle.own_model.specs.Heap.{Block, Used, Hole, bytes_in, IsBlockSize, AreBlocks, Heap}
 use Rattle.own_model.specs.BestFit.{Spot, holes_of, best_hole, block_size, cut, taken, taken_at, taken_in, chunk_of, binary_digits}
 use Rattle.avl_alloc.specs.declared.best_fit.BestFit.{BestFit}
+use Rattle.avl_alloc.specs.declared.marks.Marks.{Marks}
+use Rattle.avl_alloc.specs.Marks.{AreMarks, StartsIn}
 use Rattle.avl_alloc.specs.Words.{Words, place_at, with_word, within, IsNode}
 use Rattle.avl_tree.specs.Tree.{Tree, high, found}
 use Rattle.avl_tree.specs.View.{AreNodes}
@@ -21,6 +23,8 @@ use Rattle.avl_tree.proofs.TreeLemmas.{one, high_bound}
 use Rattle.avl_alloc.proofs.WeightLemmas.{all-left, all-right, IsLong, AreLong, TidyAll, tidy_all, chunks_kept, chunks_long, chunks_apart, weigh_all-append, weigh_all-parts, weigh-site}
 use Rattle.avl_alloc.proofs.HoleLemmas.{within_above, with_word_same, with_word_other, fits_node, holds_kept, none_at_zero}
 use Rattle.avl_alloc.proofs.TurnLemmas.{outside}
+use Rattle.avl_alloc.proofs.StandLemmas.{stand_node, stand_laid}
+use Rattle.avl_alloc.proofs.MarkLemmas.{marks_kept, all_turned, cut_starts, site_starts, starts_more}
 use Rattle.avl_alloc.proofs.FitLemmas.{found-best, holes_counted}
 use Rattle.avl_alloc.proofs.LayoutLemmas.{fits_one_more, heap_is, IsTold, laid_sound}
 use Rattle.avl_alloc.proofs.ContextLemmas.{chunks_length, sizes_few, site_open}
@@ -33,8 +37,8 @@ module _ (old new : BestFit) (w v : Words) (at : Context) (place : ℕ) (xs ys :
   pub turn_heap : heap_of new v ≡ heap_with at ys
   turn_heap = heap_is new v (heap_with at ys) turn.stand.tree turn.stand.laid
 
-  pub turn_sound : AllByRecursion AreBlocks (heap_with at ys) → IsSound new v
-  turn_sound blocks = laid_sound new v (heap_with at ys) turn.stand.tree turn.stand.laid blocks
+  pub turn_sound : AllByRecursion AreBlocks (heap_with at ys) → (marks : Marks) → AreMarks marks.marks (heap_with at ys) → IsSound (record new { marks = marks }) v
+  turn_sound blocks marks are = laid_sound new v (heap_with at ys) turn.stand.tree marks turn.stand.laid blocks are
 
 -- what a hole is to be changed to changes nothing but holes
 pub hole_changes : (old new : BestFit) (w v : Words) (at : Context) (place n : ℕ) (xs ys : List Block) → bytes_in xs ≡ n → Turn old new w v at place xs ys → ChangesHoles w v (heap_with at (Hole n ∷ []))
@@ -109,23 +113,40 @@ module _ (fit : BestFit) (w : Words) (size place : ℕ) (told : IsTold fit w) (r
 pub best_few : (fit : BestFit) (w : Words) (size place : ℕ) (is : IsBestAt fit w size place) → hole_count (heap_with is.site (Hole is.hole.size ∷ [])) < 2 ^ binary_digits (hole_count (heap_of fit w))
 best_few fit w size place is = same_few (heap_of fit w) (heap_with is.site (Hole is.hole.size ∷ [])) is.is
 
+-- where it stands
+pub best_node : (fit : BestFit) (w : Words) (size place : ℕ) → IsBestAt fit w size place → (real : ℕ → ℕ) → Fits (bytes_of fit) real → IsNode real place
+best_node fit w size place is real fits =
+    let laid = stand_laid fit w is.site place (Hole is.hole.size ∷ []) is.stand in
+    stand_node fit w is.site place (Hole is.hole.size ∷ []) real 0 place is.stand fits (omega arith) (omega (arith, laid.0.sized.least)) (omega arith)
+
+pub best_start : (fit : BestFit) (w : Words) (size place : ℕ) → (is : IsBestAt fit w size place) → (heap : Heap) → StartsIn heap is.hole.chunk is.hole.offset → StartsIn heap (place / 2 ^ 32 - 1) (place % 2 ^ 32)
+best_start fit w size place is heap start =
+    let there = is.there in
+    let short = is.short in
+    let chunk : place / 2 ^ 32 - 1 ≡ is.hole.chunk = omega arith in
+    let offset : place % 2 ^ 32 ≡ is.hole.offset = omega arith in
+    subst (λ c. StartsIn heap c (place % 2 ^ 32)) (sym chunk) (subst (StartsIn heap is.hole.chunk) (sym offset) start)
+
 -- ---- a hole taken
 
 -- what taking the best hole for so many bytes leaves
-pub record IsTaken (old new : BestFit) (w v : Words) (bytes : ℕ) : Type 0 where
+pub record IsTaken (old new : BestFit) (w v : Words) (bytes : ℕ) (hole : Spot) : Type 0 where
   pub heap : heap_of new v ≡ taken bytes (heap_of old w)
-  pub sound : IsSound new v
+  pub sound : (marks : Marks) → AreMarks marks.marks (heap_of new v) → IsSound (record new { marks = marks }) v
+  pub marks : AreMarks old.marks.marks (heap_of new v)
+  pub start : StartsIn (heap_of new v) hole.chunk hole.offset
   pub sizes : sizes_of new ≡ sizes_of old
   pub others : ChangesHoles w v (heap_of old w)
 
 pub hole_taken : (old new : BestFit) (w v : Words) (bytes size place : ℕ) → IsTold old w → size ≡ block_size bytes → IsBlockSize size → (is : IsBestAt old w size place) →
-    Turn old new w v is.site place (Hole is.hole.size ∷ []) (cut size is.hole.size) → IsTaken old new w v bytes
+    Turn old new w v is.site place (Hole is.hole.size ∷ []) (cut size is.hole.size) → IsTaken old new w v bytes is.hole
 hole_taken old new w v bytes size place told sized ok is turn =
     let n : ℕ = is.hole.size in
     let h : Heap = heap_of old w in
     let long = chunks_long w 0 (sizes_of old) (heap_with is.site (Hole n ∷ [])) is.stand.laid.chunks in
     let left = all-left IsLong is.site.left (Hole n ∷ is.site.right) (all-right AreLong is.site.older ((is.site.left ++ Hole n ∷ is.site.right) ∷ is.site.newer) long).0 in
     let best : best_hole (block_size bytes) (holes_of h) ≡ Some is.hole = subst (λ z. best_hole z (holes_of h) ≡ Some is.hole) sized is.best in
+    let made = turn_heap old new w v is.site place (Hole n ∷ []) (cut size n) turn in
     record {
       heap = turn_heap old new w v is.site place (Hole n ∷ []) (cut size n) turn
           ∙ sym (taken_is size n is.site left)
@@ -134,8 +155,12 @@ hole_taken old new w v bytes size place told sized ok is turn =
           ∙ ap (λ o. slice_set h is.hole.chunk (taken_in size o (chunk_of h is.hole.chunk))) is.offset
           ∙ ap (λ z. slice_set h is.hole.chunk (taken_in z is.hole.offset (chunk_of h is.hole.chunk))) sized
           ∙ ap (λ o. taken_at (block_size bytes) o h) (sym best);
-      sound = turn_sound old new w v is.site place (Hole n ∷ []) (cut size n) turn
-          (taken_blocks size n is.site ok is.fits (subst (AllByRecursion AreBlocks) (sym is.is) told.blocks));
+      sound = λ marks are. turn_sound old new w v is.site place (Hole n ∷ []) (cut size n) turn
+          (taken_blocks size n is.site ok is.fits (subst (AllByRecursion AreBlocks) (sym is.is) told.blocks)) marks (subst (AreMarks marks.marks) made are);
+      marks = subst (AreMarks old.marks.marks) (sym made)
+          (marks_kept old.marks.marks (heap_with is.site (Hole n ∷ [])) (heap_with is.site (cut size n)) (subst (AreMarks old.marks.marks) (sym is.is) told.marks)
+          (all_turned is.site (Hole n ∷ []) (cut size n) (λ o at. cut_starts size n is.site.right o is.fits at)));
+      start = subst (λ k. StartsIn k is.hole.chunk is.hole.offset) (sym made) (site_starts is.site (cut size n) is.hole.chunk is.hole.offset is.chunk is.offset);
       sizes = turn.sizes;
       others = subst (ChangesHoles w v) is.is (hole_changes old new w v is.site place n (Hole n ∷ []) (cut size n) (omega arith) turn);
     }
@@ -179,7 +204,7 @@ kept_before sizes bytes chunk =
 
 -- a heap with a chunk more
 abbrev pub with_chunk : BestFit → ℕ → ℕ → BestFit
-with_chunk fit number bytes = record { root = fit.root; count = number + 1; sizes = slice_set fit.sizes number bytes }
+with_chunk fit number bytes = record fit { count = number + 1; sizes = slice_set fit.sizes number bytes }
 
 abbrev pub last_site : Heap → Context
 last_site heap = record { older = heap; left = []; right = []; newer = [] }
@@ -297,13 +322,16 @@ module _ (fit : BestFit) (w x : Words) (place number bytes : ℕ) (is : IsChunkN
         weigh_all-append none one 0 (heap_of fit w) ((Used bytes ∷ []) ∷ []),
       )
 
-  pub chunk_added : (new : BestFit) (v : Words) → Turn (with_chunk fit number bytes) new x v (last_site (heap_of fit w)) place (Used bytes ∷ []) (Hole bytes ∷ []) → IsAdded fit new w v bytes
-  chunk_added new v turn =
+  pub chunk_added : (new : BestFit) (v : Words) → Turn (with_chunk fit number bytes) new x v (last_site (heap_of fit w)) place (Used bytes ∷ []) (Hole bytes ∷ []) → new.marks ≡ fit.marks → IsAdded fit new w v bytes
+  chunk_added new v turn marks =
       let heap : heap_of new v ≡ heap_of fit w ++ (Hole bytes ∷ []) ∷ [] = turn_heap (with_chunk fit number bytes) new x v (last_site (heap_of fit w)) place (Used bytes ∷ []) (Hole bytes ∷ []) turn in
       record {
         heap = heap;
-        sound = turn_sound (with_chunk fit number bytes) new x v (last_site (heap_of fit w)) place (Used bytes ∷ []) (Hole bytes ∷ []) turn
-            (all_append AreBlocks (heap_of fit w) ((Hole bytes ∷ []) ∷ []) is.told.blocks (is.sized, tt));
+        sound = subst (λ m. IsSound (record new { marks = m }) v) (sym marks)
+            (turn_sound (with_chunk fit number bytes) new x v (last_site (heap_of fit w)) place (Used bytes ∷ []) (Hole bytes ∷ []) turn
+            (all_append AreBlocks (heap_of fit w) ((Hole bytes ∷ []) ∷ []) is.told.blocks (is.sized, tt))
+            fit.marks
+            (marks_kept fit.marks.marks (heap_of fit w) (heap_of fit w ++ (Hole bytes ∷ []) ∷ []) is.told.marks (starts_more (heap_of fit w) (Hole bytes ∷ []))));
         sizes = turn.sizes ∙ sizes_more;
         others = λ q clear.
             let clear' = rw heap at clear in

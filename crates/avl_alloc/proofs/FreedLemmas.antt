@@ -4,11 +4,11 @@ use Rattle.std.specs.Prelude.{◌==◌, nat_lt, if◌then◌else◌}
 use Rattle.std.proofs.lemmas.Bool.{cases_lt}
 use Rattle.std.proofs.lemmas.Bool.Decides.{nat_tests}
 use Rattle.std.proofs.lemmas.List.{append_assoc}
-use Rattle.own_model.specs.Heap.{Block, Used, Hole, bytes_in, IsBlockSize, AreBlocks}
+use Rattle.own_model.specs.Heap.{Block, Used, Hole, bytes_in, AreBlocks}
 use Rattle.own_model.specs.BestFit.{before, given_in, used_at, payload_at}
 use Rattle.avl_alloc.specs.declared.chunk.Block.{Block as BlockFound}
 use Rattle.avl_alloc.specs.Context.{gap, first_hole}
-use Rattle.avl_alloc.specs.Walk.{block_over, block_there}
+use Rattle.avl_alloc.specs.Walk.{block_over, block_there, IsToldAs, IsReached}
 use Rattle.avl_alloc.proofs.HoleLemmas.{ltb-true, ltb-false}
 use Rattle.avl_alloc.proofs.WeightLemmas.{AreLong}
 use Rattle.avl_alloc.proofs.StandLemmas.{gap_some, gap_bytes}
@@ -16,6 +16,9 @@ use Rattle.avl_alloc.proofs.LayoutLemmas.{payload_over, payload_past, payload_is
 use Rattle.avl_alloc.proofs.TakenLemmas.{StartsUsed, hole_behind, hole_before}
 use Rattle.own_model.proofs.HeapBlockLemmas.{bytes-append}
 use Rattle.own_model.proofs.HeapBlockLemmas.{AreBlocks-before}
+
+abbrev pair : ℕ → ℕ → ℕ × ℕ
+pair x y = (x, y)
 
 -- ---- where an address lies
 
@@ -112,6 +115,56 @@ used_some target blocks b long some =
     let walked = used_walked 0 0 target blocks long (omega arith) (omega (arith, there.0)) in
     let whole : target - 0 ≡ target = omega arith in
     ap (used_over target) there.1 ∙ sym walked ∙ ap (λ x. used_at x blocks) whole
+
+-- ---- what a walk from a mark reaches
+
+reached_none : (target : ℕ) (blocks : List Block) → IsReached target None (block_there target blocks) → None ≡ block_there target blocks
+reached_none target blocks is = go (block_there target blocks) is
+  where
+    go : (o : Option BlockFound) → IsReached target None o → None ≡ o
+    go None is = refl
+    go (Some b) is = absurd is
+
+-- the block itself
+reached_real : (target : ℕ) (blocks : List Block) (b : BlockFound) → IsReached target (Some b) (block_there target blocks) → (c : BlockFound) × (Some c ≡ block_there target blocks) × IsToldAs target b c
+reached_real target blocks b is = go (block_there target blocks) is
+  where
+    go : (o : Option BlockFound) → IsReached target (Some b) o → (c : BlockFound) × (Some c ≡ o) × IsToldAs target b c
+    go None is = absurd is
+    go (Some c) is = (c, refl, is)
+
+-- with what is before it, where the target is its first byte
+pub reached_here : (target : ℕ) (blocks : List Block) (r : Option BlockFound) (b : BlockFound) → r ≡ Some b → IsReached target r (block_there target blocks) → b.offset ≡ target → Some b ≡ block_there target blocks
+reached_here target blocks r b some is at =
+    let real = reached_real target blocks b (subst (λ o. IsReached target o (block_there target blocks)) some is) in
+    let told = real.2 in
+    let before = told.before (sym told.offset ∙ at) in
+    let same : b ≡ real.0 = λ i. record { offset = told.offset i; size = told.size i; used = told.used i; before = before i } in
+    ap Some same ∙ real.1
+
+pub reached_not_used : (target : ℕ) (blocks : List Block) (r : Option BlockFound) → AreLong blocks → r ≡ None → IsReached target r (block_there target blocks) → None ≡ used_at target blocks
+reached_not_used target blocks r long none is = used_none target blocks long (reached_none target blocks (subst (λ o. IsReached target o (block_there target blocks)) none is))
+
+pub reached_used : (target : ℕ) (blocks : List Block) (r : Option BlockFound) (b : BlockFound) → AreLong blocks → r ≡ Some b → IsReached target r (block_there target blocks) → used_over target b ≡ used_at target blocks
+reached_used target blocks r b long some is =
+    let real = reached_real target blocks b (subst (λ o. IsReached target o (block_there target blocks)) some is) in
+    let told = real.2 in
+    ap (λ u. if u then (if b.offset == target then Some b.size else None) else None) told.used
+    ∙ ap (λ o. if real.0.used then (if o == target then Some b.size else None) else None) told.offset
+    ∙ ap (λ n. if real.0.used then (if real.0.offset == target then Some n else None) else None) told.size
+    ∙ used_some target blocks real.0 long real.1
+
+pub reached_no_payload : (target : ℕ) (blocks : List Block) (r : Option BlockFound) → r ≡ None → IsReached target r (block_there target blocks) → None ≡ payload_at 0 target blocks
+reached_no_payload target blocks r none is = payload_none target blocks (reached_none target blocks (subst (λ o. IsReached target o (block_there target blocks)) none is))
+
+pub reached_payload : (target : ℕ) (blocks : List Block) (r : Option BlockFound) (b : BlockFound) → r ≡ Some b → IsReached target r (block_there target blocks) → payload_over target b ≡ payload_at 0 target blocks
+reached_payload target blocks r b some is =
+    let real = reached_real target blocks b (subst (λ o. IsReached target o (block_there target blocks)) some is) in
+    let told = real.2 in
+    ap (λ u. if u then (if nat_lt (target - b.offset) 16 then None else Some (pair b.offset b.size)) else None) told.used
+    ∙ ap (λ o. if real.0.used then (if nat_lt (target - o) 16 then None else Some (pair o b.size)) else None) told.offset
+    ∙ ap (λ n. if real.0.used then (if nat_lt (target - real.0.offset) 16 then None else Some (pair real.0.offset n)) else None) told.size
+    ∙ payload_some target blocks real.0 real.1
 
 -- ---- given back
 

@@ -1,5 +1,5 @@
 -- A used block given back: where it stands in the heap, and what is left.
-use Rattle.std.proofs.Common.{◌≡◌, ℕ, suc, ◌+◌, ◌-◌, ◌^◌, ◌<◌, ◌≤◌, Bool, true, false, refl, sym, ap, ◌∙◌, subst, inl, inr, arith, List, [], ◌∷◌, ◌++◌, length, take, drop, get_or, Some, None, not}
+use Rattle.std.proofs.Common.{◌≡◌, ℕ, suc, ◌+◌, ◌-◌, ◌%◌, ◌^◌, ◌<◌, ◌≤◌, Bool, true, false, refl, sym, ap, ◌∙◌, subst, inl, inr, arith, List, [], ◌∷◌, ◌++◌, length, take, drop, get_or, Some, None, not}
 use Rattle.std.specs.Prelude.{◌==◌, nat_lt, if◌then◌else◌}
 use Rattle.std.specs.List.{AllByRecursion}
 use Rattle.std.proofs.lemmas.Bool.{cases_lt}
@@ -9,18 +9,21 @@ use Rattle.std.proofs.Math.Seq.{drop-cons}
 use Rattle.own_model.specs.Heap.{Block, Used, Hole, bytes_in, AreBlocks, Heap}
 use Rattle.own_model.specs.BestFit.{chunk_of, given_in, given, used_at, payload_at, binary_digits}
 use Rattle.avl_alloc.specs.declared.best_fit.BestFit.{BestFit}
+use Rattle.avl_alloc.specs.declared.marks.Marks.{Marks}
+use Rattle.avl_alloc.specs.Marks.{Starts, StartsIn, AreMarks, StartStill}
 use Rattle.avl_alloc.specs.declared.chunk.Block.{Block as BlockFound}
 use Rattle.avl_alloc.specs.Words.{Words, place_at}
 use Rattle.avl_alloc.specs.Holes.{heads}
-use Rattle.avl_alloc.specs.Layout.{heap_of, hole_count, sizes_of, whole, kept_at, AreChunks, IsLaidOut, IsSound, ChangesHoles}
+use Rattle.avl_alloc.specs.Layout.{Laid, heap_of, hole_count, sizes_of, whole, kept_at, AreChunks, IsLaidOut, IsSound, ChangesHoles}
 use Rattle.avl_alloc.specs.Context.{Context, heap_with, Stand, Turn, gap, first_hole, start_of}
 use Rattle.avl_alloc.specs.Walk.{block_there}
 use Rattle.avl_alloc.proofs.HoleLemmas.{within_in, within_above}
 use Rattle.avl_alloc.proofs.WeightLemmas.{around-parts, weigh-site, AreLong, IsLong, all-right, laid_long}
 use Rattle.avl_alloc.proofs.LayoutLemmas.{sound_chunk, sound_missing, sound_told}
-use Rattle.avl_alloc.proofs.ContextLemmas.{chunks_length, site_clear}
+use Rattle.avl_alloc.proofs.ContextLemmas.{chunks_length, site_clear, laid_left, laid_right, laid_even}
 use Rattle.avl_alloc.proofs.TurnLemmas.{stand_narrowed}
 use Rattle.avl_alloc.proofs.StandLemmas.{gap_bytes}
+use Rattle.avl_alloc.proofs.MarkLemmas.{still_turned, join_before, join_behind, site_starts}
 use Rattle.avl_alloc.proofs.TakenLemmas.{heap_turned}
 use Rattle.avl_alloc.proofs.FreedLemmas.{some_there, used_over, used_some, past_hole, past_is, freed, given_blocks}
 use Rattle.avl_alloc.proofs.CallLemmas.{turn_heap, turn_sound, hole_changes, same_few}
@@ -67,9 +70,14 @@ sound_long fit w sound chunk =
 pub record IsUsedAt (fit : BestFit) (w : Words) (chunk offset : ℕ) (b : BlockFound) : Type 0 where
   pub low : chunk < 64
   pub back : b.before ≤ offset
+  pub even : offset % 16 ≡ 0
+  pub even_before : b.before % 16 ≡ 0
+  pub even_size : b.size % 16 ≡ 0
   pub last : place_at chunk 0 + get_or fit.sizes chunk 0 < 2 ^ 40
   pub site : Context
   pub behind : ℕ
+  pub number : length site.older ≡ chunk
+  pub front : bytes_in site.left + b.before ≡ offset
   pub stand : Stand fit w site (place_at chunk 0 + offset - b.before) (gap b.before ++ Used b.size ∷ gap behind)
   pub is : heap_with site (gap b.before ++ Used b.size ∷ gap behind) ≡ heap_of fit w
   pub made : heap_with site (Hole (b.before + b.size + behind) ∷ []) ≡ given chunk offset (heap_of fit w)
@@ -125,12 +133,22 @@ module _ (fit : BestFit) (w : Words) (chunk offset : ℕ) (b : BlockFound) (soun
       let all : heap_with whole (gap p ++ Used n ∷ f.right) ≡ h =
       ap (λ z. older ++ (f.left ++ z) ∷ newer) (append-nil (gap p ++ Used n ∷ f.right)) ∙ ap (λ z. older ++ z ∷ newer) (sym f.is) ∙ split in
       let tail : gap p ++ Used n ∷ f.right ≡ gap p ++ Used n ∷ [] ++ (f.right ++ []) = simp (append_assoc, append-nil) in
+      let laid = subst (Laid w (place_at chunk 0)) f.is there.laid in
+      let laid_on = laid_right w (place_at chunk 0) f.left (gap p ++ Used n ∷ f.right) laid in
+      let even_left = laid_even w (place_at chunk 0) f.left (laid_left w (place_at chunk 0) f.left (gap p ++ Used n ∷ f.right) laid) in
+      let even_gap = laid_even w (place_at chunk 0 + bytes_in f.left) (gap p) (laid_left w (place_at chunk 0 + bytes_in f.left) (gap p) (Used n ∷ f.right) laid_on) in
+      let even_size = (laid_right w (place_at chunk 0 + bytes_in f.left) (gap p) (Used n ∷ f.right) laid_on).0.sized.even in
       record {
         low = omega (arith, chunk_low);
         back = omega arith;
+        even = omega (arith, even_left, even_gap, gap_bytes p);
+        even_before = omega (arith, even_gap, gap_bytes p);
+        even_size = even_size;
         last = omega (arith, there.low, there.short);
         site = site;
         behind = m;
+        number = number;
+        front = start;
         stand = record { start = omega arith; tree = told.tree; laid = subst (λ k. IsLaidOut fit w k told.tree) (sym is) told.laid };
         is = is;
         made = ap (λ z. older ++ z ∷ newer) (sym freed_blocks) ∙ sym (set_split h chunk (given_in offset blocks) lt);
@@ -148,9 +166,13 @@ module _ (fit : BestFit) (w : Words) (chunk offset : ℕ) (b : BlockFound) (soun
 
 -- ---- what is left
 
-pub record IsGiven (old new : BestFit) (w v : Words) (chunk offset : ℕ) : Type 0 where
+pub record IsGiven (old new : BestFit) (w v : Words) (chunk offset : ℕ) (b : BlockFound) : Type 0 where
   pub heap : heap_of new v ≡ given chunk offset (heap_of old w)
-  pub sound : IsSound new v
+  pub sound : (marks : Marks) → AreMarks marks.marks (heap_of new v) → IsSound (record new { marks = marks }) v
+  pub between : Heap
+  pub first : StartStill chunk offset (heap_of old w) between
+  pub second : StartStill chunk (offset + b.size) between (heap_of new v)
+  pub start : StartsIn (heap_of new v) chunk (offset - b.before)
   pub sizes : sizes_of new ≡ sizes_of old
   pub others : ChangesHoles w v (heap_of new v)
 
@@ -173,7 +195,7 @@ module _ (fit : BestFit) (w x : Words) (chunk offset start : ℕ) (b : BlockFoun
     back_few = rw hole_is (same_few (heap_of fit w) (heap_with is.site (gap b.before ++ Used b.size ∷ gap is.behind)) is.is)
 
     pub block_given : (new : BestFit) (v : Words) →
-        Turn fit new x v is.site (start + offset - b.before) (gap b.before ++ Used b.size ∷ gap hole) (Hole (b.before + b.size + hole) ∷ []) → IsGiven fit new w v chunk offset
+        Turn fit new x v is.site (start + offset - b.before) (gap b.before ++ Used b.size ∷ gap hole) (Hole (b.before + b.size + hole) ∷ []) → IsGiven fit new w v chunk offset b
     block_given new v turn =
         let place : ℕ = place_at chunk 0 + offset - b.before in
         let xs : List Block = gap b.before ++ Used b.size ∷ gap is.behind in
@@ -182,7 +204,16 @@ module _ (fit : BestFit) (w x : Words) (chunk offset start : ℕ) (b : BlockFoun
         let made = turn_heap fit new w v is.site place xs (Hole n ∷ []) turn' in
         record {
           heap = made ∙ is.made;
-          sound = turn_sound fit new w v is.site place xs (Hole n ∷ []) turn' is.blocks;
+          sound = λ marks are. turn_sound fit new w v is.site place xs (Hole n ∷ []) turn' is.blocks marks (subst (AreMarks marks.marks) made are);
+          between = heap_with is.site (Used (b.before + b.size) ∷ gap is.behind);
+          first = subst (λ h. StartStill chunk offset h (heap_with is.site (Used (b.before + b.size) ∷ gap is.behind))) is.is
+              (still_turned is.site xs (Used (b.before + b.size) ∷ gap is.behind) b.before chunk offset
+              (λ o there. join_before b.before b.size (gap is.behind ++ is.site.right) o (subst (λ z. Starts z o) (append_assoc (gap b.before) (Used b.size ∷ gap is.behind) is.site.right) there))
+              is.number is.front);
+          second = subst (StartStill chunk (offset + b.size) (heap_with is.site (Used (b.before + b.size) ∷ gap is.behind))) (sym made)
+              (still_turned is.site (Used (b.before + b.size) ∷ gap is.behind) (Hole n ∷ []) (b.before + b.size) chunk (offset + b.size)
+              (λ o there. join_behind (b.before + b.size) is.behind is.site.right o there) is.number (omega (arith, is.front)));
+          start = subst (λ h. StartsIn h chunk (offset - b.before)) (sym made) (site_starts is.site (Hole n ∷ []) chunk (offset - b.before) is.number (omega (arith, is.front)));
           sizes = turn'.sizes;
           others = subst (ChangesHoles w v) (sym made) (hole_changes fit new w v is.site place n xs (Hole n ∷ []) (omega (arith, turn'.bytes)) turn');
         }

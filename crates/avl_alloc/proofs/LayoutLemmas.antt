@@ -11,6 +11,8 @@ use Rattle.std.proofs.lemmas.Bool.Decides.{nat_tests}
 use Rattle.own_model.specs.Heap.{Block, Used, Hole, bytes_in, header, AreBlocks, Heap}
 use Rattle.own_model.specs.BestFit.{chunk_of, payload_at}
 use Rattle.avl_alloc.specs.declared.best_fit.BestFit.{BestFit}
+use Rattle.avl_alloc.specs.declared.marks.Marks.{Marks}
+use Rattle.avl_alloc.specs.Marks.{AreMarks}
 use Rattle.avl_alloc.specs.declared.chunk.Block.{Block as BlockFound}
 use Rattle.avl_alloc.specs.Words.{Words, place_at}
 use Rattle.avl_tree.specs.Tree.{Tree}
@@ -106,7 +108,7 @@ unfolding IsSound
 sound_kept fit w v sound same =
     let there = heap_is fit w sound.0 sound.1 sound.2 in
     let still = laid_out_kept fit w v sound.0 sound.1 (λ q kept. same q (subst (λ h. 1 ≤ kept_at q h) (sym there) kept)) sound.2 in
-    ((sound.0, sound.1, still, sound.3), heap_is fit v sound.0 sound.1 still ∙ sym there)
+    ((sound.0, sound.1, still, sound.3, sound.4), heap_is fit v sound.0 sound.1 still ∙ sym there)
 
 -- ---- one chunk
 
@@ -115,17 +117,26 @@ pub record IsTold (fit : BestFit) (w : Words) : Type 0 where
   pub tree : Tree
   pub laid : IsLaidOut fit w (heap_of fit w) tree
   pub blocks : AllByRecursion AreBlocks (heap_of fit w)
+  pub marks : AreMarks fit.marks.marks (heap_of fit w)
 
 pub sound_told : (fit : BestFit) (w : Words) → IsSound fit w → IsTold fit w
 unfolding IsSound
 sound_told fit w sound =
     let same = sym (heap_is fit w sound.0 sound.1 sound.2) in
-    record { tree = sound.1; laid = subst (λ h. IsLaidOut fit w h sound.1) same sound.2; blocks = subst (AllByRecursion AreBlocks) same sound.3 }
+    record {
+      tree = sound.1;
+      laid = subst (λ h. IsLaidOut fit w h sound.1) same sound.2;
+      blocks = subst (AllByRecursion AreBlocks) same sound.3;
+      marks = subst (AreMarks fit.marks.marks) same sound.4;
+    }
 
--- a heap that is laid out is sound where no two of its holes are neighbours
-pub laid_sound : (fit : BestFit) (w : Words) (heap : Heap) (t : Tree) → IsLaidOut fit w heap t → AllByRecursion AreBlocks heap → IsSound fit w
+-- a heap that is laid out is sound where no two of its holes are neighbours, and blocks start where the marks say
+pub laid_sound : (fit : BestFit) (w : Words) (heap : Heap) (t : Tree) (marks : Marks) → IsLaidOut fit w heap t → AllByRecursion AreBlocks heap → AreMarks marks.marks heap → IsSound (record fit { marks = marks }) w
 unfolding IsSound
-laid_sound fit w heap t laid blocks = (heap, t, laid, blocks)
+laid_sound fit w heap t marks is blocks are =
+    let laid : IsLaidOut (record fit { marks = marks }) w heap t =
+    record { few = is.few; sized = is.sized; chunks = is.chunks; stands = is.stands; nodes = is.nodes; ordered = is.ordered; same = is.same } in
+    (heap, t, laid, blocks, are)
 
 pub chunk_there : (w : Words) (number : ℕ) (sizes : List ℕ) (heap : Heap) (i : ℕ) → AreChunks w number sizes heap → i < length sizes → IsChunk w (number + i) (get_or sizes i 0) (get_or heap i [])
 chunk_there w number [] [] i are lt = absurd (omega arith)

@@ -10,3 +10,4 @@ pub mod FreedLemmas
 pub mod CallLemmas
 pub mod GivenLemmas
 pub mod FitLemmas
+pub mod MarkLemmas

@@ -10,23 +10,17 @@ use Rattle.avl_alloc.specs.Walk.{block_over}
 use Rattle.avl_alloc.proofs.HoleLemmas.{ltb-true, ltb-false}
 
 -- the blocks that a walk has ahead of it, from an offset on
-pub record IsAhead (w : Words) (start from before target : ℕ) (blocks ahead : List heap.Block) (n k : ℕ) : Type 0 where
+pub record IsAhead (w : Words) (start first from before target : ℕ) (blocks ahead : List heap.Block) (n k : ℕ) : Type 0 where
   pub laid : Laid w (start + from) ahead
-  pub total : from + bytes_in ahead ≡ bytes_in blocks
+  pub total : from + bytes_in ahead ≡ first + bytes_in blocks
   pub even : from % 16 ≡ 0
   pub reached : from ≤ target
-  pub same : block_over from before target ahead ≡ block_over 0 0 target blocks
+  pub same : block_over from before target ahead ≡ block_over first 0 target blocks
   pub few : n + 2 * length ahead ≤ k + 2 * length blocks
 
-pub ahead-start : (w : Words) (start target : ℕ) (blocks : List heap.Block) (n : ℕ) → Laid w start blocks → IsAhead w start 0 0 target blocks blocks n n
-ahead-start w start target blocks n laid = record {
-  laid = subst (λ p. Laid w p blocks) (omega arith) laid;
-  total = omega arith;
-  even = omega arith;
-  reached = omega arith;
-  same = refl;
-  few = omega arith;
-}
+pub ahead-start : (w : Words) (start first target : ℕ) (blocks : List heap.Block) (n : ℕ) → first % 16 ≡ 0 → first ≤ target → Laid w (start + first) blocks →
+    IsAhead w start first first 0 target blocks blocks n n
+ahead-start w start first target blocks n even reached laid = record { laid = laid; total = refl; even = even; reached = reached; same = refl; few = omega arith }
 
 -- a chunk's first place tells its number
 pub of_chunk : (chunk : ℕ) → place_at chunk 0 / 2 ^ 32 - 1 ≡ chunk
@@ -51,59 +45,59 @@ pub record IsRead (bytes : ℕ → ℕ) (w : Words) (start from : ℕ) : Type 0 
   pub short : from + w (start + from) ≤ 2 ^ 32
   pub some : 1 ≤ w (start + from)
 
-module _ (w : Words) (start from before target : ℕ) (blocks : List heap.Block) (n k : ℕ) (inside : target < bytes_in blocks) where
-  read_block : (bytes : ℕ → ℕ) → IsRoom bytes start (bytes_in blocks) → (m : ℕ) → IsBlockSize m → w (start + from) ≡ m → from % 16 ≡ 0 → from + m ≤ bytes_in blocks → IsRead bytes w start from
+module _ (w : Words) (start first from before target : ℕ) (blocks : List heap.Block) (n k : ℕ) (inside : target < first + bytes_in blocks) where
+  read_block : (bytes : ℕ → ℕ) → IsRoom bytes start (first + bytes_in blocks) → (m : ℕ) → IsBlockSize m → w (start + from) ≡ m → from % 16 ≡ 0 → from + m ≤ first + bytes_in blocks → IsRead bytes w start from
   read_block bytes room m sized is even le = record {
-    size_word = subst (IsWord bytes (start / 2 ^ 32 - 1)) (omega arith) (header_word bytes start from (bytes_in blocks) m room even le sized.least 0 (omega arith) (omega arith));
-    state_word = header_word bytes start from (bytes_in blocks) m room even le sized.least 8 (omega arith) (omega arith);
+    size_word = subst (IsWord bytes (start / 2 ^ 32 - 1)) (omega arith) (header_word bytes start from (first + bytes_in blocks) m room even le sized.least 0 (omega arith) (omega arith));
+    state_word = header_word bytes start from (first + bytes_in blocks) m room even le sized.least 8 (omega arith) (omega arith);
     short = omega (arith, room.short);
     some = omega (arith, sized.least);
   }
 
   -- where the walk stands there is a header
-  pub ahead-read : (bytes : ℕ → ℕ) → IsRoom bytes start (bytes_in blocks) → (ahead : List heap.Block) → IsAhead w start from before target blocks ahead n k → IsRead bytes w start from
+  pub ahead-read : (bytes : ℕ → ℕ) → IsRoom bytes start (first + bytes_in blocks) → (ahead : List heap.Block) → IsAhead w start first from before target blocks ahead n k → IsRead bytes w start from
   ahead-read bytes room [] is = let total = is.total in let reached = is.reached in absurd (omega arith)
   ahead-read bytes room (Used m ∷ rest) is = read_block bytes room m is.laid.0.sized is.laid.0.size is.even (omega (arith, is.total))
   ahead-read bytes room (Hole m ∷ rest) is = read_block bytes room m is.laid.0.sized is.laid.0.size is.even (omega (arith, is.total))
 
   -- so there is a block ahead
-  pub ahead-some : (ahead : List heap.Block) → IsAhead w start from before target blocks ahead n k → n + 2 ≤ k + 2 * length blocks
+  pub ahead-some : (ahead : List heap.Block) → IsAhead w start first from before target blocks ahead n k → n + 2 ≤ k + 2 * length blocks
   ahead-some [] is = let total = is.total in let reached = is.reached in absurd (omega arith)
   ahead-some (b ∷ rest) is = omega (arith, is.few)
 
   -- the block there is the one that is looked for
-  pub ahead-here : (size : ℕ) (used : Bool) → size ≡ w (start + from) → used ≡ eqb (w (start + from + 8)) 1 → target < from + size → (ahead : List heap.Block) → IsAhead w start from before target blocks ahead n k →
-      (let found : Block = record { offset = from; size = size; used = used; before = before } in found ≡ block_over 0 0 target blocks)
+  pub ahead-here : (size : ℕ) (used : Bool) → size ≡ w (start + from) → used ≡ eqb (w (start + from + 8)) 1 → target < from + size → (ahead : List heap.Block) → IsAhead w start first from before target blocks ahead n k →
+      (let found : Block = record { offset = from; size = size; used = used; before = before } in found ≡ block_over first 0 target blocks)
   ahead-here size used read state lt [] is = let total = is.total in let reached = is.reached in absurd (omega arith)
   ahead-here size used read state lt (Used m ∷ rest) is =
       let sized : size ≡ m = read ∙ is.laid.0.size in
       let is_used : used ≡ true = state ∙ ap (λ v. eqb v 1) is.laid.0.state in
       let test : nat_lt target (from + m) ≡ true = ltb-true (omega arith) in
-      let there = subst (λ z. (if z then record { offset = from; size = m; used = true; before = before } else block_over (from + m) 0 target rest) ≡ block_over 0 0 target blocks) test is.same in
-      subst (λ z. (let found : Block = record { offset = from; size = z; used = used; before = before } in found ≡ block_over 0 0 target blocks)) (sym sized)
-      (subst (λ z. (let found : Block = record { offset = from; size = m; used = z; before = before } in found ≡ block_over 0 0 target blocks)) (sym is_used) there)
+      let there = subst (λ z. (if z then record { offset = from; size = m; used = true; before = before } else block_over (from + m) 0 target rest) ≡ block_over first 0 target blocks) test is.same in
+      subst (λ z. (let found : Block = record { offset = from; size = z; used = used; before = before } in found ≡ block_over first 0 target blocks)) (sym sized)
+      (subst (λ z. (let found : Block = record { offset = from; size = m; used = z; before = before } in found ≡ block_over first 0 target blocks)) (sym is_used) there)
   ahead-here size used read state lt (Hole m ∷ rest) is =
       let sized : size ≡ m = read ∙ is.laid.0.size in
       let is_used : used ≡ false = state ∙ ap (λ v. eqb v 1) is.laid.0.state in
       let test : nat_lt target (from + m) ≡ true = ltb-true (omega arith) in
-      let there = subst (λ z. (if z then record { offset = from; size = m; used = false; before = before } else block_over (from + m) m target rest) ≡ block_over 0 0 target blocks) test is.same in
-      subst (λ z. (let found : Block = record { offset = from; size = z; used = used; before = before } in found ≡ block_over 0 0 target blocks)) (sym sized)
-      (subst (λ z. (let found : Block = record { offset = from; size = m; used = z; before = before } in found ≡ block_over 0 0 target blocks)) (sym is_used) there)
+      let there = subst (λ z. (if z then record { offset = from; size = m; used = false; before = before } else block_over (from + m) m target rest) ≡ block_over first 0 target blocks) test is.same in
+      subst (λ z. (let found : Block = record { offset = from; size = z; used = used; before = before } in found ≡ block_over first 0 target blocks)) (sym sized)
+      (subst (λ z. (let found : Block = record { offset = from; size = m; used = z; before = before } in found ≡ block_over first 0 target blocks)) (sym is_used) there)
 
   -- or the walk goes on behind it
-  pub ahead-on : (size : ℕ) (used : Bool) → size ≡ w (start + from) → used ≡ eqb (w (start + from + 8)) 1 → from + size ≤ target → (ahead : List heap.Block) → IsAhead w start from before target blocks ahead n k →
-      (rest : List heap.Block) × IsAhead w start (from + size) (if used then 0 else size) target blocks rest (n + 2) k
+  pub ahead-on : (size : ℕ) (used : Bool) → size ≡ w (start + from) → used ≡ eqb (w (start + from + 8)) 1 → from + size ≤ target → (ahead : List heap.Block) → IsAhead w start first from before target blocks ahead n k →
+      (rest : List heap.Block) × IsAhead w start first (from + size) (if used then 0 else size) target blocks rest (n + 2) k
   ahead-on size used read state le [] is = let total = is.total in let reached = is.reached in absurd (omega arith)
   ahead-on size used read state le (Used m ∷ rest) is =
       let sized : size ≡ m = read ∙ is.laid.0.size in
       let is_used : used ≡ true = state ∙ ap (λ v. eqb v 1) is.laid.0.state in
       let test : nat_lt target (from + m) ≡ false = ltb-false (omega arith) in
-      let on = subst (λ z. (if z then record { offset = from; size = m; used = true; before = before } else block_over (from + m) 0 target rest) ≡ block_over 0 0 target blocks) test is.same in
+      let on = subst (λ z. (if z then record { offset = from; size = m; used = true; before = before } else block_over (from + m) 0 target rest) ≡ block_over first 0 target blocks) test is.same in
       let even = is.laid.0.sized.even in
       let even' = is.even in (
         rest,
-        subst (λ z. IsAhead w start (from + z) (if used then 0 else z) target blocks rest (n + 2) k) (sym sized)
-            (subst (λ z. IsAhead w start (from + m) (if z then 0 else m) target blocks rest (n + 2) k) (sym is_used) (record {
+        subst (λ z. IsAhead w start first (from + z) (if used then 0 else z) target blocks rest (n + 2) k) (sym sized)
+            (subst (λ z. IsAhead w start first (from + m) (if z then 0 else m) target blocks rest (n + 2) k) (sym is_used) (record {
               laid = subst (λ p. Laid w p rest) (omega arith) is.laid.1;
               total = omega (arith, is.total);
               even = omega arith;
@@ -116,12 +110,12 @@ module _ (w : Words) (start from before target : ℕ) (blocks : List heap.Block)
       let sized : size ≡ m = read ∙ is.laid.0.size in
       let is_used : used ≡ false = state ∙ ap (λ v. eqb v 1) is.laid.0.state in
       let test : nat_lt target (from + m) ≡ false = ltb-false (omega arith) in
-      let on = subst (λ z. (if z then record { offset = from; size = m; used = false; before = before } else block_over (from + m) m target rest) ≡ block_over 0 0 target blocks) test is.same in
+      let on = subst (λ z. (if z then record { offset = from; size = m; used = false; before = before } else block_over (from + m) m target rest) ≡ block_over first 0 target blocks) test is.same in
       let even = is.laid.0.sized.even in
       let even' = is.even in (
         rest,
-        subst (λ z. IsAhead w start (from + z) (if used then 0 else z) target blocks rest (n + 2) k) (sym sized)
-            (subst (λ z. IsAhead w start (from + m) (if z then 0 else m) target blocks rest (n + 2) k) (sym is_used) (record {
+        subst (λ z. IsAhead w start first (from + z) (if used then 0 else z) target blocks rest (n + 2) k) (sym sized)
+            (subst (λ z. IsAhead w start first (from + m) (if z then 0 else m) target blocks rest (n + 2) k) (sym is_used) (record {
               laid = subst (λ p. Laid w p rest) (omega arith) is.laid.1;
               total = omega (arith, is.total);
               even = omega arith;

@@ -9,6 +9,7 @@ use Rattle.avl_tree.specs.Tree.{Tree, tally, IsOrdered}
 use Rattle.avl_tree.specs.View.{AreNodes, Stands}
 use Rattle.avl_alloc.specs.Words.{Words, place_at, within, IsNode}
 use Rattle.avl_alloc.specs.Holes.{heads, by_key, view_of, hole_plan}
+use Rattle.avl_alloc.specs.Marks.{AreMarks}
 
 -- ---- blocks
 
@@ -117,9 +118,11 @@ pub record IsLaidOut (fit : BestFit) (words : Words) (heap : Heap) (t : Tree) : 
   pub ordered : (up : ℕ) × IsOrdered 0 t up
   pub same : (f : ℕ → ℕ → ℕ) → tally f t ≡ weigh_holes (by_key f) heap
 
--- what a heap's calls ask of the words, and leave them in: no two holes of a chunk are neighbours, and the tree has all holes
+-- what a heap's calls ask of the words, and leave them in: no two holes of a chunk are neighbours, the tree has all holes, and
+-- blocks start where the marks say
 unfoldable pub IsSound : BestFit → Words → Type 0
-IsSound fit words = (heap : Heap) × (t : Tree) × IsLaidOut fit words heap t × AllByRecursion AreBlocks heap
+IsSound fit words =
+    (heap : Heap) × (t : Tree) × IsLaidOut fit words heap t × AllByRecursion AreBlocks heap × AreMarks fit.marks.marks heap
 
 -- no word has changed but those of a heap's holes
 abbrev pub ChangesHoles : Words → Words → Heap → Type 0

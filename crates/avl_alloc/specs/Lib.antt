@@ -5,3 +5,4 @@ pub mod Context
 pub mod Walk
 pub mod Fit
 pub mod Found
+pub mod Marks

@@ -6,11 +6,12 @@ ghost use Rattle.own_model.specs.BestFit.{block_size, best_hole, holes_of, chunk
 ghost use Rattle.avl_alloc.specs.Holes.{Fits};
 ghost use Rattle.avl_alloc.specs.Layout.{heap_of, sizes_of, bytes_of, hole_count, IsSound, ChangesHoles};
 ghost use Rattle.avl_alloc.specs.Context.{Context, heap_with, Stand, StandSomewhere, StandUsed, Turn, Turns, LoadsFew, gap, filled, first_hole};
-ghost use Rattle.avl_alloc.specs.Walk.{block_there};
+ghost use Rattle.avl_alloc.specs.Walk.{IsReached, block_there};
 ghost use Rattle.avl_alloc.specs.Found.{used_block, block_addr};
 
 use super::chunk::{Block, HEADER, HOLE, LEAST, USED, hole_at, set_header, set_state, walk};
 use super::holes::{HoleKey, Holes};
+use super::marks::Marks;
 use super::memory::{SPAN, WordMemory, load, place_of};
 use avl_tree::{find, insert, remove};
 
@@ -47,6 +48,8 @@ pub struct BestFit {
     count: usize,
     /// The bytes of each chunk.
     sizes: [u64; MOST_CHUNKS],
+    /// Where blocks start.
+    marks: Marks,
 }
 
 impl BestFit {
@@ -60,6 +63,7 @@ impl BestFit {
             root: 0,
             count: 0,
             sizes: [0; MOST_CHUNKS],
+            marks: Marks::new(),
         }
     }
 
@@ -125,10 +129,10 @@ impl BestFit {
             return None;
         }
         self.take(memory, place, size);
-        Some(BlockAddr {
-            chunk: (place / SPAN - 1) as usize,
-            offset: place % SPAN,
-        })
+        let chunk = (place / SPAN - 1) as usize;
+        let offset = place % SPAN;
+        self.marks.note(chunk, offset);
+        Some(BlockAddr { chunk, offset })
     }
 
     /// Gives back the used block that starts at an address and tells its size, or answers `None`
@@ -166,6 +170,9 @@ impl BestFit {
             block.size,
             behind,
         );
+        self.marks.forget(addr.chunk, addr.offset);
+        self.marks.forget(addr.chunk, addr.offset + block.size);
+        self.marks.note(addr.chunk, addr.offset - block.before);
         Some(block.size)
     }
 
@@ -193,13 +200,13 @@ impl BestFit {
         }
     }
 
-    /// The block in which an address lies, found by walking its chunk from the first byte, or `None`
-    /// where it lies in no chunk.
+    /// The block in which an address lies, found by walking its chunk from a mark before it, or `None` where it lies in no chunk.
+    /// What is directly before the block is told where the address is its first byte.
     fn reach<M: WordMemory>(&self, memory: &mut M, addr: BlockAddr) -> Option<Block>
         requires sound { IsSound self.now (M.word memory.old) }
         requires fits { Fits (bytes_of self.now) (M.bytes (M.rest memory.old)) }
         ensures found { let blocks = chunk_of (heap_of self.now (M.word memory.old)) addr.chunk in
-            result ≡ block_there addr.offset blocks }
+            IsReached addr.offset result (block_there addr.offset blocks) }
         ensures reached { IfSome result (λ block. block.offset ≤ addr.offset) }
         ensures words { M.word memory.new ≡ M.word memory.old }
         ensures rest { M.rest memory.new ≡ M.rest memory.old }
@@ -212,7 +219,8 @@ impl BestFit {
         if addr.offset >= self.sizes[addr.chunk] {
             return None;
         }
-        Some(walk(memory, addr.chunk, addr.offset))
+        let from = self.marks.before(addr.chunk, addr.offset);
+        Some(walk(memory, addr.chunk, from, addr.offset))
     }
 
     /// Takes the hole at a place for a block of `size` bytes. What is left stays a hole, unless it is
@@ -226,6 +234,7 @@ impl BestFit {
             Stand self.old (M.word memory.old) at place (Hole n ∷ []) → size ≤ n →
             Turn self.old self.new (M.word memory.old) (M.word memory.new) at place (Hole n ∷ [])
             (cut size n) }
+        ensures marks { self.new.marks ≡ self.old.marks }
         ensures rest { M.rest memory.new ≡ M.rest memory.old }
         ensures loads { (at : Context) (n b : ℕ) →
             Stand self.old (M.word memory.old) at place (Hole n ∷ []) → size ≤ n →
@@ -256,6 +265,7 @@ impl BestFit {
         requires fits { Fits (bytes_of self.old) (M.bytes (M.rest memory.old)) }
         ensures turn { Turns self.old self.new (M.word memory.old) (M.word memory.new) place
             (gap before ++ Used size ∷ gap behind) (Hole (before + size + behind) ∷ []) }
+        ensures marks { self.new.marks ≡ self.old.marks }
         ensures rest { M.rest memory.new ≡ M.rest memory.old }
         ensures loads { LoadsFew self.old (M.word memory.old) place
             (gap before ++ Used size ∷ gap behind) 180 90
@@ -272,6 +282,7 @@ impl BestFit {
         requires fits { Fits (bytes_of self.old) (M.bytes (M.rest memory.old)) }
         ensures turn { Turns self.old self.new (M.word memory.old) (M.word memory.new) place
             (gap size) (filled size) }
+        ensures marks { self.new.marks ≡ self.old.marks }
         ensures rest { M.rest memory.new ≡ M.rest memory.old }
         ensures loads { LoadsFew self.old (M.word memory.old) place (gap size)
             60 30 (M.loads memory.old) (M.loads memory.new) }
@@ -287,6 +298,7 @@ impl BestFit {
         requires fits { Fits (bytes_of self.old) (M.bytes (M.rest memory.old)) }
         ensures turn { Turns self.old self.new (M.word memory.old) (M.word memory.new) place
             (Hole size ∷ []) (Used size ∷ []) }
+        ensures marks { self.new.marks ≡ self.old.marks }
         ensures rest { M.rest memory.new ≡ M.rest memory.old }
         ensures loads { LoadsFew self.old (M.word memory.old) place (Hole size ∷ [])
             60 30 (M.loads memory.old) (M.loads memory.new) }
@@ -321,6 +333,7 @@ impl BestFit {
             StandUsed self.old (M.word memory.old) at place blocks size →
             Turn self.old self.new (M.word memory.old) (M.word memory.new) at place blocks
             (Hole size ∷ []) }
+        ensures marks { self.new.marks ≡ self.old.marks }
         ensures rest { M.rest memory.new ≡ M.rest memory.old }
         ensures loads { (at : Context) (blocks : List ModelBlock) (b : ℕ) →
             StandUsed self.old (M.word memory.old) at place blocks size →

@@ -73,24 +73,28 @@ pub fn hole_at<M: WordMemory>(memory: &mut M, place: u64) -> u64
     }
 }
 
-/// The block in which an offset of a chunk lies, found by walking the headers from the chunk's first byte. It loads by chunk
-/// and offset, not by place, so that where the chunk's words are is looked up once, and by an offset that is told to be whole,
-/// so that both words of a header are seen to lie in one page.
-pub fn walk<M: WordMemory>(memory: &mut M, chunk: usize, target: u64) -> Block
-    requires { (blocks : List ModelBlock) × Laid (M.word memory.old) (place_at chunk 0) blocks ×
-        IsRoom (M.bytes (M.rest memory.old)) (place_at chunk 0) (bytes_in blocks) ×
-        (target < bytes_in blocks) }
+/// The block in which an offset of a chunk lies, found by walking the headers from that of a block at or before it. What is
+/// directly before that one isn't told. It loads by chunk and offset, not by place, so that where the chunk's words are is looked
+/// up once, and by an offset that is told to be whole, so that both words of a header are seen to lie in one page.
+pub fn walk<M: WordMemory>(memory: &mut M, chunk: usize, from: u64, target: u64) -> Block
+    requires blocks { (blocks : List ModelBlock)
+        × Laid (M.word memory.old) (place_at chunk 0 + from) blocks
+        × IsRoom (M.bytes (M.rest memory.old)) (place_at chunk 0) (from + bytes_in blocks)
+        × (target < from + bytes_in blocks) }
+    requires whole { from % 16 ≡ 0 }
+    requires before { from ≤ target }
     ensures reached { result.offset ≤ target }
     ensures found { (blocks : List ModelBlock)
-        → Laid (M.word memory.old) (place_at chunk 0) blocks → target < bytes_in blocks
-        → result ≡ block_over 0 0 target blocks }
+        → Laid (M.word memory.old) (place_at chunk 0 + from) blocks
+        → target < from + bytes_in blocks → result ≡ block_over from 0 target blocks }
     ensures words { M.word memory.new ≡ M.word memory.old }
     ensures rest { M.rest memory.new ≡ M.rest memory.old }
     ensures loads { (blocks : List ModelBlock)
-        → Laid (M.word memory.old) (place_at chunk 0) blocks → target < bytes_in blocks
+        → Laid (M.word memory.old) (place_at chunk 0 + from) blocks
+        → target < from + bytes_in blocks
         → M.loads memory.new ≤ M.loads memory.old + 2 * length blocks }
 {
-    let mut offset = 0;
+    let mut offset = from;
     let mut before = 0;
     'steps: loop {
         let header = whole(offset);

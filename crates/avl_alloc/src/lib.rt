@@ -9,6 +9,7 @@ mod best_fit;
 mod chunk;
 mod holes;
 mod laws;
+mod marks;
 mod memory;
 
 pub use best_fit::{BestFit, BlockAddr, MOST_CHUNKS, UsedBlock, block_bytes};

@@ -8,39 +8,39 @@ use Rattle.avl_alloc.proofs.chunk.walk.Goals.{then-used, else-used}
 
 -- at the start all blocks are ahead
 pub steps-init : goal.steps-init
-steps-init g c = (refl, refl, λ blocks laid within. (blocks, ahead-start _ _ _ blocks _ laid))
+steps-init g c = (refl, refl, λ blocks laid within. (blocks, ahead-start _ _ _ _ blocks _ c.requires.whole c.requires.before laid))
 
 -- where the walk stands there is a header
 pub load-size-requires : goal.load-size-requires
 load-size-requires g c =
     let inv = c.steps.invariant in
-    let q = c.requires in
+    let q = c.requires.blocks in
     let at = inv.2 q.0 q.1 q.3 in
-    let read = ahead-read (g.M.WordMemory.word c.args.memory.now) (place_at c.args.chunk 0) c.steps.offset c.steps.before c.args.target q.0 _ _ q.3 (g.M.WordMemory.bytes (g.M.WordMemory.rest c.args.memory.now)) q.2 at.0 at.1 in
+    let read = ahead-read (g.M.WordMemory.word c.args.memory.now) (place_at c.args.chunk 0) c.args.from c.steps.offset c.steps.before c.args.target q.0 _ _ q.3 (g.M.WordMemory.bytes (g.M.WordMemory.rest c.args.memory.now)) q.2 at.0 at.1 in
     rw (c.whole-header.ensures, inv.1) (subst (λ k. IsWord (g.M.WordMemory.bytes (g.M.WordMemory.rest c.args.memory.now)) k c.steps.offset) (of_chunk c.args.chunk) read.size_word)
 
 pub load-used-requires : goal.load-used-requires
 load-used-requires g c =
     let inv = c.steps.invariant in
-    let q = c.requires in
+    let q = c.requires.blocks in
     let at = inv.2 q.0 q.1 q.3 in
-    let read = ahead-read (g.M.WordMemory.word c.args.memory.now) (place_at c.args.chunk 0) c.steps.offset c.steps.before c.args.target q.0 _ _ q.3 (g.M.WordMemory.bytes (g.M.WordMemory.rest c.args.memory.now)) q.2 at.0 at.1 in
+    let read = ahead-read (g.M.WordMemory.word c.args.memory.now) (place_at c.args.chunk 0) c.args.from c.steps.offset c.steps.before c.args.target q.0 _ _ q.3 (g.M.WordMemory.bytes (g.M.WordMemory.rest c.args.memory.now)) q.2 at.0 at.1 in
     rw (c.whole-header.ensures, c.load-size.ensures.rest, inv.1) (subst (λ k. IsWord (g.M.WordMemory.bytes (g.M.WordMemory.rest c.args.memory.now)) k (c.steps.offset + 8)) (of_chunk c.args.chunk) read.state_word)
 
 pub overflow_add-header : goal.overflow_add-header
 overflow_add-header g c =
     let inv = c.steps.invariant in
-    let q = c.requires in
+    let q = c.requires.blocks in
     let at = inv.2 q.0 q.1 q.3 in
-    let read = ahead-read (g.M.WordMemory.word c.args.memory.now) (place_at c.args.chunk 0) c.steps.offset c.steps.before c.args.target q.0 _ _ q.3 (g.M.WordMemory.bytes (g.M.WordMemory.rest c.args.memory.now)) q.2 at.0 at.1 in
+    let read = ahead-read (g.M.WordMemory.word c.args.memory.now) (place_at c.args.chunk 0) c.args.from c.steps.offset c.steps.before c.args.target q.0 _ _ q.3 (g.M.WordMemory.bytes (g.M.WordMemory.rest c.args.memory.now)) q.2 at.0 at.1 in
     omega (arith, read.short, c.whole-header.ensures)
 
 pub overflow_add-offset : goal.overflow_add-offset
 overflow_add-offset g c =
     let inv = c.steps.invariant in
-    let q = c.requires in
+    let q = c.requires.blocks in
     let at = inv.2 q.0 q.1 q.3 in
-    let read = ahead-read (g.M.WordMemory.word c.args.memory.now) (place_at c.args.chunk 0) c.steps.offset c.steps.before c.args.target q.0 _ _ q.3 (g.M.WordMemory.bytes (g.M.WordMemory.rest c.args.memory.now)) q.2 at.0 at.1 in
+    let read = ahead-read (g.M.WordMemory.word c.args.memory.now) (place_at c.args.chunk 0) c.args.from c.steps.offset c.steps.before c.args.target q.0 _ _ q.3 (g.M.WordMemory.bytes (g.M.WordMemory.rest c.args.memory.now)) q.2 at.0 at.1 in
     let size : c.load-size.result ≡ g.M.WordMemory.word c.args.memory.now (place_at c.args.chunk 0 + c.steps.offset) = c.load-size.ensures.value ∙ ap (λ o. g.M.WordMemory.word c.steps.memory (place_at c.args.chunk o)) c.whole-header.ensures ∙ ap (g.M.WordMemory.word c.steps.memory) (at_start c.args.chunk c.steps.offset) ∙ ap (λ w. w (place_at c.args.chunk 0 + c.steps.offset)) inv.0 in
     let short = read.short in
     omega arith
@@ -49,7 +49,7 @@ overflow_add-offset g c =
 pub returns-then-target-offset-clause-reached : goal.returns-then-target-offset-clause-reached
 returns-then-target-offset-clause-reached g c =
     let inv = c.steps.invariant in
-    let q = c.requires in
+    let q = c.requires.blocks in
     let at = inv.2 q.0 q.1 q.3 in
     at.1.reached
 
@@ -59,7 +59,7 @@ returns-then-target-offset-clause-found g c blocks laid within =
     let size : c.load-size.result ≡ g.M.WordMemory.word c.args.memory.now (place_at c.args.chunk 0 + c.steps.offset) = c.load-size.ensures.value ∙ ap (λ o. g.M.WordMemory.word c.steps.memory (place_at c.args.chunk o)) c.whole-header.ensures ∙ ap (g.M.WordMemory.word c.steps.memory) (at_start c.args.chunk c.steps.offset) ∙ ap (λ w. w (place_at c.args.chunk 0 + c.steps.offset)) inv.0 in
     let state : eqb c.load-used.result 1 ≡ eqb (g.M.WordMemory.word c.args.memory.now (place_at c.args.chunk 0 + c.steps.offset + 8)) 1 = ap (λ v. eqb v 1) (c.load-used.ensures.value ∙ ap (λ o. g.M.WordMemory.word c.load-size.new.self (place_at c.args.chunk (o + 8))) c.whole-header.ensures ∙ ap (g.M.WordMemory.word c.load-size.new.self) (at_start_more c.args.chunk c.steps.offset 8) ∙ ap (λ w. w (place_at c.args.chunk 0 + c.steps.offset + 8)) (c.load-size.ensures.words ∙ inv.0)) in
     let at = inv.2 blocks laid within in
-    ahead-here (g.M.WordMemory.word c.args.memory.now) (place_at c.args.chunk 0) c.steps.offset c.steps.before c.args.target blocks _ _ within c.load-size.result _ size state c.if-target-offset.true at.0 at.1
+    ahead-here (g.M.WordMemory.word c.args.memory.now) (place_at c.args.chunk 0) c.args.from c.steps.offset c.steps.before c.args.target blocks _ _ within c.load-size.result _ size state c.if-target-offset.true at.0 at.1
 
 pub returns-then-target-offset-clause-loads : goal.returns-then-target-offset-clause-loads
 returns-then-target-offset-clause-loads g c blocks laid within =
@@ -67,16 +67,16 @@ returns-then-target-offset-clause-loads g c blocks laid within =
     let size : c.load-size.result ≡ g.M.WordMemory.word c.args.memory.now (place_at c.args.chunk 0 + c.steps.offset) = c.load-size.ensures.value ∙ ap (λ o. g.M.WordMemory.word c.steps.memory (place_at c.args.chunk o)) c.whole-header.ensures ∙ ap (g.M.WordMemory.word c.steps.memory) (at_start c.args.chunk c.steps.offset) ∙ ap (λ w. w (place_at c.args.chunk 0 + c.steps.offset)) inv.0 in
     let state : eqb c.load-used.result 1 ≡ eqb (g.M.WordMemory.word c.args.memory.now (place_at c.args.chunk 0 + c.steps.offset + 8)) 1 = ap (λ v. eqb v 1) (c.load-used.ensures.value ∙ ap (λ o. g.M.WordMemory.word c.load-size.new.self (place_at c.args.chunk (o + 8))) c.whole-header.ensures ∙ ap (g.M.WordMemory.word c.load-size.new.self) (at_start_more c.args.chunk c.steps.offset 8) ∙ ap (λ w. w (place_at c.args.chunk 0 + c.steps.offset + 8)) (c.load-size.ensures.words ∙ inv.0)) in
     let at = inv.2 blocks laid within in
-    let few = ahead-some (g.M.WordMemory.word c.args.memory.now) (place_at c.args.chunk 0) c.steps.offset c.steps.before c.args.target blocks _ _ within at.0 at.1 in
+    let few = ahead-some (g.M.WordMemory.word c.args.memory.now) (place_at c.args.chunk 0) c.args.from c.steps.offset c.steps.before c.args.target blocks _ _ within at.0 at.1 in
     omega (arith, few, c.load-used.ensures.loads, c.load-size.ensures.loads)
 
 -- or the walk goes on
 pub steps-smaller : goal.steps-smaller
 steps-smaller g c =
     let inv = c.steps.invariant in
-    let q = c.requires in
+    let q = c.requires.blocks in
     let at = inv.2 q.0 q.1 q.3 in
-    let read = ahead-read (g.M.WordMemory.word c.args.memory.now) (place_at c.args.chunk 0) c.steps.offset c.steps.before c.args.target q.0 _ _ q.3 (g.M.WordMemory.bytes (g.M.WordMemory.rest c.args.memory.now)) q.2 at.0 at.1 in
+    let read = ahead-read (g.M.WordMemory.word c.args.memory.now) (place_at c.args.chunk 0) c.args.from c.steps.offset c.steps.before c.args.target q.0 _ _ q.3 (g.M.WordMemory.bytes (g.M.WordMemory.rest c.args.memory.now)) q.2 at.0 at.1 in
     let size : c.load-size.result ≡ g.M.WordMemory.word c.args.memory.now (place_at c.args.chunk 0 + c.steps.offset) = c.load-size.ensures.value ∙ ap (λ o. g.M.WordMemory.word c.steps.memory (place_at c.args.chunk o)) c.whole-header.ensures ∙ ap (g.M.WordMemory.word c.steps.memory) (at_start c.args.chunk c.steps.offset) ∙ ap (λ w. w (place_at c.args.chunk 0 + c.steps.offset)) inv.0 in
     let some = read.some in
     let reached = at.1.reached in
@@ -102,9 +102,9 @@ steps-preserved g c =
       c.load-used.ensures.rest ∙ c.load-size.ensures.rest ∙ inv.1,
       λ blocks laid within.
           let at = inv.2 blocks laid within in
-          let on = ahead-on (g.M.WordMemory.word c.args.memory.now) (place_at c.args.chunk 0) c.steps.offset c.steps.before c.args.target blocks _ _ within c.load-size.result (eqb c.load-used.result 1) size state c.if-target-offset.false at.0 at.1 in (
+          let on = ahead-on (g.M.WordMemory.word c.args.memory.now) (place_at c.args.chunk 0) c.args.from c.steps.offset c.steps.before c.args.target blocks _ _ within c.load-size.result (eqb c.load-used.result 1) size state c.if-target-offset.false at.0 at.1 in (
             on.0,
-            subst (λ z. IsAhead (g.M.WordMemory.word c.args.memory.now) (place_at c.args.chunk 0) (c.steps.offset + c.load-size.result) z c.args.target blocks on.0 (g.M.WordMemory.loads c.load-used.new.self) (g.M.WordMemory.loads c.args.memory.now)) behind
-                (subst (λ z. IsAhead (g.M.WordMemory.word c.args.memory.now) (place_at c.args.chunk 0) (c.steps.offset + c.load-size.result) (if eqb c.load-used.result 1 then 0 else c.load-size.result) c.args.target blocks on.0 z (g.M.WordMemory.loads c.args.memory.now)) (sym few) on.1),
+            subst (λ z. IsAhead (g.M.WordMemory.word c.args.memory.now) (place_at c.args.chunk 0) c.args.from (c.steps.offset + c.load-size.result) z c.args.target blocks on.0 (g.M.WordMemory.loads c.load-used.new.self) (g.M.WordMemory.loads c.args.memory.now)) behind
+                (subst (λ z. IsAhead (g.M.WordMemory.word c.args.memory.now) (place_at c.args.chunk 0) c.args.from (c.steps.offset + c.load-size.result) (if eqb c.load-used.result 1 then 0 else c.load-size.result) c.args.target blocks on.0 z (g.M.WordMemory.loads c.args.memory.now)) (sym few) on.1),
           ),
     )

@@ -24,7 +24,7 @@ next : (g : given.Over) (c : goal.After-put_in g) →
 next g c = record { told = sound_told _ _ c.requires.sound; next = c.requires.next; start = c.place_of-place.ensures; few = c.requires.few; sized = c.requires.size; short = c.requires.short; words = c.set_header.ensures.words }
 
 done : (g : given.Over) (c : goal.After-put_in g) → IsAdded c.args.self.now c.put_in.new.self (g.M.WordMemory.word c.args.memory.now) (g.M.WordMemory.word c.put_in.new.memory) c.args.bytes
-done g c = chunk_added _ _ _ _ _ _ (next g c) _ _ (c.put_in.ensures.turn _ _ (more_asks _ _ _ _ _ _ (next g c)))
+done g c = chunk_added _ _ _ _ _ _ (next g c) _ _ (c.put_in.ensures.turn _ _ (more_asks _ _ _ _ _ _ (next g c))) c.put_in.ensures.marks
 
 pub returns-clause-heap : goal.returns-clause-heap
 returns-clause-heap g c = (done g c).heap

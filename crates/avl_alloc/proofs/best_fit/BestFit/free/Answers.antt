@@ -1,5 +1,9 @@
-use Rattle.std.proofs.Common.{◌∙◌, sym, arith}
-use Rattle.avl_alloc.proofs.FreedLemmas.{used_none, used_some}
+use Rattle.std.proofs.Common.{◌∙◌, sym, subst, arith}
+use Rattle.own_model.specs.BestFit.{chunk_of}
+use Rattle.avl_alloc.specs.Marks.{AreMarks}
+use Rattle.avl_alloc.specs.Layout.{heap_of}
+use Rattle.avl_alloc.proofs.LayoutLemmas.{sound_told}
+use Rattle.avl_alloc.proofs.FreedLemmas.{reached_not_used, reached_used, reached_here}
 use Rattle.avl_alloc.proofs.GivenLemmas.{not_used, not_start, is_used, used_start, sound_long, used_is, next_stand, next_end, IsGiven, back_stand, back_few, block_given}
 use Rattle.avl_alloc.proofs.best_fit.BestFit.free.Given as given
 use Rattle.avl_alloc.proofs.best_fit.BestFit.free.Goals as goal
@@ -8,57 +12,56 @@ use Rattle.avl_alloc.proofs.best_fit.BestFit.free.Goals.{then-not-block-via-then
 -- the address lies in no chunk
 pub returns-in_err-block-clause-block : goal.returns-in_err-block-clause-block
 returns-in_err-block-clause-block g c =
-    c.from_residual.ensures ∙ used_none c.args.addr.offset _ (sound_long _ _ c.requires.sound c.args.addr.chunk) (sym c.in_err-block.was ∙ c.reach.ensures.found)
+    c.from_residual.ensures ∙ reached_not_used c.args.addr.offset (chunk_of (heap_of c.args.self.now (g.M.WordMemory.word c.args.memory.now)) c.args.addr.chunk) c.reach.result (sound_long _ _ c.requires.sound c.args.addr.chunk) c.in_err-block.was c.reach.ensures.found
 
 -- no used block starts there
 pub returns-then-not-block-clause-block : goal.returns-then-not-block-clause-block
 returns-then-not-block-clause-block g c =
-    let there = sym c.in_ok-block.was ∙ c.reach.ensures.found in
     let long = sound_long _ _ c.requires.sound c.args.addr.chunk in
     elim c.then-not-block.branch [
-      | then-not-block-via-then-not-block w ↦ not_used c.args.addr.offset c.in_ok-block.block w.if-not-block.true ∙ used_some c.args.addr.offset _ c.in_ok-block.block long there
-      | then-not-block-via-else-not-block+then-block-addr w ↦ not_start c.args.addr.offset c.in_ok-block.block w.if-block-addr.true ∙ used_some c.args.addr.offset _ c.in_ok-block.block long there
+      | then-not-block-via-then-not-block w ↦ not_used c.args.addr.offset c.in_ok-block.block w.if-not-block.true ∙ reached_used c.args.addr.offset (chunk_of (heap_of c.args.self.now (g.M.WordMemory.word c.args.memory.now)) c.args.addr.chunk) c.reach.result c.in_ok-block.block long c.in_ok-block.was c.reach.ensures.found
+      | then-not-block-via-else-not-block+then-block-addr w ↦ not_start c.args.addr.offset c.in_ok-block.block w.if-block-addr.true ∙ reached_used c.args.addr.offset (chunk_of (heap_of c.args.self.now (g.M.WordMemory.word c.args.memory.now)) c.args.addr.chunk) c.reach.result c.in_ok-block.block long c.in_ok-block.was c.reach.ensures.found
     ]
 
 -- or one does
 pub place_of-start-requires : goal.place_of-start-requires
 place_of-start-requires g c =
-    let is = used_is _ _ _ _ c.in_ok-block.block c.requires.sound (sym c.in_ok-block.was ∙ c.reach.ensures.found) (is_used _ c.if-not-block.false) c.if-block-addr.false in
+    let is = used_is c.args.self.now (g.M.WordMemory.word c.args.memory.now) c.args.addr.chunk c.args.addr.offset c.in_ok-block.block c.requires.sound (reached_here c.args.addr.offset (chunk_of (heap_of c.args.self.now (g.M.WordMemory.word c.args.memory.now)) c.args.addr.chunk) c.reach.result c.in_ok-block.block c.in_ok-block.was c.reach.ensures.found c.if-block-addr.false) (is_used _ c.if-not-block.false) c.if-block-addr.false in
     is.low
 
 pub overflow_add-place : goal.overflow_add-place
 overflow_add-place g c =
-    let is = used_is _ _ _ _ c.in_ok-block.block c.requires.sound (sym c.in_ok-block.was ∙ c.reach.ensures.found) (is_used _ c.if-not-block.false) c.if-block-addr.false in
+    let is = used_is c.args.self.now (g.M.WordMemory.word c.args.memory.now) c.args.addr.chunk c.args.addr.offset c.in_ok-block.block c.requires.sound (reached_here c.args.addr.offset (chunk_of (heap_of c.args.self.now (g.M.WordMemory.word c.args.memory.now)) c.args.addr.chunk) c.reach.result c.in_ok-block.block c.in_ok-block.was c.reach.ensures.found c.if-block-addr.false) (is_used _ c.if-not-block.false) c.if-block-addr.false in
     omega (arith, is.end, is.last, c.place_of-start.ensures)
 
 pub overflow_add-place-2 : goal.overflow_add-place-2
 overflow_add-place-2 g c =
-    let is = used_is _ _ _ _ c.in_ok-block.block c.requires.sound (sym c.in_ok-block.was ∙ c.reach.ensures.found) (is_used _ c.if-not-block.false) c.if-block-addr.false in
+    let is = used_is c.args.self.now (g.M.WordMemory.word c.args.memory.now) c.args.addr.chunk c.args.addr.offset c.in_ok-block.block c.requires.sound (reached_here c.args.addr.offset (chunk_of (heap_of c.args.self.now (g.M.WordMemory.word c.args.memory.now)) c.args.addr.chunk) c.reach.result c.in_ok-block.block c.in_ok-block.was c.reach.ensures.found c.if-block-addr.false) (is_used _ c.if-not-block.false) c.if-block-addr.false in
     omega (arith, is.end, is.last, c.place_of-start.ensures)
 
 pub bounds-self-addr : goal.bounds-self-addr
 bounds-self-addr g c =
-    let is = used_is _ _ _ _ c.in_ok-block.block c.requires.sound (sym c.in_ok-block.was ∙ c.reach.ensures.found) (is_used _ c.if-not-block.false) c.if-block-addr.false in
+    let is = used_is c.args.self.now (g.M.WordMemory.word c.args.memory.now) c.args.addr.chunk c.args.addr.offset c.in_ok-block.block c.requires.sound (reached_here c.args.addr.offset (chunk_of (heap_of c.args.self.now (g.M.WordMemory.word c.args.memory.now)) c.args.addr.chunk) c.reach.result c.in_ok-block.block c.in_ok-block.was c.reach.ensures.found c.if-block-addr.false) (is_used _ c.if-not-block.false) c.if-block-addr.false in
     is.low
 
 pub overflow_add-start : goal.overflow_add-start
 overflow_add-start g c =
-    let is = used_is _ _ _ _ c.in_ok-block.block c.requires.sound (sym c.in_ok-block.was ∙ c.reach.ensures.found) (is_used _ c.if-not-block.false) c.if-block-addr.false in
+    let is = used_is c.args.self.now (g.M.WordMemory.word c.args.memory.now) c.args.addr.chunk c.args.addr.offset c.in_ok-block.block c.requires.sound (reached_here c.args.addr.offset (chunk_of (heap_of c.args.self.now (g.M.WordMemory.word c.args.memory.now)) c.args.addr.chunk) c.reach.result c.in_ok-block.block c.in_ok-block.was c.reach.ensures.found c.if-block-addr.false) (is_used _ c.if-not-block.false) c.if-block-addr.false in
     omega (arith, is.last, c.place_of-start.ensures)
 
 pub hole_behind-behind-requires-clause-stand : goal.hole_behind-behind-requires-clause-stand
 hole_behind-behind-requires-clause-stand g c =
-    let is = used_is _ _ _ _ c.in_ok-block.block c.requires.sound (sym c.in_ok-block.was ∙ c.reach.ensures.found) (is_used _ c.if-not-block.false) c.if-block-addr.false in
+    let is = used_is c.args.self.now (g.M.WordMemory.word c.args.memory.now) c.args.addr.chunk c.args.addr.offset c.in_ok-block.block c.requires.sound (reached_here c.args.addr.offset (chunk_of (heap_of c.args.self.now (g.M.WordMemory.word c.args.memory.now)) c.args.addr.chunk) c.reach.result c.in_ok-block.block c.in_ok-block.was c.reach.ensures.found c.if-block-addr.false) (is_used _ c.if-not-block.false) c.if-block-addr.false in
     (is.next, is.rest, next_stand _ _ _ _ _ _ _ is c.reach.ensures.words c.place_of-start.ensures, next_end _ _ _ _ _ _ _ is c.reach.ensures.words c.place_of-start.ensures)
 
 pub overflow_sub-place : goal.overflow_sub-place
 overflow_sub-place g c =
-    let is = used_is _ _ _ _ c.in_ok-block.block c.requires.sound (sym c.in_ok-block.was ∙ c.reach.ensures.found) (is_used _ c.if-not-block.false) c.if-block-addr.false in
+    let is = used_is c.args.self.now (g.M.WordMemory.word c.args.memory.now) c.args.addr.chunk c.args.addr.offset c.in_ok-block.block c.requires.sound (reached_here c.args.addr.offset (chunk_of (heap_of c.args.self.now (g.M.WordMemory.word c.args.memory.now)) c.args.addr.chunk) c.reach.result c.in_ok-block.block c.in_ok-block.was c.reach.ensures.found c.if-block-addr.false) (is_used _ c.if-not-block.false) c.if-block-addr.false in
     omega (arith, is.back)
 
 pub give_back-requires-clause-stand : goal.give_back-requires-clause-stand
 give_back-requires-clause-stand g c =
-    let is = used_is _ _ _ _ c.in_ok-block.block c.requires.sound (sym c.in_ok-block.was ∙ c.reach.ensures.found) (is_used _ c.if-not-block.false) c.if-block-addr.false in
+    let is = used_is c.args.self.now (g.M.WordMemory.word c.args.memory.now) c.args.addr.chunk c.args.addr.offset c.in_ok-block.block c.requires.sound (reached_here c.args.addr.offset (chunk_of (heap_of c.args.self.now (g.M.WordMemory.word c.args.memory.now)) c.args.addr.chunk) c.reach.result c.in_ok-block.block c.in_ok-block.was c.reach.ensures.found c.if-block-addr.false) (is_used _ c.if-not-block.false) c.if-block-addr.false in
     let next = next_stand _ _ _ _ _ _ _ is c.reach.ensures.words c.place_of-start.ensures in
     let hole = c.hole_behind-behind.ensures.hole is.next is.rest next (next_end _ _ _ _ _ _ _ is c.reach.ensures.words c.place_of-start.ensures) in
     (is.site, back_stand _ _ _ _ _ _ _ is (c.hole_behind-behind.ensures.words ∙ c.reach.ensures.words) c.place_of-start.ensures _ hole)
@@ -66,31 +69,77 @@ give_back-requires-clause-stand g c =
 pub returns-clause-block : goal.returns-clause-block
 returns-clause-block g c =
     used_start c.args.addr.offset c.in_ok-block.block (is_used _ c.if-not-block.false) c.if-block-addr.false
-    ∙ used_some c.args.addr.offset _ c.in_ok-block.block (sound_long _ _ c.requires.sound c.args.addr.chunk) (sym c.in_ok-block.was ∙ c.reach.ensures.found)
+    ∙ reached_used c.args.addr.offset (chunk_of (heap_of c.args.self.now (g.M.WordMemory.word c.args.memory.now)) c.args.addr.chunk) c.reach.result c.in_ok-block.block (sound_long _ _ c.requires.sound c.args.addr.chunk) c.in_ok-block.was c.reach.ensures.found
 
-done : (g : given.Over) (c : goal.After-give_back g) → IsGiven c.args.self.now c.give_back.new.self (g.M.WordMemory.word c.args.memory.now) (g.M.WordMemory.word c.give_back.new.memory) c.args.addr.chunk c.args.addr.offset
+done : (g : given.Over) (c : goal.After-note g) → IsGiven c.args.self.now c.give_back.new.self (g.M.WordMemory.word c.args.memory.now) (g.M.WordMemory.word c.give_back.new.memory) c.args.addr.chunk c.args.addr.offset c.in_ok-block.block
 done g c =
-    let is = used_is _ _ _ _ c.in_ok-block.block c.requires.sound (sym c.in_ok-block.was ∙ c.reach.ensures.found) (is_used _ c.if-not-block.false) c.if-block-addr.false in
+    let is = used_is c.args.self.now (g.M.WordMemory.word c.args.memory.now) c.args.addr.chunk c.args.addr.offset c.in_ok-block.block c.requires.sound (reached_here c.args.addr.offset (chunk_of (heap_of c.args.self.now (g.M.WordMemory.word c.args.memory.now)) c.args.addr.chunk) c.reach.result c.in_ok-block.block c.in_ok-block.was c.reach.ensures.found c.if-block-addr.false) (is_used _ c.if-not-block.false) c.if-block-addr.false in
     let next = next_stand _ _ _ _ _ _ _ is c.reach.ensures.words c.place_of-start.ensures in
     let hole = c.hole_behind-behind.ensures.hole is.next is.rest next (next_end _ _ _ _ _ _ _ is c.reach.ensures.words c.place_of-start.ensures) in
     let words = c.hole_behind-behind.ensures.words ∙ c.reach.ensures.words in
     block_given _ _ _ _ _ _ _ is words c.place_of-start.ensures _ hole _ _ (c.give_back.ensures.turn is.site (back_stand _ _ _ _ _ _ _ is words c.place_of-start.ensures _ hole))
 
+-- the marks afterwards
+pub forget-requires-clause-chunk : goal.forget-requires-clause-chunk
+forget-requires-clause-chunk g c =
+    let is = used_is c.args.self.now (g.M.WordMemory.word c.args.memory.now) c.args.addr.chunk c.args.addr.offset c.in_ok-block.block c.requires.sound (reached_here c.args.addr.offset (chunk_of (heap_of c.args.self.now (g.M.WordMemory.word c.args.memory.now)) c.args.addr.chunk) c.reach.result c.in_ok-block.block c.in_ok-block.was c.reach.ensures.found c.if-block-addr.false) (is_used _ c.if-not-block.false) c.if-block-addr.false in
+    omega (arith, is.low)
+
+pub forget-requires-clause-whole : goal.forget-requires-clause-whole
+forget-requires-clause-whole g c =
+    let is = used_is c.args.self.now (g.M.WordMemory.word c.args.memory.now) c.args.addr.chunk c.args.addr.offset c.in_ok-block.block c.requires.sound (reached_here c.args.addr.offset (chunk_of (heap_of c.args.self.now (g.M.WordMemory.word c.args.memory.now)) c.args.addr.chunk) c.reach.result c.in_ok-block.block c.in_ok-block.was c.reach.ensures.found c.if-block-addr.false) (is_used _ c.if-not-block.false) c.if-block-addr.false in
+    is.even
+
+pub overflow_add-addr : goal.overflow_add-addr
+overflow_add-addr g c =
+    let is = used_is c.args.self.now (g.M.WordMemory.word c.args.memory.now) c.args.addr.chunk c.args.addr.offset c.in_ok-block.block c.requires.sound (reached_here c.args.addr.offset (chunk_of (heap_of c.args.self.now (g.M.WordMemory.word c.args.memory.now)) c.args.addr.chunk) c.reach.result c.in_ok-block.block c.in_ok-block.was c.reach.ensures.found c.if-block-addr.false) (is_used _ c.if-not-block.false) c.if-block-addr.false in
+    omega (arith, is.end, is.last)
+
+pub forget-requires-2-clause-chunk : goal.forget-requires-2-clause-chunk
+forget-requires-2-clause-chunk g c =
+    let is = used_is c.args.self.now (g.M.WordMemory.word c.args.memory.now) c.args.addr.chunk c.args.addr.offset c.in_ok-block.block c.requires.sound (reached_here c.args.addr.offset (chunk_of (heap_of c.args.self.now (g.M.WordMemory.word c.args.memory.now)) c.args.addr.chunk) c.reach.result c.in_ok-block.block c.in_ok-block.was c.reach.ensures.found c.if-block-addr.false) (is_used _ c.if-not-block.false) c.if-block-addr.false in
+    omega (arith, is.low)
+
+pub forget-requires-2-clause-whole : goal.forget-requires-2-clause-whole
+forget-requires-2-clause-whole g c =
+    let is = used_is c.args.self.now (g.M.WordMemory.word c.args.memory.now) c.args.addr.chunk c.args.addr.offset c.in_ok-block.block c.requires.sound (reached_here c.args.addr.offset (chunk_of (heap_of c.args.self.now (g.M.WordMemory.word c.args.memory.now)) c.args.addr.chunk) c.reach.result c.in_ok-block.block c.in_ok-block.was c.reach.ensures.found c.if-block-addr.false) (is_used _ c.if-not-block.false) c.if-block-addr.false in
+    omega (arith, is.even, is.even_size)
+
+pub overflow_sub-addr : goal.overflow_sub-addr
+overflow_sub-addr g c =
+    let is = used_is c.args.self.now (g.M.WordMemory.word c.args.memory.now) c.args.addr.chunk c.args.addr.offset c.in_ok-block.block c.requires.sound (reached_here c.args.addr.offset (chunk_of (heap_of c.args.self.now (g.M.WordMemory.word c.args.memory.now)) c.args.addr.chunk) c.reach.result c.in_ok-block.block c.in_ok-block.was c.reach.ensures.found c.if-block-addr.false) (is_used _ c.if-not-block.false) c.if-block-addr.false in
+    is.back
+
+pub note-requires-clause-chunk : goal.note-requires-clause-chunk
+note-requires-clause-chunk g c =
+    let is = used_is c.args.self.now (g.M.WordMemory.word c.args.memory.now) c.args.addr.chunk c.args.addr.offset c.in_ok-block.block c.requires.sound (reached_here c.args.addr.offset (chunk_of (heap_of c.args.self.now (g.M.WordMemory.word c.args.memory.now)) c.args.addr.chunk) c.reach.result c.in_ok-block.block c.in_ok-block.was c.reach.ensures.found c.if-block-addr.false) (is_used _ c.if-not-block.false) c.if-block-addr.false in
+    omega (arith, is.low)
+
+pub note-requires-clause-whole : goal.note-requires-clause-whole
+note-requires-clause-whole g c =
+    let is = used_is c.args.self.now (g.M.WordMemory.word c.args.memory.now) c.args.addr.chunk c.args.addr.offset c.in_ok-block.block c.requires.sound (reached_here c.args.addr.offset (chunk_of (heap_of c.args.self.now (g.M.WordMemory.word c.args.memory.now)) c.args.addr.chunk) c.reach.result c.in_ok-block.block c.in_ok-block.was c.reach.ensures.found c.if-block-addr.false) (is_used _ c.if-not-block.false) c.if-block-addr.false in
+    omega (arith, is.even, is.even_before, is.back)
+
 pub returns-clause-heap : goal.returns-clause-heap
+unfolding heap_of
 returns-clause-heap g c = (done g c).heap
 
 pub returns-clause-sound : goal.returns-clause-sound
-returns-clause-sound g c = (done g c).sound
+returns-clause-sound g c =
+    let d = done g c in
+    let marks = subst (λ m. AreMarks m.marks (heap_of c.args.self.now (g.M.WordMemory.word c.args.memory.now))) (sym c.give_back.ensures.marks) (sound_told _ _ c.requires.sound).marks in
+    d.sound _ (c.note.ensures _ (c.forget-2.ensures _ _ (c.forget.ensures _ _ marks d.first) d.second) d.start)
 
 pub returns-clause-sizes : goal.returns-clause-sizes
 returns-clause-sizes g c = (done g c).sizes
 
 pub returns-clause-others : goal.returns-clause-others
+unfolding heap_of
 returns-clause-others g c = (done g c).others
 
 pub returns-clause-loads : goal.returns-clause-loads
 returns-clause-loads g c =
-    let is = used_is _ _ _ _ c.in_ok-block.block c.requires.sound (sym c.in_ok-block.was ∙ c.reach.ensures.found) (is_used _ c.if-not-block.false) c.if-block-addr.false in
+    let is = used_is c.args.self.now (g.M.WordMemory.word c.args.memory.now) c.args.addr.chunk c.args.addr.offset c.in_ok-block.block c.requires.sound (reached_here c.args.addr.offset (chunk_of (heap_of c.args.self.now (g.M.WordMemory.word c.args.memory.now)) c.args.addr.chunk) c.reach.result c.in_ok-block.block c.in_ok-block.was c.reach.ensures.found c.if-block-addr.false) (is_used _ c.if-not-block.false) c.if-block-addr.false in
     let next = next_stand _ _ _ _ _ _ _ is c.reach.ensures.words c.place_of-start.ensures in
     let hole = c.hole_behind-behind.ensures.hole is.next is.rest next (next_end _ _ _ _ _ _ _ is c.reach.ensures.words c.place_of-start.ensures) in
     let words = c.hole_behind-behind.ensures.words ∙ c.reach.ensures.words in

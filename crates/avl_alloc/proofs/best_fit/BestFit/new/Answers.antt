@@ -23,4 +23,5 @@ returns-clause-sound c words = (
     same = λ f. refl;
   },
   tt,
+  c.new.ensures [],
 )
