@@ -177,7 +177,7 @@ impl BestFit {
     }
 
     /// The used block whose payload holds an address, or `None` where no payload does. It believes
-    /// no header but those that it reaches from the chunk's first byte.
+    /// no header but those that it reaches from a mark of its own, or from the chunk's first byte.
     pub fn block_at<M: WordMemory>(&self, memory: &mut M, addr: BlockAddr) -> Option<UsedBlock>
         requires sound { IsSound self.now (M.word memory.old) }
         requires fits { Fits (bytes_of self.now) (M.bytes (M.rest memory.old)) }
