@@ -50,11 +50,20 @@ for wrong in ({"X_Token": "x"}, {"X_Token": None}, {"Origin": "http://nethrywel.
               {"Host": f"nethrywel.example:{at.port}"}, {"Sec_Fetch_Site": "cross-site"}):
     expect(403, "wrong token", ask("POST", "/run", SMALL, **wrong))
     expect(403, "wrong token", ask("POST", "/save", SMALL, **wrong))
+    expect(403, "wrong token", ask("POST", "/rest", {"edit": 1, "what": "least"}, **wrong))
 expect(200, "ram 0/65536 caps 0/16", ask("POST", "/run", SMALL))
+edit = json.loads(ask("POST", "/run", {**SMALL, "scenario": "alice alloc 4K\n"})[1])["edit"]
+expect(200, "ram from 4K, caps from 1", ask("POST", "/rest", {"edit": edit, "what": "least"}))
+expect(200, "1 lines of alice: the same alone", ask("POST", "/rest", {"edit": edit, "what": "alone"}))
+expect(409, "a later edit", ask("POST", "/rest", {"edit": edit - 1, "what": "least"}))
+expect(400, "no request", ask("POST", "/rest", {"edit": edit, "what": "run"}))
+expect(400, "no request", ask("POST", "/rest", {"edit": edit, "what": "diff", "before": 1}))
 expect(400, "no request", ask("POST", "/run", {"list": 1, "scenario": ""}))
+expect(400, "no request", ask("POST", "/run", []))
 expect(400, "no request", ask("POST", "/example", {"name": "../../README"}))
 expect(200, "crawler", ask("POST", "/example", {"name": "friendly/crawler"}))
 expect(413, "65537 bytes, at most 65536", ask("POST", "/run", {"list": " " * 65537, "scenario": ""}))
+expect(413, "65537 bytes, at most 65536", ask("POST", "/run", {"list": "", "policy": "#" * 65537, "scenario": ""}))
 expect(413, "1048577 bytes, at most 1048576", ask("POST", "/run", {"list": "", "scenario": "a" * 1048577}))
 expect(413, "1000001 lines, at most 1000000", ask("POST", "/run", {"list": "", "scenario": "\n" * 1000001}))
 # What would take long is ended by its limit, and by a later run.

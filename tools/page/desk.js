@@ -1,22 +1,20 @@
 "use strict";
-// The desk: both texts in editors. An edit has the server run the program anew, and what it tells is drawn.
+// The desk: a start list, a policy and a scenario in editors. An edit has the server run the program anew, and what it tells is drawn:
+// first the replies, and behind them which budgets serve, what each is told alone, and what changed since A.
 (() => {
-  const { el } = Page;
+  const { state, el, hooks, note } = Page;
   const token = new URLSearchParams(location.search).get("token");
   const start = JSON.parse(document.getElementById("data").textContent);
   const desk = document.getElementById("desk");
-  const state = el("span", { id: "state", role: "status" });
+  const said = el("span", { id: "state", role: "status" });
   const button = (id, text, click) => el("button", { id, type: "button", click }, text);
   const menu = el("select", { id: "examples", "aria-label": "examples" }, el("option", { value: "" }, "examples"),
     ...start.examples.map((name) => el("option", { value: name }, name)));
-  const since = el("section", { id: "since" });
-  const of = (id, title) => {
-    const part = el("section", { id }, el("h2", {}, title));
-    desk.append(part);
-    return part;
-  };
-  desk.append(el("div", { id: "bar" }, menu, button("pin", "pin as A", () => pin()), button("save", "save", () => save()), state));
-  const editor = (part, value, mode) => CodeMirror(part, { value, mode, lineNumbers: true, lineWrapping: true, extraKeys: { Tab: false, "Shift-Tab": false } });
+  const since = el("section", { id: "since", "aria-live": "polite" });
+  desk.append(el("div", { id: "bar" }, menu, button("pin", "pin as A", () => pin()), button("save", "save", () => save()), said));
+
+  // --- the editors
+
   CodeMirror.defineMode("scenario", () => ({
     token(stream) {
       if (stream.sol() && stream.match(/\s*#.*/)) return "comment";
@@ -27,9 +25,33 @@
       return null;
     },
   }));
-  const list = editor(of("of-list", "Start list"), start.list, null);
-  const scenario = editor(of("of-scenario", "Scenario"), start.scenario, "scenario");
-  for (const [it, name] of [[list, "start list"], [scenario, "scenario"]]) it.getInputField().setAttribute("aria-label", name);
+  CodeMirror.defineMode("policy", () => ({
+    token(stream) {
+      if (stream.match(/"[^"]*"/)) return "string";
+      if (stream.match(/#.*/)) return "comment";
+      if (stream.sol() && stream.match(/\s*(deny|allow|only)\b/)) return "keyword";
+      stream.next();
+      return null;
+    },
+  }));
+  const editor = (part, value, mode, name) => {
+    const it = CodeMirror(part, { value, mode, lineNumbers: true, lineWrapping: true, extraKeys: { Tab: false, "Shift-Tab": false } });
+    it.getInputField().setAttribute("aria-label", name);
+    return it;
+  };
+  const section = (id, title) => {
+    const part = el("section", { id }, el("h2", {}, title));
+    desk.append(part);
+    return part;
+  };
+  const list = editor(section("of-list", "Start list"), start.list, { name: "javascript", json: true }, "start list");
+  const inner = el("div", {});
+  const folded = el("details", { id: "of-policy" }, el("summary", {}, "Policy"), inner);
+  desk.append(folded);
+  const policy = editor(inner, start.policy, "policy", "policy");
+  folded.addEventListener("toggle", () => policy.refresh());
+  const scenario = editor(section("of-scenario", "Scenario"), start.scenario, "scenario", "scenario");
+  const texts = () => ({ list: list.getValue(), policy: policy.getValue(), scenario: scenario.getValue() });
 
   const ask = async (what, body) => {
     const answer = await fetch(`/${what}`, { method: "POST", headers: { "Content-Type": "application/json", "X-Token": token }, body: JSON.stringify(body) });
@@ -38,74 +60,180 @@
     return told;
   };
   const tell = (text, bad) => {
-    state.textContent = text;
-    state.className = bad ? "bad" : "";
+    said.textContent = text;
+    said.className = bad ? "bad" : "";
   };
 
-  // Marks and what stands under lines, of the last answer.
-  let marks = [], under = [], here = null, now = null, pinned = null, round = 0;
-  const ruled = (ranges, name) => {
-    for (const [begin, end] of ranges) marks.push(list.markText(list.posFromIndex(begin), list.posFromIndex(end), { className: name }));
+  // --- what stands in the editors: marks, and what is told under lines
+
+  const shown = new Map([[list, []], [policy, []], [scenario, []]]);
+  const clear = (one) => {
+    for (const it of shown.get(one)) it.clear();
+    shown.set(one, []);
+  };
+  const under = (one, line, kind, text) => {
+    const at = Math.min(Math.max(line, 1), one.lineCount()) - 1;
+    shown.get(one).push(one.addLineWidget(at, el("div", { class: `told ${kind}` }, text)));
+  };
+  const lit = (one, from, to, className) => shown.get(one).push(one.markText(from, to, { className }));
+  let ruled = [], here = null, edit = null, now = null, pinned = null, round = 0;
+  hooks.mark = (ranges) => {
+    for (const it of ruled) it.clear();
+    ruled = ranges.map(([begin, end]) => list.markText(list.posFromIndex(begin), list.posFromIndex(end), { className: "ruled" }));
     if (ranges.length) list.scrollIntoView(list.posFromIndex(ranges[0][0]), 40);
   };
-  const unmark = (name) => { marks = marks.filter((it) => it.className !== name || it.clear()); };
-  Page.hooks.mark = (ranges) => { unmark("ruled"); ruled(ranges, "ruled"); };
-  Page.hooks.select = (line) => {
+  hooks.select = (line) => {
     if (here) scenario.removeLineClass(here, "background", "here");
     here = scenario.addLineClass(Math.min(line, scenario.lineCount()) - 1, "background", "here");
     scenario.scrollIntoView({ line: Math.min(line, scenario.lineCount()) - 1, ch: 0 }, 60);
   };
-  const write = () => scenario.operation(() => {
-    for (const it of under) it.clear();
-    const rows = Page.rows().filter(([kind]) => kind !== "call" && kind !== "comment");
-    under = rows.slice(0, 1500).map(([kind, text, line]) => scenario.addLineWidget(Math.min(line, scenario.lineCount()) - 1, el("div", { class: `told ${kind}` }, text)));
+  hooks.route = async (from, service, label) => {
+    try {
+      return await ask("rest", { edit, what: "route", from, service, label });
+    } catch (fault) {
+      tell(fault.message, true);
+      return null;
+    }
+  };
+  // The place in a line of a byte, counted from 1 on.
+  const column = (text, byte) => {
+    let at = 1, i = 0;
+    for (const sign of text) {
+      if (at >= byte) break;
+      at += new TextEncoder().encode(sign).length;
+      i += sign.length;
+    }
+    return i;
+  };
+  const write_list = () => list.operation(() => {
+    clear(list);
+    for (const it of now.findings) {
+      const kind = now.boots ? "finding" : "wrong";
+      if (!it.range) { under(list, 1, kind, it.told); continue; }
+      const from = list.posFromIndex(it.range[0]), to = list.posFromIndex(it.range[1]);
+      lit(list, from, to, now.boots ? "found" : "faulty");
+      under(list, to.line + 1, kind, `${now.boots ? "⚠" : "✗"} ${it.told}`);
+      if (!now.boots) list.scrollIntoView(from, 60);
+    }
   });
-  const replies = (told) => Object.entries(told.replies).map(([line, [name, reply, logs]]) => [Number(line), `${name}: ${[...logs, reply].join(" / ")}`]);
-  const ways = (told) => told.components.flatMap((it) => it.ways.map((way) => `${it.name}: ${way.service} → ${way.to} by ${way.by}`));
+  const write_policy = () => policy.operation(() => {
+    clear(policy);
+    if (now.policy && now.policy.fault) under(policy, 1, "wrong", `✗ ${now.policy.fault}`);
+    for (const [i, it] of (now.policy ? now.policy.lines : []).entries()) if (it.told) under(policy, i + 1, "wrong", `✗ ${it.told}`);
+  });
+  const write_scenario = () => scenario.operation(() => {
+    clear(scenario);
+    for (const [kind, text, line] of Page.under().slice(0, 1500)) under(scenario, line, kind, text);
+    for (const [line, byte] of now.complaints.slice(0, 500)) {
+      const text = scenario.getLine(line - 1);
+      if (text === undefined) continue;
+      const from = column(text, byte), word = text.slice(from).match(/^\s*\S*/)[0];
+      lit(scenario, { line: line - 1, ch: from }, { line: line - 1, ch: from + Math.max(word.length, 1) }, "faulty");
+    }
+  });
 
-  // What changed since A: replies line by line, and ways of wishes that came or went.
-  const compare = () => {
-    if (!pinned || !now) return;
-    const then = new Map(replies(pinned)), today = new Map(replies(now));
-    const lines = [...new Set([...then.keys(), ...today.keys()])].sort((a, b) => a - b).filter((it) => then.get(it) !== today.get(it));
-    const old = ways(pinned), fresh = ways(now);
-    const told = [...old.filter((it) => !fresh.includes(it)).map((it) => `gone: ${it}`), ...fresh.filter((it) => !old.includes(it)).map((it) => `new: ${it}`),
-      ...lines.map((it) => `${it}: ${then.get(it) || "(nothing)"} → now ${today.get(it) || "(nothing)"}`)];
-    since.replaceChildren(el("h2", {}, "Since A"), told.length ? el("ul", {}, ...told.slice(0, 200).map((it) => el("li", {}, it))) : el("p", { class: "note" }, "Nothing that is told has changed."));
-    if (told.length > 200) since.append(el("p", { class: "note" }, `the first 200 of ${told.length} are shown`));
+  // --- what changed since A
+
+  const lines_of = (text) => text.replace(/\n$/, "").split("\n");
+  const item = (text) => el("li", { class: { "+": "came", "-": "went" }[text[0]] || "" }, text);
+  // What the scenario has otherwise than A's, and of the lines that both have at their beginning or end which are answered otherwise.
+  const edits = () => {
+    const a = lines_of(pinned.texts.scenario), b = lines_of(pinned.now.scenario);
+    let front = 0, back = 0;
+    while (front < a.length && front < b.length && a[front] === b[front]) front++;
+    while (back < a.length - front && back < b.length - front && a[a.length - 1 - back] === b[b.length - 1 - back]) back++;
+    const went = a.slice(front, a.length - back).map((it, i) => `- ${front + i + 1}: ${it}`);
+    const came = b.slice(front, b.length - back).map((it, i) => `+ ${front + i + 1}: ${it}`);
+    const reply = (told, line) => { const it = told.get(line); return it && it.length > 2 ? [...it[4], it[3]].join(" / ") : "(nothing)"; };
+    const otherwise = [];
+    for (let i = 0; i < b.length; i++) {
+      if (i >= front && i < b.length - back) continue;
+      const then = reply(pinned.told, i < front ? i + 1 : i + 1 - b.length + a.length), today = reply(state.told, i + 1);
+      if (then !== today) otherwise.push(`~ ${i + 1}: ${b[i]} => ${today} (was: ${then})`);
+    }
+    return [...went, ...came, ...otherwise];
   };
-  const pin = () => {
-    pinned = now;
-    compare();
+  const listed = (title, told) => [el("h3", {}, title), told.length ? el("ul", {}, ...told.slice(0, 200).map(item)) : note("nothing"),
+    ...(told.length > 200 ? [note(`the first 200 of ${told.length} are shown`)] : [])];
+  const compare = async () => {
+    if (!pinned) return;
+    pinned.now = texts();
+    const { list: before } = pinned.texts, parts = [];
+    if (!now.boots) parts.push(note("The machine doesn't boot, so nothing is compared."));
+    else if (!before.trim()) parts.push(note("A is the built-in machine, which has no text: write a start list and pin it."));
+    else {
+      const told = await ask("rest", { edit, what: "diff", before });
+      parts.push(...(told.why ? [note(told.why)] : listed("By the start list, on this scenario (nethrywel diff)", told.told)));
+    }
+    if (now.boots && pinned.texts.scenario !== pinned.now.scenario) parts.push(...listed("By the scenario, and with it", edits()));
+    since.replaceChildren(el("h2", {}, "Since A"), ...parts);
+  };
+  const pin = async () => {
+    if (!now || !now.boots) return tell("only what boots is pinned", true);
+    pinned = { texts: sent, told: new Map(state.told) };
+    try {
+      await compare();
+    } catch (fault) {
+      if (fault.message !== "a later edit") tell(fault.message, true);
+    }
+    return undefined;
   };
 
+  // --- an edit and its answers
+
+  let sent = texts();
   const answer = (told, took) => {
+    const old = now;
     now = told;
-    unmark("ruled");
-    unmark("faulty");
+    edit = told.edit;
+    if (old && old.least && told.boots) told.least = { ...old.least, stale: true };
+    if (old && old.alone && told.boots) told.alone = old.alone;
+    hooks.mark([]);
+    here = null;
     Page.draw(told);
-    document.getElementById("page").prepend(since);
-    write();
-    if (!told.boots) ruled(told.findings.filter((it) => it.range).map((it) => it.range), "faulty");
-    compare();
+    Page.page.prepend(since);
+    write_list();
+    write_policy();
+    write_scenario();
     tell(`answered in ${took} ms`);
     document.body.dataset.round = String(++round);
+  };
+  const whole = () => { document.body.dataset.whole = String(round); };
+  // What is told behind the replies: each in turn, as long as no later edit came.
+  const rest = async (began) => {
+    const mine = edit;
+    await compare();
+    if (!now.boots) return whole();
+    for (const [what, part] of [["alone", "alone"], ["least", "budgets"]]) {
+      const told = await ask("rest", { edit: mine, what }).catch((fault) => {
+        if (fault.message === "a later edit") throw fault;
+        return { accounts: [], scripts: [], why: fault.message };
+      });
+      if (mine !== edit) return undefined;
+      now[what] = told;
+      Page.redraw(part);
+    }
+    const took = Math.round(performance.now() - began);
+    tell(`${said.textContent}, with all budgets in ${took} ms`);
+    return whole();
   };
   const run = async () => {
     const began = performance.now();
     tell("runs ..");
     try {
-      const told = await ask("run", { list: list.getValue(), scenario: scenario.getValue() });
-      answer(told, Math.round(performance.now() - began));
+      sent = texts();
+      answer(await ask("run", sent), Math.round(performance.now() - began));
+      await rest(began);
     } catch (fault) {
       if (fault.message === "a later edit") return;
       tell(fault.message, true);
       document.body.dataset.round = String(++round);
+      whole();
     }
   };
   const save = async () => {
     try {
-      tell((await ask("save", { list: list.getValue(), scenario: scenario.getValue() })).told);
+      tell((await ask("save", texts())).told);
     } catch (fault) {
       tell(fault.message, true);
     }
@@ -115,21 +243,25 @@
     clearTimeout(waits);
     waits = setTimeout(run, 40);
   };
-  list.on("change", edited);
-  scenario.on("change", edited);
+  for (const it of [list, policy, scenario]) it.on("change", edited);
+  const fill = (told) => {
+    list.setValue(told.list);
+    policy.setValue(told.policy);
+    scenario.setValue(told.scenario);
+    folded.open = told.policy !== "";
+  };
   menu.addEventListener("change", async () => {
     if (!menu.value) return;
     try {
-      const told = await ask("example", { name: menu.value });
-      list.setValue(told.list);
-      scenario.setValue(told.scenario);
+      fill(await ask("example", { name: menu.value }));
     } catch (fault) {
       tell(fault.message, true);
     }
   });
-  if (!start.files.length) document.getElementById("save").disabled = true;
+  folded.open = start.policy !== "";
+  document.getElementById("save").disabled = !start.files.length;
   document.getElementById("save").title = start.files.length ? `to ${start.files.join(" and ")}` : "no file was given";
   // (for trials)
-  window.desk = { list, scenario };
+  window.desk = { list, policy, scenario };
   run();
 })();

@@ -7,6 +7,7 @@ import sys
 
 HERE = os.path.dirname(os.path.realpath(__file__))
 D3 = "/usr/share/nodejs/d3/dist/d3.min.js"
+VIEWS = ("base.js", "wishes.js", "budgets.js", "lines.js")
 
 
 class Missing(Exception):
@@ -37,7 +38,7 @@ def page(kind, title, data, sums, styles=(), scripts=(), sources="'none'"):
         from jinja2 import Environment, FileSystemLoader
     except ImportError as fault:
         raise Missing("python3-jinja2") from fault
-    scripts = [text_at(D3, "node-d3"), *scripts, own("view.js")] if kind == "report" else [text_at(D3, "node-d3"), own("view.js"), *scripts]
+    scripts = [text_at(D3, "node-d3"), *map(own, VIEWS), *scripts]
     hashes = [base64.b64encode(hashlib.sha256(it.encode()).digest()).decode() for it in scripts]
     policy = (
         "default-src 'none'; style-src 'unsafe-inline'; img-src data:; base-uri 'none'; form-action 'none'; "

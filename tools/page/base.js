@@ -1,0 +1,71 @@
+"use strict";
+// Draws what the program tells of a start list and a scenario. All that comes from files is put in as text, never as a page's own.
+// Here is what all parts of the page stand on; each part adds itself to Page.parts.
+const Page = (() => {
+  const SVG = "http://www.w3.org/2000/svg";
+  const page = document.getElementById("page");
+  // What is drawn, at which line the cursor stands, and which folds are open.
+  const state = { data: null, at: null, told: new Map(), called: [], open: new Set() };
+  // What a desk does in the place of this page's own listing and lines.
+  const hooks = { mark: null, select: null, route: null };
+  const parts = [];
+
+  // el NAME ATTRIBUTES CHILD..: an element; texts stay texts.
+  const fill = (it, attributes, children) => {
+    for (const [name, value] of Object.entries(attributes || {})) {
+      if (name === "click") it.addEventListener("click", value);
+      else if (value !== null && value !== undefined) it.setAttribute(name, value);
+    }
+    it.append(...children);
+    return it;
+  };
+  const el = (name, attributes, ...children) => fill(document.createElement(name), attributes, children);
+  const svg = (name, attributes, ...children) => fill(document.createElementNS(SVG, name), attributes, children);
+  const note = (text) => el("p", { class: "note" }, text);
+  const section = (id, title) => el("section", { id }, el("h2", {}, title));
+  const amount = (bytes) => (bytes && bytes % 1024 === 0 ? `${bytes / 1024}K` : `${bytes}`);
+  const refuses = (reply) => /^(ERR |[A-Z][a-z])/.test(reply);
+  const fold = (name, attributes, summary, make) => {
+    const box = el("details", attributes, el("summary", {}, ...summary));
+    const opened = () => {
+      if (box.open) state.open.add(name); else state.open.delete(name);
+      if (box.open && box.children.length === 1) box.append(make());
+    };
+    box.addEventListener("toggle", opened);
+    if (state.open.has(name)) { box.open = true; opened(); }
+    return box;
+  };
+
+  // Patterns, so that a bar can be read without colours.
+  const patterns = () => {
+    const hatch = (id, ground, ink, d) =>
+      svg("pattern", { id, width: 6, height: 6, patternUnits: "userSpaceOnUse" },
+        svg("rect", { width: 6, height: 6, fill: ground }), svg("path", { d, stroke: ink, "stroke-width": 1.4, fill: "none" }));
+    return svg("svg", { width: 0, height: 0, "aria-hidden": "true", style: "position:absolute" }, svg("defs", {},
+      hatch("given", "#f3c98a", "#9a5a00", "M0 6L6 0"), hatch("kept", "#d9ccec", "#5b3d8a", "M0 3H6"),
+      hatch("wants", "#f6c8c4", "#a3261c", "M0 0L6 6M0 6L6 0"), hatch("some", "#c4e6c9", "#1f7a3a", "M1 3H3")));
+  };
+
+  // take DATA: what is told becomes what is drawn.
+  const take = (data) => {
+    state.data = data;
+    state.at = null;
+    state.told = new Map(data.lines.map((it) => [it[0], it]));
+    state.called = data.lines.filter((it) => it.length > 2).map((it) => it[0]);
+  };
+  const draw = (data) => {
+    take(data);
+    page.replaceChildren(patterns(), ...parts.map((it) => it()));
+  };
+  // redraw ID: a part whose data came later is drawn anew.
+  const redraw = (id) => {
+    const old = document.getElementById(id);
+    for (const it of parts) if (it.id === id) old.replaceWith(it());
+  };
+  const add = (id, make) => parts.push(Object.assign(make, { id }));
+
+  document.addEventListener("DOMContentLoaded", () => {
+    if (document.body.className === "report") draw(JSON.parse(document.getElementById("data").textContent));
+  });
+  return { state, hooks, page, add, draw, redraw, el, svg, note, section, amount, refuses, fold };
+})();
