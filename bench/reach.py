@@ -49,19 +49,19 @@ def start(draw, depth):
     for name, binary in (("log", "log"), ("log2", "log"), ("files", "files")):
         if draw.randrange(3) or depth == 0:
             service = "File_system" if binary == "files" else "LOG"
-            entries.append({"name": name, "binary": binary, "quantum": 4096, "caps": 1, "provides": [service]})
+            entries.append({"name": name, "binary": binary, "quantum": "4K", "caps": 1, "provides": [service]})
     names = ["carol", "dave"][: 1 + draw.randrange(2)]
     below = []
     seen = [[]]
     for name in names:
-        entry = {"name": name, "binary": "script", "quantum": 4096, "caps": 1}
+        entry = {"name": name, "binary": "script", "quantum": "4K", "caps": 1}
         if draw.randrange(3) == 0:
             entry["route"] = rules(draw, [[]], ["log", "log2", "files"])
         entries.append(entry)
         below.append([name])
     if depth < 2 and draw.randrange(4):
         inner, inside, default = start(draw, depth + 1)
-        entry = {"name": "sub", "binary": "init", "quantum": (1 << 20) >> 2 * depth, "caps": 64 >> 2 * depth, "config": {"default-route": default, "start": inner}}
+        entry = {"name": "sub", "binary": "init", "quantum": f"{1024 >> 2 * depth}K", "caps": 64 >> 2 * depth, "config": {"default-route": default, "start": inner}}
         if draw.randrange(2):
             entry["route"] = rules(draw, inside, ["log", "log2", "files"])
         entries.append(entry)

@@ -1,5 +1,5 @@
 //! Why a text is no policy for a start list.
-use init_core::Path;
+use reach::Unnamed;
 use std::fmt;
 
 /// What is wrong with a line.
@@ -13,12 +13,8 @@ pub enum Flaw<'a> {
     TooMuch,
     /// The label can't be given, or isn't between quotes.
     BadLabel,
-    /// Nobody has this path; somebody has the other one, which is near.
-    Nobody(&'a str, Option<Path>),
-    /// Who has this path is no script.
-    NoScript(&'a str),
-    /// Who has this path is no server that provides its service.
-    NoServer(&'a str),
+    /// A path stands for nobody who is sought.
+    Unnamed(Unnamed<'a>),
     /// The host has no room.
     NoMemory,
 }
@@ -32,13 +28,7 @@ impl fmt::Display for Flaw<'_> {
                 "behind the path may only stand, of allow, with label \"..\"",
             ),
             Flaw::BadLabel => f.write_str("this label can't be given"),
-            Flaw::Nobody(path, Some(near)) => write!(
-                f,
-                "nobody is called {path}: did you mean {near}?"
-            ),
-            Flaw::Nobody(path, None) => write!(f, "nobody is called {path}"),
-            Flaw::NoScript(path) => write!(f, "{path} is no script"),
-            Flaw::NoServer(path) => write!(f, "{path} provides no service"),
+            Flaw::Unnamed(fault) => write!(f, "{fault}"),
             Flaw::NoMemory => f.write_str("no memory"),
         }
     }

@@ -4,8 +4,6 @@
 mod breach;
 mod demand;
 mod fault;
-mod names;
-mod near;
 mod text;
 mod told;
 

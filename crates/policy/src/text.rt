@@ -1,9 +1,8 @@
 //! The text of a policy, line by line.
 use crate::demand::{Demand, Line};
 use crate::fault::{Flaw, PolicyFault};
-use crate::names::{Sought, numbers};
 use init_core::StartList;
-use reach::Label;
+use reach::{Label, Sought, numbers};
 use std::alloc::Global;
 
 /// A policy: its lines in order.
@@ -107,14 +106,27 @@ fn read_line<'a>(
     };
     let (to, more) = parted(rest.trim_ascii());
     let demand = demand_of(verb, more)?;
-    let from = numbers(alloc, list, from, Sought::Script)?;
-    let to = numbers(alloc, list, to, Sought::Server)?;
+    let from = named(alloc, list, from, Sought::Script)?;
+    let to = named(alloc, list, to, Sought::Server)?;
     Ok(Line {
         number,
         demand,
         from,
         to,
     })
+}
+
+// The numbers of all that paths stand for.
+fn named<'a>(
+    alloc: Global,
+    list: &StartList,
+    paths: &'a str,
+    sought: Sought,
+) -> Result<Vec<usize>, Flaw<'a>> {
+    match numbers(alloc, list, paths, sought) {
+        Ok(found) => Ok(found),
+        Err(fault) => Err(Flaw::Unnamed(fault)),
+    }
 }
 
 // A text up to its first space, and what stands behind that.

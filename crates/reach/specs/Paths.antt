@@ -18,3 +18,14 @@ is_within front path = starts_with nat_eq path front && not (list_any is_slash (
 abbrev pub selects : List ℕ → List ℕ → Bool
 selects asked path =
     if stands_for_all asked then is_within (take (length asked - 1) asked) path else bytes_eq asked path
+
+abbrev pub same_number : ℕ → ℕ → Bool
+same_number one other = nat_eq one other
+
+-- one of these numbers
+abbrev pub names : List ℕ → ℕ → Bool
+names numbers number = list_any (same_number number) numbers
+
+-- one of these numbers, or any where there are none
+abbrev pub is_chosen : List ℕ → ℕ → Bool
+is_chosen numbers number = length numbers == 0 || names numbers number

@@ -3,6 +3,7 @@ ghost use Rattle.std.specs.Prelude.{◌≡◌, ◌<◌, length, All, IfOk, OnOk}
 ghost use Rattle.reach.specs.Table.{IsTrue};
 ghost use Rattle.reach.specs.Ways.{AreWays};
 
+use crate::chosen::Chosen;
 use crate::label::Label;
 use crate::ways::{Reach, Ways};
 use crate::wishes::Wishes;
@@ -37,9 +38,23 @@ impl<'a> Table<'a> {
         ensures list { IfOk result (λ table. table.list.now ≡ list.now) }
         ensures cells { IfOk result (λ table. All (IsTrue list.now) table.cells.items) }
     {
+        Table::narrowed(alloc, list, &Chosen::all(alloc))
+    }
+
+    /// That of the scripts and servers that are looked at. An error is want of memory.
+    pub fn narrowed(
+        alloc: Global,
+        list: &'a StartList,
+        chosen: &Chosen,
+    ) -> Result<Table<'a>, AllocError>
+        ensures list { IfOk result (λ table. table.list.now ≡ list.now) }
+        ensures cells { IfOk result (λ table. All (IsTrue list.now) table.cells.items) }
+    {
         let mut cells = Vec::new(alloc);
         for client in 0..list.entries().len() {
-            add_client(alloc, &mut cells, list, client)?;
+            if chosen.has_script(client) {
+                add_client(alloc, &mut cells, list, chosen, client)?;
+            }
         }
         Ok(Table { list, cells })
     }
@@ -62,6 +77,7 @@ fn add_client(
     alloc: Global,
     cells: &mut Vec<Cell>,
     list: &StartList,
+    chosen: &Chosen,
     client: usize,
 ) -> Result<(), AllocError>
     requires client { client < length list.now.entries }
@@ -72,7 +88,7 @@ fn add_client(
         return Ok(());
     }
     for place in 0..SERVICES.len() {
-        add_service(alloc, cells, list, client, SERVICES[place].name())?;
+        add_service(alloc, cells, list, chosen, client, SERVICES[place].name())?;
     }
     Ok(())
 }
@@ -82,6 +98,7 @@ fn add_service(
     alloc: Global,
     cells: &mut Vec<Cell>,
     list: &StartList,
+    chosen: &Chosen,
     client: usize,
     service: &'static str,
 ) -> Result<(), AllocError>
@@ -95,13 +112,14 @@ fn add_service(
         service: service.as_bytes(),
     };
     let ways = Ways::of(alloc, wishes)?;
-    add_cells(cells, list, client, service, &ways)
+    add_cells(cells, list, chosen, client, service, &ways)
 }
 
 // The cells of a client for one service, by where its wishes lead.
 fn add_cells(
     cells: &mut Vec<Cell>,
     list: &StartList,
+    chosen: &Chosen,
     client: usize,
     service: &'static str,
     ways: &Ways,
@@ -112,7 +130,7 @@ fn add_cells(
 {
     for server in 0..list.entries().len() {
         let entry = &list.entries()[server];
-        if entry.offers(entry.home(), service.as_bytes()) {
+        if chosen.has_server(server) && entry.offers(entry.home(), service.as_bytes()) {
             add_cell(cells, list, client, service, ways, server)?;
         }
     }

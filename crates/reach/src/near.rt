@@ -1,6 +1,5 @@
 //! Which path may have been meant by one that nobody has.
-use crate::fault::Flaw;
-use crate::names::{Sought, is_sought};
+use crate::named::{Sought, Unnamed, is_sought};
 use init_core::{Path, StartList};
 use std::alloc::{AllocError, Global};
 use strsim::levenshtein;
@@ -11,12 +10,12 @@ pub(crate) fn near_path<'a>(
     list: &StartList,
     written: &str,
     sought: Sought,
-) -> Result<Option<Path>, Flaw<'a>> {
+) -> Result<Option<Path>, Unnamed<'a>> {
     for edits in 1..3usize {
         match path_away(alloc, list, written, sought, edits) {
             Ok(None) => (),
             Ok(found) => return Ok(found),
-            Err(_) => return Err(Flaw::NoMemory),
+            Err(_) => return Err(Unnamed::NoMemory),
         }
     }
     Ok(None)
