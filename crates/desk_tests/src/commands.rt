@@ -45,13 +45,15 @@ fn each_command_is_read(rt: HostRuntime) -> Result<(), Fail> {
             &["nethrywel", "check", "m.json"],
             Command::Check {
                 strict: false,
+                policy: None,
                 list: "m.json",
             },
         ),
         (
-            &["nethrywel", "check", "-", "--strict"],
+            &["nethrywel", "check", "-", "--strict", "--policy=p"],
             Command::Check {
                 strict: true,
+                policy: Some("p"),
                 list: "-",
             },
         ),
