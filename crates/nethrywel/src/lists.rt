@@ -146,8 +146,8 @@ impl fmt::Display for Told<'_> {
     fn fmt<W: fmt::Write>(&self, f: &mut fmt::Formatter<W>) -> fmt::Result {
         let path = self.path;
         match &self.fault.place {
-            Whereabouts::Text(line, column) => {
-                write!(f, "{path}:{line}:{column}: {}", self.fault.fault)
+            Whereabouts::Text(line, column, reason) => {
+                write!(f, "{path}:{line}:{column}: {}: {reason}", self.fault.fault)
             }
             _ => write!(f, "{path}: {}", self.fault),
         }
