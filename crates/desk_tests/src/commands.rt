@@ -45,13 +45,24 @@ fn each_command_is_read(rt: HostRuntime) -> Result<(), Fail> {
             &["nethrywel", "check", "m.json"],
             Command::Check {
                 strict: false,
+                json: false,
+                policy: None,
                 list: "m.json",
             },
         ),
         (
-            &["nethrywel", "check", "-", "--strict"],
+            &[
+                "nethrywel",
+                "check",
+                "-",
+                "--strict",
+                "--json",
+                "--policy=p",
+            ],
             Command::Check {
                 strict: true,
+                json: true,
+                policy: Some("p"),
                 list: "-",
             },
         ),
@@ -59,6 +70,7 @@ fn each_command_is_read(rt: HostRuntime) -> Result<(), Fail> {
             &["nethrywel", "tree", ""],
             Command::Tree {
                 dot: false,
+                json: false,
                 list: "",
             },
         ),
@@ -66,6 +78,7 @@ fn each_command_is_read(rt: HostRuntime) -> Result<(), Fail> {
             &["nethrywel", "tree", "--dot", "check"],
             Command::Tree {
                 dot: true,
+                json: false,
                 list: "check",
             },
         ),
@@ -144,14 +157,16 @@ fn each_command_is_read(rt: HostRuntime) -> Result<(), Fail> {
         (
             &["nethrywel", "diff", "a", "b"],
             Command::Diff {
+                json: false,
                 before: "a",
                 after: "b",
                 scenario: None,
             },
         ),
         (
-            &["nethrywel", "diff", "a", "b", "c"],
+            &["nethrywel", "diff", "a", "--json", "b", "c"],
             Command::Diff {
+                json: true,
                 before: "a",
                 after: "b",
                 scenario: Some("c"),

@@ -22,11 +22,11 @@ fn faults_of_texts_are_told(rt: HostRuntime) -> Result<(), Fail> {
     let rows: [(&[u8], &str); 3] = [
         (
             b"{\"machine\":\n {\"pages\": 64,,\n",
-            "Bad_json: line 2, column 15",
+            "Bad_json: line 2, column 15: invalid JSON",
         ),
         (
             b"{\"machine\":{\"pages\":8}}",
-            "Bad_config pages: machine: pages: a number, expected a whole number from 16 to 4096",
+            "Bad_config pages: machine: pages: 8, expected a whole number from 16 to 4096",
         ),
         (
             b"{\"machine\":{\"pages\":64,\"caps\":64,\"page\":3},\"strat\":[],\"start\":[]}",

@@ -7,9 +7,11 @@ use Rattle.std.specs.Ordering.{match_ordering, nat_cmp}
 use Rattle.std.specs.Cmp.Lexicographic.{slice_cmp}
 use Rattle.serde_json.specs.Data.{Data, Members, depth, members_depth, member, no_members, null, number, put, unsigned}
 use Rattle.trade_base.specs.Amount.{number_of}
-use Rattle.json_documents.specs.Documents.{cell_data, filled}
+use Rattle.json_documents.specs.Documents.{cell_data, field_data, filled}
 use Rattle.json_documents.specs.declared.column.Column.{Column}
 use Rattle.json_documents.specs.declared.column.Column.TheVariants.{Text, Filled, Number}
+use Rattle.json_documents.specs.declared.field.Field.{Field}
+use Rattle.json_documents.specs.declared.field.Field.TheVariants as field
 
 -- a member more that is not nested
 pub put_flat : (k : List ℕ) (d : Data) (ms : Members) → depth d ≡ 0 → members_depth ms ≡ 0 → members_depth (put k d ms) ≡ 0
@@ -39,3 +41,14 @@ cell_flat (Number name) cell = number_flat (number_of cell)
 pub cell_added : (k : List ℕ) (column : Column) (cell : List ℕ) (d : Data) (ms : Members) → d ≡ cell_data column cell
     → members_depth ms ≡ 0 → members_depth (put k d ms) ≡ 0
 cell_added k column cell d ms is others = put_flat k d ms (ap depth is ∙ cell_flat column cell) others
+
+-- nor is that of a field
+field_flat : (f : Field) → depth (field_data f) ≡ 0
+field_flat (field.Word word) = refl
+field_flat (field.Text text) = refl
+field_flat (field.Number n) = refl
+field_flat field.Nothing = refl
+
+pub field_added : (k : List ℕ) (f : Field) (d : Data) (ms : Members) → d ≡ field_data f
+    → members_depth ms ≡ 0 → members_depth (put k d ms) ≡ 0
+field_added k f d ms is others = put_flat k d ms (ap depth is ∙ field_flat f) others

@@ -6,6 +6,8 @@ use Rattle.serde_json.specs.Data.{Data, null, number, string, unsigned}
 use Rattle.trade_base.specs.Amount.{number_of}
 use Rattle.json_documents.specs.declared.column.Column.{Column}
 use Rattle.json_documents.specs.declared.column.Column.TheVariants.{Text, Filled, Number}
+use Rattle.json_documents.specs.declared.field.Field.{Field}
+use Rattle.json_documents.specs.declared.field.Field.TheVariants as field
 
 abbrev pub filled : List ℕ → Data
 filled [] = null
@@ -21,3 +23,10 @@ abbrev pub cell_data : Column → List ℕ → Data
 cell_data (Text name) cell = string (utf8_lossy cell)
 cell_data (Filled name) cell = filled cell
 cell_data (Number name) cell = option_map_or (λ n. number (unsigned n)) (number_of cell) null
+
+-- the value of a field: a word or a text, with a sign in place of what is no text; a number; nothing
+abbrev pub field_data : Field → Data
+field_data (field.Word word) = string (utf8_lossy word.now)
+field_data (field.Text text) = string (utf8_lossy text.now)
+field_data (field.Number n) = number (unsigned n)
+field_data field.Nothing = null

@@ -4,9 +4,10 @@ ghost use Rattle.serde_json.specs.Data.{members_depth, no_members, object, put a
 ghost use Rattle.std.specs.Str.Lossy.{utf8_lossy};
 ghost use Rattle.serde_json.specs.Read.{read};
 ghost use Rattle.serde_json.specs.View.{members_view, view};
-ghost use Rattle.json_documents.specs.Documents.{cell_data, column_name};
+ghost use Rattle.json_documents.specs.Documents.{cell_data, column_name, field_data};
 
 use crate::column::Column;
+use crate::field::Field;
 use serde_json::{Map, Value};
 use std::alloc::{AllocError, Global};
 use trade_base::read_number;
@@ -44,6 +45,22 @@ impl Document {
         Ok(())
     }
 
+    /// A field as a member more.
+    #[tactic(auto, using(crate::proofs::DepthLemmas::field_added))]
+    pub(crate) fn add_field(
+        &mut self,
+        alloc: Global,
+        name: &str,
+        field: Field<'_>,
+    ) -> Result<(), AllocError>
+        ensures { OnOk result (members_view self.new.members.entries ≡ with_member
+            name.now (field_data field.entry) (members_view self.old.members.entries)) }
+    {
+        let value = value_in(alloc, field)?;
+        serde_json::put(&mut self.members, alloc, name, value)?;
+        Ok(())
+    }
+
     /// Its text: whoever reads it has the object.
     pub(crate) fn into_text(self, alloc: Global) -> Result<Vec<u8>, AllocError>
         ensures { IfOk result (λ text.
@@ -70,6 +87,18 @@ fn value_of(alloc: Global, column: Column, cell: &[u8]) -> Result<Value, AllocEr
             Some(number) => Ok(Value::from(number)),
             None => Ok(Value::Null),
         },
+    }
+}
+
+// The value of a field.
+fn value_in(alloc: Global, field: Field<'_>) -> Result<Value, AllocError>
+    ensures { IfOk result (λ value. view value ≡ field_data field.entry) }
+{
+    match field {
+        Field::Word(word) => text_of(alloc, word.as_bytes()),
+        Field::Text(text) => text_of(alloc, text),
+        Field::Number(number) => Ok(Value::from(number)),
+        Field::Nothing => Ok(Value::Null),
     }
 }
 

@@ -1,6 +1,7 @@
 //! What a change of a start list changes: entries that came, went or have other means, who reaches whom, and replies.
 #![tactic(auto)]
 
+mod documents;
 mod fates;
 mod reaches;
 mod replies;
@@ -8,5 +9,5 @@ mod texts;
 
 pub use fates::{Change, changes};
 pub use reaches::{Lead, Side, leads};
-pub use replies::changed_replies;
+pub use replies::{Changed, changed_replies};
 pub use texts::Differences;

@@ -1,51 +1,83 @@
 //! Replies that are other ones.
 use csv::{ByteRecord, Reader, ReaderBuilder};
+use json_documents::{Field, Listing};
 use std::alloc::{AllocError, Global};
+use trade_base::read_number;
 
-/// Compares two traces of one scenario, row by row, and tells a line for each row whose reply is another one: the line of the
-/// scenario, the call, its reply, and the one before.
-pub fn changed_replies(alloc: Global, before: &[u8], after: &[u8]) -> Result<Vec<u8>, AllocError> {
-    let mut told = Vec::new(alloc);
+/// A line of a scenario whose reply is another one: its row in both traces.
+#[derive(Drop)]
+pub struct Changed {
+    was: ByteRecord,
+    now: ByteRecord,
+}
+
+/// Compares two traces of one scenario, row by row: the rows whose reply is another one.
+pub fn changed_replies(
+    alloc: Global,
+    before: &[u8],
+    after: &[u8],
+) -> Result<Vec<Changed>, AllocError> {
+    let mut found = Vec::new(alloc);
     let builder = ReaderBuilder::new();
     let mut olds = builder.from_reader(alloc, before);
     let mut news = builder.from_reader(alloc, after);
-    let mut was = ByteRecord::new(alloc);
-    let mut now = ByteRecord::new(alloc);
     for _ in after {
-        let old = read_row(&mut olds, &mut was)?;
-        let new = read_row(&mut news, &mut now)?;
-        if !(old && new) {
+        let (Some(was), Some(now)) = (next_row(alloc, &mut olds)?, next_row(alloc, &mut news)?)
+        else {
             break;
+        };
+        if cell(&was, 3) != cell(&now, 3) {
+            found.push(Changed { was, now })?;
         }
-        tell_reply(&mut told, &was, &now)?;
     }
-    Ok(told)
+    Ok(found)
 }
 
-// Reads the next row, if there is one.
-fn read_row(table: &mut Reader<&[u8]>, row: &mut ByteRecord) -> Result<bool, AllocError> {
-    match table.read_byte_record(row) {
-        Ok(found) => Ok(found),
+impl Changed {
+    /// Adds a line that tells it: the line of the scenario, the call, its reply, and the one before.
+    pub fn add_line(&self, told: &mut Vec<u8>) -> Result<(), AllocError> {
+        let (was, now) = (&self.was, &self.now);
+        told.extend_from_slice(b"~ ")?;
+        told.extend_from_slice(cell(now, 0))?;
+        told.extend_from_slice(b": ")?;
+        told.extend_from_slice(cell(now, 1))?;
+        told.extend_from_slice(b" ")?;
+        told.extend_from_slice(cell(now, 2))?;
+        told.extend_from_slice(b" => ")?;
+        told.extend_from_slice(cell(now, 3))?;
+        told.extend_from_slice(b" (was: ")?;
+        told.extend_from_slice(cell(was, 3))?;
+        told.extend_from_slice(b")\n")?;
+        Ok(())
+    }
+
+    /// Adds a document that tells the same.
+    pub fn list(&self, listing: &mut Listing) -> Result<(), AllocError> {
+        let (was, now) = (&self.was, &self.now);
+        let line = match read_number(cell(now, 0)) {
+            Some(number) => Field::Number(number),
+            None => Field::Nothing,
+        };
+        listing.add(&[
+            ("kind", Field::Word("reply")),
+            ("change", Field::Word("~")),
+            ("line", line),
+            ("name", Field::Text(cell(now, 1))),
+            ("call", Field::Text(cell(now, 2))),
+            ("reply", Field::Text(cell(now, 3))),
+            ("was_reply", Field::Text(cell(was, 3))),
+        ])
+    }
+}
+
+// The next row, if there is one.
+fn next_row(alloc: Global, table: &mut Reader<&[u8]>) -> Result<Option<ByteRecord>, AllocError> {
+    let mut row = ByteRecord::new(alloc);
+    match table.read_byte_record(&mut row) {
+        Ok(true) => Ok(Some(row)),
+        Ok(false) => Ok(None),
         Err(_) => Err(AllocError),
     }
-}
-
-// Tells a row whose reply is another one.
-fn tell_reply(told: &mut Vec<u8>, was: &ByteRecord, now: &ByteRecord) -> Result<(), AllocError> {
-    if cell(was, 3) == cell(now, 3) {
-        return Ok(());
-    }
-    told.extend_from_slice(b"~ ")?;
-    told.extend_from_slice(cell(now, 0))?;
-    told.extend_from_slice(b": ")?;
-    told.extend_from_slice(cell(now, 1))?;
-    told.extend_from_slice(b" ")?;
-    told.extend_from_slice(cell(now, 2))?;
-    told.extend_from_slice(b" => ")?;
-    told.extend_from_slice(cell(now, 3))?;
-    told.extend_from_slice(b" (was: ")?;
-    told.extend_from_slice(cell(was, 3))?;
-    told.extend_from_slice(b")\n")
 }
 
 // The cell of a row at a place.

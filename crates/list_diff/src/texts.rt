@@ -24,8 +24,8 @@ impl Differences<'_> {
         self.has_same_machine() && self.changes.is_empty() && self.leads.is_empty()
     }
 
-    // Whether the machine is as it was.
-    fn has_same_machine(&self) -> bool {
+    /// Whether the machine is as it was.
+    pub(crate) fn has_same_machine(&self) -> bool {
         self.before.pages() == self.after.pages() && self.before.caps() == self.after.caps()
     }
 }

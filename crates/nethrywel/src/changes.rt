@@ -3,8 +3,9 @@ use crate::ends::{Played, REFUSED, UNWRITTEN, status_of};
 use crate::files::read_list;
 use crate::lists::tell_fault;
 use init_core::StartList;
-use list_diff::{Change, Differences, Lead, Side, changed_replies, changes, leads};
-use reach::{Cell, Table};
+use json_documents::Listing;
+use list_diff::{Changed, Differences, Side, changed_replies, changes, leads};
+use reach::Table;
 use scenario::Output;
 use start_review::Review;
 use std::alloc::{AllocError, Global};
@@ -15,36 +16,50 @@ use workbench::{Play, trace};
 /// The exit status where something is changed.
 const CHANGED: u8 = 4;
 
-/// Tells what the second of two start lists has otherwise, and with a scenario which replies are other ones. Answers the exit
-/// status.
-pub(crate) fn diff(rt: &HostRuntime, before: &str, after: &str, scenario: Option<&str>) -> u8 {
-    let (Some(before), Some(after)) = (Policy::at(rt, before), Policy::at(rt, after)) else {
+/// What is compared.
+#[derive(Clone, Copy)]
+pub(crate) struct Compared<'a> {
+    /// The path of the start list before a change.
+    pub(crate) before: &'a str,
+    /// The path of the start list after it.
+    pub(crate) after: &'a str,
+    /// The path of a scenario that is played on both, or none.
+    pub(crate) scenario: Option<&'a str>,
+}
+
+/// Tells what the second of two start lists has otherwise, and with a scenario which replies are other ones, a line each or as
+/// documents of JSON. Answers the exit status.
+pub(crate) fn diff(rt: &HostRuntime, compared: Compared<'_>, json: bool) -> u8 {
+    let (Some(before), Some(after)) = (
+        Policy::at(rt, compared.before),
+        Policy::at(rt, compared.after),
+    ) else {
         return REFUSED;
     };
-    let Ok(told) = differences(rt, &before, &after) else {
-        let _ = eprintln!(rt; "run: No_memory");
-        return UNWRITTEN;
-    };
-    let replies = match scenario {
+    let replies = match compared.scenario {
         Some(path) => match replies(rt, path, &before, &after) {
             Ok(replies) => replies,
             Err(status) => return status,
         },
         None => Vec::new(rt.alloc()),
     };
-    let status = status_of(rt, print(rt, told.as_bytes(), replies.as_slice()));
-    if status == 0 && !(told.is_empty() && replies.is_empty()) {
+    let Ok(told) = differences(rt.alloc(), &before, &after, replies.as_slice(), json) else {
+        let _ = eprintln!(rt; "run: No_memory");
+        return UNWRITTEN;
+    };
+    let status = status_of(rt, io::writer(rt).write_all(told.text.as_slice()));
+    if status == 0 && told.is_changed {
         CHANGED
     } else {
         status
     }
 }
 
-// Prints two texts.
-fn print(rt: &HostRuntime, first: &[u8], then: &[u8]) -> io::Result<()> {
-    let mut writer = io::writer(rt);
-    writer.write_all(first)?;
-    writer.write_all(then)
+// What is told of all differences, and whether there are some.
+#[derive(Drop)]
+struct Text {
+    text: Vec<u8>,
+    is_changed: bool,
 }
 
 // A start list that boots, with its text.
@@ -74,63 +89,84 @@ impl<'a> Policy<'a> {
     }
 }
 
-// What is told of entries and of who reaches whom.
+// What is told of entries, of who reaches whom, and of replies.
 fn differences(
-    rt: &HostRuntime,
+    alloc: Global,
     before: &Policy<'_>,
     after: &Policy<'_>,
-) -> Result<String, AllocError> {
+    replies: &[Changed],
+    json: bool,
+) -> Result<Text, AllocError> {
     let (before, after) = (before.review.list(), after.review.list());
-    let olds = Table::of(rt.alloc(), before)?;
-    let news = Table::of(rt.alloc(), after)?;
-    compare(rt.alloc(), before, olds.cells(), after, news.cells())
+    let olds = Table::of(alloc, before)?;
+    let news = Table::of(alloc, after)?;
+    let was = Side {
+        list: before,
+        cells: olds.cells(),
+    };
+    let now = Side {
+        list: after,
+        cells: news.cells(),
+    };
+    compare(alloc, was, now, replies, json)
 }
 
 // The same, by the cells of both tables.
 fn compare<'a>(
     alloc: Global,
-    before: &'a StartList,
-    olds: &'a [Cell],
-    after: &'a StartList,
-    news: &'a [Cell],
-) -> Result<String, AllocError> {
-    let was = Side {
-        list: before,
-        cells: olds,
-    };
-    let now = Side {
-        list: after,
-        cells: news,
-    };
-    let changes = changes(alloc, before, after)?;
+    was: Side<'a>,
+    now: Side<'a>,
+    replies: &'a [Changed],
+    json: bool,
+) -> Result<Text, AllocError> {
+    let changes = changes(alloc, was.list, now.list)?;
     let leads = leads(alloc, was, now)?;
-    text_of(alloc, before, after, changes.as_slice(), leads.as_slice())
-}
-
-// The text of all differences.
-fn text_of<'a>(
-    alloc: Global,
-    before: &'a StartList,
-    after: &'a StartList,
-    changes: &'a [Change],
-    leads: &'a [Lead<'a>],
-) -> Result<String, AllocError> {
     let told = Differences {
-        before,
-        after,
-        changes,
-        leads,
+        before: was.list,
+        after: now.list,
+        changes: changes.as_slice(),
+        leads: leads.as_slice(),
     };
-    told.to_string(alloc)
+    Ok(Text {
+        text: if json {
+            documents(alloc, told, replies)?
+        } else {
+            lines(alloc, told, replies)?
+        },
+        is_changed: !(told.is_empty() && replies.is_empty()),
+    })
 }
 
-// What is told of the replies of a scenario, or the exit status of one that can't be played to its end.
+// A line for each difference.
+fn lines(alloc: Global, told: Differences<'_>, replies: &[Changed]) -> Result<Vec<u8>, AllocError> {
+    let mut text = told.to_string(alloc)?.into_bytes();
+    for reply in replies {
+        reply.add_line(&mut text)?;
+    }
+    Ok(text)
+}
+
+// A document for each difference.
+fn documents(
+    alloc: Global,
+    told: Differences<'_>,
+    replies: &[Changed],
+) -> Result<Vec<u8>, AllocError> {
+    let mut listing = Listing::new(alloc);
+    told.list(alloc, &mut listing)?;
+    for reply in replies {
+        reply.list(&mut listing)?;
+    }
+    listing.into_text()
+}
+
+// The replies of a scenario that are other ones, or the exit status of one that can't be played to its end.
 fn replies(
     rt: &HostRuntime,
     path: &str,
     before: &Policy<'_>,
     after: &Policy<'_>,
-) -> Result<Vec<u8>, u8> {
+) -> Result<Vec<Changed>, u8> {
     let Ok(scenario) = fs::read(rt, path) else {
         let _ = eprintln!(rt; "{path}: Unreadable_scenario");
         return Err(REFUSED);
@@ -138,7 +174,7 @@ fn replies(
     let was = traced(rt, path, &scenario, before)?;
     let now = traced(rt, path, &scenario, after)?;
     match changed_replies(rt.alloc(), was.as_slice(), now.as_slice()) {
-        Ok(told) => Ok(told),
+        Ok(replies) => Ok(replies),
         Err(AllocError) => {
             let _ = eprintln!(rt; "run: No_memory");
             Err(UNWRITTEN)

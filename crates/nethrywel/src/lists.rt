@@ -110,8 +110,8 @@ pub(crate) fn route(rt: &HostRuntime, path: &str, client: &str, service: &str, a
     }
 }
 
-// The start list of a path, or none where that is told on standard error.
-fn review(rt: &HostRuntime, path: &str) -> Option<Review> {
+/// The start list of a path, or none where that is told on standard error.
+pub(crate) fn review(rt: &HostRuntime, path: &str) -> Option<Review> {
     match read_list(rt, path) {
         Ok(text) => match Review::read(rt.alloc(), &text) {
             Ok(review) => Some(review),
@@ -146,8 +146,8 @@ impl fmt::Display for Told<'_> {
     fn fmt<W: fmt::Write>(&self, f: &mut fmt::Formatter<W>) -> fmt::Result {
         let path = self.path;
         match &self.fault.place {
-            Whereabouts::Text(line, column) => {
-                write!(f, "{path}:{line}:{column}: {}", self.fault.fault)
+            Whereabouts::Text(line, column, reason) => {
+                write!(f, "{path}:{line}:{column}: {}: {reason}", self.fault.fault)
             }
             _ => write!(f, "{path}: {}", self.fault),
         }

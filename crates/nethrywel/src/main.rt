@@ -6,6 +6,7 @@ mod changes;
 mod documents;
 mod ends;
 mod files;
+mod listings;
 mod lists;
 mod needs;
 mod plays;
@@ -14,9 +15,10 @@ mod scenarios;
 mod tests;
 
 use apart::{All, all_alone};
-use changes::diff;
+use changes::{Compared, diff};
 use clap::Error;
 use ends::{REFUSED, status_of};
+use listings::{Check, check_documents, reach_documents, tree_document};
 use lists::{check, reach, route, tree};
 use needs::{Telling, least};
 use plays::{Viewing, play};
@@ -64,14 +66,33 @@ fn answer(rt: &HostRuntime, command: Command<'_>) -> u8 {
     match command {
         Command::Check {
             strict,
+            json,
             policy,
             list,
         } => match policy {
+            _ if json => check_documents(
+                rt,
+                Check {
+                    list,
+                    policy,
+                    strict,
+                },
+            ),
             Some(policy) => hold(rt, list, policy, strict),
             None => check(rt, list, strict),
         },
-        Command::Tree { dot, list } => tree(rt, list, dot),
-        Command::Reach { csv, list } => reach(rt, list, csv),
+        Command::Tree {
+            json: true,
+            list,
+            ..
+        } => tree_document(rt, list),
+        Command::Tree { dot, list, .. } => tree(rt, list, dot),
+        Command::Reach {
+            json: true,
+            list,
+            ..
+        } => reach_documents(rt, list),
+        Command::Reach { csv, list, .. } => reach(rt, list, csv),
         Command::Route {
             list,
             client,
@@ -98,6 +119,7 @@ fn answer(rt: &HostRuntime, command: Command<'_>) -> u8 {
             machine,
             as_donated,
             csv,
+            json,
             list,
             donations,
             scenario,
@@ -105,7 +127,7 @@ fn answer(rt: &HostRuntime, command: Command<'_>) -> u8 {
             rt,
             machine,
             as_donated,
-            Telling::of(csv, list, donations),
+            Telling::of(csv, json, list, donations),
             scenario,
         ),
         Command::Alone {
@@ -129,10 +151,18 @@ fn answer(rt: &HostRuntime, command: Command<'_>) -> u8 {
             _ => refuse_alone(rt),
         },
         Command::Diff {
+            json,
             before,
             after,
             scenario,
-        } => diff(rt, before, after, scenario),
+        } => {
+            let compared = Compared {
+                before,
+                after,
+                scenario,
+            };
+            diff(rt, compared, json)
+        }
         Command::Test {
             machine,
             junit,

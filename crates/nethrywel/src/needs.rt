@@ -1,12 +1,14 @@
 //! What the accounts of a scenario need.
 use crate::ends::{REFUSED, UNWRITTEN, status_of};
 use crate::files::{STANDARD_INPUT, read_list};
+use crate::listings::print_documents;
 use crate::lists::tell_fault;
 use init_core::{BootFault, MACHINE_A};
+use json_documents::{Column, row_documents};
 use least::{Question, Report};
 use scenario::{ConfigFault, Input, Source};
 use start_review::Review;
-use std::alloc::Global;
+use std::alloc::{AllocError, Global};
 use std::io::Write;
 use std::{fs, io};
 
@@ -16,6 +18,16 @@ const BLOCK: usize = 4096;
 /// The exit status of a scenario with lines that are no calls.
 const MISREAD: u8 = 3;
 
+/// The columns of its values.
+static ROWS: [Column; 6] = [
+    Column::Text("component"),
+    Column::Number("session"),
+    Column::Number("line"),
+    Column::Number("ram_from"),
+    Column::Number("ram_below"),
+    Column::Number("caps_from"),
+];
+
 /// In which form it is told.
 #[derive(Clone, Copy, Debug)]
 pub(crate) enum Telling {
@@ -23,6 +35,8 @@ pub(crate) enum Telling {
     Text,
     /// As comma-separated values.
     Values,
+    /// As a document of JSON.
+    Documents,
     /// As the start list with the least budgets.
     List,
     /// As the scenario with the least donations.
@@ -30,10 +44,12 @@ pub(crate) enum Telling {
 }
 
 impl Telling {
-    /// That of three flags, of which the first that is set counts.
-    pub(crate) fn of(csv: bool, list: bool, donations: bool) -> Telling {
+    /// That of four flags, of which the first that is set counts.
+    pub(crate) fn of(csv: bool, json: bool, list: bool, donations: bool) -> Telling {
         if csv {
             Telling::Values
+        } else if json {
+            Telling::Documents
         } else if list {
             Telling::List
         } else if donations {
@@ -146,6 +162,7 @@ fn tell(rt: &HostRuntime, question: Question<'_>, telling: Telling, report: Repo
             let values = report.into_csv();
             status_of(rt, print!(rt; "{values}"))
         }
+        Telling::Documents => print_documents(rt, documents(rt.alloc(), report)),
         Telling::List => match report.start_list(rt.alloc(), question.machine) {
             Ok(text) => status_of(rt, println!(rt; "{text}")),
             Err(fault) => tell_fault_of_run(rt, &fault),
@@ -155,6 +172,12 @@ fn tell(rt: &HostRuntime, question: Question<'_>, telling: Telling, report: Repo
             Err(fault) => tell_fault_of_run(rt, &fault),
         },
     }
+}
+
+// The rows of a report as documents.
+fn documents(alloc: Global, report: Report) -> Result<Vec<u8>, AllocError> {
+    let values = report.into_csv().to_string(alloc)?;
+    row_documents(alloc, &ROWS, values.as_bytes())
 }
 
 // Tells a fault of the run.

@@ -3,16 +3,36 @@ use crate::ends::{REFUSED, UNWRITTEN, status_of};
 use crate::files::read_list;
 use crate::lists::checked;
 use init_core::StartList;
-use policy::{Line, Policy, Told};
+use policy::{Policy, PolicyFault, Told};
 use reach::NoCourse;
-use std::alloc::AllocError;
+use std::alloc::{AllocError, Global};
 use std::str;
 
 /// The exit status where a line of a policy is broken.
-const BROKEN: u8 = 3;
+pub(crate) const BROKEN: u8 = 3;
 
 /// The most bytes of a policy.
 const LONGEST_POLICY: usize = 65_536;
+
+/// A line of a policy, by its number, and what is told of it.
+#[derive(Debug, Drop)]
+pub(crate) struct Noted {
+    /// The number of the line, from 1 on.
+    pub(crate) line: usize,
+    /// What is told.
+    pub(crate) text: String,
+}
+
+/// How a start list stands to a policy.
+#[derive(Debug, Drop)]
+pub(crate) enum Standing {
+    /// It breaks these lines: none, where it keeps the policy.
+    Held(Vec<Noted>),
+    /// This line of the policy has a fault.
+    Faulty(Noted),
+    /// The policy isn't read, and why.
+    Unread(String),
+}
 
 /// Tells what is wrong with a start list, as a check does, and then which lines of a policy it breaks, a line each on standard
 /// error, and `ok` where it breaks none. Answers the exit status.
@@ -20,61 +40,82 @@ pub(crate) fn hold(rt: &HostRuntime, list: &str, path: &str, strict: bool) -> u8
     let Some(review) = checked(rt, list, strict) else {
         return REFUSED;
     };
-    match read_list(rt, path) {
-        Ok(bytes) if LONGEST_POLICY < bytes.len() => tell(rt, path, "it is too long"),
-        Ok(bytes) => match str::from_utf8(&bytes) {
-            Ok(text) => hold_text(rt, review.list(), path, text),
-            Err(_) => tell(rt, path, "it isn't UTF-8"),
-        },
-        Err(fault) => {
-            let _ = eprintln!(rt; "{path}: {fault}");
-            REFUSED
-        }
-    }
-}
-
-// Tells why a policy isn't read.
-fn tell(rt: &HostRuntime, path: &str, why: &str) -> u8 {
-    let _ = eprintln!(rt; "{path}: {why}");
-    REFUSED
-}
-
-// The same of a policy's text.
-fn hold_text(rt: &HostRuntime, list: &StartList, path: &str, text: &str) -> u8 {
-    let policy = match Policy::read(rt.alloc(), list, text) {
-        Ok(policy) => policy,
-        Err(fault) => {
-            let _ = eprintln!(rt; "{path}:{}: {}", fault.line, fault.flaw);
-            return REFUSED;
-        }
-    };
-    let mut is_broken = false;
-    for line in policy.lines() {
-        match tell_line(rt, list, path, line) {
-            Ok(broken) => is_broken = is_broken || broken,
-            Err(_) => {
-                let _ = eprintln!(rt; "{path}: {}", NoCourse::NoMemory);
-                return UNWRITTEN;
+    match hold_against(rt, review.list(), path) {
+        Ok(Standing::Held(broken)) => {
+            for noted in broken.as_slice() {
+                let _ = eprintln!(rt; "{path}:{}: {}", noted.line, noted.text);
+            }
+            if broken.is_empty() {
+                status_of(rt, println!(rt; "ok"))
+            } else {
+                BROKEN
             }
         }
+        Ok(Standing::Faulty(noted)) => {
+            let _ = eprintln!(rt; "{path}:{}: {}", noted.line, noted.text);
+            REFUSED
+        }
+        Ok(Standing::Unread(why)) => {
+            let _ = eprintln!(rt; "{path}: {why}");
+            REFUSED
+        }
+        Err(_) => {
+            let _ = eprintln!(rt; "{path}: {}", NoCourse::NoMemory);
+            UNWRITTEN
+        }
     }
-    if is_broken {
-        return BROKEN;
-    }
-    status_of(rt, println!(rt; "ok"))
 }
 
-// Tells whether a line is broken, and how.
-fn tell_line(
+/// How a start list stands to the policy of a path. An error is want of memory.
+pub(crate) fn hold_against(
     rt: &HostRuntime,
     list: &StartList,
     path: &str,
-    line: &Line,
-) -> Result<bool, AllocError> {
-    let Some(breach) = line.breach(rt.alloc(), list)? else {
-        return Ok(false);
-    };
-    let told = Told::of(rt.alloc(), list, &breach)?;
-    let _ = eprintln!(rt; "{path}:{}: {told}", line.number);
-    Ok(true)
+) -> Result<Standing, AllocError> {
+    let alloc = rt.alloc();
+    match read_list(rt, path) {
+        Ok(bytes) if LONGEST_POLICY < bytes.len() => unread(alloc, "it is too long"),
+        Ok(bytes) => match str::from_utf8(&bytes) {
+            Ok(text) => standing_to(alloc, list, text),
+            Err(_) => unread(alloc, "it isn't UTF-8"),
+        },
+        Err(fault) => Ok(Standing::Unread(format!(in alloc; "{fault}")?)),
+    }
+}
+
+// That a policy isn't read.
+fn unread(alloc: Global, why: &str) -> Result<Standing, AllocError> {
+    Ok(Standing::Unread(String::from_str(alloc, why)?))
+}
+
+// How a start list stands to a policy's text.
+fn standing_to(alloc: Global, list: &StartList, text: &str) -> Result<Standing, AllocError> {
+    match Policy::read(alloc, list, text) {
+        Ok(policy) => held(alloc, list, &policy),
+        Err(fault) => faulty(alloc, &fault),
+    }
+}
+
+// That a line of a policy has a fault.
+fn faulty(alloc: Global, fault: &PolicyFault<'_>) -> Result<Standing, AllocError> {
+    let flaw = &fault.flaw;
+    Ok(Standing::Faulty(Noted {
+        line: fault.line,
+        text: format!(in alloc; "{flaw}")?,
+    }))
+}
+
+// Which lines of a policy a start list breaks.
+fn held(alloc: Global, list: &StartList, policy: &Policy) -> Result<Standing, AllocError> {
+    let mut broken = Vec::new(alloc);
+    for line in policy.lines() {
+        if let Some(breach) = line.breach(alloc, list)? {
+            let told = Told::of(alloc, list, &breach)?;
+            broken.push(Noted {
+                line: line.number,
+                text: format!(in alloc; "{told}")?,
+            })?;
+        }
+    }
+    Ok(Standing::Held(broken))
 }

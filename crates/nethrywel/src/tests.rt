@@ -2,14 +2,17 @@
 use crate::ends::{Stopped, UNWRITTEN, status_of};
 use crate::files::read_list;
 use crate::lists::Told;
+use crate::policies::{Standing, hold_against};
 use crate::scenarios::{Unfound, scenarios_at};
-use init_core::{BootFault, MACHINE_A};
+use init_core::{BootFault, MACHINE_A, StartList};
 use scenario::{Input, Output};
 use start_review::Review;
 use std::alloc::AllocError;
 use std::io::Write;
 use std::{fs, io};
-use test_report::{Trial, failures, junit_document, machine_beside, tap_plan, tap_point};
+use test_report::{
+    Trial, failures, junit_document, machine_beside, policy_beside, tap_plan, tap_point,
+};
 use workbench::{Ending, Play, exit_status, run};
 
 /// The exit status where a scenario isn't answered as it expects.
@@ -82,12 +85,61 @@ fn run_one(rt: &HostRuntime, scenario: &str, machine: Option<&str>) -> Result<Tr
         _ => Some(beside.as_str()),
     };
     let Some(path) = list else {
-        return run_on(rt, scenario, MACHINE_A.as_bytes(), None);
+        return run_whole(rt, scenario, MACHINE_A.as_bytes(), None);
     };
     match read_list(rt, path) {
-        Ok(text) => run_on(rt, scenario, &text, list),
+        Ok(text) => run_whole(rt, scenario, &text, list),
         Err(fault) => failed(rt, scenario, format!(in rt.alloc(); "{path}: {fault}\n")?),
     }
+}
+
+// Runs a scenario on the machine of a text, and holds the policy that stands beside it against the machine.
+fn run_whole(
+    rt: &HostRuntime,
+    scenario: &str,
+    text: &[u8],
+    list: Option<&str>,
+) -> Result<Trial, AllocError> {
+    let mut trial = run_on(rt, scenario, text, list)?;
+    let policy = policy_beside(rt.alloc(), scenario)?;
+    if let Ok(false) = fs::exists(rt, policy.as_str()) {
+        return Ok(trial);
+    }
+    if let Ok(list) = StartList::read(rt.alloc(), text) {
+        hold_beside(rt, &list, policy.as_str(), &mut trial)?;
+    }
+    Ok(trial)
+}
+
+// Holds a policy against the machine of a trial. Where it isn't kept, the trial failed.
+fn hold_beside(
+    rt: &HostRuntime,
+    list: &StartList,
+    policy: &str,
+    trial: &mut Trial,
+) -> Result<(), AllocError> {
+    let alloc = rt.alloc();
+    match hold_against(rt, list, policy)? {
+        Standing::Held(broken) => {
+            for noted in broken.as_slice() {
+                let (line, text) = (noted.line, noted.text.as_str());
+                fail(trial, format!(in alloc; "{policy}:{line}: {text}\n")?)?;
+            }
+            Ok(())
+        }
+        Standing::Faulty(noted) => {
+            let (line, text) = (noted.line, noted.text.as_str());
+            fail(trial, format!(in alloc; "{policy}:{line}: {text}\n")?)
+        }
+        Standing::Unread(why) => fail(trial, format!(in alloc; "{policy}: {why}\n")?),
+    }
+}
+
+// Tells a line more of a trial, which failed by it.
+fn fail(trial: &mut Trial, line: String) -> Result<(), AllocError> {
+    trial.passed = false;
+    trial.told.extend_from_slice(line.as_bytes())?;
+    Ok(())
 }
 
 // Runs a scenario on the machine of a text.

@@ -149,7 +149,7 @@ lack_in list = option_and_then first_lack (result_ok (list_of list))
 
 -- a fault of what a text says, if it is JSON, is told where it is
 abbrev pub IsPlaced : Option Data → BootFault → Whereabouts → Type 0
-IsPlaced list fault (whereabouts.Text line column) = fault ≡ BadJson
+IsPlaced list fault (whereabouts.Text line column reason) = fault ≡ BadJson
 IsPlaced list fault (whereabouts.List flaw) = option_and_then (λ d. spot_of d fault) list ≡ Some (spot_of_flaw flaw)
 IsPlaced list fault (whereabouts.Budget lack) = (fault ≡ QuotaExceeded lack.path) × (option_and_then lack_in list ≡ Some lack)
 IsPlaced list fault (whereabouts.Size size) = fault ≡ BadConfig field.Size

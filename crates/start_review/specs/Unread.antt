@@ -33,9 +33,9 @@ rule_members =
     codes "service" ∷ codes "any-service" ∷ codes "label" ∷ codes "label_prefix" ∷ codes "label_suffix"
     ∷ codes "child" ∷ codes "any-child" ∷ codes "parent" ∷ []
 
--- the members that are read of an object
+-- the members that are read of an object; of the list itself also the one by which editors find their schema
 abbrev pub members_read : Table → List (List ℕ)
-members_read table.List = codes "machine" ∷ codes "default-route" ∷ codes "start" ∷ []
+members_read table.List = codes "machine" ∷ codes "default-route" ∷ codes "start" ∷ codes "$schema" ∷ []
 members_read table.Machine = codes "pages" ∷ codes "caps" ∷ []
 members_read table.Entry = entry_members
 members_read table.Init = entry_members ++ codes "config" ∷ []

@@ -4,15 +4,47 @@ ghost use Rattle.init_core.specs.declared.fault.BootFault.TheVariants.{NoMemory}
 
 use crate::flaw::Flaw;
 use crate::left::Lack;
+use arrayvec::ArrayString;
 use init_core::BootFault;
+use serde_json::Error;
 use std::alloc::AllocError;
 use std::fmt;
+use std::fmt::Write;
+
+/// The most bytes of what the reader of JSON tells: its reason, the line and the column.
+const MOST_TOLD: usize = 80;
+
+/// Why a text is no JSON, as its reader tells it.
+#[derive(Clone, Copy, Debug)]
+pub struct Reason {
+    told: ArrayString<MOST_TOLD>,
+}
+
+impl Reason {
+    /// That of an error.
+    pub(crate) fn of(error: &Error) -> Reason {
+        let mut told = ArrayString::new();
+        let _ = write!(told, "{error}");
+        Reason { told }
+    }
+}
+
+/// The reason alone: the line and the column are told before it.
+impl fmt::Display for Reason {
+    fn fmt<W: fmt::Write>(&self, f: &mut fmt::Formatter<W>) -> fmt::Result {
+        let told = self.told.as_str();
+        match told.split_once(" at line ") {
+            Some((reason, _)) => f.write_str(reason),
+            None => f.write_str(told),
+        }
+    }
+}
 
 /// Where a fault is.
 #[derive(Debug, Drop)]
 pub enum Whereabouts {
-    /// In the JSON text: the line and the column, from 1 on, as far as the reader tells them.
-    Text(usize, usize),
+    /// In the JSON text: the line and the column, from 1 on, as far as the reader tells them, and its reason.
+    Text(usize, usize, Reason),
     /// In a part of the list.
     List(Flaw),
     /// At the entry that isn't covered.
@@ -47,7 +79,9 @@ impl fmt::Display for Fault {
     fn fmt<W: fmt::Write>(&self, f: &mut fmt::Formatter<W>) -> fmt::Result {
         write!(f, "{}", self.fault)?;
         match &self.place {
-            Whereabouts::Text(line, column) => write!(f, ": line {line}, column {column}"),
+            Whereabouts::Text(line, column, reason) => {
+                write!(f, ": line {line}, column {column}: {reason}")
+            }
             Whereabouts::List(flaw) => write!(f, ": {flaw}"),
             Whereabouts::Budget(lack) => write!(f, ": {lack}"),
             Whereabouts::Size(size) => write!(f, ": {size} bytes, expected at most 65536"),

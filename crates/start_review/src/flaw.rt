@@ -11,11 +11,16 @@ ghost use Rattle.start_review.specs.Values.{seen};
 
 use crate::bad_rule::{bad_rule, rule_flaw};
 use crate::part::{Owner, Part, Steps, rule_at};
+use crate::quoted::Quoted;
 use crate::values::{EntryValue, find_entries, member, runs};
+use arrayvec::ArrayString;
 use init_core::{BootFault, Field, entry_at_fault};
-use serde_json::Value;
+use serde_json::{Number, Value};
 use std::alloc::{AllocError, Global};
 use std::fmt;
+
+/// The most bytes of a text that is told whole.
+const MOST_TOLD: usize = 40;
 
 /// What a value is.
 #[derive(Clone, Copy, Debug, PartialEq, Eq)]
@@ -26,10 +31,16 @@ pub enum Sort {
     Null,
     /// `true`, or `false`.
     Boolean(bool),
-    /// A number.
+    /// A whole number.
+    Whole(u64),
+    /// A whole number below 0.
+    Negative(i64),
+    /// Another number.
     Number,
     /// A text.
-    Text,
+    Text(ArrayString<MOST_TOLD>),
+    /// A longer text, of so many bytes.
+    LongText(usize),
     /// A list of so many elements.
     List(usize),
     /// An object.
@@ -43,10 +54,27 @@ impl Sort {
             None => Sort::Missing,
             Some(Value::Null) => Sort::Null,
             Some(Value::Bool(value)) => Sort::Boolean(*value),
-            Some(Value::Number(_)) => Sort::Number,
-            Some(Value::String(_)) => Sort::Text,
+            Some(Value::Number(number)) => Sort::of_number(number),
+            Some(Value::String(text)) => Sort::of_text(text.as_str()),
             Some(Value::Array(list)) => Sort::List(list.len()),
             Some(Value::Object(_)) => Sort::Object,
+        }
+    }
+
+    // What a number is.
+    fn of_number(number: &Number) -> Sort {
+        match (number.as_u64(), number.as_i64()) {
+            (Some(whole), _) => Sort::Whole(whole),
+            (None, Some(below)) => Sort::Negative(below),
+            (None, None) => Sort::Number,
+        }
+    }
+
+    // What a text is.
+    fn of_text(text: &str) -> Sort {
+        match ArrayString::from(text) {
+            Ok(short) => Sort::Text(short),
+            Err(_) => Sort::LongText(text.len()),
         }
     }
 }
@@ -57,12 +85,24 @@ impl fmt::Display for Sort {
             Sort::Missing => f.write_str("missing"),
             Sort::Null => f.write_str("null"),
             Sort::Boolean(value) => write!(f, "{value}"),
-            Sort::Number => f.write_str("a number"),
-            Sort::Text => f.write_str("a text"),
+            Sort::Whole(number) => write!(f, "{number}"),
+            Sort::Negative(number) => write!(f, "{number}"),
+            Sort::Number => f.write_str("a number that isn't whole"),
+            Sort::Text(text) => show_text(f, text.as_str()),
+            Sort::LongText(length) => write!(f, "a text of {length} bytes"),
             Sort::List(count) => write!(f, "a list of {count}"),
             Sort::Object => f.write_str("an object"),
         }
     }
+}
+
+// A text in quotes.
+fn show_text<W: fmt::Write>(f: &mut fmt::Formatter<W>, text: &str) -> fmt::Result {
+    let quoted = Quoted {
+        text,
+        in_graph: false,
+    };
+    write!(f, "{quoted}")
 }
 
 /// What is expected of a member, or of a whole rule or entry.
@@ -149,7 +189,14 @@ impl fmt::Display for Flaw {
         if let Some(member) = self.member {
             write!(f, "{member}: ")?;
         }
-        write!(f, "{}, expected {}", self.sort, self.expected)
+        match (self.sort, self.expected) {
+            (Sort::Text(_), Expected::Amount) => write!(
+                f,
+                "{} is no amount: a suffix is K, M or G",
+                self.sort
+            ),
+            _ => write!(f, "{}, expected {}", self.sort, self.expected),
+        }
     }
 }
 

@@ -23,7 +23,7 @@ mod values;
 mod wishes;
 
 pub use bad_rule::faults_of_rules_are_the_engines;
-pub use fault::{Fault, Whereabouts};
+pub use fault::{Fault, Reason, Whereabouts};
 pub use finding::{Finding, Known, Remark, Written};
 pub use flaw::{Expected, Flaw, Sort, faults_have_places};
 pub use graph::Graph;

@@ -26,12 +26,12 @@ pub(crate) enum Table {
 }
 
 impl Table {
-    /// The members that are read of such an object.
+    /// The members that are read of such an object, and the one by which an editor finds their schema.
     fn members(self) -> &'static [&'static str]
         ensures { map (λ known. known.now) result.now ≡ members_read self }
     {
         match self {
-            Table::List => &["machine", "default-route", "start"],
+            Table::List => &["machine", "default-route", "start", "$schema"],
             Table::Machine => &["pages", "caps"],
             Table::Entry => &[
                 "name",

@@ -9,7 +9,7 @@ ghost use Rattle.start_review.specs.Findings.{findings_of};
 ghost use Rattle.start_review.specs.Places.{IsPlaced, fault_of};
 ghost use Rattle.start_review.specs.Unread.{unread_of};
 
-use crate::fault::{Fault, Whereabouts};
+use crate::fault::{Fault, Reason, Whereabouts};
 use crate::finding::Finding;
 use crate::findings::tell_findings;
 use crate::flaw::Flaw;
@@ -111,7 +111,7 @@ fn read_json(alloc: Global, text: &[u8]) -> Result<Value, Fault>
         } else {
             Err(Fault {
                 fault: BootFault::BadJson,
-                place: Whereabouts::Text(error.line(), error.column()),
+                place: Whereabouts::Text(error.line(), error.column(), Reason::of(&error)),
             })
         },
     }

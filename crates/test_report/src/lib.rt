@@ -10,6 +10,6 @@ mod xml;
 
 pub use junit::junit_document;
 pub use laws::texts_stay_inside;
-pub use paths::{is_scenario, machine_beside};
+pub use paths::{is_scenario, machine_beside, policy_beside};
 pub use tap::{tap_plan, tap_point};
 pub use trial::{Trial, failures};

@@ -1,4 +1,4 @@
-//! Scenarios by the names of their files, and the machines that stand beside them.
+//! Scenarios by the names of their files, and the machines and policies that stand beside them.
 ghost use Rattle.std.specs.Prelude.{◌≡◌, ◌++◌, codes, string_bytes, IfOk};
 ghost use Rattle.test_report.specs.Paths.{is_scenario, stem_of};
 
@@ -18,8 +18,22 @@ pub fn is_scenario(path: &str) -> bool
 pub fn machine_beside(alloc: Global, path: &str) -> Result<String, AllocError>
     ensures { IfOk result (λ machine. string_bytes machine ≡ stem_of path.now ++ codes ".json") }
 {
+    beside(alloc, path, ".json")
+}
+
+/// The path of the policy that stands beside a scenario: `NAME.policy` beside `NAME.scenario`.
+pub fn policy_beside(alloc: Global, path: &str) -> Result<String, AllocError>
+    ensures { IfOk result (λ policy. string_bytes policy ≡ stem_of path.now ++ codes ".policy") }
+{
+    beside(alloc, path, ".policy")
+}
+
+// The path of what stands beside a scenario, by what it ends with.
+fn beside(alloc: Global, path: &str, ending: &str) -> Result<String, AllocError>
+    ensures { IfOk result (λ other. string_bytes other ≡ stem_of path.now ++ ending.now) }
+{
     match path.strip_suffix(".scenario") {
-        Some(stem) => format!(in alloc; "{stem}.json"),
-        None => format!(in alloc; "{path}.json"),
+        Some(stem) => format!(in alloc; "{stem}{ending}"),
+        None => format!(in alloc; "{path}{ending}"),
     }
 }

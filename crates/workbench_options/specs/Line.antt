@@ -35,9 +35,9 @@ words_rule name = record (new_rule name) { required = true; value_names = 1; act
 abbrev pub with_rules : Text → List Rule → Shape
 with_rules name rules = record (new_shape name) { rules = rules }
 
--- a command on a start list, with a flag
+-- a command on a start list, with a flag, and as a document
 abbrev pub of_list : Text → Text → Shape
-of_list name flag = with_rules name (flag_rule flag ∷ file_rule (codes "list") ∷ [])
+of_list name flag = with_rules name (flag_rule flag ∷ flag_rule (codes "json") ∷ file_rule (codes "list") ∷ [])
 
 -- a command on a scenario
 abbrev pub of_scenario : Text → List Rule → Shape
@@ -56,7 +56,9 @@ run = of_scenario (codes "run") (option_rule (codes "only") ∷ flag_rule (codes
 
 -- the command that tells what is wrong with a start list
 abbrev pub check : Shape
-check = with_rules (codes "check") (flag_rule (codes "strict") ∷ option_rule (codes "policy") ∷ file_rule (codes "list") ∷ [])
+check =
+    with_rules (codes "check")
+    (flag_rule (codes "strict") ∷ flag_rule (codes "json") ∷ option_rule (codes "policy") ∷ file_rule (codes "list") ∷ [])
 
 -- the command that shows a component's two runs, or those of all scripts
 abbrev pub alone : Shape
@@ -81,7 +83,7 @@ test =
 abbrev pub diff : Shape
 diff =
     with_rules (codes "diff")
-    (file_rule (codes "before") ∷ file_rule (codes "after") ∷ word_rule (codes "scenario") ∷ [])
+    (flag_rule (codes "json") ∷ file_rule (codes "before") ∷ file_rule (codes "after") ∷ word_rule (codes "scenario") ∷ [])
 
 -- what documents of JSON are asked for by
 abbrev pub json_flag : List Rule
@@ -91,8 +93,8 @@ json_flag = flag_rule (codes "json") ∷ []
 abbrev pub least : Shape
 least =
     with_rules (codes "least")
-    (option_rule (codes "machine") ∷ flag_rule (codes "as-donated") ∷ flag_rule (codes "csv") ∷ flag_rule (codes "list")
-    ∷ flag_rule (codes "scenario") ∷ file_rule (codes "played") ∷ [])
+    (option_rule (codes "machine") ∷ flag_rule (codes "as-donated") ∷ flag_rule (codes "csv") ∷ flag_rule (codes "json")
+    ∷ flag_rule (codes "list") ∷ flag_rule (codes "scenario") ∷ file_rule (codes "played") ∷ [])
 
 -- a command has this shape, and no argument of it counts for others
 abbrev pub HasShape : Shape → Words → Type 0
@@ -125,15 +127,18 @@ Asks (command.Run machine only accounts scenario) name rows = (name ≡ codes "r
     × (option_map (λ t. t.now) only ≡ first_of (codes "only") rows)
     × (accounts ≡ is_set (codes "accounts") rows)
     × (scenario.now ≡ first_or (codes "-") (codes "scenario") rows)
-Asks (command.Check strict policy list) name rows = (name ≡ codes "check")
+Asks (command.Check strict json policy list) name rows = (name ≡ codes "check")
     × (strict ≡ is_set (codes "strict") rows)
+    × (json ≡ is_set (codes "json") rows)
     × (option_map (λ t. t.now) policy ≡ first_of (codes "policy") rows)
     × (list.now ≡ first_or (codes "-") (codes "list") rows)
-Asks (command.Tree dot list) name rows = (name ≡ codes "tree")
+Asks (command.Tree dot json list) name rows = (name ≡ codes "tree")
     × (dot ≡ is_set (codes "dot") rows)
+    × (json ≡ is_set (codes "json") rows)
     × (list.now ≡ first_or (codes "-") (codes "list") rows)
-Asks (command.Reach csv list) name rows = (name ≡ codes "reach")
+Asks (command.Reach csv json list) name rows = (name ≡ codes "reach")
     × (csv ≡ is_set (codes "csv") rows)
+    × (json ≡ is_set (codes "json") rows)
     × (list.now ≡ first_or (codes "-") (codes "list") rows)
 Asks (command.Route list client service args) name rows = (name ≡ codes "route")
     × (list.now ≡ first_or (codes "-") (codes "list") rows)
@@ -154,14 +159,16 @@ Asks (command.Alone machine all summary name_looked_at scenario) name rows = (na
     × (summary ≡ is_set (codes "summary") rows)
     × (name_looked_at.now ≡ first_or [] (codes "name") rows)
     × (option_map (λ t. t.now) scenario ≡ first_of (codes "scenario") rows)
-Asks (command.Least machine as_donated csv list donations scenario) name rows = (name ≡ codes "least")
+Asks (command.Least machine as_donated csv json list donations scenario) name rows = (name ≡ codes "least")
     × (option_map (λ t. t.now) machine ≡ first_of (codes "machine") rows)
     × (as_donated ≡ is_set (codes "as-donated") rows)
     × (csv ≡ is_set (codes "csv") rows)
+    × (json ≡ is_set (codes "json") rows)
     × (list ≡ is_set (codes "list") rows)
     × (donations ≡ is_set (codes "scenario") rows)
     × (scenario.now ≡ first_or (codes "-") (codes "played") rows)
-Asks (command.Diff before after scenario) name rows = (name ≡ codes "diff")
+Asks (command.Diff json before after scenario) name rows = (name ≡ codes "diff")
+    × (json ≡ is_set (codes "json") rows)
     × (before.now ≡ first_or [] (codes "before") rows)
     × (after.now ≡ first_or [] (codes "after") rows)
     × (option_map (λ t. t.now) scenario ≡ first_of (codes "scenario") rows)

@@ -24,10 +24,12 @@ fn check<'a>(alloc: Global) -> Result<Words<'a>, AllocError>
 {
     let list = file(alloc, "list", "FILE", help::LIST);
     let policy = option(alloc, "policy", "POLICY", help::POLICY);
+    let json = flag(alloc, "json", help::JSON);
     let strict = flag(alloc, "strict", help::STRICT);
     let command = Words::new(alloc, "check")
         .about(help::CHECK)
         .arg(strict)?
+        .arg(json)?
         .arg(policy)?
         .arg(list)?;
     Ok(command)

@@ -27,6 +27,8 @@ pub enum Command<'a> {
     Check {
         /// Whether a finding is a fault.
         strict: bool,
+        /// Whether a document of JSON is written in place of lines.
+        json: bool,
         /// The path of a policy that is held against it, or none.
         policy: Option<&'a str>,
         /// The path of the start list.
@@ -36,6 +38,8 @@ pub enum Command<'a> {
     Tree {
         /// Whether a graph is shown in place of a text.
         dot: bool,
+        /// Whether a document of JSON is written in place of a text.
+        json: bool,
         /// The path of the start list.
         list: &'a str,
     },
@@ -43,6 +47,8 @@ pub enum Command<'a> {
     Reach {
         /// Whether comma-separated values are written in place of a table.
         csv: bool,
+        /// Whether a document of JSON is written in place of a table.
+        json: bool,
         /// The path of the start list.
         list: &'a str,
     },
@@ -83,6 +89,8 @@ pub enum Command<'a> {
         as_donated: bool,
         /// Whether comma-separated values are written in place of a text.
         csv: bool,
+        /// Whether a document of JSON is written in place of a text.
+        json: bool,
         /// Whether the start list with the least budgets is written.
         list: bool,
         /// Whether the scenario with the least donations is written.
@@ -105,6 +113,8 @@ pub enum Command<'a> {
     },
     /// Tells what a change of a start list changes.
     Diff {
+        /// Whether a document of JSON is written in place of lines.
+        json: bool,
         /// The path of the start list before it.
         before: &'a str,
         /// The path of the start list after it.
@@ -183,15 +193,18 @@ impl<'a> Command<'a> {
             }),
             "check" => Some(Command::Check {
                 strict: is_set(found, "strict"),
+                json: is_set(found, "json"),
                 policy: found.get_str("policy"),
                 list: path(found, "list"),
             }),
             "tree" => Some(Command::Tree {
                 dot: is_set(found, "dot"),
+                json: is_set(found, "json"),
                 list: path(found, "list"),
             }),
             "reach" => Some(Command::Reach {
                 csv: is_set(found, "csv"),
+                json: is_set(found, "json"),
                 list: path(found, "list"),
             }),
             "route" => Some(Command::Route {
@@ -214,6 +227,7 @@ impl<'a> Command<'a> {
                 machine: found.get_str("machine"),
                 as_donated: is_set(found, "as-donated"),
                 csv: is_set(found, "csv"),
+                json: is_set(found, "json"),
                 list: is_set(found, "list"),
                 donations: is_set(found, "scenario"),
                 scenario: path(found, "played"),
@@ -226,6 +240,7 @@ impl<'a> Command<'a> {
                 scenario: found.get_str("scenario"),
             }),
             "diff" => Some(Command::Diff {
+                json: is_set(found, "json"),
                 before: word(found, "before"),
                 after: word(found, "after"),
                 scenario: found.get_str("scenario"),

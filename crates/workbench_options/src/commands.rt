@@ -52,7 +52,7 @@ fn with_run<'a>(alloc: Global, words: Words<'a>) -> Result<Words<'a>, AllocError
     Ok(words)
 }
 
-// Adds a command on a start list, with a flag.
+// Adds a command on a start list, with a flag, and as a document.
 fn with_list<'a>(
     alloc: Global,
     words: Words<'a>,
@@ -131,7 +131,7 @@ fn run<'a>(alloc: Global) -> Result<Words<'a>, AllocError>
     Ok(command)
 }
 
-// A command on a start list, with a flag.
+// A command on a start list, with a flag, and as a document.
 fn of_list<'a>(
     alloc: Global,
     name: &'a str,
@@ -142,8 +142,13 @@ fn of_list<'a>(
     ensures { IfOk result (HasShape (list_shape name.entry.now id.entry.now)) }
 {
     let list = file(alloc, "list", "FILE", help::LIST);
+    let json = flag(alloc, "json", help::JSON);
     let flag = flag(alloc, id, help);
-    let command = Words::new(alloc, name).about(about).arg(flag)?.arg(list)?;
+    let command = Words::new(alloc, name)
+        .about(about)
+        .arg(flag)?
+        .arg(json)?
+        .arg(list)?;
     Ok(command)
 }
 
@@ -205,6 +210,7 @@ fn least<'a>(alloc: Global) -> Result<Words<'a>, AllocError>
     let machine = option(alloc, "machine", "FILE", help::MACHINE);
     let as_donated = flag(alloc, "as-donated", help::AS_DONATED);
     let csv = flag(alloc, "csv", help::CSV);
+    let json = flag(alloc, "json", help::JSON);
     let list = flag(alloc, "list", help::LEAST_LIST);
     let donations = flag(alloc, "scenario", help::LEAST_SCENARIO);
     let scenario = file(alloc, "played", "SCENARIO", help::SCENARIO);
@@ -213,6 +219,7 @@ fn least<'a>(alloc: Global) -> Result<Words<'a>, AllocError>
         .arg(machine)?
         .arg(as_donated)?
         .arg(csv)?
+        .arg(json)?
         .arg(list)?
         .arg(donations)?
         .arg(scenario)?;

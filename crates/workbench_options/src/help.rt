@@ -114,7 +114,7 @@ pub(crate) const AFTER: &str = "The start list after the change, in JSON";
 pub(crate) const COMPARED: &str = "A scenario whose replies are compared, line by line";
 
 pub(crate) const PATHS: &str =
-    "A scenario, or a folder: each NAME.scenario in it and below, on NAME.json beside it";
+    "A scenario, or a folder: each NAME.scenario in it and below, on NAME.json and held to NAME.policy beside it";
 
 pub(crate) const OTHER_MACHINE: &str =
     "A start list in JSON for scenarios without one beside them, in place of the built-in machine";

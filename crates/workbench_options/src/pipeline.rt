@@ -3,7 +3,7 @@ ghost use Rattle.std.specs.Prelude.{◌≡◌, IfOk, false};
 ghost use Rattle.clap.specs.Words.{app_of, rule_of, with_subcommand};
 ghost use Rattle.workbench_options.specs.Line.{HasShape, diff as diff_shape, test as test_shape, words_rule};
 
-use crate::commands::{file, last, option};
+use crate::commands::{file, flag, last, option};
 use crate::help;
 use clap::{Arg, ArgAction, Command as Words};
 use std::alloc::{AllocError, Global};
@@ -47,11 +47,13 @@ pub(crate) fn with_diff<'a>(alloc: Global, words: Words<'a>) -> Result<Words<'a>
 fn diff<'a>(alloc: Global) -> Result<Words<'a>, AllocError>
     ensures { IfOk result (HasShape diff_shape) }
 {
+    let json = flag(alloc, "json", help::JSON);
     let before = file(alloc, "before", "BEFORE", help::BEFORE);
     let after = file(alloc, "after", "AFTER", help::AFTER);
     let scenario = last(alloc, "scenario", "SCENARIO", help::COMPARED);
     let command = Words::new(alloc, "diff")
         .about(help::DIFF)
+        .arg(json)?
         .arg(before)?
         .arg(after)?
         .arg(scenario)?;

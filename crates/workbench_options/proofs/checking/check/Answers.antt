@@ -10,5 +10,6 @@ returns c =
     let bare : HasShape (new_shape (codes "check")) c.about.result =
     (ap app_of_fields c.about.ensures ∙ c.new.ensures.app, ap (λ f. f.has_globals) c.about.ensures ∙ c.new.ensures.local) in
     arg_added _ _ _ _ _ c.in_ok-command.ensures c.file-list.ensures.rule c.file-list.ensures.local
-    (arg_added _ _ _ _ _ c.in_ok-arg-2.ensures c.option-policy.ensures.rule c.option-policy.ensures.local
-    (arg_added _ _ _ _ _ c.in_ok-arg.ensures c.flag-strict.ensures.rule c.flag-strict.ensures.local bare))
+    (arg_added _ _ _ _ _ c.in_ok-arg-3.ensures c.option-policy.ensures.rule c.option-policy.ensures.local
+    (arg_added _ _ _ _ _ c.in_ok-arg-2.ensures c.flag-json.ensures.rule c.flag-json.ensures.local
+    (arg_added _ _ _ _ _ c.in_ok-arg.ensures c.flag-strict.ensures.rule c.flag-strict.ensures.local bare)))

@@ -18,6 +18,7 @@ pub returns-in-check : goal.returns-in-check
 returns-in-check c = (
   c.in-check.is,
   c.is_set-in-check.ensures,
+  c.is_set-in-check-2.ensures,
   c.get_str-in-check.ensures ∙ first_value-rows (found_of c.args.found.now) (codes "policy"),
   c.path-in-check.ensures,
 )
@@ -51,6 +52,7 @@ returns-in-alone c = (
 pub returns-in-diff : goal.returns-in-diff
 returns-in-diff c = (
   c.in-diff.is,
+  c.is_set-in-diff.ensures,
   c.word-in-diff.ensures,
   c.word-in-diff-2.ensures,
   c.get_str-in-diff.ensures ∙ first_value-rows (found_of c.args.found.now) (codes "scenario"),
@@ -64,5 +66,6 @@ returns-in-least c = (
   c.is_set-in-least-2.ensures,
   c.is_set-in-least-3.ensures,
   c.is_set-in-least-4.ensures,
+  c.is_set-in-least-5.ensures,
   c.path-in-least.ensures,
 )

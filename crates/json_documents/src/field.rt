@@ -1,0 +1,14 @@
+//! Values of a document's members.
+
+/// A value of a member.
+#[derive(Clone, Copy, Debug, PartialEq, Eq)]
+pub enum Field<'a> {
+    /// A word of the program's own.
+    Word(&'static str),
+    /// A text.
+    Text(&'a [u8]),
+    /// A number.
+    Number(u64),
+    /// Nothing.
+    Nothing,
+}

@@ -1,0 +1,161 @@
+//! The tree of a start list, as documents.
+use crate::field::Field;
+use crate::listing::Listing;
+use std::alloc::{AllocError, Global};
+use trade_base::read_amount;
+
+/// The names of RAM and of capabilities that a component starts with, has in reserve, and keeps as an init.
+static MEANS: [(&str, &str); 3] = [
+    ("ram", "caps"),
+    ("reserve_ram", "reserve_caps"),
+    ("keeps_ram", "keeps_caps"),
+];
+
+/// A list with a document for each line of a tree: of the machine, of what its init keeps, and then of each component, with one for
+/// each line of its wishes behind it. The graph of the same start list tells their paths.
+pub fn tree_documents(alloc: Global, tree: &str, graph: &str) -> Result<Vec<u8>, AllocError> {
+    let mut listing = Listing::new(alloc);
+    let mut nodes = graph.split('\n').filter_map(node_in);
+    let mut edges = graph.split('\n').filter_map(edge_in);
+    for line in tree.split('\n') {
+        let text = line.trim_start();
+        if let Some(means) = text.strip_prefix("machine: ") {
+            add_machine(&mut listing, means)?;
+        } else if let Some(means) = text.strip_prefix("init keeps: ") {
+            add_init(&mut listing, means)?;
+        } else if let Some((service, by)) = wish_in(text) {
+            add_wish(&mut listing, service, edges.next(), by)?;
+        } else if let Some((binary, means)) = component_in(text) {
+            add_component(&mut listing, alloc, nodes.next(), binary, means)?;
+        }
+    }
+    listing.into_text()
+}
+
+// The path of a component's node: `"PATH" [shape=..`; that of what is denied has none.
+fn node_in(line: &str) -> Option<&str> {
+    let (path, _) = line.strip_prefix("  \"")?.split_once("\" [shape=")?;
+    if path == "(denied)" { None } else { Some(path) }
+}
+
+// The paths of who wishes and of where that leads, of the edge of a wish: `"PATH" -> "PATH" [label=..`.
+fn edge_in(line: &str) -> Option<(&str, &str)> {
+    let (client, rest) = line.strip_prefix("  \"")?.split_once("\" -> \"")?;
+    let (to, _) = rest.split_once("\" [label=")?;
+    Some((client, to))
+}
+
+// The service of a wish and the rules that decide it: `SERVICE -> TO by RULES`.
+fn wish_in(text: &str) -> Option<(&str, &str)> {
+    let (service, rest) = text.split_once(" -> ")?;
+    let (_, by) = rest.split_once(" by ")?;
+    Some((service, by))
+}
+
+// The binary and the means of a component: `NAME (BINARY): MEANS`.
+fn component_in(text: &str) -> Option<(&str, &str)> {
+    let (_, rest) = text.split_once(" (")?;
+    rest.split_once("): ")
+}
+
+// Adds the machine: `N pages, N caps`.
+fn add_machine(listing: &mut Listing, means: &str) -> Result<(), AllocError> {
+    let (pages, caps) = means.split_once(", ").unwrap_or((means, ""));
+    listing.add(&[
+        ("kind", Field::Word("machine")),
+        ("pages", number_in(pages)),
+        ("caps", number_in(caps)),
+    ])
+}
+
+// Adds what its init keeps: `RAM, N caps`.
+fn add_init(listing: &mut Listing, means: &str) -> Result<(), AllocError> {
+    let (ram, caps) = means.split_once(", ").unwrap_or((means, ""));
+    listing.add(&[
+        ("kind", Field::Word("init")),
+        ("keeps_ram", number_in(ram)),
+        ("keeps_caps", number_in(caps)),
+    ])
+}
+
+// Adds a wish with the rules that decide it.
+fn add_wish<'a>(
+    listing: &mut Listing,
+    service: &'a str,
+    edge: Option<(&'a str, &'a str)>,
+    by: &'a str,
+) -> Result<(), AllocError> {
+    let Some((client, to)) = edge else {
+        return Ok(());
+    };
+    let server = if to == "(denied)" {
+        Field::Nothing
+    } else {
+        text_of(to)
+    };
+    listing.add(&[
+        ("kind", Field::Word("wish")),
+        ("name", text_of(client)),
+        ("service", text_of(service)),
+        ("to", server),
+        ("by", text_of(by)),
+    ])
+}
+
+// Adds a component with its means: `RAM, N caps, reserve RAM, N caps, keeps RAM, N caps, provides SERVICE`, the last three where
+// it has them.
+fn add_component<'a>(
+    listing: &mut Listing,
+    alloc: Global,
+    path: Option<&'a str>,
+    binary: &'a str,
+    means: &'a str,
+) -> Result<(), AllocError> {
+    let Some(path) = path else {
+        return Ok(());
+    };
+    let mut members = Vec::new(alloc);
+    members.push(("kind", Field::Word("component")))?;
+    members.push(("name", text_of(path)))?;
+    members.push(("binary", text_of(binary)))?;
+    let mut names = MEANS[0];
+    for part in means.split(", ") {
+        if let Some(service) = part.strip_prefix("provides ") {
+            members.push(("provides", provided(service)))?;
+        } else if part.ends_with(" caps") {
+            members.push((names.1, number_in(part)))?;
+        } else if let Some(ram) = part.strip_prefix("reserve ") {
+            names = MEANS[1];
+            members.push((names.0, number_in(ram)))?;
+        } else if let Some(ram) = part.strip_prefix("keeps ") {
+            names = MEANS[2];
+            members.push((names.0, number_in(ram)))?;
+        } else {
+            members.push((names.0, number_in(part)))?;
+        }
+    }
+    listing.add(members.as_slice())
+}
+
+// A service that is provided, or nothing.
+fn provided(service: &str) -> Field<'_> {
+    if service == "nothing" {
+        Field::Nothing
+    } else {
+        text_of(service)
+    }
+}
+
+// A text as a field.
+fn text_of(text: &str) -> Field<'_> {
+    Field::Text(text.as_bytes())
+}
+
+// The number or the amount that a text begins with, before its unit if one is told.
+fn number_in(text: &str) -> Field<'_> {
+    let (digits, _) = text.split_once(' ').unwrap_or((text, ""));
+    match read_amount(digits.as_bytes()) {
+        Some(number) => Field::Number(number),
+        None => Field::Nothing,
+    }
+}

@@ -1,0 +1,142 @@
+//! Differences as documents for programs.
+use crate::fates::Change;
+use crate::reaches::Lead;
+use crate::texts::Differences;
+use init_core::{Entry, StartList};
+use json_documents::{Field, Listing};
+use reach::Reach;
+use std::alloc::{AllocError, Global};
+
+/// A member of a document.
+type Member<'a> = (&'static str, Field<'a>);
+
+/// The members of what an entry runs, what it starts with, its reserve and its service: of one that is there, and of one that was.
+static MEANS: [&str; 6] = [
+    "binary",
+    "ram",
+    "caps",
+    "reserve_ram",
+    "reserve_caps",
+    "provides",
+];
+
+static WERE: [&str; 6] = [
+    "was_binary",
+    "was_ram",
+    "was_caps",
+    "was_reserve_ram",
+    "was_reserve_caps",
+    "was_provides",
+];
+
+impl Differences<'_> {
+    /// Adds a document for each line that is told of them. An error is want of memory.
+    pub fn list(&self, alloc: Global, listing: &mut Listing) -> Result<(), AllocError> {
+        if !self.has_same_machine() {
+            add_machine(listing, self.before, self.after)?;
+        }
+        for change in self.changes {
+            self.add_change(alloc, listing, *change)?;
+        }
+        for lead in self.leads {
+            add_lead(listing, lead)?;
+        }
+        Ok(())
+    }
+
+    // Adds what became of an entry.
+    fn add_change(
+        &self,
+        alloc: Global,
+        listing: &mut Listing,
+        change: Change,
+    ) -> Result<(), AllocError> {
+        let (before, after) = (self.before.entries(), self.after.entries());
+        let (sign, was, now) = match change {
+            Change::Gone(number) => ("-", before.get(number), None),
+            Change::Came(number) => ("+", None, after.get(number)),
+            Change::Changed(was, now) => ("~", before.get(was), after.get(now)),
+        };
+        let mut members = Vec::new(alloc);
+        members.push(("kind", Field::Word("entry")))?;
+        members.push(("change", Field::Word(sign)))?;
+        if let Some(entry) = was {
+            members.push(("name", Field::Text(entry.path())))?;
+            add_means(&mut members, &WERE, entry)?;
+        }
+        if let Some(entry) = now {
+            members.push(("name", Field::Text(entry.path())))?;
+            add_means(&mut members, &MEANS, entry)?;
+        }
+        listing.add(members.as_slice())
+    }
+}
+
+// Adds the machine of one list, and the other's that it was.
+fn add_machine(listing: &mut Listing, was: &StartList, now: &StartList) -> Result<(), AllocError> {
+    listing.add(&[
+        ("kind", Field::Word("machine")),
+        ("change", Field::Word("~")),
+        ("pages", Field::Number(u64::from(now.pages()))),
+        ("caps", Field::Number(u64::from(now.caps()))),
+        ("was_pages", Field::Number(u64::from(was.pages()))),
+        ("was_caps", Field::Number(u64::from(was.caps()))),
+    ])
+}
+
+// Adds what an entry has, under these names.
+fn add_means<'a>(
+    members: &mut Vec<Member<'a>>,
+    names: &'static [&'static str; 6],
+    entry: &'a Entry,
+) -> Result<(), AllocError> {
+    let binary = entry.binary();
+    members.push((names[0], Field::Word(binary.as_str())))?;
+    members.push((names[1], Field::Number(entry.ram())))?;
+    members.push((names[2], Field::Number(u64::from(entry.caps()))))?;
+    if let Some(reserve) = entry.reserve() {
+        members.push((names[3], Field::Number(reserve.ram.0)))?;
+        members.push((names[4], Field::Number(u64::from(reserve.caps.0))))?;
+    }
+    if let Some(service) = binary.service() {
+        let provided = if entry.provides() {
+            Field::Word(service.name())
+        } else {
+            Field::Nothing
+        };
+        members.push((names[5], provided))?;
+    }
+    Ok(())
+}
+
+// Adds who reaches whom otherwise.
+fn add_lead<'a>(listing: &mut Listing, lead: &Lead<'a>) -> Result<(), AllocError> {
+    listing.add(&[
+        ("kind", Field::Word("reach")),
+        ("change", Field::Word("~")),
+        ("name", Field::Text(lead.client.path())),
+        ("service", Field::Word(lead.service)),
+        ("to", Field::Text(lead.server.path())),
+        ("reach", word_of(lead.now)),
+        ("label", label_of(lead.now)),
+        ("was_reach", word_of(lead.was)),
+        ("was_label", label_of(lead.was)),
+    ])
+}
+
+// With how many labels.
+fn word_of(reach: Option<&Reach>) -> Field<'_> {
+    match reach {
+        Some(Reach::Always) => Field::Word("always"),
+        Some(Reach::By(_)) => Field::Word("some"),
+        Some(Reach::Never) | None => Field::Word("none"),
+    }
+}
+
+// One of the labels, where some lead there and others don't.
+fn label_of(reach: Option<&Reach>) -> Field<'_> {
+    match reach {
+        Some(Reach::By(label)) => Field::Text(label.as_bytes()),
+        _ => Field::Nothing,
+    }
+}

@@ -1,0 +1,264 @@
+//! What is told of a start list, as documents of JSON.
+use crate::ends::{REFUSED, UNWRITTEN, status_of};
+use crate::files::read_list;
+use crate::lists::review;
+use crate::policies::{BROKEN, Noted, Standing, hold_against};
+use init_core::StartList;
+use json_documents::{Field, Listing, tree_documents};
+use reach::{Reach, Table};
+use start_review::{Fault, Finding, Review, Whereabouts};
+use std::alloc::{AllocError, Global};
+use std::io;
+use std::io::Write;
+
+/// What is asked of a check.
+#[derive(Clone, Copy)]
+pub(crate) struct Check<'a> {
+    /// The path of the start list.
+    pub(crate) list: &'a str,
+    /// The path of a policy that is held against it, or none.
+    pub(crate) policy: Option<&'a str>,
+    /// Whether findings count.
+    pub(crate) strict: bool,
+}
+
+/// Tells what a check tells, a document each of a list, and answers the exit status.
+pub(crate) fn check_documents(rt: &HostRuntime, check: Check<'_>) -> u8 {
+    let mut listing = Listing::new(rt.alloc());
+    match read_list(rt, check.list) {
+        Ok(text) => {
+            let added = add_all(rt, check, &text, &mut listing);
+            printed(rt, added, listing)
+        }
+        Err(fault) => {
+            let _ = eprintln!(rt; "{}: {fault}", check.list);
+            REFUSED
+        }
+    }
+}
+
+/// Tells a tree, a document a line of it, and answers the exit status.
+pub(crate) fn tree_document(rt: &HostRuntime, path: &str) -> u8 {
+    match review(rt, path) {
+        Some(review) => print_documents(rt, tree_text(rt.alloc(), &review)),
+        None => REFUSED,
+    }
+}
+
+// The documents of a tree.
+fn tree_text(alloc: Global, review: &Review) -> Result<Vec<u8>, AllocError> {
+    let tree = review.tree().to_string(alloc)?;
+    let graph = review.graph().to_string(alloc)?;
+    tree_documents(alloc, tree.as_str(), graph.as_str())
+}
+
+/// Tells which scripts reach which servers, a document a cell of the table, and answers the exit status.
+pub(crate) fn reach_documents(rt: &HostRuntime, path: &str) -> u8 {
+    match review(rt, path) {
+        Some(review) => print_documents(rt, reach_text(rt.alloc(), review.list())),
+        None => REFUSED,
+    }
+}
+
+// The documents of a table.
+fn reach_text(alloc: Global, list: &StartList) -> Result<Vec<u8>, AllocError> {
+    let table = Table::of(alloc, list)?;
+    let mut listing = Listing::new(alloc);
+    add_cells(&mut listing, list, &table)?;
+    listing.into_text()
+}
+
+// Adds the cells of a table.
+fn add_cells<'a>(
+    listing: &mut Listing,
+    list: &'a StartList,
+    table: &'a Table<'a>,
+) -> Result<(), AllocError> {
+    let entries = list.entries();
+    for cell in table.cells() {
+        if let (Some(client), Some(server)) = (entries.get(cell.client), entries.get(cell.server)) {
+            let (reach, label) = match &cell.reach {
+                Reach::Always => ("always", Field::Nothing),
+                Reach::By(label) => ("some", Field::Text(label.as_bytes())),
+                Reach::Never => ("none", Field::Nothing),
+            };
+            listing.add(&[
+                ("from", Field::Text(client.path())),
+                ("service", Field::Word(cell.service)),
+                ("to", Field::Text(server.path())),
+                ("reach", Field::Word(reach)),
+                ("label", label),
+            ])?;
+        }
+    }
+    Ok(())
+}
+
+// Adds all that is told of a start list's text, and answers the exit status.
+fn add_all(
+    rt: &HostRuntime,
+    check: Check<'_>,
+    text: &[u8],
+    listing: &mut Listing,
+) -> Result<u8, AllocError> {
+    let alloc = rt.alloc();
+    let review = match Review::read(alloc, text) {
+        Ok(review) => review,
+        Err(fault) => {
+            add_fault(alloc, listing, check.list, &fault)?;
+            return Ok(REFUSED);
+        }
+    };
+    for finding in review.findings() {
+        add_finding(alloc, listing, check.list, finding)?;
+    }
+    if check.strict && !review.findings().is_empty() {
+        return Ok(REFUSED);
+    }
+    match check.policy {
+        Some(path) => add_standing(listing, path, &hold_against(rt, review.list(), path)?),
+        None => Ok(0),
+    }
+}
+
+// Adds how a start list stands to the policy of a path, and answers the exit status.
+fn add_standing<'a>(
+    listing: &mut Listing,
+    path: &'a str,
+    standing: &'a Standing,
+) -> Result<u8, AllocError> {
+    match standing {
+        Standing::Held(broken) => {
+            for noted in broken.as_slice() {
+                add_noted(listing, "breach", path, noted)?;
+            }
+            Ok(if broken.is_empty() { 0 } else { BROKEN })
+        }
+        Standing::Faulty(noted) => {
+            add_noted(listing, "fault", path, noted)?;
+            Ok(REFUSED)
+        }
+        Standing::Unread(why) => {
+            listing.add(&[
+                ("kind", Field::Word("fault")),
+                ("file", text_of(path)),
+                ("text", text_of(why.as_str())),
+            ])?;
+            Ok(REFUSED)
+        }
+    }
+}
+
+// Adds a line of a policy.
+fn add_noted<'a>(
+    listing: &mut Listing,
+    kind: &'static str,
+    path: &'a str,
+    noted: &'a Noted,
+) -> Result<(), AllocError> {
+    listing.add(&[
+        ("kind", Field::Word(kind)),
+        ("file", text_of(path)),
+        ("line", number_of(noted.line)),
+        ("text", text_of(noted.text.as_str())),
+    ])
+}
+
+// Adds the fault of a start list.
+fn add_fault(
+    alloc: Global,
+    listing: &mut Listing,
+    path: &str,
+    fault: &Fault,
+) -> Result<(), AllocError> {
+    if let Whereabouts::Text(line, column, reason) = &fault.place {
+        let what = &fault.fault;
+        let text = format!(in alloc; "{what}: {reason}")?;
+        let place = (number_of(*line), number_of(*column));
+        return add_told(listing, path, place, text.as_str());
+    }
+    let text = fault.to_string(alloc)?;
+    add_told(
+        listing,
+        path,
+        (Field::Nothing, Field::Nothing),
+        text.as_str(),
+    )
+}
+
+// Adds what is told of a fault.
+fn add_told<'a>(
+    listing: &mut Listing,
+    path: &'a str,
+    (line, column): (Field<'a>, Field<'a>),
+    told: &'a str,
+) -> Result<(), AllocError> {
+    listing.add(&[
+        ("kind", Field::Word("fault")),
+        ("file", text_of(path)),
+        ("line", line),
+        ("column", column),
+        ("text", text_of(told)),
+    ])
+}
+
+// Adds a finding.
+fn add_finding(
+    alloc: Global,
+    listing: &mut Listing,
+    path: &str,
+    finding: &Finding,
+) -> Result<(), AllocError> {
+    let part = finding.part.to_string(alloc)?;
+    let text = finding.remark.to_string(alloc)?;
+    add_remark(listing, path, part.as_str(), text.as_str())
+}
+
+// Adds a finding's part and what is told of it.
+fn add_remark<'a>(
+    listing: &mut Listing,
+    path: &'a str,
+    part: &'a str,
+    text: &'a str,
+) -> Result<(), AllocError> {
+    listing.add(&[
+        ("kind", Field::Word("finding")),
+        ("file", text_of(path)),
+        ("part", text_of(part)),
+        ("text", text_of(text)),
+    ])
+}
+
+// A text as a field.
+fn text_of(text: &str) -> Field<'_> {
+    Field::Text(text.as_bytes())
+}
+
+// A place in a text as a field.
+fn number_of(place: usize) -> Field<'static> {
+    Field::Number(place as u64)
+}
+
+// Prints a list that was made, and answers the exit status: the one that goes with it.
+fn printed(rt: &HostRuntime, added: Result<u8, AllocError>, listing: Listing) -> u8 {
+    let status = match added {
+        Ok(status) => status,
+        Err(AllocError) => return tell_want(rt),
+    };
+    let shown = print_documents(rt, listing.into_text());
+    if shown == 0 { status } else { shown }
+}
+
+/// Prints documents, and answers the exit status.
+pub(crate) fn print_documents(rt: &HostRuntime, documents: Result<Vec<u8>, AllocError>) -> u8 {
+    match documents {
+        Ok(text) => status_of(rt, io::writer(rt).write_all(text.as_slice())),
+        Err(AllocError) => tell_want(rt),
+    }
+}
+
+// Tells that the host has no memory, and answers the exit status.
+fn tell_want(rt: &HostRuntime) -> u8 {
+    let _ = eprintln!(rt; "run: No_memory");
+    UNWRITTEN
+}
