@@ -38,17 +38,9 @@ cell_flat (Text name) cell = refl
 cell_flat (Filled name) cell = filled_flat cell
 cell_flat (Number name) cell = number_flat (number_of cell)
 
-pub cell_added : (k : List ℕ) (column : Column) (cell : List ℕ) (d : Data) (ms : Members) → d ≡ cell_data column cell
-    → members_depth ms ≡ 0 → members_depth (put k d ms) ≡ 0
-cell_added k column cell d ms is others = put_flat k d ms (ap depth is ∙ cell_flat column cell) others
-
 -- nor is that of a field
-field_flat : (f : Field) → depth (field_data f) ≡ 0
+pub field_flat : (f : Field) → depth (field_data f) ≡ 0
 field_flat (field.Word word) = refl
 field_flat (field.Text text) = refl
 field_flat (field.Number n) = refl
 field_flat field.Nothing = refl
-
-pub field_added : (k : List ℕ) (f : Field) (d : Data) (ms : Members) → d ≡ field_data f
-    → members_depth ms ≡ 0 → members_depth (put k d ms) ≡ 0
-field_added k f d ms is others = put_flat k d ms (ap depth is ∙ field_flat f) others

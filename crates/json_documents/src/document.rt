@@ -1,6 +1,6 @@
 //! A document: an object of JSON whose members are cells of a table.
 ghost use Rattle.std.specs.Prelude.{◌≡◌, Some, IfOk, OnOk};
-ghost use Rattle.serde_json.specs.Data.{members_depth, no_members, object, put as with_member, string};
+ghost use Rattle.serde_json.specs.Data.{depth, members_depth, no_members, object, put as with_member, string};
 ghost use Rattle.std.specs.Str.Lossy.{utf8_lossy};
 ghost use Rattle.serde_json.specs.Read.{read};
 ghost use Rattle.serde_json.specs.View.{members_view, view};
@@ -30,7 +30,7 @@ impl Document {
     }
 
     /// The cell of a column as a member more.
-    #[tactic(auto, using(crate::proofs::DepthLemmas::cell_added))]
+    #[tactic(auto, using(crate::proofs::DepthLemmas::cell_flat))]
     pub(crate) fn add(
         &mut self,
         alloc: Global,
@@ -41,12 +41,11 @@ impl Document {
             (column_name column) (cell_data column cell.now) (members_view self.old.members.entries)) }
     {
         let value = value_of(alloc, column, cell)?;
-        serde_json::put(&mut self.members, alloc, column.name(), value)?;
-        Ok(())
+        self.put(alloc, column.name(), value)
     }
 
     /// A field as a member more.
-    #[tactic(auto, using(crate::proofs::DepthLemmas::field_added))]
+    #[tactic(auto, using(crate::proofs::DepthLemmas::field_flat))]
     pub(crate) fn add_field(
         &mut self,
         alloc: Global,
@@ -57,8 +56,17 @@ impl Document {
             name.now (field_data field.entry) (members_view self.old.members.entries)) }
     {
         let value = value_in(alloc, field)?;
-        serde_json::put(&mut self.members, alloc, name, value)?;
-        Ok(())
+        self.put(alloc, name, value)
+    }
+
+    // A value as a member more.
+    #[tactic(auto, using(crate::proofs::DepthLemmas::put_flat))]
+    fn put(&mut self, alloc: Global, name: &str, value: Value) -> Result<(), AllocError>
+        requires flat { depth (view value) ≡ 0 }
+        ensures { OnOk result (members_view self.new.members.entries ≡ with_member
+            name.now (view value) (members_view self.old.members.entries)) }
+    {
+        serde_json::put(&mut self.members, alloc, name, value)
     }
 
     /// Its text: whoever reads it has the object.
