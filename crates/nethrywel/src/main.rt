@@ -17,7 +17,7 @@ use apart::{All, all_alone};
 use changes::diff;
 use clap::Error;
 use ends::{REFUSED, status_of};
-use lists::{check, reach, route, tree};
+use lists::{Asked, check, reach, route, tree};
 use needs::{Telling, least};
 use plays::{Viewing, play};
 use policies::hold;
@@ -71,7 +71,19 @@ fn answer(rt: &HostRuntime, command: Command<'_>) -> u8 {
             None => check(rt, list, strict),
         },
         Command::Tree { dot, list } => tree(rt, list, dot),
-        Command::Reach { csv, list } => reach(rt, list, csv),
+        Command::Reach {
+            csv,
+            from,
+            to,
+            list,
+        } => {
+            let asked = Asked {
+                from: from.as_slice(),
+                to: to.as_slice(),
+                csv,
+            };
+            reach(rt, list, asked)
+        }
         Command::Route {
             list,
             client,
