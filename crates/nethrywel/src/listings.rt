@@ -1,11 +1,11 @@
 //! What is told of a start list, as documents of JSON.
 use crate::ends::{REFUSED, UNWRITTEN, status_of};
 use crate::files::read_list;
-use crate::lists::review;
+use crate::lists::{Asked, chosen, review};
 use crate::policies::{BROKEN, Noted, Standing, hold_against};
 use init_core::StartList;
 use json_documents::{Field, Listing, tree_documents};
-use reach::{Reach, Table};
+use reach::{Chosen, Reach, Table};
 use start_review::{Fault, Finding, Review, Whereabouts};
 use std::alloc::{AllocError, Global};
 use std::io;
@@ -53,16 +53,20 @@ fn tree_text(alloc: Global, review: &Review) -> Result<Vec<u8>, AllocError> {
 }
 
 /// Tells which scripts reach which servers, a document a cell of the table, and answers the exit status.
-pub(crate) fn reach_documents(rt: &HostRuntime, path: &str) -> u8 {
-    match review(rt, path) {
-        Some(review) => print_documents(rt, reach_text(rt.alloc(), review.list())),
+pub(crate) fn reach_documents(rt: &HostRuntime, path: &str, asked: Asked<'_>) -> u8 {
+    let Some(review) = review(rt, path) else {
+        return REFUSED;
+    };
+    let list = review.list();
+    match chosen(rt, path, list, asked) {
+        Some(chosen) => print_documents(rt, reach_text(rt.alloc(), list, &chosen)),
         None => REFUSED,
     }
 }
 
 // The documents of a table.
-fn reach_text(alloc: Global, list: &StartList) -> Result<Vec<u8>, AllocError> {
-    let table = Table::of(alloc, list)?;
+fn reach_text(alloc: Global, list: &StartList, chosen: &Chosen) -> Result<Vec<u8>, AllocError> {
+    let table = Table::narrowed(alloc, list, chosen)?;
     let mut listing = Listing::new(alloc);
     add_cells(&mut listing, list, &table)?;
     listing.into_text()

@@ -2,7 +2,7 @@
 use crate::ends::{REFUSED, UNWRITTEN, status_of};
 use crate::files::read_list;
 use init_core::StartList;
-use reach::{Course, NoCourse, Table};
+use reach::{Chosen, Course, NoCourse, Table, WayList};
 use start_review::{Fault, Review, Whereabouts};
 use std::{fmt, io};
 
@@ -43,23 +43,73 @@ pub(crate) fn tree(rt: &HostRuntime, path: &str, dot: bool) -> u8 {
     status_of(rt, shown)
 }
 
-/// Shows which scripts of a start list reach which servers, as a table or as comma-separated values, and answers the exit status.
-pub(crate) fn reach(rt: &HostRuntime, path: &str, csv: bool) -> u8 {
-    match review(rt, path) {
-        Some(review) => show_reach(rt, path, review.list(), csv),
+/// What is asked of who reaches whom.
+#[derive(Clone, Copy)]
+pub(crate) struct Asked<'a> {
+    /// The paths of the scripts that are looked at; all where there are none.
+    pub(crate) from: &'a [&'a str],
+    /// The paths of the servers that are looked at; all where there are none.
+    pub(crate) to: &'a [&'a str],
+    /// Whether comma-separated values are written in place of a table.
+    pub(crate) csv: bool,
+}
+
+/// Shows which scripts of a start list reach which servers, as a table or as comma-separated values, and of those that are named
+/// each way; answers the exit status.
+pub(crate) fn reach(rt: &HostRuntime, path: &str, asked: Asked<'_>) -> u8 {
+    let Some(review) = review(rt, path) else {
+        return REFUSED;
+    };
+    let list = review.list();
+    match chosen(rt, path, list, asked) {
+        Some(chosen) => show_reach(rt, path, list, &chosen, asked.csv),
         None => REFUSED,
     }
 }
 
-// Shows which scripts of a list reach which servers, and answers the exit status.
-fn show_reach(rt: &HostRuntime, path: &str, list: &StartList, csv: bool) -> u8 {
-    match Table::of(rt.alloc(), list) {
-        Ok(table) => status_of(rt, print_reach(rt, table, csv)),
-        Err(_) => {
-            let _ = eprintln!(rt; "{path}: {}", NoCourse::NoMemory);
-            UNWRITTEN
+/// The scripts and servers of the paths that are asked for, or none where that is told on standard error.
+pub(crate) fn chosen(
+    rt: &HostRuntime,
+    path: &str,
+    list: &StartList,
+    asked: Asked<'_>,
+) -> Option<Chosen> {
+    match Chosen::read(rt.alloc(), list, asked.from, asked.to) {
+        Ok(chosen) => Some(chosen),
+        Err(fault) => {
+            let _ = eprintln!(rt; "{path}: {fault}");
+            None
         }
     }
+}
+
+// Shows which of the chosen scripts reach which of the chosen servers, and answers the exit status.
+fn show_reach(rt: &HostRuntime, path: &str, list: &StartList, chosen: &Chosen, csv: bool) -> u8 {
+    match Table::narrowed(rt.alloc(), list, chosen) {
+        Ok(table) => {
+            let status = status_of(rt, print_reach(rt, table, csv));
+            if status == 0 && chosen.is_narrow() && !csv {
+                show_ways(rt, path, list, chosen)
+            } else {
+                status
+            }
+        }
+        Err(_) => no_memory(rt, path),
+    }
+}
+
+// Shows each way of the chosen scripts to the chosen servers, and answers the exit status.
+fn show_ways(rt: &HostRuntime, path: &str, list: &StartList, chosen: &Chosen) -> u8 {
+    match WayList::of(rt.alloc(), list, chosen) {
+        Ok(ways) => status_of(rt, print!(rt; "{ways}")),
+        Err(_) => no_memory(rt, path),
+    }
+}
+
+// Tells that the host has no room, and answers the exit status.
+fn no_memory(rt: &HostRuntime, path: &str) -> u8 {
+    let _ = eprintln!(rt; "{path}: {}", NoCourse::NoMemory);
+    UNWRITTEN
 }
 
 // Prints a table in one of its two forms.

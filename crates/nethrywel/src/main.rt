@@ -20,7 +20,7 @@ use changes::{Compared, diff};
 use clap::Error;
 use ends::{REFUSED, status_of};
 use listings::{Check, check_documents, reach_documents, tree_document};
-use lists::{check, reach, route, tree};
+use lists::{Asked, check, reach, route, tree};
 use needs::{Telling, least};
 use plays::{Viewing, play};
 use policies::hold;
@@ -90,11 +90,23 @@ fn answer(rt: &HostRuntime, command: Command<'_>) -> u8 {
         } => tree_document(rt, list),
         Command::Tree { dot, list, .. } => tree(rt, list, dot),
         Command::Reach {
-            json: true,
+            csv,
+            json,
+            from,
+            to,
             list,
-            ..
-        } => reach_documents(rt, list),
-        Command::Reach { csv, list, .. } => reach(rt, list, csv),
+        } => {
+            let asked = Asked {
+                from: from.as_slice(),
+                to: to.as_slice(),
+                csv,
+            };
+            if json {
+                reach_documents(rt, list, asked)
+            } else {
+                reach(rt, list, asked)
+            }
+        }
         Command::Route {
             list,
             client,

@@ -19,6 +19,10 @@ flag_rule name = record (new_rule name) { long = Some name; action = Some SetTru
 abbrev pub option_rule : Text → Rule
 option_rule name = record (new_rule name) { long = Some name; value_names = 1 }
 
+-- an option of this name, with a value, that may be given again and again
+abbrev pub options_rule : Text → Rule
+options_rule name = record (new_rule name) { long = Some name; value_names = 1; action = Some Append }
+
 -- a word that has to be there
 abbrev pub file_rule : Text → Rule
 file_rule name = record (new_rule name) { required = true; value_names = 1 }
@@ -71,6 +75,13 @@ alone =
     (option_rule (codes "machine") ∷ flag_rule (codes "all") ∷ flag_rule (codes "summary") ∷ file_rule (codes "name")
     ∷ word_rule (codes "scenario") ∷ [])
 
+-- the command that tells which scripts reach which servers
+abbrev pub reach : Shape
+reach =
+    with_rules (codes "reach")
+    (flag_rule (codes "csv") ∷ flag_rule (codes "json") ∷ options_rule (codes "from") ∷ options_rule (codes "to")
+    ∷ file_rule (codes "list") ∷ [])
+
 -- the command that tells where one wish leads
 abbrev pub route : Shape
 route =
@@ -109,7 +120,7 @@ abbrev pub program : App
 program =
     with_subcommand (with_subcommand (with_subcommand (with_subcommand (with_subcommand (with_subcommand (with_subcommand (with_subcommand (with_subcommand (with_subcommand
     (with_subcommand (with_subcommand bare run) record_shape) check) (of_list (codes "tree") (codes "dot")))
-    (of_list (codes "reach") (codes "csv"))) route)
+    reach) route)
     (of_scenario (codes "trace") json_flag)) (of_scenario (codes "accounts") json_flag)) alone) least) test) diff
 
 -- a text says that a flag was used
@@ -145,9 +156,11 @@ Asks (command.Tree dot json list) name rows = (name ≡ codes "tree")
     × (dot ≡ is_set (codes "dot") rows)
     × (json ≡ is_set (codes "json") rows)
     × (list.now ≡ first_or (codes "-") (codes "list") rows)
-Asks (command.Reach csv json list) name rows = (name ≡ codes "reach")
+Asks (command.Reach csv json from to list) name rows = (name ≡ codes "reach")
     × (csv ≡ is_set (codes "csv") rows)
     × (json ≡ is_set (codes "json") rows)
+    × (map (λ t. t.now) from.items ≡ unwrap_or (all_of (codes "from") rows) [])
+    × (map (λ t. t.now) to.items ≡ unwrap_or (all_of (codes "to") rows) [])
     × (list.now ≡ first_or (codes "-") (codes "list") rows)
 Asks (command.Route list client service args) name rows = (name ≡ codes "route")
     × (list.now ≡ first_or (codes "-") (codes "list") rows)

@@ -60,6 +60,10 @@ pub enum Command<'a> {
         csv: bool,
         /// Whether a document of JSON is written in place of a table.
         json: bool,
+        /// The paths of the scripts that are looked at; all where there are none.
+        from: Vec<&'a str>,
+        /// The paths of the servers that are looked at; all where there are none.
+        to: Vec<&'a str>,
         /// The path of the start list.
         list: &'a str,
     },
@@ -186,13 +190,21 @@ impl<'a> Command<'a> {
                 junit: found.get_str("junit"),
                 paths: words(alloc, found, "path")?,
             })),
+            "reach" => Ok(Some(Command::Reach {
+                csv: is_set(found, "csv"),
+                json: is_set(found, "json"),
+                from: words(alloc, found, "from")?,
+                to: words(alloc, found, "to")?,
+                list: path(found, "list"),
+            })),
             _ => Ok(Command::of(name, found)),
         }
     }
 
-    // The same of one that takes no list of words.
+    // The same of one that takes no lists of words.
     fn of(name: &'a str, found: &ArgMatches<'a>) -> Option<Command<'a>>
-        requires { name.now ≢ codes "test" }
+        requires test { name.now ≢ codes "test" }
+        requires reach { name.now ≢ codes "reach" }
         ensures { AsksAs result (Some (name.entry.now, rows_of (found_of found.now))) }
     {
         match name {
@@ -216,11 +228,6 @@ impl<'a> Command<'a> {
             }),
             "tree" => Some(Command::Tree {
                 dot: is_set(found, "dot"),
-                json: is_set(found, "json"),
-                list: path(found, "list"),
-            }),
-            "reach" => Some(Command::Reach {
-                csv: is_set(found, "csv"),
                 json: is_set(found, "json"),
                 list: path(found, "list"),
             }),

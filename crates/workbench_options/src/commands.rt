@@ -3,7 +3,7 @@ ghost use Rattle.std.specs.Prelude.{◌≡◌, IfOk, MatchResult, false};
 ghost use Rattle.clap.specs.Words.{app_of, kind_of, rule_of, with_subcommand};
 ghost use Rattle.workbench_options.specs.Line.{HasShape, alone as alone_shape, bare as bare_app, file_rule, flag_rule, json_flag, least as least_shape, of_list as list_shape, of_scenario as scenario_shape, option_rule, program, route as route_shape, run as run_shape, word_rule};
 
-use crate::checking::with_check;
+use crate::checking::{with_check, with_reach};
 use crate::help;
 use crate::pipeline::{with_diff, with_test};
 use crate::recording::with_record;
@@ -22,7 +22,7 @@ pub(crate) fn commands<'a>(alloc: Global) -> Result<Words<'a>, Error>
     let words = with_record(alloc, words)?;
     let words = with_check(alloc, words)?;
     let words = with_list(alloc, words, "tree", help::TREE, "dot", help::DOT)?;
-    let words = with_list(alloc, words, "reach", help::REACH, "csv", help::CSV)?;
+    let words = with_reach(alloc, words)?;
     let words = with_route(alloc, words)?;
     let words = with_scenario(alloc, words, "trace", help::TRACE)?;
     let words = with_scenario(alloc, words, "accounts", help::ACCOUNTS)?;

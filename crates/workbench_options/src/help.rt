@@ -100,6 +100,11 @@ pub(crate) const DOT: &str = "Write a graph for Graphviz in place of the text";
 
 pub(crate) const CSV: &str = "Write comma-separated values in place of the table";
 
+pub(crate) const FROM: &str =
+    "Only scripts of this path, each way told; * as its last name stands for all of that list";
+
+pub(crate) const TO: &str = "Only servers of this path, each way told";
+
 pub(crate) const CLIENT: &str = "The script that wishes, by its path";
 
 pub(crate) const SERVICE: &str = "The service: LOG or File_system";

@@ -1,7 +1,7 @@
 -- The program as it is made, command by command.
 use Rattle.std.proofs.Common.{◌∙◌, ap, codes}
 use Rattle.clap.specs.Words.{App, with_subcommand}
-use Rattle.workbench_options.specs.Line.{alone, check, diff, json_flag, least, of_list, of_scenario, record_shape, route, run, test}
+use Rattle.workbench_options.specs.Line.{alone, check, diff, json_flag, least, of_list, of_scenario, reach, record_shape, route, run, test}
 use Rattle.workbench_options.proofs.commands.commands.Goals as goal
 
 pub returns : goal.returns
@@ -13,7 +13,7 @@ returns c =
     (c.in_ok-words-8.ensures ∙ ap (λ (app : App). with_subcommand app (of_scenario (codes "accounts") json_flag))
     (c.in_ok-words-7.ensures ∙ ap (λ (app : App). with_subcommand app (of_scenario (codes "trace") json_flag))
     (c.in_ok-words-6.ensures ∙ ap (λ (app : App). with_subcommand app route)
-    (c.in_ok-words-5.ensures ∙ ap (λ (app : App). with_subcommand app (of_list (codes "reach") (codes "csv")))
+    (c.in_ok-words-5.ensures ∙ ap (λ (app : App). with_subcommand app reach)
     (c.in_ok-words-4.ensures ∙ ap (λ (app : App). with_subcommand app (of_list (codes "tree") (codes "dot")))
     (c.in_ok-words-3.ensures ∙ ap (λ (app : App). with_subcommand app check)
     (c.in_ok-words-2.ensures ∙ ap (λ (app : App). with_subcommand app record_shape)

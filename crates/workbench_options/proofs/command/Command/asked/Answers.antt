@@ -1,4 +1,4 @@
--- What is read of the command that takes a list of words.
+-- What is read of the commands that take lists of words.
 use Rattle.std.proofs.Common.{◌∙◌, codes}
 use Rattle.clap.specs.Words.{found_of}
 use Rattle.clap.proofs.WalkLemmas.{first_value-rows}
@@ -12,3 +12,7 @@ returns-in_ok-words-in-test c =
       c.get_str-in-test.ensures ∙ first_value-rows found (codes "junit"),
       c.in_ok-words-in-test.ensures,
     )
+
+pub returns-in_ok-words-in-reach-2 : goal.returns-in_ok-words-in-reach-2
+returns-in_ok-words-in-reach-2 c =
+    (c.in-reach.is, c.is_set.ensures, c.in_ok-words-in-reach.ensures, c.in_ok-words-in-reach-2.ensures, c.path.ensures)
