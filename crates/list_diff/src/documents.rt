@@ -62,11 +62,11 @@ impl Differences<'_> {
         members.push(("change", Field::Word(sign)))?;
         if let Some(entry) = was {
             members.push(("name", Field::Text(entry.path())))?;
-            add_means(&mut members, &WERE, entry)?;
+            members = with_means(members, &WERE, entry)?;
         }
         if let Some(entry) = now {
             members.push(("name", Field::Text(entry.path())))?;
-            add_means(&mut members, &MEANS, entry)?;
+            members = with_means(members, &MEANS, entry)?;
         }
         listing.add(members.as_slice())
     }
@@ -84,12 +84,12 @@ fn add_machine(listing: &mut Listing, was: &StartList, now: &StartList) -> Resul
     ])
 }
 
-// Adds what an entry has, under these names.
-fn add_means<'a>(
-    members: &mut Vec<Member<'a>>,
+// The members with what an entry has behind them, under these names.
+fn with_means<'a>(
+    mut members: Vec<Member<'a>>,
     names: &'static [&'static str; 6],
     entry: &'a Entry,
-) -> Result<(), AllocError> {
+) -> Result<Vec<Member<'a>>, AllocError> {
     let binary = entry.binary();
     members.push((names[0], Field::Word(binary.as_str())))?;
     members.push((names[1], Field::Number(entry.ram())))?;
@@ -106,7 +106,7 @@ fn add_means<'a>(
         };
         members.push((names[5], provided))?;
     }
-    Ok(())
+    Ok(members)
 }
 
 // Adds who reaches whom otherwise.
