@@ -1,6 +1,7 @@
 pub mod WordLemmas
 pub mod WrittenLemmas
 pub mod QuoteLemmas
+pub mod SightLemmas
 pub mod SignLemmas
 pub mod TailLemmas
 pub mod ReadingLemmas

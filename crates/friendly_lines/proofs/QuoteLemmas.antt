@@ -78,7 +78,7 @@ pub ruleset firsts = (first_step, first_start, first_end, no_blank)
 
 -- ---- a text without the sign of a comment
 
-abbrev is_free : List ℕ → Bool
+abbrev pub is_free : List ℕ → Bool
 is_free text = list_all (λ b. not (nat_eq b 35)) text
 
 free_all : (text : List ℕ) → position_or_len (λ b. nat_eq b 35) text ≡ length text → is_free text ≡ true
@@ -108,7 +108,7 @@ and_false false y z none = refl
 and_false true false z none = refl
 and_false true true z none = none
 
-no_first : (at : Quoting) (text : List ℕ) → is_free text ≡ true → first_outside is_comment at text ≡ None
+pub no_first : (at : Quoting) (text : List ℕ) → is_free text ≡ true → first_outside is_comment at text ≡ None
 no_first at [] free = refl
 no_first at (b ∷ bs) free =
     let test : (is_outside at && is_comment (b ∷ bs)) ≡ false = and_false (is_outside at) (is_blank b) (bytes_eq (next_word (b ∷ bs)).word (codes "#")) (no_word (b ∷ bs) free) in

@@ -1,8 +1,12 @@
 -- The first and the last byte of a text that has none.
-use Rattle.std.proofs.Common.{◌≡◌, ℕ, ◌+◌, ◌<◌, false, nat_eq, List, [], ◌∷◌, length, slice_index, Option, Some, None, refl, sym, ap, ◌∙◌, arith}
+use Rattle.std.proofs.Common.{◌≡◌, ℕ, ◌+◌, ◌<◌, ◌≤◌, false, nat_eq, is_some, inl, inr, List, [], ◌∷◌, length, slice_index, Option, Some, None, refl, sym, ap, ◌∙◌, arith}
 use Rattle.std.specs.Option.{option_map, option_or}
 use Rattle.std.proofs.lemmas.Option.{none-some}
 use Rattle.std.proofs.lemmas.Bool.Decides.{nat_tests}
+use Rattle.own_model.specs.Call.{spoken}
+use Rattle.own_model.specs.Transcript.{longest_line}
+use Rattle.scenario.specs.Read.{IsReadAs}
+use Rattle.scenario.specs.declared.line.NamedCall.{NamedCall}
 use Rattle.friendly_lines.specs.Friendly.{fault_behind, fault_in, said_of_call, said_of_line, without_return}
 use Rattle.friendly_lines.specs.Parts.{Tail, parts_of, spelled}
 use Rattle.friendly_lines.specs.Why.{has_small_unit}
@@ -35,3 +39,9 @@ call_says column call reply tail found line tails finds none lines =
 pub no_unit : (word : List ℕ) → length word ≡ 0 → has_small_unit word ≡ false
 no_unit [] none = refl
 no_unit (b ∷ bs) none = absurd (omega (arith, none))
+
+-- a line that isn't too long is read as a call where it says one
+pub read_where_said : (line : List ℕ) (call : Option NamedCall) → IsReadAs line call → length line ≤ longest_line → is_some call ≡ is_some (spoken line)
+read_where_said line (Some said) reads short = sym (ap is_some reads.says)
+read_where_said line None (inl long) short = absurd (omega (arith, long, short))
+read_where_said line None (inr none) short = sym (ap is_some none)

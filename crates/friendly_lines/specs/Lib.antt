@@ -11,3 +11,4 @@ pub mod Why
 pub mod Friendly
 pub mod Says
 pub mod Laws
+pub mod Handed

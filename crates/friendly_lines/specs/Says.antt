@@ -10,7 +10,7 @@ use Rattle.friendly_lines.specs.declared.reading.Said.TheVariants as told
 abbrev pub said_in : Told → Said
 said_in told.Nothing = Nothing
 said_in (told.Log text) = Log text.now
-said_in (told.Call line reply) = Call line.now (option_copied reply)
+said_in (told.Call line call reply) = Call line.now (option_copied reply)
 
 abbrev pub says : Result Told Fault → Result Said Fault
 says (Ok said) = Ok (said_in said)

@@ -7,6 +7,7 @@ mod forms;
 mod laws;
 mod line;
 mod parts;
+mod plain;
 mod quotes;
 mod reading;
 mod requests;

@@ -2,8 +2,11 @@
 ghost use Rattle.std.specs.Prelude.{◌≡◌, ◌+◌, ◌<◌, ◌≤◌, ◌^◌, ◌==◌, length, is_some, slice_index, true, IfSome, None};
 ghost use Rattle.std.specs.Option.{option_copied, option_map, option_or};
 ghost use Rattle.own_model.specs.Call.{spoken};
+ghost use Rattle.own_model.specs.Transcript.{longest_line};
+ghost use Rattle.scenario.specs.Read.{IsReadAs};
 ghost use Rattle.friendly_lines.specs.Friendly.{end_of, expects_bad_line, fault_behind, fault_in, no_call, said_of, said_of_both, said_of_call, said_of_line, said_of_signs, said_of_text, without_comment, without_mark, without_return};
 ghost use Rattle.friendly_lines.specs.Friendly.Said.{Call};
+ghost use Rattle.friendly_lines.specs.Handed.{HandsOn};
 ghost use Rattle.friendly_lines.specs.Laws.{IsPlain, LaterFormsAreMarked};
 ghost use Rattle.friendly_lines.specs.Says.{says};
 ghost use Rattle.friendly_lines.specs.Views.{LiesIn, tail_in};
@@ -12,34 +15,54 @@ use crate::expected::written_fault;
 use crate::fault::{Fault, Reason};
 use crate::line::Line;
 use crate::parts::{Parts, Tail, fault_in};
+use crate::plain::plain_call;
 use crate::quotes::{Quoting, comment_of, marks_of};
 use crate::why::why;
 use crate::words::{behind, skip_blanks};
-use scenario::read_line;
+use scenario::{NamedCall, call_in};
 
 /// What a line of a scenario in the friendly form says.
-#[derive(Clone, Copy, Debug, PartialEq, Eq)]
+#[derive(Clone, Copy, Debug)]
 pub enum Said<'a> {
     /// Nothing: it is blank, or a comment.
     Nothing,
     /// A log line that the next call finishes.
     Log(&'a [u8]),
-    /// A call as the engine reads it, and the reply that is expected.
+    /// A call: the engine's line, what the engine reads of that, which is nothing where it is no call, and the reply that is
+    /// expected.
     Call {
         line: &'a [u8],
+        call: Option<NamedCall<'a>>,
         reply: Option<&'a [u8]>,
     },
 }
 
 /// What a line says, which is without its newline. The engine's line is put together in `room`, where it isn't a piece of the
-/// line itself. A call that isn't one in the engine's grammar is a fault, unless `Bad_line` is expected; and a line of that
-/// grammar in which nothing is to be translated is the engine's as it stands. Each later form is told by a sign of its own, so a
-/// line without them says what it said before there were any.
+/// line itself, and what the engine reads of it is handed on, so that nobody reads it again. A call that isn't one in the
+/// engine's grammar is a fault, unless `Bad_line` is expected; and a line of that grammar in which nothing is to be translated
+/// is the engine's as it stands. Each later form is told by a sign of its own, so a line without them says what it said before
+/// there were any.
 #[tactic(auto, using(crate::proofs::PlainLemmas::lines_pass))]
 pub fn read_friendly<'a>(line: &'a [u8], room: &'a mut Line) -> Result<Said<'a>, Fault>
     ensures value { says result ≡ said_of line.now }
+    ensures read { HandsOn result }
     ensures plain { IsPlain line.now → says result ≡ Ok (Call line.now None) }
     ensures later { LaterFormsAreMarked }
+{
+    match plain_call(line) {
+        Some(call) => Ok(Said::Call {
+            line,
+            call: Some(call),
+            reply: None,
+        }),
+        None => said_of(line, room),
+    }
+}
+
+// What any line says.
+fn said_of<'a>(line: &'a [u8], room: &'a mut Line) -> Result<Said<'a>, Fault>
+    ensures value { says result ≡ said_of line.now }
+    ensures read { HandsOn result }
 {
     let signs = skip_blanks(without_mark(line));
     said_of_signs(line.len() - signs.len() + 1, signs, room)
@@ -69,11 +92,14 @@ fn without_mark(line: &[u8]) -> &[u8]
 // What a line says from its first sign on.
 fn said_of_signs<'a>(column: usize, signs: &'a [u8], room: &'a mut Line) -> Result<Said<'a>, Fault>
     requires { column + length signs.now < 2 ^ 64 }
-    ensures { says result ≡ said_of_signs column signs.now }
+    ensures value { says result ≡ said_of_signs column signs.now }
+    ensures read { HandsOn result }
 {
     if begins_with(signs, b'!') {
+        let line = behind(signs, 1);
         return Ok(Said::Call {
-            line: behind(signs, 1),
+            line,
+            call: call_in(line),
             reply: None,
         });
     }
@@ -110,7 +136,8 @@ fn without_return(text: &[u8]) -> &[u8]
 // What a text says that has no blanks before it: nothing, or a comment; a log line; or a call.
 fn said_of_text<'a>(column: usize, text: &'a [u8], room: &'a mut Line) -> Result<Said<'a>, Fault>
     requires { column + length text.now < 2 ^ 64 }
-    ensures { says result ≡ said_of_text column text.now }
+    ensures value { says result ≡ said_of_text column text.now }
+    ensures read { HandsOn result }
 {
     if text.is_empty() || begins_with(text, b'#') {
         return Ok(Said::Nothing);
@@ -135,7 +162,8 @@ fn without_comment(text: &[u8]) -> &[u8]
 // A call, and the reply that is expected, where each quote is closed.
 fn said_of_both<'a>(column: usize, text: &'a [u8], room: &'a mut Line) -> Result<Said<'a>, Fault>
     requires { column + length text.now < 2 ^ 64 }
-    ensures { says result ≡ said_of_both column text.now }
+    ensures value { says result ≡ said_of_both column text.now }
+    ensures read { HandsOn result }
 {
     let marks = marks_of(text);
     if marks.end != Quoting::Outside {
@@ -159,7 +187,8 @@ fn said_of_call<'a>(
 ) -> Result<Said<'a>, Fault>
     requires call { column + length call.now < 2 ^ 64 }
     requires reply { IfSome reply (λ r. column + length call.now + 4 + length r.now < 2 ^ 64) }
-    ensures { says result ≡ said_of_call column call.now (option_copied reply.entry) }
+    ensures value { says result ≡ said_of_call column call.now (option_copied reply.entry) }
+    ensures read { HandsOn result }
 {
     let parts = Parts::of(call);
     match escape_fault(column, call.len(), parts.tail, reply) {
@@ -197,20 +226,27 @@ fn said_of_line<'a>(
     line: Option<&'a [u8]>,
     reply: Option<&'a [u8]>,
 ) -> Result<Said<'a>, Fault>
-    requires { column + length call.now < 2 ^ 64 }
-    ensures { says result
+    requires column { column + length call.now < 2 ^ 64 }
+    requires short { IfSome line (λ l. length l.now ≤ longest_line) }
+    ensures value { says result
         ≡ said_of_line column call.now (option_copied line.entry) (option_copied reply.entry) }
+    ensures read { HandsOn result }
 {
-    match line {
-        Some(line) => if is_call(line) || expects_bad_line(reply) {
-            Ok(Said::Call { line, reply })
-        } else {
-            Err(no_call(column, call))
-        },
-        None => Err(Fault {
+    let Some(line) = line else {
+        return Err(Fault {
             reason: Reason::NoCall,
             column,
-        }),
+        });
+    };
+    let said = read_short(line);
+    if said.is_some() || expects_bad_line(reply) {
+        Ok(Said::Call {
+            line,
+            call: said,
+            reply,
+        })
+    } else {
+        Err(no_call(column, call))
     }
 }
 
@@ -226,11 +262,14 @@ fn no_call(column: usize, call: &[u8]) -> Fault
     }
 }
 
-// Whether a line is a call.
-fn is_call(line: &[u8]) -> bool
-    ensures { result ≡ is_some (spoken line.now) }
+// What the engine reads of a line that isn't too long to be a call.
+#[tactic(auto, using(crate::proofs::ReadingLemmas::read_where_said))]
+fn read_short(line: &[u8]) -> Option<NamedCall<'_>>
+    requires { length line.now ≤ longest_line }
+    ensures read { IsReadAs line.now result }
+    ensures some { is_some result ≡ is_some (spoken line.now) }
 {
-    read_line(line).is_ok()
+    call_in(line)
 }
 
 // Whether the reply is expected that a line has which is no call.

@@ -1,8 +1,10 @@
 //! The sizes of a call, as numbers.
-ghost use Rattle.std.specs.Prelude.{◌≡◌, ◌++◌, ◌&&◌, decimal, false, length, nat_lt};
+ghost use Rattle.std.specs.Prelude.{◌≡◌, ◌++◌, ◌&&◌, decimal, false, is_some, length, nat_lt};
 ghost use Rattle.std.specs.Char.{is_ascii_digit};
 ghost use Rattle.std.specs.List.{list_all};
 ghost use Rattle.std.specs.Option.{option_copied, option_map_or};
+ghost use Rattle.own_model.specs.Text.{first_word};
+ghost use Rattle.friendly_lines.specs.Laws.{has_suffix, is_suffixed};
 ghost use Rattle.friendly_lines.specs.Parts.{is_place, request_text, size_text, sizes_behind, sizes_in};
 ghost use Rattle.friendly_lines.specs.Words.{next_word, spaced, words_spaced};
 ghost use Rattle.friendly_lines.specs.Written.{added};
@@ -36,12 +38,35 @@ fn are_digits(text: &[u8]) -> bool
 
 // The size that a word tells with a suffix, if it isn't told as a number already.
 fn suffixed(word: &[u8]) -> Option<u64>
-    ensures { option_map_or decimal result word.now ≡ size_text word.now }
+    ensures text { option_map_or decimal result word.now ≡ size_text word.now }
+    ensures some { is_some result ≡ is_suffixed word.now }
 {
     if read_number(word).is_some() {
         return None;
     }
     read_amount(word)
+}
+
+/// Whether a request has a size with a suffix.
+pub(crate) fn has_suffix(request: &[u8]) -> bool
+    ensures { result ≡ has_suffix (sizes_in (first_word request.now).word) (first_word request.now).rest }
+{
+    let (form, rest) = split_first_word(request);
+    has_suffix_in(sizes_in(form), rest)
+}
+
+// The same of what stands behind a word, where these of its words are sizes.
+fn has_suffix_in(sizes: &[bool], rest: Option<&[u8]>) -> bool
+    ensures { result ≡ has_suffix sizes.now (option_copied rest.entry) }
+{
+    let Some(text) = rest else {
+        return false;
+    };
+    let Some((sized, more)) = sizes.split_first() else {
+        return false;
+    };
+    let (word, rest) = split_first_word(text);
+    (*sized && suffixed(word).is_some()) || has_suffix_in(more, rest)
 }
 
 // Puts a size as a number, or the word as it is where it is a number already or is no amount.

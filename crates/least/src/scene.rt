@@ -109,7 +109,7 @@ impl Scene {
             return Ok(());
         }
         match read_friendly(line, room) {
-            Ok(Said::Call { line, reply }) => self.add_call(alloc, list, number, line, reply),
+            Ok(Said::Call { line, reply, .. }) => self.add_call(alloc, list, number, line, reply),
             Ok(_) => Ok(()),
             Err(fault) => {
                 self.misread.push(Misread { number, fault })?;

@@ -10,5 +10,6 @@ pub mod PeakLemmas
 pub mod NotedLemmas
 pub mod KeptLemmas
 pub mod CallerLemmas
+pub mod SaidLemmas
 pub mod ListLemmas
 pub mod RowLemmas

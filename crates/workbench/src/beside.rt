@@ -62,7 +62,8 @@ impl<Q: Router + Drop> Watch for SecondMachine<'_, Q> {
             list: self.list,
             only: Some(self.name),
         };
-        let Some(alone) = run.answer(&mut self.core, heard.line, &mut self.reply) else {
+        let Some(alone) = run.answer_read(&mut self.core, heard.line, heard.call, &mut self.reply)
+        else {
             return Ok(());
         };
         let alike = are_same(&alone, &heard.answer);

@@ -7,15 +7,16 @@ ghost use Rattle.own_model.specs.Session.{Session as Opened, given};
 ghost use Rattle.own_model.specs.StartList.{entries_of};
 ghost use Rattle.own_model.specs.World.{account_at, machine_init};
 ghost use Rattle.pd_core.specs.Answer.{quotas_account};
+ghost use Rattle.scenario.specs.Read.{IsReadAs};
 ghost use Rattle.workbench.specs.Kept.{begun_by, begun_with, found, grown, in_use, is_kept_at, noted_in, noted_more, peak_at, peaked, raised_in};
 ghost use Rattle.workbench.specs.Peaks.{session_at};
 
 use crate::ending::PlayFault;
-use crate::text::{call_in, caller_of};
+use crate::text::{caller_of, said_in};
 use crate::watch::{Heard, Watch};
 use init_core::{StartList, route};
 use pd_core::{Call, Core, Quotas, Router};
-use scenario::{Gather, Sink};
+use scenario::{Gather, NamedCall, Sink};
 use session_proto::SessionArgs;
 use std::alloc::{AllocError, Global};
 use std::mem;
@@ -189,8 +190,10 @@ impl Peaks {
         core: &Core<R>,
         list: &StartList,
         line: &[u8],
+        call: Option<NamedCall<'_>>,
     ) -> Result<(), AllocError>
         requires listed { core.now.entries ≡ entries_of (start_list_of list.now) }
+        requires read { IsReadAs line.now call }
         ensures init { self.new.init ≡ self.old.init }
         ensures components { self.new.components.items ≡ self.old.components.items }
         ensures sessions { OnOk result ((component selector : ℕ) →
@@ -199,7 +202,7 @@ impl Peaks {
             ≡ option_or (found self.old.sessions.items component selector)
             (begun_by list.now core.now line.now component selector)) }
     {
-        let Some((name, call)) = call_in(line) else {
+        let Some((name, call)) = said_in(line, call) else {
             return Ok(());
         };
         let Call::Open { service, args } = call else {
@@ -271,7 +274,7 @@ impl Watch for Peaks {
     ) -> Result<(), PlayFault> {
         self.raise_accounts(core);
         self.raise_sessions(core)?;
-        self.keep_opened(core, list, heard.line)?;
+        self.keep_opened(core, list, heard.line, heard.call)?;
         Ok(())
     }
 }

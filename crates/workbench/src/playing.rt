@@ -10,6 +10,7 @@ ghost use Rattle.friendly_lines.specs.Friendly.{said_of};
 ghost use Rattle.scenario.specs.Answer.{AnswersLine};
 ghost use Rattle.scenario.specs.Answered.{after_all, point};
 ghost use Rattle.scenario.specs.Gathered.{TellsUnless};
+ghost use Rattle.scenario.specs.Read.{IsReadAs};
 ghost use Rattle.workbench.specs.Devices.{AllWork, OutputsWork};
 ghost use Rattle.workbench.specs.Faults.{Fails, fault_before, is_write_fault, line_takes_room, unplayed};
 ghost use Rattle.workbench.specs.Judging.{IsJudged, awaited_after};
@@ -22,7 +23,9 @@ use crate::notes::{Desk, Notes};
 use crate::watch::{Heard, Watch};
 use friendly_lines::{Said, read_friendly};
 use pd_core::{Core, Reply, Router};
-use scenario::{DeviceFault, Gather, LONGEST_LINE, LineAnswer, MAX_LINES, Next, Run, Sink, Source};
+use scenario::{
+    DeviceFault, Gather, LONGEST_LINE, LineAnswer, MAX_LINES, NamedCall, Next, Run, Sink, Source,
+};
 
 /// What became of the next line.
 #[derive(Clone, Copy, Debug, PartialEq, Eq)]
@@ -347,11 +350,18 @@ fn play_line<R: Router + Drop, W: Watch, K: Sink, E: Sink>(
     match read_friendly(line, &mut desk.room) {
         Ok(Said::Nothing) => Ok(false),
         Ok(Said::Log(text)) => desk.critic.expect_line(number, text),
-        Ok(Said::Call { line: call, reply }) => {
+        Ok(
+            Said::Call {
+                line: engine,
+                call,
+                reply,
+            },
+        ) => {
             match answer_call(
                 run,
                 core,
                 number,
+                engine,
                 call,
                 &mut desk.reply,
                 watch,
@@ -366,12 +376,13 @@ fn play_line<R: Router + Drop, W: Watch, K: Sink, E: Sink>(
     }
 }
 
-// Answers a call, and tells the answer to `watch`.
+// Answers a line of the engine by what was read of it, and tells the answer to `watch`.
 fn answer_call<'a, 'b, R: Router + Drop, W: Watch, K: Sink>(
     run: &Run<'a>,
     core: &mut Core<R>,
     number: u64,
     line: &'b [u8],
+    call: Option<NamedCall<'b>>,
     reply: &'b mut Reply,
     watch: &mut W,
     gathered: &mut Gather,
@@ -380,6 +391,7 @@ fn answer_call<'a, 'b, R: Router + Drop, W: Watch, K: Sink>(
 where
     'a: 'b,
     requires listed { core.old.entries ≡ entries_of (start_list_of run.now.list.now) }
+    requires read { IsReadAs line.now call }
     requires writes { K.has_failed writer.old ≡ false }
     ensures world { core.new ≡ after_all (option_copied run.now.only) core.old (line.now ∷ []) }
     ensures told { (start : World) (earlier : List (List ℕ)) →
@@ -397,11 +409,12 @@ where
     ensures failing { Fails result (K.has_failed writer.new) W.takes }
     ensures answered { IfOk result (AnswersLine (option_copied run.now.only) core.old line.now) }
 {
-    match run.answer(core, line, reply) {
+    match run.answer_read(core, line, call, reply) {
         Some(answer) => {
             let heard = Heard {
                 number,
                 line,
+                call,
                 answer,
             };
             match watch.tell(core, run.list, &heard, gathered, writer) {

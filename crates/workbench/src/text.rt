@@ -7,13 +7,14 @@ ghost use Rattle.own_model.specs.StartList.{entries_of};
 ghost use Rattle.own_model.specs.Transcript.{heard_spoken};
 ghost use Rattle.pd_core.specs.Call.{model_call};
 ghost use Rattle.scenario.specs.Gathered.{TellsUnless};
+ghost use Rattle.scenario.specs.Read.{IsReadAs};
 ghost use Rattle.workbench.specs.Said.{heard_as, said_in};
 
 use arrayvec::ArrayVec;
 use init_core::StartList;
 use itoa::{Buffer, Integer};
 use pd_core::Call;
-use scenario::{DeviceFault, Gather, LONGEST_LINE, Sink, read_line};
+use scenario::{DeviceFault, Gather, NamedCall, Sink};
 
 /// Gathers a number in decimal digits.
 pub(crate) fn put_number<I: Integer, K: Sink>(
@@ -69,18 +70,18 @@ pub(crate) fn add<const N: usize>(text: &mut ArrayVec<u8, N>, more: &[u8])
     let _ = text.try_extend_from_slice(more);
 }
 
-/// The name and the call that a line says, if it isn't too long to be a call.
-pub(crate) fn call_in(line: &[u8]) -> Option<(&[u8], Call<'_>)>
+/// The name and the call that a line says of which this was read, if it says one.
+#[tactic(auto, using(crate::proofs::SaidLemmas::says))]
+pub(crate) fn said_in<'a>(line: &[u8], call: Option<NamedCall<'a>>) -> Option<(&'a [u8], Call<'a>)>
+    requires { IsReadAs line.now call }
     ensures value { IfSome result (λ said.
         said_in line.now ≡ Some (record { name = said.0.now; call = model_call said.1 })) }
     ensures none { IfNone result (said_in line.now ≡ None) }
 {
-    if line.len() > LONGEST_LINE {
-        return None;
-    }
-    match read_line(line) {
-        Ok((name, call)) => Some((name, call)),
-        Err(_) => None,
+    let _ = line;
+    match call {
+        Some(said) => Some((said.name, said.call)),
+        None => None,
     }
 }
 

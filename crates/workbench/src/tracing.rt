@@ -9,6 +9,7 @@ ghost use Rattle.init_core.specs.declared.fault.BootFault.TheVariants.{NoMemory}
 ghost use Rattle.pd_core.specs.Call.{model_call};
 ghost use Rattle.scenario.specs.Gathered.{TellsUnless};
 ghost use Rattle.scenario.specs.Program.{boot_fault};
+ghost use Rattle.scenario.specs.Read.{IsReadAs};
 ghost use Rattle.scenario.specs.Runs.{HasCause};
 ghost use Rattle.workbench.specs.Faults.{fault_before, is_write_fault, unplayed};
 ghost use Rattle.workbench.specs.Played.{told_of_lines};
@@ -21,12 +22,12 @@ use crate::machine::Play;
 use crate::notes::Notes;
 use crate::playing::play as play_lines;
 use crate::row::{add_account, add_cell, put_cell};
-use crate::text::{add, call_in, caller_of, put_number};
+use crate::text::{add, caller_of, put_number, said_in};
 use crate::watch::{Heard, Watch};
 use arrayvec::ArrayVec;
 use init_core::{BootFault, StartList, boot};
 use pd_core::{Call, Core, Router};
-use scenario::{DeviceFault, Gather, MAX_LINES, Run, Sink, Source};
+use scenario::{DeviceFault, Gather, MAX_LINES, NamedCall, Run, Sink, Source};
 use std::alloc::Global;
 
 /// The names of the columns.
@@ -53,7 +54,7 @@ impl Watch for Tracer {
         gathered: &mut Gather,
         writer: &mut K,
     ) -> Result<(), PlayFault> {
-        let (call, figures) = told_of(core, list, heard.line);
+        let (call, figures) = told_of(core, list, heard.line, heard.call);
         let front = Front {
             number: heard.number,
             name: heard.answer.name,
@@ -100,14 +101,16 @@ fn told_of<'a, R: Router + Drop>(
     core: &Core<R>,
     list: &StartList,
     line: &'a [u8],
+    call: Option<NamedCall<'_>>,
 ) -> (&'a [u8], ArrayVec<u8, LONGEST_FIGURES>)
     requires listed { core.now.entries ≡ entries_of (start_list_of list.now) }
+    requires read { IsReadAs line.now call }
     ensures call { result.0.now ≡ call_text line.now }
     ensures figures { result.1.items
         ≡ fields_text default_writer (figures core.now (heard core.now.entries line.now)) ++ 10 ∷ [] }
 {
     let mut text = ArrayVec::new();
-    match call_in(line) {
+    match said_in(line, call) {
         Some((name, call)) => {
             match caller_of(list, name) {
                 Some(component) => add_caller(&mut text, core, component, call),

@@ -4,13 +4,14 @@ ghost use Rattle.own_model.specs.Listed.{Listed, start_list_of};
 ghost use Rattle.own_model.specs.StartList.{entries_of};
 ghost use Rattle.own_model.specs.World.{World};
 ghost use Rattle.scenario.specs.Gathered.{TellsUnless};
+ghost use Rattle.scenario.specs.Read.{IsReadAs};
 ghost use Rattle.workbench.specs.Faults.{Fails};
 ghost use Rattle.workbench.specs.Watching.{IsToldOf};
 
 use crate::ending::PlayFault;
 use init_core::StartList;
 use pd_core::{Core, Router};
-use scenario::{Gather, LineAnswer, Sink};
+use scenario::{Gather, LineAnswer, NamedCall, Sink};
 
 /// A call that was answered.
 #[derive(Clone, Copy, Debug)]
@@ -19,6 +20,8 @@ pub(crate) struct Heard<'a> {
     pub number: u64,
     /// The engine's line.
     pub line: &'a [u8],
+    /// What the engine reads of it: nothing where it is no call.
+    pub call: Option<NamedCall<'a>>,
     /// What it was answered.
     pub answer: LineAnswer<'a>,
 }
@@ -48,6 +51,7 @@ pub(crate) trait Watch {
         writer: &mut K,
     ) -> Result<(), PlayFault>
         requires listed { core.now.entries ≡ entries_of (start_list_of list.now) }
+        requires read { IsReadAs heard.now.line.now heard.now.call }
         requires writes { K.has_failed writer.old ≡ false }
         ensures told { (start : World) (earlier : List (List ℕ)) →
             sees self.old list.now start earlier →

@@ -7,9 +7,9 @@ use Rattle.friendly_lines.specs.Written.{added}
 use Rattle.friendly_lines.proofs.ReadingLemmas.{call_says}
 use Rattle.friendly_lines.proofs.reading.said_of_call.Goals as goal
 
-pub returns-in-None : goal.returns-in-None
-returns-in-None c =
-    c.said_of_line.ensures
+pub returns-in-None-clause-value : goal.returns-in-None-clause-value
+returns-in-None-clause-value c =
+    c.said_of_line.ensures.value
     ∙ call_says c.args.column c.args.call.now (option_copied c.args.reply) (parts_in c.of-parts.result).tail c.escape_fault.result (option_copied c.text.result)
     (ap (λ (p : Parts). p.tail) c.of-parts.ensures.value) c.escape_fault.ensures c.in-None.is
     (c.text.ensures.value ∙ c.put.ensures ∙ ap (λ l. added l (spelled (parts_in c.of-parts.result))) c.clear.ensures

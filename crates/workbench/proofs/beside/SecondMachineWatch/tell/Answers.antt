@@ -14,7 +14,7 @@ returns-in_default-clause-told g c = λ start earlier sees told.
 
 pub returns-in_default-clause-seen : goal.returns-in_default-clause-seen
 returns-in_default-clause-seen g c = λ start earlier sees told.
-    sees_more c.answer.new.core c.args.self.now.lines c.args.self.now.difference c.args.heard.now.line.now 0 sees c.in_default.ensures.world (ap length c.in_default.ensures.answered) (λ _. omega arith) refl
+    sees_more c.answer_read.new.core c.args.self.now.lines c.args.self.now.difference c.args.heard.now.line.now 0 sees c.in_default.ensures.world (ap length c.in_default.ensures.answered) (λ _. omega arith) refl
 
 pub returns-in_err-put_both-clause-told : goal.returns-in_err-put_both-clause-told
 returns-in_err-put_both-clause-told g c = λ start earlier sees told.
@@ -34,7 +34,7 @@ returns-clause-told g c = λ start earlier sees told.
 pub returns-clause-seen : goal.returns-clause-seen
 returns-clause-seen g c = λ start earlier sees told.
     let same = answered_alike c.args.self.now.name.now start earlier c.args.heard.now.line.now c.args.heard.now.answer c.in-Some.alone sees.leads told.answers c.in-Some.ensures.answered in
-    sees_more c.answer.new.core c.saturating_add-self.result c.first_difference-self.result c.args.heard.now.line.now 1 sees c.in-Some.ensures.world (ap length c.in-Some.ensures.answered.0) (λ fits. omega (arith, fits, c.saturating_add-self.ensures))
+    sees_more c.answer_read.new.core c.saturating_add-self.result c.first_difference-self.result c.args.heard.now.line.now 1 sees c.in-Some.ensures.world (ap length c.in-Some.ensures.answered.0) (λ fits. omega (arith, fits, c.saturating_add-self.ensures))
     (c.first_difference-self.ensures (c.are_same-alike.ensures same.0 same.1 same.2))
 
 pub returns-in_err-put_both-clause-failing : goal.returns-in_err-put_both-clause-failing

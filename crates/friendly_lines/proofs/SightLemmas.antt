@@ -1,0 +1,98 @@
+-- A line in which no byte is a sign of the friendly form has none of its forms.
+use Rattle.std.proofs.Common.{◌≡◌, ℕ, ◌+◌, ◌-◌, ◌<◌, ◌&&◌, Bool, true, false, true≢false, cond, not, nat_eq, is_some, List, [], ◌∷◌, length, get_or, codes, Option, Some, None, refl, sym, ap, ◌∙◌, arith}
+use Rattle.std.specs.List.{list_all, starts_with}
+use Rattle.std.specs.Option.{option_map, option_or}
+use Rattle.std.proofs.lemmas.Bool.Decides.{nat_tests}
+use Rattle.std.proofs.lemmas.List.Folds.{list_all_at}
+use Rattle.scenario.specs.Read.{Reads}
+use Rattle.scenario.specs.declared.line.NamedCall.{NamedCall}
+use Rattle.friendly_lines.specs.Friendly.{without_return}
+use Rattle.friendly_lines.specs.Handed.{has_no_sign, is_sign}
+use Rattle.friendly_lines.specs.Laws.{IsPlain, is_translated}
+use Rattle.friendly_lines.specs.Parts.{parts_of}
+use Rattle.friendly_lines.specs.Quotes.{after_byte, after_text, is_arrow, is_outside, last_outside}
+use Rattle.friendly_lines.specs.Words.{is_blank}
+use Rattle.friendly_lines.specs.declared.quotes.Quoting.TheVariants.{Outside}
+use Rattle.friendly_lines.proofs.PlainLemmas.{and_both, and_left, and_right, not_true}
+use Rattle.friendly_lines.proofs.QuoteLemmas.{is_free, no_first}
+
+-- the first byte is no sign, and none of the others is
+first_other : (b : ℕ) (bs : List ℕ) → has_no_sign (b ∷ bs) ≡ true → is_sign b ≡ false
+first_other b bs none = not_true (is_sign b) (and_left (not (is_sign b)) (has_no_sign bs) none)
+
+more_others : (b : ℕ) (bs : List ℕ) → has_no_sign (b ∷ bs) ≡ true → has_no_sign bs ≡ true
+more_others b bs none = and_right (not (is_sign b)) (has_no_sign bs) none
+
+no_quote : (b : ℕ) → is_sign b ≡ false → nat_eq b 34 ≡ false
+no_quote b other = grind (arith, nat_tests)
+
+no_comment_sign : (b : ℕ) → is_sign b ≡ false → not (nat_eq b 35) ≡ true
+no_comment_sign b other = grind (arith, nat_tests)
+
+no_tip : (b : ℕ) → is_sign b ≡ false → nat_eq 62 b ≡ false
+no_tip b other = grind (arith, nat_tests)
+
+a_return : (b : ℕ) → nat_eq b 13 ≡ true → not (is_sign b) ≡ false
+a_return b is = grind (arith, nat_tests)
+
+-- no comment begins
+free_of : (line : List ℕ) → has_no_sign line ≡ true → is_free line ≡ true
+free_of [] none = refl
+free_of (b ∷ bs) none =
+    and_both (not (nat_eq b 35)) (is_free bs) (no_comment_sign b (first_other b bs none)) (free_of bs (more_others b bs none))
+
+-- no quote opens
+after_other : (b : ℕ) → is_sign b ≡ false → after_byte Outside b ≡ Outside
+after_other b other = rw (no_quote b other) refl
+
+stays_outside : (line : List ℕ) → has_no_sign line ≡ true → after_text Outside line ≡ Outside
+stays_outside [] none = refl
+stays_outside (b ∷ bs) none = ap (λ at. after_text at bs) (after_other b (first_other b bs none)) ∙ stays_outside bs (more_others b bs none)
+
+-- no arrow ends
+and_none : (a b : Bool) → b ≡ false → (a && b) ≡ false
+and_none true b none = none
+and_none false b none = refl
+
+no_arrow_end : (text : List ℕ) → has_no_sign text ≡ true → starts_with nat_eq text (codes "=> ") ≡ false
+no_arrow_end [] none = refl
+no_arrow_end (a ∷ []) none = and_none (nat_eq 61 a) false refl
+no_arrow_end (a ∷ b ∷ bs) none =
+    let tip : (nat_eq 62 b && starts_with nat_eq bs (codes " ")) ≡ false =
+    ap (λ t. t && starts_with nat_eq bs (codes " ")) (no_tip b (first_other b bs (more_others a (b ∷ bs) none))) in
+    and_none (nat_eq 61 a) (nat_eq 62 b && starts_with nat_eq bs (codes " ")) tip
+
+no_arrow_here : (b : ℕ) (bs : List ℕ) → has_no_sign (b ∷ bs) ≡ true → is_arrow (b ∷ bs) ≡ false
+no_arrow_here b bs none = and_none (is_blank b) (starts_with nat_eq bs (codes "=> ")) (no_arrow_end bs (more_others b bs none))
+
+no_arrow : (line : List ℕ) → has_no_sign line ≡ true → last_outside is_arrow Outside line ≡ None
+no_arrow [] none = refl
+no_arrow (b ∷ bs) none =
+    let later : last_outside is_arrow (after_byte Outside b) bs ≡ None =
+    ap (λ at. last_outside is_arrow at bs) (after_other b (first_other b bs none)) ∙ no_arrow bs (more_others b bs none) in
+    ap (λ found. option_or (option_map (λ n. 1 + n) found) (cond (is_arrow (b ∷ bs)) (Some 0) None)) later
+    ∙ ap (λ t. cond t (Some 0) None) (no_arrow_here b bs none)
+
+-- no carriage return ends the line
+at_other : (line : List ℕ) (i : ℕ) → i < length line → has_no_sign line ≡ true → nat_eq (get_or line i 0) 13 ≡ false
+at_other line i within none =
+    elim (nat_eq (get_or line i 0) 13) as (λ t. nat_eq (get_or line i 0) 13 ≡ t → t ≡ false) [
+      | true ↦ λ is. absurd (true≢false (sym none ∙ list_all_at (λ b. not (is_sign b)) line i 0 within (a_return (get_or line i 0) is)))
+      | false ↦ λ other. refl
+    ] refl
+
+no_return : (line : List ℕ) → has_no_sign line ≡ true → without_return line ≡ line
+no_return [] none = refl
+no_return (b ∷ bs) none = rw (at_other (b ∷ bs) (length (b ∷ bs) - 1) (omega arith) none) refl
+
+-- so a call of the engine is one that passes as it stands
+pub plain_at_sight : (line : List ℕ) (said : NamedCall) → has_no_sign line ≡ true → Reads line said → is_translated (parts_of line).tail ≡ false → IsPlain line
+plain_at_sight line said none reads untranslated = record {
+  call = ap is_some reads.says;
+  short = reads.short;
+  ending = no_return line none;
+  closed = ap is_outside (stays_outside line none);
+  arrow = no_arrow line none;
+  comment = no_first Outside line (free_of line none);
+  untranslated = untranslated;
+}

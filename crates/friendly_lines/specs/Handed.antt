@@ -1,0 +1,22 @@
+-- What is handed on of a call, and the lines that are the engine's at first sight.
+use Rattle.std.specs.Prelude.{ℕ, ◌==◌, ◌||◌, not, Bool, List, ⊤, Result, Ok, Err}
+use Rattle.std.specs.List.{list_all}
+use Rattle.scenario.specs.Read.{IsReadAs}
+use Rattle.friendly_lines.specs.declared.fault.Fault.{Fault}
+use Rattle.friendly_lines.specs.declared.reading.Said.{Said}
+use Rattle.friendly_lines.specs.declared.reading.Said.TheVariants.{Nothing, Log, Call}
+
+-- of a call what the engine reads of its line
+abbrev pub HandsOn : Result Said Fault → Type 0
+HandsOn (Ok Nothing) = ⊤
+HandsOn (Ok (Log text)) = ⊤
+HandsOn (Ok (Call line call reply)) = IsReadAs line.now call
+HandsOn (Err fault) = ⊤
+
+-- a byte that only lines have in which something may be translated: a quote, the sign of a comment, the tip of an arrow, a
+-- carriage return
+abbrev pub is_sign : ℕ → Bool
+is_sign b = b == 34 || (b == 35 || (b == 62 || b == 13))
+
+abbrev pub has_no_sign : List ℕ → Bool
+has_no_sign text = list_all (λ b. not (is_sign b)) text
