@@ -11,6 +11,9 @@ static MEANS: [(&str, &str); 3] = [
     ("keeps_ram", "keeps_caps"),
 ];
 
+/// The end of the name of a node for what is denied in a list.
+static DENIED: &str = "(denied)";
+
 /// A list with a document for each line of a tree: of the machine, of what its init keeps, and then of each component, with one for
 /// each line of its wishes behind it. The graph of the same start list tells their paths.
 pub fn tree_documents(alloc: Global, tree: &str, graph: &str) -> Result<Vec<u8>, AllocError> {
@@ -32,16 +35,29 @@ pub fn tree_documents(alloc: Global, tree: &str, graph: &str) -> Result<Vec<u8>,
     listing.into_text()
 }
 
-// The path of a component's node: `"PATH" [shape=..`; that of what is denied has none.
+// The path of a component: of its node, `"PATH" [shape=..`, or of an init's box, `subgraph "cluster_PATH" {`. What is denied in a
+// list has a node that is no component's.
 fn node_in(line: &str) -> Option<&str> {
-    let (path, _) = line.strip_prefix("  \"")?.split_once("\" [shape=")?;
-    if path == "(denied)" { None } else { Some(path) }
+    let text = line.trim_start();
+    if let Some(boxed) = text.strip_prefix("subgraph \"cluster_") {
+        return boxed.strip_suffix("\" {");
+    }
+    let (path, _) = text.strip_prefix("\"")?.split_once("\" [shape=")?;
+    if is_denied(path) { None } else { Some(path) }
 }
 
-// The paths of who wishes and of where that leads, of the edge of a wish: `"PATH" -> "PATH" [label=..`.
+// Whether a node is that of what is denied in a list.
+fn is_denied(path: &str) -> bool {
+    path.ends_with(DENIED)
+}
+
+// The paths of who wishes and of where that leads, of the edge of a wish: `"PATH" -> "PATH" [..`.
 fn edge_in(line: &str) -> Option<(&str, &str)> {
-    let (client, rest) = line.strip_prefix("  \"")?.split_once("\" -> \"")?;
-    let (to, _) = rest.split_once("\" [label=")?;
+    let (client, rest) = line
+        .trim_start()
+        .strip_prefix("\"")?
+        .split_once("\" -> \"")?;
+    let (to, _) = rest.split_once("\" [")?;
     Some((client, to))
 }
 
@@ -88,18 +104,30 @@ fn add_wish<'a>(
     let Some((client, to)) = edge else {
         return Ok(());
     };
-    let server = if to == "(denied)" {
+    let server = if is_denied(to) {
         Field::Nothing
     } else {
         text_of(to)
     };
+    let (rules, label) = rules_in(by);
     listing.add(&[
         ("kind", Field::Word("wish")),
         ("name", text_of(client)),
         ("service", text_of(service)),
         ("to", server),
-        ("by", text_of(by)),
+        ("by", text_of(rules)),
+        ("label", label),
     ])
+}
+
+// The rules that decide a wish, and a label that they decide so where one is told: `RULES, with label "LABEL"`.
+fn rules_in(by: &str) -> (&str, Field<'_>) {
+    if let Some((rules, rest)) = by.split_once(", with label \"") {
+        if let Some(label) = rest.strip_suffix("\"") {
+            return (rules, text_of(label));
+        }
+    }
+    (by, Field::Nothing)
 }
 
 // Adds a component with its means: `RAM, N caps, reserve RAM, N caps, keeps RAM, N caps, provides SERVICE`, the last three where

@@ -47,8 +47,8 @@ pub(crate) fn tree_document(rt: &HostRuntime, path: &str) -> u8 {
 
 // The documents of a tree.
 fn tree_text(alloc: Global, review: &Review) -> Result<Vec<u8>, AllocError> {
-    let tree = review.tree().to_string(alloc)?;
-    let graph = review.graph().to_string(alloc)?;
+    let tree = review.tree(alloc)?.to_string(alloc)?;
+    let graph = review.graph(alloc)?.to_string(alloc)?;
     tree_documents(alloc, tree.as_str(), graph.as_str())
 }
 

@@ -35,12 +35,21 @@ pub(crate) fn tree(rt: &HostRuntime, path: &str, dot: bool) -> u8 {
     let Some(review) = review(rt, path) else {
         return REFUSED;
     };
-    let shown = if dot {
-        print!(rt; "{}", review.graph())
-    } else {
-        print!(rt; "{}", review.tree())
-    };
-    status_of(rt, shown)
+    if dot {
+        return show_graph(rt, path, &review);
+    }
+    match review.tree(rt.alloc()) {
+        Ok(tree) => status_of(rt, print!(rt; "{tree}")),
+        Err(_) => no_memory(rt, path),
+    }
+}
+
+// Shows the components of a start list as a graph, and answers the exit status.
+fn show_graph(rt: &HostRuntime, path: &str, review: &Review) -> u8 {
+    match review.graph(rt.alloc()) {
+        Ok(graph) => status_of(rt, print!(rt; "{graph}")),
+        Err(_) => no_memory(rt, path),
+    }
 }
 
 /// What is asked of who reaches whom.

@@ -17,11 +17,6 @@ pub(crate) fn asks_service(rule: &Rule, service: &[u8]) -> bool
     }
 }
 
-/// Whether a rule asks nothing of the label.
-pub(crate) fn asks_no_label(rule: &Rule) -> bool {
-    rule.label().is_none() && rule.label_prefix().is_none() && rule.label_suffix().is_none()
-}
-
 /// Whether what the earlier rule asks of the label is implied by what the later one asks.
 pub(crate) fn covers_labels(earlier: &Rule, later: &Rule) -> bool
     ensures { result ≡ covers_labels earlier.now later.now }

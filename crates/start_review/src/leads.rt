@@ -1,17 +1,112 @@
 //! Where a script's wishes for a service lead, rule by rule, through the lists around it.
-use crate::hiding::{asks_no_label, asks_service, decides_some};
+ghost use Rattle.std.specs.Prelude.{◌<◌, length};
+
 use crate::quoted::Quoted;
-use crate::wishes::{before, init_entry, is_parent, provider, rules_of};
-use init_core::{Entry, MOST_LISTS, Rule, StartList};
+use crate::wishes::{init_entry, is_parent, rules_of};
+use init_core::{Binary, Entry, MOST_LISTS, Rule, StartList};
+use reach::{Label, Trail, Trails, Wishes};
+use std::alloc::{AllocError, Global};
 use std::fmt;
+use trade_base::SERVICES;
+
+/// How the wishes of a script for a service are decided.
+#[derive(Debug, Drop)]
+pub(crate) struct Decided {
+    /// The number of the script.
+    pub client: usize,
+    /// The service.
+    pub service: &'static str,
+    trails: Trails,
+}
+
+/// How the wishes of each script for each service are decided, script by script. An error is want of memory.
+pub(crate) fn all_decided(alloc: Global, list: &StartList) -> Result<Vec<Decided>, AllocError> {
+    let mut found = Vec::new(alloc);
+    for client in 0..list.entries().len() {
+        add_client(alloc, &mut found, list, client)?;
+    }
+    Ok(found)
+}
+
+// The same of a component, if it is a script.
+fn add_client(
+    alloc: Global,
+    found: &mut Vec<Decided>,
+    list: &StartList,
+    client: usize,
+) -> Result<(), AllocError>
+    requires { client < length list.now.entries }
+{
+    if list.entries()[client].binary() != Binary::Script {
+        return Ok(());
+    }
+    for place in 0..SERVICES.len() {
+        let service = SERVICES[place].name();
+        let wishes = Wishes {
+            list,
+            client,
+            service: service.as_bytes(),
+        };
+        let trails = Trails::of(alloc, wishes)?;
+        found.push(Decided {
+            client,
+            service,
+            trails,
+        })?;
+    }
+    Ok(())
+}
+
+impl Decided {
+    /// Where they lead, a line or an edge for all that the same rules decide.
+    pub(crate) fn show<'a, W: fmt::Write>(
+        &'a self,
+        f: &mut fmt::Formatter<W>,
+        list: &'a StartList,
+        in_graph: bool,
+    ) -> fmt::Result {
+        let Some(client) = list.entries().get(self.client) else {
+            return Ok(());
+        };
+        let trails = self.trails.as_slice();
+        for trail in trails {
+            let label = if trails.len() == 1 {
+                None
+            } else {
+                Some(trail.label())
+            };
+            let lead = Lead {
+                list,
+                client,
+                service: self.service,
+                label,
+                in_graph,
+                rules: [0; MOST_LISTS],
+                count: 0,
+            };
+            lead.show_trail(f, trail)?;
+        }
+        Ok(())
+    }
+
+    /// Whether some of them are denied.
+    pub(crate) fn denies(&self) -> bool {
+        self.trails
+            .as_slice()
+            .iter()
+            .any(|trail| trail.child().is_none())
+    }
+}
 
 /// Some of a client's wishes for a service, by the rules that decided so far: one of its own list, and then one for each init
 /// outward.
 #[derive(Clone, Copy)]
-pub(crate) struct Lead<'a> {
+struct Lead<'a> {
     list: &'a StartList,
     client: &'a Entry,
     service: &'a str,
+    /// A label of such a wish, where others lead elsewhere.
+    label: Option<&'a Label>,
     /// Whether an edge of a graph is told, or a line of a tree.
     in_graph: bool,
     rules: [usize; MOST_LISTS],
@@ -19,26 +114,23 @@ pub(crate) struct Lead<'a> {
 }
 
 impl<'a> Lead<'a> {
-    /// All wishes of a client.
-    pub(crate) fn new(
-        list: &'a StartList,
-        client: &'a Entry,
-        service: &'a str,
-        in_graph: bool,
-    ) -> Lead<'a> {
-        Lead {
-            list,
-            client,
-            service,
-            in_graph,
-            rules: [0; MOST_LISTS],
-            count: 0,
+    // Those of them that a trail's rules decide.
+    fn show_trail<W: fmt::Write>(&self, f: &mut fmt::Formatter<W>, trail: &Trail) -> fmt::Result {
+        let mut lead = *self;
+        let mut asks = Some(self.client);
+        for place in trail.rules() {
+            if let Some(entry) = asks {
+                asks = match rules_of(self.list, entry).get(*place) {
+                    Some(rule) => outward(self.list, entry, rule),
+                    None => None,
+                };
+            }
+            lead = lead.by(*place);
         }
-    }
-
-    /// Where each of them leads.
-    pub(crate) fn show_all<W: fmt::Write>(&self, f: &mut fmt::Formatter<W>) -> fmt::Result {
-        show_leads(f, self, self.client, MOST_LISTS)
+        match asks {
+            Some(entry) => lead.show_undecided(f, entry),
+            None => lead.show(f, server_of(self.list, trail)),
+        }
     }
 
     // Those of them that the rule at a place decides.
@@ -87,12 +179,7 @@ impl<'a> Lead<'a> {
     ) -> fmt::Result {
         let service = self.service;
         if self.in_graph {
-            write!(f, "  \"{}\" -> ", self.client.to_path())?;
-            match server {
-                Some(server) => write!(f, "\"{}\"", server.to_path())?,
-                None => f.write_str("\"(denied)\"")?,
-            }
-            return write!(f, " [label=\"{service}");
+            return self.show_edge(f, server);
         }
         show_indent(f, self.client)?;
         write!(f, "  {service} -> ")?;
@@ -103,11 +190,29 @@ impl<'a> Lead<'a> {
         }
     }
 
+    // The edge from the client to a server, or to the node of what its list has denied.
+    fn show_edge<W: fmt::Write>(
+        &self,
+        f: &mut fmt::Formatter<W>,
+        server: Option<&Entry>,
+    ) -> fmt::Result {
+        write!(f, "  \"{}\" -> ", self.client.to_path())?;
+        match server {
+            Some(server) => write!(f, "\"{}\" [label=\"{}", server.to_path(), self.service),
+            None => {
+                show_denied(f, self.list, self.client.home())?;
+                write!(f, " [color=gray, fontcolor=gray, label=\"{}", self.service)
+            }
+        }
+    }
+
+    // With which label, where others lead elsewhere.
     fn show_end<W: fmt::Write>(&self, f: &mut fmt::Formatter<W>) -> fmt::Result {
-        if self.in_graph {
-            writeln!(f, "\"];")
-        } else {
-            writeln!(f)
+        match (self.in_graph, self.label) {
+            (true, Some(label)) => writeln!(f, "\\nwith label \\\"{label}\\\"\"];"),
+            (true, None) => writeln!(f, "\"];"),
+            (false, Some(label)) => writeln!(f, ", with label \"{label}\""),
+            (false, None) => writeln!(f),
         }
     }
 
@@ -148,31 +253,20 @@ impl<'a> Lead<'a> {
     }
 }
 
-// Where wishes lead that an entry asks for, through so many lists at most.
-fn show_leads<W: fmt::Write>(
+// The server to which a trail leads, if it leads to one.
+fn server_of<'a>(list: &'a StartList, trail: &Trail) -> Option<&'a Entry> {
+    list.entries().get(trail.child()?)
+}
+
+/// The node of what the list of an init has denied.
+pub(crate) fn show_denied<W: fmt::Write>(
     f: &mut fmt::Formatter<W>,
-    lead: &Lead<'_>,
-    entry: &Entry,
-    lists: usize,
+    list: &StartList,
+    init: usize,
 ) -> fmt::Result {
-    if lists == 0 {
-        return Ok(());
-    }
-    let service = lead.service;
-    let rules = rules_of(lead.list, entry);
-    for (place, rule) in rules.iter().enumerate() {
-        if decides_some(before(rules, place), rule, service.as_bytes()) {
-            let decided = lead.by(place);
-            match outward(lead.list, entry, rule) {
-                Some(init) => show_leads(f, &decided, init, lists - 1)?,
-                None => decided.show(f, provider(lead.list, entry.home(), rule, service))?,
-            }
-        }
-    }
-    if decides_all(rules, service.as_bytes()) {
-        Ok(())
-    } else {
-        lead.show_undecided(f, entry)
+    match init_entry(list, init) {
+        Some(init) => write!(f, "\"{}/(denied)\"", init.to_path()),
+        None => f.write_str("\"(denied)\""),
     }
 }
 
@@ -183,13 +277,6 @@ fn outward<'a>(list: &'a StartList, entry: &Entry, rule: &Rule) -> Option<&'a En
     } else {
         None
     }
-}
-
-// Whether some rule decides every wish for a service that those before it don't.
-fn decides_all(rules: &[Rule], service: &[u8]) -> bool {
-    rules
-        .iter()
-        .any(|rule| asks_service(rule, service) && asks_no_label(rule))
 }
 
 // The member that holds the rules for an entry.

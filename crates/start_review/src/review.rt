@@ -19,7 +19,7 @@ use crate::tree::Tree;
 use crate::unread::unread;
 use init_core::{BootFault, Field, StartList};
 use serde_json::Value;
-use std::alloc::Global;
+use std::alloc::{AllocError, Global};
 
 /// The most bytes of a start list's text.
 const LONGEST_TEXT: usize = 65_536;
@@ -81,14 +81,14 @@ impl Review {
         self.findings.as_slice()
     }
 
-    /// Its components, and where their wishes lead, as text.
-    pub fn tree(&self) -> Tree<'_> {
-        Tree::new(&self.list)
+    /// Its components, and where their wishes lead, as text. An error is want of memory.
+    pub fn tree(&self, alloc: Global) -> Result<Tree<'_>, AllocError> {
+        Tree::of(alloc, &self.list)
     }
 
     /// The same as a graph.
-    pub fn graph(&self) -> Graph<'_> {
-        Graph::new(&self.list)
+    pub fn graph(&self, alloc: Global) -> Result<Graph<'_>, AllocError> {
+        Graph::of(alloc, &self.list)
     }
 }
 

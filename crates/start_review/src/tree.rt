@@ -1,21 +1,25 @@
 //! The components of a start list, and where their wishes for sessions lead, as text.
-use crate::leads::{Lead, show_indent};
+use crate::leads::{Decided, all_decided, show_indent};
 use crate::left::{Inits, kept, left_of};
-use init_core::{Binary, Entry, StartList};
+use init_core::{Entry, StartList};
+use std::alloc::{AllocError, Global};
 use std::fmt;
-use trade_base::SERVICES;
 
 /// A start list's machine, what inits keep, each component with what it starts with, below its init, and for each script and service
-/// where an `open` leads, by which rules and under which conditions on the label.
-#[derive(Clone, Copy, Debug)]
+/// where an `open` leads, by which rules, under which conditions on the label, and with which label, where others lead elsewhere.
+#[derive(Debug, Drop)]
 pub struct Tree<'a> {
     list: &'a StartList,
+    decided: Vec<Decided>,
 }
 
 impl<'a> Tree<'a> {
-    /// The tree of a list.
-    pub(crate) fn new(list: &'a StartList) -> Tree<'a> {
-        Tree { list }
+    /// The tree of a list. An error is want of memory.
+    pub(crate) fn of(alloc: Global, list: &'a StartList) -> Result<Tree<'a>, AllocError> {
+        Ok(Tree {
+            list,
+            decided: all_decided(alloc, list)?,
+        })
     }
 }
 
@@ -29,9 +33,9 @@ impl fmt::Display for Tree<'_> {
         for (number, entry) in list.entries().iter().enumerate() {
             show_indent(f, entry)?;
             show_entry(f, &inits, number, entry)?;
-            if entry.binary() == Binary::Script {
-                for service in &SERVICES {
-                    Lead::new(list, entry, service.name(), false).show_all(f)?;
+            for one in self.decided.as_slice() {
+                if one.client == number {
+                    one.show(f, list, false)?;
                 }
             }
         }

@@ -25,16 +25,6 @@ pub(crate) fn before(rules: &[Rule], place: usize) -> &[Rule]
     &rules[..place.min(rules.len())]
 }
 
-/// The component of an init's list that a rule leads to for a service, if it leads to one.
-pub(crate) fn provider<'a>(
-    list: &'a StartList,
-    init: usize,
-    rule: &Rule,
-    service: &str,
-) -> Option<&'a Entry> {
-    list.entries().get(target_child(list, init, rule.target(), service.as_bytes())?)
-}
-
 // The child of an init's that a rule, at its place in a list, leads some wishes for a service to.
 fn led_to(
     list: &StartList,
