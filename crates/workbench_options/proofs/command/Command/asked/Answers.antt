@@ -14,5 +14,11 @@ returns-in_ok-words-in-test c =
     )
 
 pub returns-in_ok-words-in-reach-2 : goal.returns-in_ok-words-in-reach-2
-returns-in_ok-words-in-reach-2 c =
-    (c.in-reach.is, c.is_set.ensures, c.in_ok-words-in-reach.ensures, c.in_ok-words-in-reach-2.ensures, c.path.ensures)
+returns-in_ok-words-in-reach-2 c = (
+  c.in-reach.is,
+  c.is_set.ensures,
+  c.is_set-in-reach.ensures,
+  c.in_ok-words-in-reach.ensures,
+  c.in_ok-words-in-reach-2.ensures,
+  c.path.ensures,
+)
