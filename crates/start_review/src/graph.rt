@@ -97,10 +97,8 @@ fn depth_of(entry: &Entry) -> usize {
 
 // The ends of the boxes that stand open above a depth.
 fn show_ends<W: fmt::Write>(f: &mut fmt::Formatter<W>, depth: usize, open: usize) -> fmt::Result {
-    let mut left = open;
-    while depth < left {
-        left -= 1;
-        show_margin(f, left)?;
+    for level in (depth..open).rev() {
+        show_margin(f, level)?;
         f.write_str("}\n")?;
     }
     Ok(())
