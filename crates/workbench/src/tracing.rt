@@ -1,5 +1,5 @@
 //! The trace of a scenario: a row of figures for each call.
-ghost use Rattle.std.specs.Prelude.{◌≡◌, ◌≢◌, ◌+◌, ◌<◌, ◌≤◌, ◌∷◌, ◌++◌, ◌||◌, [], ⊤, length, decimal, false, is_err, IfOk, IfErr, IfSome, OnErr, IfNone, None, Some, drop};
+ghost use Rattle.std.specs.Prelude.{◌≡◌, ◌≢◌, ◌+◌, ◌^◌, ◌<◌, ◌≤◌, ◌∷◌, ◌++◌, ◌||◌, [], ⊤, length, decimal, false, is_err, IfOk, IfErr, IfSome, OnErr, IfNone, None, Some, drop};
 ghost use Rattle.arrayvec.specs.ArrayVec.{array_vec_len};
 ghost use Rattle.csv.specs.Writing.{default_writer, fields_text};
 ghost use Rattle.own_model.specs.Listed.{start_list_of};
@@ -88,6 +88,7 @@ fn put_row<K: Sink>(
         (decimal front.entry.number ++ cell_text front.entry.name.now
         ++ cell_text front.entry.call.now ++ cell_text front.entry.reply.now ++ figures.now) }
     ensures failing { K.has_failed writer.new ≡ is_err result }
+    ensures fits { front.entry.number < 2 ^ 64 }
 {
     put_number(front.number, gathered, writer)?;
     put_cell(front.name, gathered, writer)?;
