@@ -117,7 +117,7 @@
       return part;
     }
     const told = data.least === null || data.least.stale ? `Which budgets serve is being asked ..${data.least ? " The strips are those of the text before." : ""}` : data.least.why ? `Which budgets serve isn't told: ${data.least.why}`
-      : "The strip below a bar is on the bar's scale: plain green where a budget serves, hatched red where some call is in want. More can serve less.";
+      : `The strip below a bar is on the bar's scale: plain green where a budget serves, hatched red where some call is in want. More can serve less.${data.least.left ? ` The budgets of ${data.least.left} sessions are left out.` : ""}`;
     if (data.least && data.least.stale) part.className = "stale";
     part.append(legend(), note(told));
     for (const row of rows()) part.append(drawn(row));

@@ -3,7 +3,7 @@ here: outputs are read, put side by side, and thinned where they are long."""
 import hashlib
 
 from places import places, rules_in
-from thin import ACCOUNTS, COMPLAINTS, TICKS, lines_of, some, some_timelines, timelines_of
+from thin import ACCOUNTS, COMPLAINTS, TICKS, lines_of, shown_accounts, some, some_timelines, timelines_of
 from told import accounts_of, alone_of, complaints_of, findings_of, least_of, policy_of, replies_of, route_of, rows_of, ways_of
 
 
@@ -91,8 +91,10 @@ class Gathered:
         words = [*machine_words(self.list), "scenario"]
         status, values, err = self.run(["least", "--csv", *words])
         if status not in (0, 3):
-            return {"accounts": [], "why": err}
-        return {"accounts": least_of(values, self.run(["least", *words])[1]), "why": ""}
+            return {"accounts": [], "left": 0, "why": err}
+        accounts = least_of(values, self.run(["least", *words])[1])
+        shown = shown_accounts(accounts)
+        return {"accounts": shown, "left": len(accounts) - len(shown), "why": ""}
 
     def route(self, client, service, label):
         """Returns where one wish leads."""

@@ -17,6 +17,13 @@ def some(items, most):
     return items[:: -(-len(items) // most)] if len(items) > most else items
 
 
+def shown_accounts(accounts):
+    """Returns the accounts whose budgets are shown: all components' own, and of many sessions some, evenly."""
+    sessions = some([it for it in accounts if it["session"]], SERIES)
+    kept = {id(it) for it in sessions}
+    return [it for it in accounts if not it["session"] or id(it) in kept]
+
+
 def clipped(text):
     return text if len(text) <= LONG else f"{text[:LONG]} .. ({len(text)} signs)"
 
