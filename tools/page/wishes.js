@@ -98,7 +98,7 @@
     if (!policy) return [];
     const broken = policy.lines.filter((it) => it.told).length;
     const verdict = policy.fault ? policy.fault : !policy.read ? "the policy has a fault" : broken ? (broken === 1 ? "a line of the policy is broken" : `${broken} lines of the policy are broken`) : "the policy is kept";
-    return [el("h3", {}, "Policy"), el("p", { class: broken || !policy.read ? "bad" : "good", id: "verdict" }, broken || !policy.read ? `✗ ${verdict}` : `✓ ${verdict}`),
+    return [el("h3", {}, "Policy"), el("p", { class: broken || !policy.read ? "bad" : "good", id: "policy-kept" }, broken || !policy.read ? `✗ ${verdict}` : `✓ ${verdict}`),
       el("div", { class: "text policy" }, ...policy.lines.map(demand))];
   };
 
