@@ -10,6 +10,7 @@ mod lists;
 mod needs;
 mod plays;
 mod policies;
+mod recordings;
 mod scenarios;
 mod tests;
 
@@ -21,6 +22,7 @@ use lists::{check, reach, route, tree};
 use needs::{Telling, least};
 use plays::{Viewing, play};
 use policies::hold;
+use recordings::record_scenario;
 use std::process::ExitCode;
 use tests::{Wanted, test};
 use workbench_options::{Command, alone_takes_a_name_or_all, needs_command, words_given};
@@ -84,6 +86,20 @@ fn answer(rt: &HostRuntime, command: Command<'_>) -> u8 {
             accounts,
             scenario,
         } => play(rt, machine, scenario, Viewing::Run { only, accounts }),
+        Command::Record {
+            machine,
+            all,
+            write,
+            scenario,
+        } => {
+            let wanted = recordings::Wanted {
+                machine,
+                all,
+                write,
+                scenario,
+            };
+            record_scenario(rt, wanted)
+        }
         Command::Trace {
             machine,
             json,

@@ -99,8 +99,8 @@ fn least_on(
     }
 }
 
-// The text of a scenario, or the exit status where it can't be read, which is told.
-fn read_scenario(rt: &HostRuntime, scenario: &str) -> Result<Vec<u8>, u8> {
+/// The text of a scenario, or the exit status where it can't be read, which is told.
+pub(crate) fn read_scenario(rt: &HostRuntime, scenario: &str) -> Result<Vec<u8>, u8> {
     let read = if scenario == STANDARD_INPUT {
         read_all(rt.alloc(), &mut Input::new(rt.reader()))
     } else {
@@ -163,8 +163,13 @@ fn tell_fault_of_run(rt: &HostRuntime, fault: &BootFault) -> u8 {
     UNWRITTEN
 }
 
-// Tells why no machine was booted, with the place in its start list where that is a file's, and answers the exit status.
-fn tell_unbooted(rt: &HostRuntime, text: &[u8], machine: Option<&str>, fault: &BootFault) -> u8 {
+/// Tells why no machine was booted, with the place in its start list where that is a file's, and answers the exit status.
+pub(crate) fn tell_unbooted(
+    rt: &HostRuntime,
+    text: &[u8],
+    machine: Option<&str>,
+    fault: &BootFault,
+) -> u8 {
     if let Some(path) = machine {
         if let Err(placed) = Review::read(rt.alloc(), text) {
             tell_fault(rt, path, &placed);

@@ -54,6 +54,10 @@ bare = record (new_app (codes "nethrywel")) {
 abbrev pub run : Shape
 run = of_scenario (codes "run") (option_rule (codes "only") ∷ flag_rule (codes "accounts") ∷ [])
 
+-- the command that records a scenario
+abbrev pub record_shape : Shape
+record_shape = of_scenario (codes "record") (flag_rule (codes "all") ∷ flag_rule (codes "write") ∷ [])
+
 -- the command that tells what is wrong with a start list
 abbrev pub check : Shape
 check = with_rules (codes "check") (flag_rule (codes "strict") ∷ option_rule (codes "policy") ∷ file_rule (codes "list") ∷ [])
@@ -102,7 +106,7 @@ HasShape shape made = (app_of made ≡ record { top = shape; subs = [] }) × ((o
 abbrev pub program : App
 program =
     with_subcommand (with_subcommand (with_subcommand (with_subcommand (with_subcommand (with_subcommand (with_subcommand (with_subcommand (with_subcommand (with_subcommand
-    (with_subcommand bare run) check) (of_list (codes "tree") (codes "dot")))
+    (with_subcommand (with_subcommand bare run) record_shape) check) (of_list (codes "tree") (codes "dot")))
     (of_list (codes "reach") (codes "csv"))) route)
     (of_scenario (codes "trace") json_flag)) (of_scenario (codes "accounts") json_flag)) alone) least) test) diff
 
@@ -124,6 +128,11 @@ Asks (command.Run machine only accounts scenario) name rows = (name ≡ codes "r
     × (option_map (λ t. t.now) machine ≡ first_of (codes "machine") rows)
     × (option_map (λ t. t.now) only ≡ first_of (codes "only") rows)
     × (accounts ≡ is_set (codes "accounts") rows)
+    × (scenario.now ≡ first_or (codes "-") (codes "scenario") rows)
+Asks (command.Record machine all write scenario) name rows = (name ≡ codes "record")
+    × (option_map (λ t. t.now) machine ≡ first_of (codes "machine") rows)
+    × (all ≡ is_set (codes "all") rows)
+    × (write ≡ is_set (codes "write") rows)
     × (scenario.now ≡ first_or (codes "-") (codes "scenario") rows)
 Asks (command.Check strict policy list) name rows = (name ≡ codes "check")
     × (strict ≡ is_set (codes "strict") rows)
@@ -172,7 +181,7 @@ Asks (command.Test machine junit paths) name rows = (name ≡ codes "test")
 
 -- the names of all commands
 abbrev pub names : List Text
-names = codes "run" ∷ codes "check" ∷ codes "tree" ∷ codes "reach" ∷ codes "route" ∷ codes "trace" ∷ codes "accounts" ∷ codes "alone" ∷ codes "least" ∷ codes "test" ∷ codes "diff" ∷ []
+names = codes "run" ∷ codes "record" ∷ codes "check" ∷ codes "tree" ∷ codes "reach" ∷ codes "route" ∷ codes "trace" ∷ codes "accounts" ∷ codes "alone" ∷ codes "least" ∷ codes "test" ∷ codes "diff" ∷ []
 
 -- a command, if one is asked for, is what a command line asks for
 abbrev pub AsksAs : Option Command → Option (Text × List Row) → Type 0

@@ -23,6 +23,17 @@ pub enum Command<'a> {
         /// The path of the scenario.
         scenario: &'a str,
     },
+    /// Writes a scenario with its replies.
+    Record {
+        /// The path of a start list, or none for the built-in machine.
+        machine: Option<&'a str>,
+        /// Whether each reply is written anew.
+        all: bool,
+        /// Whether it is written in place of the scenario.
+        write: bool,
+        /// The path of the scenario.
+        scenario: &'a str,
+    },
     /// Tells what is wrong with a start list.
     Check {
         /// Whether a finding is a fault.
@@ -179,6 +190,12 @@ impl<'a> Command<'a> {
                 machine: found.get_str("machine"),
                 only: found.get_str("only"),
                 accounts: is_set(found, "accounts"),
+                scenario: path(found, "scenario"),
+            }),
+            "record" => Some(Command::Record {
+                machine: found.get_str("machine"),
+                all: is_set(found, "all"),
+                write: is_set(found, "write"),
                 scenario: path(found, "scenario"),
             }),
             "check" => Some(Command::Check {

@@ -6,6 +6,7 @@ ghost use Rattle.workbench_options.specs.Line.{HasShape, alone as alone_shape, b
 use crate::checking::with_check;
 use crate::help;
 use crate::pipeline::{with_diff, with_test};
+use crate::recording::with_record;
 use clap::error::ErrorKind;
 use clap::{Arg, ArgAction, Command as Words, Error};
 use std::alloc::{AllocError, Global};
@@ -18,6 +19,7 @@ pub(crate) fn commands<'a>(alloc: Global) -> Result<Words<'a>, Error>
         (λ error. kind_of error ≡ ErrorKind.OutOfMemory) }
 {
     let words = with_run(alloc, bare(alloc))?;
+    let words = with_record(alloc, words)?;
     let words = with_check(alloc, words)?;
     let words = with_list(alloc, words, "tree", help::TREE, "dot", help::DOT)?;
     let words = with_list(alloc, words, "reach", help::REACH, "csv", help::CSV)?;
@@ -264,7 +266,7 @@ pub(crate) fn last<'a>(alloc: Global, name: &'a str, value: &'a str, help: &'a s
 pub fn needs_command(alloc: Global) -> Result<Error, Error> {
     Ok(commands(alloc)?.error(
         ErrorKind::MissingSubcommand,
-        "'nethrywel' requires a command: run, check, tree, reach, route, trace, accounts, alone, least, test or diff",
+        "'nethrywel' requires a command: run, record, check, tree, reach, route, trace, accounts, alone, least, test or diff",
     )?)
 }
 

@@ -42,6 +42,13 @@ docs/FORMATS.md has all forms of lines, replies and start lists.";
 pub(crate) const RUN: &str =
     "Answer a scenario, and tell each line that isn't answered as it expects";
 
+pub(crate) const RECORD: &str =
+    "Write a scenario with each call's reply behind it, as what is expected";
+
+pub(crate) const ANEW: &str = "Write each reply anew, also where one is expected";
+
+pub(crate) const IN_PLACE: &str = "Write it in place of SCENARIO, by a new file beside it";
+
 pub(crate) const CHECK: &str = "Tell what is wrong with a start list, and where";
 
 pub(crate) const TREE: &str =

@@ -6,6 +6,7 @@ mod command;
 mod commands;
 mod help;
 mod pipeline;
+mod recording;
 
 pub use command::Command;
 pub use commands::{alone_takes_a_name_or_all, needs_command, words_given};

@@ -14,6 +14,15 @@ returns-in-run c =
       c.path.ensures,
     )
 
+pub returns-in-record : goal.returns-in-record
+returns-in-record c = (
+  c.in-record.is,
+  c.get_str-in-record.ensures ∙ first_value-rows (found_of c.args.found.now) (codes "machine"),
+  c.is_set-in-record.ensures,
+  c.is_set-in-record-2.ensures,
+  c.path-in-record.ensures,
+)
+
 pub returns-in-check : goal.returns-in-check
 returns-in-check c = (
   c.in-check.is,

@@ -1,0 +1,13 @@
+//! A scenario with the replies of its calls behind them.
+#![tactic(auto)]
+
+mod answered;
+mod pieces;
+mod recording;
+mod sheet;
+mod unread;
+mod writing;
+
+pub use recording::record;
+pub use sheet::Recording;
+pub use unread::{Unread, Why};

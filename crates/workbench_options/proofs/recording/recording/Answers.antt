@@ -1,0 +1,15 @@
+-- The command that records a scenario, argument by argument.
+use Rattle.std.proofs.Common.{◌∙◌, ap, codes}
+use Rattle.clap.specs.Simple.{app_of_fields, new_shape}
+use Rattle.workbench_options.specs.Line.{HasShape}
+use Rattle.workbench_options.proofs.LineLemmas.{arg_added}
+use Rattle.workbench_options.proofs.recording.recording.Goals as goal
+
+pub returns : goal.returns
+returns c =
+    let bare : HasShape (new_shape (codes "record")) c.about.result =
+    (ap app_of_fields c.about.ensures ∙ c.new.ensures.app, ap (λ f. f.has_globals) c.about.ensures ∙ c.new.ensures.local) in
+    arg_added _ _ _ _ _ c.in_ok-command.ensures c.file-scenario.ensures.rule c.file-scenario.ensures.local
+    (arg_added _ _ _ _ _ c.in_ok-arg-3.ensures c.flag-write.ensures.rule c.flag-write.ensures.local
+    (arg_added _ _ _ _ _ c.in_ok-arg-2.ensures c.flag-all.ensures.rule c.flag-all.ensures.local
+    (arg_added _ _ _ _ _ c.in_ok-arg.ensures c.option-machine.ensures.rule c.option-machine.ensures.local bare)))
