@@ -3,7 +3,13 @@ use init_core::{BootFault, MACHINE_A};
 use scenario::{DeviceFault, Output, Sink, Source};
 use std::alloc::Global;
 use std::test::Fail;
-use workbench::{Ending, Play, PlayFault, accounts, alone, exit_status, run, trace};
+use workbench::{Ending, Play, PlayFault, Showing, accounts, alone, exit_status, run, trace};
+
+/// The account list stands behind the transcript.
+const LISTED: Showing = Showing {
+    accounts: true,
+    numbers: false,
+};
 
 /// Gives bytes once, and then fails.
 #[derive(Drop)]
@@ -98,7 +104,7 @@ fn played<S: Source, K: Sink, E: Sink>(
 ) -> Option<Ending> {
     let play = on(MACHINE_A);
     match kind {
-        Kind::Run => run(alloc, play, None, true, reader, writer, complaints),
+        Kind::Run => run(alloc, play, None, LISTED, reader, writer, complaints),
         Kind::Trace => trace(alloc, play, reader, writer, complaints),
         Kind::Accounts => accounts(alloc, play, reader, writer, complaints),
         Kind::Alone => alone(alloc, play, b"alice", reader, writer, complaints),
@@ -199,7 +205,7 @@ fn endings_have_statuses(rt: HostRuntime) -> Result<(), Fail> {
         rt.alloc(),
         on("{"),
         None,
-        true,
+        LISTED,
         &mut reader,
         &mut writer,
         &mut complaints,

@@ -25,6 +25,7 @@ use policies::hold;
 use recordings::record_scenario;
 use std::process::ExitCode;
 use tests::{Wanted, test};
+use workbench::Showing;
 use workbench_options::{Command, alone_takes_a_name_or_all, needs_command, words_given};
 
 fn main(rt: HostRuntime) -> ExitCode {
@@ -84,8 +85,12 @@ fn answer(rt: &HostRuntime, command: Command<'_>) -> u8 {
             machine,
             only,
             accounts,
+            numbers,
             scenario,
-        } => play(rt, machine, scenario, Viewing::Run { only, accounts }),
+        } => {
+            let showing = Showing { accounts, numbers };
+            play(rt, machine, scenario, Viewing::Run { only, showing })
+        }
         Command::Record {
             machine,
             all,

@@ -7,7 +7,7 @@ use init_core::{BootFault, MACHINE_A};
 use scenario::{Input, Output, Source};
 use start_review::{Fault, Review};
 use std::{fs, io};
-use workbench::{Play, accounts, alone, run, trace};
+use workbench::{Play, Showing, accounts, alone, run, trace};
 
 /// What is told of a scenario.
 #[derive(Clone, Copy, Debug)]
@@ -16,8 +16,8 @@ pub(crate) enum Viewing<'a> {
     Run {
         /// The name whose lines alone are answered, or none for all lines.
         only: Option<&'a str>,
-        /// Whether the account list is told after the last reply.
-        accounts: bool,
+        /// What is told beside what is answered.
+        showing: Showing,
     },
     /// A table of its lines.
     Trace {
@@ -133,10 +133,7 @@ fn play_from<S: Source>(
     let mut writer = Output::new(io::writer(rt));
     let mut complaints = Output::new(rt.stderr());
     let ended = match viewing {
-        Viewing::Run {
-            only,
-            accounts: listed,
-        } => {
+        Viewing::Run { only, showing } => {
             let only = match only {
                 Some(name) => Some(name.as_bytes()),
                 None => None,
@@ -145,7 +142,7 @@ fn play_from<S: Source>(
                 alloc,
                 play,
                 only,
-                listed,
+                showing,
                 reader,
                 &mut writer,
                 &mut complaints,

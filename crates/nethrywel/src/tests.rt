@@ -10,7 +10,7 @@ use std::alloc::AllocError;
 use std::io::Write;
 use std::{fs, io};
 use test_report::{Trial, failures, junit_document, machine_beside, tap_plan, tap_point};
-use workbench::{Ending, Play, exit_status, run};
+use workbench::{Ending, Play, Showing, exit_status, run};
 
 /// The exit status where a scenario isn't answered as it expects.
 const FAILED: u8 = 3;
@@ -114,7 +114,10 @@ fn run_on(
         alloc,
         play,
         None,
-        false,
+        Showing {
+            accounts: false,
+            numbers: false,
+        },
         &mut Input::new(file),
         &mut Output::new(io::sink()),
         &mut complaints,

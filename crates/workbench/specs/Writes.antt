@@ -1,5 +1,5 @@
 -- What a command writes of a scenario: what is told of the lines that were played, and what stands behind them.
-use Rattle.std.specs.Prelude.{◌≡◌, ◌⊎◌, ℕ, Bool, List, [], ◌++◌, length, Option, Some, None, IfSome, IfNone, Result, Ok, Err}
+use Rattle.std.specs.Prelude.{◌≡◌, ◌⊎◌, ℕ, Bool, true, false, List, [], ◌++◌, codes, decimal, length, Option, Some, None, IfSome, IfNone, Result, Ok, Err}
 use Rattle.std.specs.Io.KnownBytes.{Appends}
 use Rattle.own_model.specs.Listed.{Listed}
 use Rattle.own_model.specs.Text.{lines_of}
@@ -10,7 +10,7 @@ use Rattle.scenario.specs.Lines.{AreReadable}
 use Rattle.scenario.specs.Program.{IsMachine, accounts_for, world_of}
 use Rattle.scenario.specs.Stops.{AppendsPart}
 use Rattle.workbench.specs.Faults.{unplayed}
-use Rattle.workbench.specs.Played.{calls_answered, calls_said}
+use Rattle.workbench.specs.Played.{calls_answered, calls_said, engine_tells, told_of_lines}
 use Rattle.workbench.specs.Plays.{EndsFor, TakesRoomFor}
 use Rattle.workbench.specs.declared.ending.Ending.{Ending}
 use Rattle.workbench.specs.declared.ending.PlayFault.{PlayFault}
@@ -80,8 +80,20 @@ nothing_told listed lines = []
 abbrev pub transcript_of : Option (List ℕ) → World → List (List ℕ) → List ℕ
 transcript_of only world lines = told_after world.entries world.states [] (calls_answered only lines)
 
-abbrev pub run_told : Option (List ℕ) → Listed → List (List ℕ) → List ℕ
-run_told only listed lines = transcript_of only (world_of listed) lines
+-- the same where what each line of the scenario is told stands behind the line's number, if that is asked for
+abbrev pub number_before : Bool → ℕ → List ℕ
+number_before true number = decimal number ++ codes ": "
+number_before false number = []
+
+abbrev pub run_tells : Bool → World → List (List ℕ) → ℕ → List ℕ → List ℕ
+run_tells numbers start earlier number call = number_before numbers number ++ engine_tells start earlier number call
+
+abbrev pub shown_of : Bool → Option (List ℕ) → World → List (List ℕ) → List ℕ
+shown_of true only world lines = told_of_lines (run_tells true world) only [] 1 lines
+shown_of false only world lines = transcript_of only world lines
+
+abbrev pub run_told : Bool → Option (List ℕ) → Listed → List (List ℕ) → List ℕ
+run_told numbers only listed lines = shown_of numbers only (world_of listed) lines
 
 -- the account list after them, where it is asked for
 abbrev pub list_behind : Bool → Option (List ℕ) → Listed → World → List (List ℕ) → List ℕ

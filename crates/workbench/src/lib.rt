@@ -23,4 +23,4 @@ pub use beside::alone;
 pub use ending::{Ending, PlayFault, exit_status};
 pub use machine::Play;
 pub use tracing::trace;
-pub use transcript::run;
+pub use transcript::{Showing, run};

@@ -1,33 +1,42 @@
 //! The run of a scenario in the friendly form: its transcript, as the engine writes it.
-ghost use Rattle.std.specs.Prelude.{◌≡◌, ◌≢◌, ◌≤◌, ◌||◌, [], ⊤, false, IfNone, IfOk, IfErr, IfSome, OnErr, Some};
+ghost use Rattle.std.specs.Prelude.{◌≡◌, ◌≢◌, ◌≤◌, ◌++◌, ◌||◌, [], ⊤, false, is_err, IfNone, IfOk, IfErr, IfSome, OnErr, Some};
 ghost use Rattle.std.specs.Option.{option_copied};
 ghost use Rattle.own_model.specs.AccountList.{account_list_text};
 ghost use Rattle.own_model.specs.Listed.{start_list_of};
 ghost use Rattle.own_model.specs.StartList.{entries_of};
 ghost use Rattle.init_core.specs.declared.fault.BootFault.TheVariants.{NoMemory};
+ghost use Rattle.scenario.specs.Answer.{answer_text};
+ghost use Rattle.scenario.specs.Gathered.{TellsUnless};
 ghost use Rattle.scenario.specs.Program.{boot_fault};
 ghost use Rattle.scenario.specs.Runs.{HasCause};
 ghost use Rattle.workbench.specs.Faults.{fault_before, is_write_fault, unplayed};
-ghost use Rattle.workbench.specs.Played.{engine_tells};
-ghost use Rattle.workbench.specs.Writes.{Closes, IsPlayed, IsPlayedFrom, IsUnplayed, list_behind, run_behind, run_told, transcript_of};
+ghost use Rattle.workbench.specs.Writes.{Closes, IsPlayed, IsPlayedFrom, IsUnplayed, list_behind, number_before, run_behind, run_tells, run_told, shown_of};
 ghost use Rattle.workbench.specs.declared.ending.PlayFault.TheVariants.{NoMemory as NoRoom};
 
 use crate::ending::{Ending, PlayFault};
 use crate::machine::Play;
 use crate::notes::Notes;
 use crate::playing::play as play_lines;
+use crate::text::{add, add_number};
 use crate::watch::{Heard, Watch};
+use arrayvec::ArrayVec;
 use init_core::{BootFault, StartList, boot};
 use pd_core::{Core, Router};
-use scenario::{Gather, MAX_LINES, Run, Sink, Source, write_accounts};
+use scenario::{DeviceFault, Gather, MAX_LINES, Run, Sink, Source, write_accounts};
 use std::alloc::Global;
+
+/// Room for a number with the sign behind it.
+const LONGEST_NUMBER: usize = 40;
 
 /// Tells each answer as the engine does.
 #[derive(Drop)]
-pub(crate) struct Transcript;
+pub(crate) struct Transcript {
+    /// Whether the number of its line stands before it.
+    numbers: bool,
+}
 
 impl Watch for Transcript {
-    ghost tells = { λ _. engine_tells };
+    ghost tells = { λ watch. run_tells watch.numbers };
 
     ghost sees = { λ _ _ _ _. ⊤ };
 
@@ -39,14 +48,67 @@ impl Watch for Transcript {
         gathered: &mut Gather,
         writer: &mut K,
     ) -> Result<(), PlayFault> {
-        let answer = heard.answer;
-        gathered.put_answer(writer, answer.lines, answer.name, answer.reply)?;
+        put_heard(self.numbers, heard, gathered, writer)?;
         Ok(())
     }
 }
 
-/// Plays a scenario, or the lines of one name alone, and writes the transcript, with the account list behind it where it is
-/// asked for and no fault came. Complaints are written as they come.
+// Gathers an answer, behind the number of its line where that is asked for.
+fn put_heard<K: Sink>(
+    numbers: bool,
+    heard: &Heard<'_>,
+    gathered: &mut Gather,
+    writer: &mut K,
+) -> Result<(), DeviceFault>
+    requires { K.has_failed writer.old ≡ false }
+    ensures told { TellsUnless result (K.contents writer.old) gathered.old
+        (K.contents writer.new) gathered.new
+        (number_before numbers heard.now.number ++ answer_text (Some heard.now.answer)) }
+    ensures failing { K.has_failed writer.new ≡ is_err result }
+{
+    put_number_before(numbers, heard.number, gathered, writer)?;
+    let answer = heard.answer;
+    gathered.put_answer(writer, answer.lines, answer.name, answer.reply)
+}
+
+// Gathers the number of a line, where that is asked for.
+fn put_number_before<K: Sink>(
+    numbers: bool,
+    number: u64,
+    gathered: &mut Gather,
+    writer: &mut K,
+) -> Result<(), DeviceFault>
+    requires { K.has_failed writer.old ≡ false }
+    ensures told { TellsUnless result (K.contents writer.old) gathered.old
+        (K.contents writer.new) gathered.new (number_before numbers number) }
+    ensures failing { K.has_failed writer.new ≡ is_err result }
+{
+    gathered.put(writer, text_before(numbers, number).as_slice())
+}
+
+// What stands before an answer: the number of its line, where that is asked for.
+fn text_before(numbers: bool, number: u64) -> ArrayVec<u8, LONGEST_NUMBER>
+    ensures { result.items ≡ number_before numbers number }
+{
+    let mut front = ArrayVec::new();
+    if numbers {
+        add_number(&mut front, number);
+        add(&mut front, b": ");
+    }
+    front
+}
+
+/// What is told of a play beside what is answered.
+#[derive(Clone, Copy, Debug, PartialEq, Eq)]
+pub struct Showing {
+    /// Whether the account list stands behind the transcript.
+    pub accounts: bool,
+    /// Whether the number of its line stands before what each line of the scenario is told.
+    pub numbers: bool,
+}
+
+/// Plays a scenario, or the lines of one name alone, and writes the transcript, each line's behind its number where that is asked
+/// for, and with the account list behind it where it is asked for and no fault came. Complaints are written as they come.
 ///
 /// What is written is the transcript of the calls that the scenario's lines say, and the account list of the world after them;
 /// at a fault the transcript of the lines that were played, or where a write failed or the host has no room a part of these, from
@@ -57,7 +119,7 @@ pub fn run<S: Source, K: Sink, E: Sink>(
     alloc: Global,
     play: Play<'_>,
     only: Option<&[u8]>,
-    accounts: bool,
+    showing: Showing,
     reader: &mut S,
     writer: &mut K,
     complaints: &mut E,
@@ -65,7 +127,8 @@ pub fn run<S: Source, K: Sink, E: Sink>(
     ensures played { IfOk result (λ ending. fault_before (S.has_failed reader.old)
         (K.has_failed writer.old || E.has_failed complaints.old) ≡ None →
         IsPlayed play.entry.machine.now
-        (run_told (option_copied only.entry)) (run_behind accounts (option_copied only.entry)) false ending
+        (run_told showing.numbers (option_copied only.entry))
+        (run_behind showing.accounts (option_copied only.entry)) false ending
         (S.remaining reader.old) (S.remaining reader.new)
         (S.has_failed reader.new) (K.contents writer.old) (K.contents writer.new)) }
     ensures few { IfOk result (λ ending. ending.lines ≤ MAX_LINES) }
@@ -90,7 +153,7 @@ pub fn run<S: Source, K: Sink, E: Sink>(
     let mut notes = Notes::new(alloc, play.scenario)?;
     let run = Run { list: &list, only };
     Ok(run_on(
-        &run, &mut core, &mut notes, accounts, reader, writer, complaints,
+        &run, &mut core, &mut notes, showing, reader, writer, complaints,
     ))
 }
 
@@ -99,7 +162,7 @@ fn run_on<R: Router + Drop, S: Source, K: Sink, E: Sink>(
     run: &Run<'_>,
     core: &mut Core<R>,
     notes: &mut Notes<'_>,
-    accounts: bool,
+    showing: Showing,
     reader: &mut S,
     writer: &mut K,
     complaints: &mut E,
@@ -108,8 +171,8 @@ fn run_on<R: Router + Drop, S: Source, K: Sink, E: Sink>(
     requires ahead { notes.old.buffers.ahead ≡ [] }
     requires gathered { notes.old.buffers.gathered ≡ [] }
     ensures played { fault_before (S.has_failed reader.old)
-        (K.has_failed writer.old || E.has_failed complaints.old) ≡ None → IsPlayedFrom (transcript_of (option_copied run.now.only) core.old)
-        (list_behind accounts (option_copied run.now.only) run.now.list.now core.old) false result
+        (K.has_failed writer.old || E.has_failed complaints.old) ≡ None → IsPlayedFrom (shown_of showing.numbers (option_copied run.now.only) core.old)
+        (list_behind showing.accounts (option_copied run.now.only) run.now.list.now core.old) false result
         (S.remaining reader.old) (S.remaining reader.new)
         (S.has_failed reader.new) (K.contents writer.old) (K.contents writer.new) }
     ensures few { result.lines ≤ MAX_LINES }
@@ -120,10 +183,13 @@ fn run_on<R: Router + Drop, S: Source, K: Sink, E: Sink>(
         (K.has_failed writer.old || E.has_failed complaints.old)) (λ fault. (result ≡ unplayed fault)
         × (reader.new ≡ reader.old) × (writer.new ≡ writer.old) × (complaints.new ≡ complaints.old)) }
 {
-    let mut watch = Transcript;
+    let mut watch = Transcript {
+        numbers: showing.numbers,
+    };
     let ending = play_lines(
         run, core, notes, &mut watch, b"", reader, writer, complaints,
     );
+    let accounts = showing.accounts;
     if accounts {
         close_with_list(ending, core, run.list, writer)
     } else {

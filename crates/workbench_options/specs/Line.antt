@@ -52,7 +52,7 @@ bare = record (new_app (codes "nethrywel")) {
 
 -- the command that answers a scenario
 abbrev pub run : Shape
-run = of_scenario (codes "run") (option_rule (codes "only") ∷ flag_rule (codes "accounts") ∷ [])
+run = of_scenario (codes "run") (option_rule (codes "only") ∷ flag_rule (codes "accounts") ∷ flag_rule (codes "numbers") ∷ [])
 
 -- the command that records a scenario
 abbrev pub record_shape : Shape
@@ -124,10 +124,11 @@ first_or text id rows = unwrap_or (first_of id rows) text
 
 -- a command is what these rows ask for behind this name
 abbrev pub Asks : Command → Text → List Row → Type 0
-Asks (command.Run machine only accounts scenario) name rows = (name ≡ codes "run")
+Asks (command.Run machine only accounts numbers scenario) name rows = (name ≡ codes "run")
     × (option_map (λ t. t.now) machine ≡ first_of (codes "machine") rows)
     × (option_map (λ t. t.now) only ≡ first_of (codes "only") rows)
     × (accounts ≡ is_set (codes "accounts") rows)
+    × (numbers ≡ is_set (codes "numbers") rows)
     × (scenario.now ≡ first_or (codes "-") (codes "scenario") rows)
 Asks (command.Record machine all write scenario) name rows = (name ≡ codes "record")
     × (option_map (λ t. t.now) machine ≡ first_of (codes "machine") rows)

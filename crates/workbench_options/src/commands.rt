@@ -121,6 +121,7 @@ fn run<'a>(alloc: Global) -> Result<Words<'a>, AllocError>
     ensures { IfOk result (HasShape run_shape) }
 {
     let accounts = flag(alloc, "accounts", help::WITH_ACCOUNTS);
+    let numbers = flag(alloc, "numbers", help::NUMBERS);
     let only = option(alloc, "only", "NAME", help::ONLY);
     let machine = option(alloc, "machine", "FILE", help::MACHINE);
     let scenario = file(alloc, "scenario", "SCENARIO", help::SCENARIO);
@@ -129,6 +130,7 @@ fn run<'a>(alloc: Global) -> Result<Words<'a>, AllocError>
         .arg(machine)?
         .arg(only)?
         .arg(accounts)?
+        .arg(numbers)?
         .arg(scenario)?;
     Ok(command)
 }

@@ -92,6 +92,8 @@ pub(crate) const ONLY: &str = "Answer the lines of this component alone";
 
 pub(crate) const WITH_ACCOUNTS: &str = "Print all accounts after the last reply";
 
+pub(crate) const NUMBERS: &str = "Print the number of its line before what each line is told";
+
 pub(crate) const STRICT: &str = "End with status 2 where there is a finding";
 
 pub(crate) const POLICY: &str = "A policy: lines that say which scripts may reach which servers";
