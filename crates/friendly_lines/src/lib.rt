@@ -16,7 +16,7 @@ mod words;
 
 pub use expected::meets;
 pub use fault::{Fault, Reason};
-pub use forms::Form;
+pub use forms::{Form, is_one_edit};
 pub use laws::calls_are_calls;
 pub use line::Line;
-pub use reading::{Said, end_of, read_friendly};
+pub use reading::{Said, end_of, is_passed, read_friendly};

@@ -3,11 +3,14 @@ use crate::documents::{accounts_document, trace_documents};
 use crate::ends::{Played, REFUSED};
 use crate::files::{STANDARD_INPUT, read_list};
 use crate::lists::tell_fault;
-use init_core::{BootFault, MACHINE_A};
+use init_core::{BootFault, MACHINE_A, StartList};
 use scenario::{Input, Output, Source};
-use start_review::{Fault, Review};
+use start_review::Review;
 use std::{fs, io};
-use workbench::{Play, Showing, accounts, alone, run, trace};
+use workbench::{Play, Showing, accounts, alone, near_component, run, trace};
+
+/// The exit status where nobody has the name that is asked for.
+const NOBODY: u8 = 3;
 
 /// What is told of a scenario.
 #[derive(Clone, Copy, Debug)]
@@ -74,11 +77,13 @@ fn play_on<'a>(
     scenario: &'a str,
     viewing: Viewing<'_>,
 ) -> u8 {
-    if let Some(name) = viewing.name() {
-        if warn_of_stranger(rt, text, machine, name) {
-            return REFUSED;
-        }
-    }
+    let is_known = match viewing.name() {
+        Some(name) => match is_component(rt, text, machine, name) {
+            Ok(found) => found,
+            Err(status) => return status,
+        },
+        None => true,
+    };
     let play = Play {
         machine: text,
         scenario: scenario.as_bytes(),
@@ -97,29 +102,50 @@ fn play_on<'a>(
     if let Err(fault) = &played.ended {
         tell_unbooted(rt, text, machine, fault);
     }
-    played.tell(rt, scenario)
+    let status = played.tell(rt, scenario);
+    if status == 0 && !is_known {
+        NOBODY
+    } else {
+        status
+    }
 }
 
-// Warns of a name that no component has. Where the list of a file is none it tells that, and answers that it did.
-fn warn_of_stranger(rt: &HostRuntime, text: &[u8], machine: Option<&str>, name: &str) -> bool {
+// Whether a component has a name; one that none has is told. Where the list of a file is none it tells that, and answers the exit
+// status.
+fn is_component(
+    rt: &HostRuntime,
+    text: &[u8],
+    machine: Option<&str>,
+    name: &str,
+) -> Result<bool, u8> {
     match Review::read(rt.alloc(), text) {
         Ok(review) => {
-            if review.list().find(name.as_bytes()).is_none() {
-                let _ = eprintln!(rt; "{name}: no component of the machine has this name");
+            let found = review.list().find(name.as_bytes()).is_some();
+            if !found {
+                tell_stranger(rt, review.list(), name);
             }
-            false
+            Ok(found)
         }
-        Err(fault) => tell_no_list(rt, machine, &fault),
+        Err(fault) => match machine {
+            Some(path) => {
+                tell_fault(rt, path, &fault);
+                Err(REFUSED)
+            }
+            None => Ok(true),
+        },
     }
 }
 
-// Tells why a list of a path is none, and whether there is a path.
-fn tell_no_list(rt: &HostRuntime, machine: Option<&str>, fault: &Fault) -> bool {
-    if let Some(path) = machine {
-        tell_fault(rt, path, fault);
-        return true;
-    }
-    false
+// Tells a name that no component has, and the one that may be meant.
+fn tell_stranger(rt: &HostRuntime, list: &StartList, name: &str) {
+    let near = match near_component(list, name.as_bytes()) {
+        Some(near) => str::from_utf8(near).ok(),
+        None => None,
+    };
+    let _ = match near {
+        Some(near) => eprintln!(rt; "{name}: no component; did you mean {near}?"),
+        None => eprintln!(rt; "{name}: no component"),
+    };
 }
 
 // Plays the scenario of a source over the standard streams.

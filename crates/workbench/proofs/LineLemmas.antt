@@ -3,7 +3,7 @@ use Rattle.std.proofs.Common.{◌≡◌, ℕ, ◌≤◌, Bool, true, false, List
 use Rattle.own_model.specs.SaidBy.{said_by}
 use Rattle.own_model.specs.Transcript.{longest_line}
 use Rattle.own_model.specs.World.{World}
-use Rattle.friendly_lines.specs.Friendly.{Said, said_of}
+use Rattle.friendly_lines.specs.Friendly.{Said, is_passed, said_of}
 use Rattle.friendly_lines.specs.Friendly.Said.{Nothing, Log, Call}
 use Rattle.friendly_lines.specs.declared.fault.Fault.{Fault}
 use Rattle.scenario.specs.Answered.{after_all}
@@ -69,19 +69,19 @@ module _ (only : Option (List ℕ)) (line : List ℕ) (silent : call_of line ≡
 
 module _ (only : Option (List ℕ)) (world : World) (line : List ℕ) (awaited : Awaited) where
   -- of what is read of it
-  judged_by : (r : Result Bool PlayFault) (said : Result Said Fault) → said ≡ said_of line → IfOk r (IsJudged only world said awaited) → IfOk r (IsJudged only world (said_of line) awaited)
-  judged_by r said is judged = subst (λ s. IfOk r (IsJudged only world s awaited)) is judged
+  judged_by : (r : Result Bool PlayFault) (said : Result Said Fault) → said ≡ said_of line → IfOk r (IsJudged (is_passed line) only world said awaited) → IfOk r (IsJudged (is_passed line) only world (said_of line) awaited)
+  judged_by r said is judged = subst (λ s. IfOk r (IsJudged (is_passed line) only world s awaited)) is judged
 
   -- of a call by its answer
   pub judged_call : (r : Result Bool PlayFault) (engine : List ℕ) (reply : Option (List ℕ)) (answer : Option LineAnswer) → Ok (Call engine reply) ≡ said_of line →
-      AnswersLine only world engine answer → IfOk r (λ complained. complained ≡ is_other reply answer awaited) → IfOk r (IsJudged only world (said_of line) awaited)
+      AnswersLine only world engine answer → IfOk r (λ complained. complained ≡ is_other (is_passed line) reply answer awaited) → IfOk r (IsJudged (is_passed line) only world (said_of line) awaited)
   judged_call (Ok complained) engine reply answer is answers judged = judged_by (Ok complained) (Ok (Call engine reply)) is (answer, answers, judged)
   judged_call (Err fault) engine reply answer is answers judged = tt
 
-  pub judged_log : (r : Result Bool PlayFault) (text : List ℕ) → Ok (Log text) ≡ said_of line → IfOk r (λ complained. complained ≡ false) → IfOk r (IsJudged only world (said_of line) awaited)
+  pub judged_log : (r : Result Bool PlayFault) (text : List ℕ) → Ok (Log text) ≡ said_of line → IfOk r (λ complained. complained ≡ false) → IfOk r (IsJudged (is_passed line) only world (said_of line) awaited)
   judged_log r text is judged = judged_by r (Ok (Log text)) is judged
 
-  pub judged_unread : (r : Result Bool PlayFault) (fault : Fault) → Err fault ≡ said_of line → IfOk r (λ complained. complained ≡ true) → IfOk r (IsJudged only world (said_of line) awaited)
+  pub judged_unread : (r : Result Bool PlayFault) (fault : Fault) → Err fault ≡ said_of line → IfOk r (λ complained. complained ≡ true) → IfOk r (IsJudged (is_passed line) only world (said_of line) awaited)
   judged_unread r fault is judged = judged_by r (Err fault) is judged
 
 -- ---- what is expected then

@@ -1,6 +1,8 @@
 -- What is expected of an answer, and whether it is otherwise.
-use Rattle.std.specs.Prelude.{◌≡◌, ℕ, ◌||◌, Bool, true, false, not, is_some, List, [], ◌∷◌, ◌++◌, Option, Some, None, Result, Ok, Err}
+use Rattle.std.specs.Prelude.{◌≡◌, ℕ, ◌&&◌, ◌||◌, Bool, true, false, not, is_some, List, [], ◌∷◌, ◌++◌, Option, Some, None, Result, Ok, Err}
 use Rattle.std.specs.Str.{bytes_eq}
+use Rattle.trade_base.specs.Refusal.{refusal_name}
+use Rattle.trade_base.specs.declared.refusal.Refusal.TheVariants.{UnknownComponent}
 use Rattle.own_model.specs.World.{World}
 use Rattle.friendly_lines.specs.Expected.{meets}
 use Rattle.friendly_lines.specs.Friendly.{Said}
@@ -31,12 +33,16 @@ awaited_more awaited number text = record {
   first = Some (first_of awaited.first number);
 }
 
--- an answer is otherwise than expected: its reply doesn't meet what is expected, or it has other log lines; where no reply is expected log lines are; a
--- call that was skipped is answered as it may be
-abbrev pub is_other : Option (List ℕ) → Option LineAnswer → Awaited → Bool
-is_other reply None awaited = false
-is_other None (Some answer) awaited = is_some awaited.first
-is_other (Some reply) (Some answer) awaited =
+-- nobody has the name of a call: of a line that is the engine's as it stands that is no matter
+abbrev pub is_strange : Bool → LineAnswer → Bool
+is_strange passed answer = not passed && bytes_eq answer.reply.now (refusal_name UnknownComponent)
+
+-- an answer is otherwise than expected: its reply doesn't meet what is expected, or it has other log lines; where no reply is
+-- expected log lines are, or nobody has the name; a call that was skipped is answered as it may be
+abbrev pub is_other : Bool → Option (List ℕ) → Option LineAnswer → Awaited → Bool
+is_other passed reply None awaited = false
+is_other passed None (Some answer) awaited = is_some awaited.first || is_strange passed answer
+is_other passed (Some reply) (Some answer) awaited =
     not (meets answer.reply.now reply) || not (bytes_eq answer.lines.now awaited.lines)
 
 -- ---- of a line, by what is read of it
@@ -49,9 +55,9 @@ awaited_after number (Ok (Call line reply)) awaited = nothing_awaited
 awaited_after number (Err fault) awaited = awaited
 
 -- it is complained of where it isn't read, and of a call where its answer in this world is otherwise than expected
-abbrev pub IsJudged : Option (List ℕ) → World → Result Said Fault → Awaited → Bool → Type 0
-IsJudged only world (Ok Nothing) awaited complained = complained ≡ false
-IsJudged only world (Ok (Log text)) awaited complained = complained ≡ false
-IsJudged only world (Ok (Call line reply)) awaited complained =
-    (answer : Option LineAnswer) × AnswersLine only world line answer × (complained ≡ is_other reply answer awaited)
-IsJudged only world (Err fault) awaited complained = complained ≡ true
+abbrev pub IsJudged : Bool → Option (List ℕ) → World → Result Said Fault → Awaited → Bool → Type 0
+IsJudged passed only world (Ok Nothing) awaited complained = complained ≡ false
+IsJudged passed only world (Ok (Log text)) awaited complained = complained ≡ false
+IsJudged passed only world (Ok (Call line reply)) awaited complained =
+    (answer : Option LineAnswer) × AnswersLine only world line answer × (complained ≡ is_other passed reply answer awaited)
+IsJudged passed only world (Err fault) awaited complained = complained ≡ true

@@ -3,16 +3,28 @@ ghost use Rattle.std.specs.Prelude.{◌≡◌, ◌||◌, false, true, not, is_so
 ghost use Rattle.std.specs.Option.{option_copied};
 ghost use Rattle.std.specs.Str.{bytes_eq};
 ghost use Rattle.friendly_lines.specs.Expected.{meets};
+ghost use Rattle.friendly_lines.specs.Friendly.{is_passed};
 ghost use Rattle.workbench.specs.Faults.{Fails};
-ghost use Rattle.workbench.specs.Judging.{awaited_more, is_other, nothing_awaited};
+ghost use Rattle.workbench.specs.Judging.{awaited_more, is_other, is_strange, nothing_awaited};
 ghost use Rattle.workbench.specs.declared.ending.PlayFault.TheVariants.{NoMemory as NoRoom};
 
 use crate::complaint::{Complaints, Place};
 use crate::ending::PlayFault;
 use crate::expected::Expected;
-use friendly_lines::{Fault, end_of, meets};
+use crate::near::near_component;
+use friendly_lines::{Fault, end_of, is_passed, meets};
+use init_core::StartList;
 use scenario::{LineAnswer, Sink};
 use std::alloc::Global;
+use trade_base::Refusal;
+
+/// A line of a scenario by its number, and the reply that it expects, if it expects one.
+#[derive(Clone, Copy)]
+pub(crate) struct Asked<'a> {
+    pub number: u64,
+    pub line: &'a [u8],
+    pub reply: Option<&'a [u8]>,
+}
 
 /// Holds answers against what is expected, and complains. Each of its calls tells whether there was a complaint.
 #[derive(Drop)]
@@ -49,26 +61,26 @@ impl<'a> Critic<'a> {
     /// skipped is answered as it may be.
     pub(crate) fn judge<E: Sink>(
         &mut self,
-        number: u64,
-        line: &[u8],
-        reply: Option<&[u8]>,
+        list: &StartList,
+        asked: Asked<'_>,
         answer: Option<LineAnswer<'_>>,
         sink: &mut E,
     ) -> Result<bool, PlayFault>
         requires { E.has_failed sink.old ≡ false }
-        ensures judged { IfOk result (λ complained. complained
-            ≡ is_other (option_copied reply.entry) answer.entry self.old.expected) }
+        ensures judged { IfOk result (λ complained. complained ≡ is_other
+            (is_passed asked.entry.line.now) (option_copied asked.entry.reply) answer.entry
+            self.old.expected) }
         ensures forgets { self.new.expected ≡ nothing_awaited }
         ensures works { OnOk result (E.has_failed sink.new ≡ false) }
         ensures failing { Fails result (E.has_failed sink.new) false }
     {
-        let judged = match (reply, answer) {
+        let judged = match (asked.reply, answer) {
             (_, None) => Ok(false),
-            (None, Some(_)) => self.judge_silent(number, sink),
+            (None, Some(answer)) => self.judge_silent(list, asked, answer, sink),
             (Some(reply), Some(answer)) => {
                 let wish = Wish {
-                    number,
-                    line,
+                    number: asked.number,
+                    line: asked.line,
                     reply,
                 };
                 self.judge_answer(wish, answer.reply, answer.lines, sink)
@@ -78,22 +90,40 @@ impl<'a> Critic<'a> {
         judged
     }
 
-    // Complains where log lines are expected of a call for which no reply is.
-    fn judge_silent<E: Sink>(&mut self, number: u64, sink: &mut E) -> Result<bool, PlayFault>
+    // Complains where log lines are expected of a call for which no reply is, or nobody has its name.
+    fn judge_silent<E: Sink>(
+        &mut self,
+        list: &StartList,
+        asked: Asked<'_>,
+        answer: LineAnswer<'_>,
+        sink: &mut E,
+    ) -> Result<bool, PlayFault>
         requires { E.has_failed sink.old ≡ false }
-        ensures judged { IfOk result (λ complained. complained ≡ is_some self.old.expected.first) }
+        ensures judged { IfOk result (λ complained. complained
+            ≡ (is_some self.old.expected.first
+            || is_strange (is_passed asked.entry.line.now) answer.entry)) }
         ensures keeps { self.new.expected ≡ self.old.expected }
         ensures works { OnOk result (E.has_failed sink.new ≡ false) }
         ensures failing { Fails result (E.has_failed sink.new) false }
     {
-        if self.expected.first().is_none() {
+        if self.expected.first().is_some() {
+            let place = Place {
+                line: asked.number,
+                column: 1,
+            };
+            return self.complain(place, b"log lines are expected of it, and no reply", sink);
+        }
+        if !is_strange(is_passed(asked.line), answer) {
             return Ok(false);
         }
         let place = Place {
-            line: number,
-            column: 1,
+            line: asked.number,
+            column: column_of(asked.line, answer.name),
         };
-        self.complain(place, b"log lines are expected of it, and no reply", sink)
+        let near = near_component(list, answer.name);
+        self.complaints
+            .tell_stranger(sink, place, answer.name, near)?;
+        Ok(true)
     }
 
     // Complains of a reply that isn't what is expected, or else of other log lines.
@@ -204,6 +234,19 @@ impl<'a> Critic<'a> {
         self.complaints.tell(sink, place, words)?;
         Ok(true)
     }
+}
+
+// Whether nobody has the name of a call.
+fn is_strange(passed: bool, answer: LineAnswer<'_>) -> bool
+    ensures { result ≡ is_strange passed answer.entry }
+{
+    !passed && answer.reply == Refusal::UnknownComponent.name().as_bytes()
+}
+
+// The column at which a line has a name first.
+fn column_of(line: &[u8], name: &[u8]) -> usize {
+    let place = (0..line.len()).find(|place| line[*place..].starts_with(name));
+    place.unwrap_or(0).saturating_add(1)
 }
 
 // A reply that is expected, with the line of the scenario where it stands.

@@ -6,7 +6,7 @@ ghost use Rattle.own_model.specs.Listed.{start_list_of};
 ghost use Rattle.own_model.specs.SaidBy.{said_by};
 ghost use Rattle.own_model.specs.StartList.{entries_of};
 ghost use Rattle.own_model.specs.World.{World};
-ghost use Rattle.friendly_lines.specs.Friendly.{said_of};
+ghost use Rattle.friendly_lines.specs.Friendly.{is_passed, said_of};
 ghost use Rattle.scenario.specs.Answer.{AnswersLine};
 ghost use Rattle.scenario.specs.Answered.{after_all, point};
 ghost use Rattle.scenario.specs.Gathered.{TellsUnless};
@@ -17,6 +17,7 @@ ghost use Rattle.workbench.specs.Played.{call_of, told_of_calls};
 ghost use Rattle.workbench.specs.Plays.{PlaysAll, PlaysNext, line_played};
 ghost use Rattle.workbench.specs.Watching.{Watches};
 
+use crate::critic::Asked;
 use crate::ending::{Ending, PlayFault};
 use crate::notes::{Desk, Notes};
 use crate::watch::{Heard, Watch};
@@ -339,7 +340,8 @@ fn play_line<R: Router + Drop, W: Watch, K: Sink, E: Sink>(
         (E.has_failed complaints.new)) }
     ensures failing { Fails result (K.has_failed writer.new || E.has_failed complaints.new)
         (line_takes_room W.takes line.now) }
-    ensures judged { IfOk result (IsJudged (option_copied run.now.only) core.old (said_of line.now)
+    ensures judged { IfOk result (IsJudged (is_passed line.now) (option_copied run.now.only) core.old
+        (said_of line.now)
         desk.old.critic.expected) }
     ensures expects { OnOk result (desk.new.critic.expected
         ≡ awaited_after number (said_of line.now) desk.old.critic.expected) }
@@ -358,7 +360,14 @@ fn play_line<R: Router + Drop, W: Watch, K: Sink, E: Sink>(
                 gathered,
                 writer,
             ) {
-                Ok(answer) => desk.critic.judge(number, line, reply, answer, complaints),
+                Ok(answer) => {
+                    let asked = Asked {
+                        number,
+                        line,
+                        reply,
+                    };
+                    desk.critic.judge(run.list, asked, answer, complaints)
+                }
                 Err(fault) => Err(fault),
             }
         }

@@ -3,6 +3,7 @@ use Rattle.std.proofs.Common.{Bool, false, refl, Result, Ok, Err, ap, subst, sym
 use Rattle.std.specs.Option.{option_copied}
 use Rattle.friendly_lines.specs.Says.{says}
 use Rattle.workbench.specs.declared.ending.PlayFault.{PlayFault}
+use Rattle.friendly_lines.specs.Friendly.{is_passed}
 use Rattle.workbench.specs.Judging.{IsJudged}
 use Rattle.workbench.proofs.LineLemmas.{call_of-said, expects_by, judged_call, judged_log, judged_told, judged_unread, on_ok, seen_said, seen_silent, told_said, told_silent}
 use Rattle.workbench.proofs.FailLemmas.{fails_before, fails_beside, fails_for_room, line_takes, or_none}
@@ -84,7 +85,7 @@ returns-in-Err-clause-failing g c =
 -- what is complained of, and what is expected then
 pub returns-in-Ok-Nothing-clause-judged : goal.returns-in-Ok-Nothing-clause-judged
 returns-in-Ok-Nothing-clause-judged g c =
-    subst (λ said. IsJudged (option_copied c.args.run.now.only) c.args.core.now said c.args.desk.now.critic.expected false)
+    subst (λ said. IsJudged (is_passed c.args.line.now) (option_copied c.args.run.now.only) c.args.core.now said c.args.desk.now.critic.expected false)
     (ap (λ s. says (Ok s)) (sym c.in-Ok-Nothing.field-0-is) ∙ c.in-Ok-Nothing.ensures.value) refl
 
 pub returns-in-Ok-Nothing-clause-expects : goal.returns-in-Ok-Nothing-clause-expects
