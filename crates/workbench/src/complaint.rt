@@ -1,6 +1,7 @@
 //! Complaints of a scenario's lines.
 ghost use Rattle.std.specs.Prelude.{◌≡◌, false, is_err};
 
+use crate::shown::Shown;
 use crate::text::put_number;
 use scenario::{DeviceFault, Gather, Sink};
 
@@ -43,12 +44,50 @@ impl<'a> Complaints<'a> {
         self.gathered.flush(sink)
     }
 
-    /// The same of what is other than expected.
-    pub(crate) fn tell_other<E: Sink>(
+    /// The same of a reply that is other than expected, with the bytes of both as text beside their digits.
+    pub(crate) fn tell_reply<E: Sink>(
         &mut self,
         sink: &mut E,
         place: Place,
-        words: &[u8],
+        reply: &[u8],
+        expected: &[u8],
+    ) -> Result<(), DeviceFault>
+        requires { E.has_failed sink.old ≡ false }
+        ensures failing { E.has_failed sink.new ≡ is_err result }
+    {
+        let is_text = expected.iter().any(|byte| *byte == b'"');
+        self.put_place(sink, place)?;
+        self.gathered.put(sink, b"the reply is `")?;
+        self.put_shown(sink, reply, is_text)?;
+        self.gathered.put(sink, b", expected `")?;
+        self.put_shown(sink, expected, false)?;
+        self.gathered.put(sink, b"\n")?;
+        self.gathered.flush(sink)
+    }
+
+    // Gathers a text and the quote behind it, and its bytes as text.
+    fn put_shown<E: Sink>(
+        &mut self,
+        sink: &mut E,
+        text: &[u8],
+        is_text: bool,
+    ) -> Result<(), DeviceFault>
+        requires { E.has_failed sink.old ≡ false }
+        ensures failing { E.has_failed sink.new ≡ is_err result }
+    {
+        self.gathered.put(sink, text)?;
+        self.gathered.put(sink, b"`")?;
+        match Shown::of(text, is_text) {
+            Some(shown) => shown.put(&mut self.gathered, sink),
+            None => Ok(()),
+        }
+    }
+
+    /// The same of log lines that are other than expected.
+    pub(crate) fn tell_lines<E: Sink>(
+        &mut self,
+        sink: &mut E,
+        place: Place,
         found: &[u8],
         expected: &[u8],
     ) -> Result<(), DeviceFault>
@@ -56,8 +95,7 @@ impl<'a> Complaints<'a> {
         ensures failing { E.has_failed sink.new ≡ is_err result }
     {
         self.put_place(sink, place)?;
-        self.gathered.put(sink, words)?;
-        self.gathered.put(sink, b" `")?;
+        self.gathered.put(sink, b"the log lines are `")?;
         self.gathered.put(sink, found)?;
         self.gathered.put(sink, b"`, expected `")?;
         self.gathered.put(sink, expected)?;

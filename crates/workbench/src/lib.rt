@@ -14,6 +14,7 @@ mod notes;
 mod peaks;
 mod playing;
 mod row;
+mod shown;
 mod text;
 mod tracing;
 mod transcript;
