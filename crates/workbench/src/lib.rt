@@ -10,6 +10,7 @@ mod ending;
 mod expected;
 mod machine;
 mod notes;
+mod peak_columns;
 mod peaks;
 mod playing;
 mod row;
