@@ -143,7 +143,7 @@ def accounts_of(told):
     accounts = []
     for line in told.splitlines():
         found = re.match(
-            r"(account|session) (\S+)(?: (\d+))? ram (\d+)/(\d+) caps (\d+)/(\d+) peak ram (\d+) caps (\d+)(?: server (\S+) label (.*))?",
+            r"(account|session) (\S+)(?: (\d+))? ram (\d+)/(\d+) caps (\d+)/(\d+)(?: gone)? need ram \d+ caps \d+ peak ram (\d+) caps (\d+)(?: server (\S+) label (.*))?",
             line,
         )
         reserve = re.match(r"reserve (\S+) ram (\d+) caps (\d+)", line)

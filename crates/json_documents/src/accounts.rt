@@ -5,7 +5,7 @@ use crate::rows::listed;
 use std::alloc::{AllocError, Global};
 
 /// How many pieces a line has at most: what stands behind the word `label` is one.
-const PIECES: usize = 16;
+const PIECES: usize = 21;
 
 /// A list with a document for each line of the account list with peaks.
 pub fn account_documents(alloc: Global, lines: &[u8]) -> Result<Vec<u8>, AllocError> {
@@ -41,8 +41,8 @@ fn document_of(alloc: Global, line: &[u8]) -> Result<Vec<u8>, AllocError> {
             members.add(Column::Text("name"), 1)?;
             members.add(Column::Number("session"), 2)?;
             members.add_account(4)?;
-            members.add(Column::Text("server"), 13)?;
-            members.add(Column::Text("label"), 15)?;
+            members.add(Column::Text("server"), 18)?;
+            members.add(Column::Text("label"), 20)?;
         }
         b"reserve" => {
             members.add(Column::Text("name"), 1)?;
@@ -79,12 +79,20 @@ impl<'a> Members<'a> {
         self.add(Column::Number("caps"), place.saturating_add(2))
     }
 
-    // Use, limit and peak of RAM and of capabilities, of which the first stands at this place.
+    // Use, limit, need and peak of RAM and of capabilities, of which the first stands at this place; and whether the component is
+    // gone.
     fn add_account(&mut self, place: usize) -> Result<(), AllocError> {
         self.add_use("ram_used", "ram_limit", place)?;
         self.add_use("caps_used", "caps_limit", place.saturating_add(2))?;
-        self.add(Column::Number("ram_peak"), place.saturating_add(5))?;
-        self.add(Column::Number("caps_peak"), place.saturating_add(7))
+        let mut word = place.saturating_add(3);
+        if self.piece(word) == b"gone".as_slice() {
+            self.add(Column::Text("state"), word)?;
+            word = word.saturating_add(1);
+        }
+        self.add(Column::Number("ram_need"), word.saturating_add(2))?;
+        self.add(Column::Number("caps_need"), word.saturating_add(4))?;
+        self.add(Column::Number("ram_peak"), word.saturating_add(7))?;
+        self.add(Column::Number("caps_peak"), word.saturating_add(9))
     }
 
     // What is used, and behind `/` the limit.

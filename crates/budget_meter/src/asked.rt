@@ -9,7 +9,7 @@ use session_proto::{FileRequest, SessionArgs};
 use trade_base::{PAGE, page_round};
 
 /// The least size of a block that stands alone, in no chunk.
-const LEAST_LARGE: u64 = 65_536;
+pub(crate) const LEAST_LARGE: u64 = 65_536;
 
 /// The least block of a chunk.
 const LEAST_BLOCK: u64 = 48;
@@ -21,10 +21,10 @@ const HEADER: u64 = 16;
 const SLICED_HEADER: u64 = 32;
 
 /// A node of a file.
-const NODE: u64 = 96;
+pub(crate) const NODE: u64 = 96;
 
 /// What a call asks of its caller's account, if it asks anything: of a heap the least chunk that it could take.
-pub(crate) fn asked_by_call(call: Call<'_>) -> Option<Budget> {
+pub fn asked_by_call(call: Call<'_>) -> Option<Budget> {
     match call {
         Call::Alloc(n) => whole_pages(n),
         Call::Snew(n) => whole_pages(n.saturating_add(SLICED_HEADER)),
@@ -36,7 +36,7 @@ pub(crate) fn asked_by_call(call: Call<'_>) -> Option<Budget> {
 }
 
 /// What arguments name, if they are in the grammar.
-pub(crate) fn named_by(args: &[u8]) -> Option<Budget> {
+pub fn named_by(args: &[u8]) -> Option<Budget> {
     let args = SessionArgs::read(args).ok()?;
     Some(Budget {
         ram: args.ram().0,
@@ -54,7 +54,7 @@ fn whole_pages(n: u64) -> Option<Budget>
 }
 
 /// The least chunk in which a block for so many bytes has room, or the block that stands alone.
-pub(crate) fn least_chunk(n: u64) -> Option<Budget>
+pub fn least_chunk(n: u64) -> Option<Budget>
     ensures { n < 65536 → IfSome result (λ asked. asked.ram ≡ page_of (block_size n)) }
 {
     if n >= LEAST_LARGE {
@@ -64,7 +64,7 @@ pub(crate) fn least_chunk(n: u64) -> Option<Budget>
 }
 
 /// Whether a call for so many bytes of a heap took a larger chunk than the least: a choice, which passed.
-pub(crate) fn is_choice(n: u64, charged: u64) -> bool {
+pub fn is_choice(n: u64, charged: u64) -> bool {
     if n >= LEAST_LARGE {
         return false;
     }
@@ -75,7 +75,7 @@ pub(crate) fn is_choice(n: u64, charged: u64) -> bool {
 }
 
 /// The file whose content a request may make longer.
-pub(crate) fn file_written<'a>(request: FileRequest<'a>) -> Option<&'a [u8]> {
+pub fn file_written<'a>(request: FileRequest<'a>) -> Option<&'a [u8]> {
     match request {
         FileRequest::Write { file, .. } | FileRequest::Put { file, .. } => Some(file),
         _ => None,
@@ -83,7 +83,7 @@ pub(crate) fn file_written<'a>(request: FileRequest<'a>) -> Option<&'a [u8]> {
 }
 
 /// What a request asks of its session's account, where the file that it writes has so many bytes.
-pub(crate) fn asked_by_request(request: FileRequest<'_>, size: u64) -> Option<Budget> {
+pub fn asked_by_request(request: FileRequest<'_>, size: u64) -> Option<Budget> {
     match request {
         FileRequest::Create(_) => least_chunk(NODE),
         FileRequest::Write { offset, hex, .. } => {
@@ -96,7 +96,7 @@ pub(crate) fn asked_by_request(request: FileRequest<'_>, size: u64) -> Option<Bu
 }
 
 /// Whether a request of so much that was charged took a larger chunk for a file's node than the least.
-pub(crate) fn is_node_choice(request: FileRequest<'_>, charged: u64) -> bool {
+pub fn is_node_choice(request: FileRequest<'_>, charged: u64) -> bool {
     match request {
         FileRequest::Create(_) => charged > PAGE,
         _ => false,

@@ -3,7 +3,7 @@ use Rattle.own_model.specs.Account.{Account}
 use Rattle.own_model.specs.Amounts.{Amounts}
 use Rattle.budget_laws.specs.Need.{Need, need_of}
 use Rattle.budget_laws.specs.Test.{test_of}
-use Rattle.least.specs.declared.budget.Budget.{Budget}
+use Rattle.budget_meter.specs.declared.budget.Budget.{Budget}
 
 abbrev pub amounts_of : Budget → Amounts
 amounts_of budget = record { ram = budget.ram; caps = budget.caps }

@@ -1,25 +1,25 @@
 //! The least start budget that the tests of an account need.
 ghost use Rattle.std.specs.Prelude.{◌≡◌, ◌+◌, ◌^◌, ◌<◌, max};
 ghost use Rattle.pd_core.specs.Answer.{quotas_account};
-ghost use Rattle.least.specs.Needs.{need_in};
+ghost use Rattle.budget_meter.specs.Needs.{need_in};
 
 use crate::budget::Budget;
 use pd_core::Quotas;
 
 /// What the tests that passed so far need of the budget that an account started with.
 #[derive(Clone, Copy, Debug)]
-pub(crate) struct Meter {
+pub struct Meter {
     /// What the account started with.
     start: Budget,
     /// The greatest needs, of each column by itself.
-    pub(crate) least: Budget,
+    pub least: Budget,
     /// The greatest need of bytes of a choice, or 0.
-    pub(crate) choice: u64,
+    pub choice: u64,
 }
 
 impl Meter {
     /// No test was made.
-    pub(crate) fn new(start: Budget) -> Meter {
+    pub fn new(start: Budget) -> Meter {
         Meter {
             start,
             least: Budget { ram: 0, caps: 0 },
@@ -29,7 +29,7 @@ impl Meter {
 
     /// The need of a test that asks for so much beside what an account uses: that, and what is asked, less what the limit is above
     /// the start budget.
-    pub(crate) fn need(&self, account: Quotas, asked: Budget) -> Budget
+    pub fn need(&self, account: Quotas, asked: Budget) -> Budget
         ensures ram { account.ram_used.0 + asked.ram + self.now.start.ram < 2 ^ 64
             → result.ram ≡ (need_in self.now.start (quotas_account account) asked).ram }
         ensures caps { account.caps_used.0 + asked.caps + self.now.start.caps < 2 ^ 64
@@ -48,7 +48,7 @@ impl Meter {
     }
 
     /// Takes a test in that passed.
-    pub(crate) fn pass(&mut self, account: Quotas, asked: Budget)
+    pub fn pass(&mut self, account: Quotas, asked: Budget)
         ensures ram { account.ram_used.0 + asked.ram + self.old.start.ram < 2 ^ 64
             → self.new.least.ram
             ≡ max self.old.least.ram (need_in self.old.start (quotas_account account) asked).ram }
@@ -64,13 +64,26 @@ impl Meter {
     }
 
     /// Takes the test in that passed last, by what the account uses since.
-    pub(crate) fn pass_last(&mut self, account: Quotas) {
+    pub fn pass_last(&mut self, account: Quotas) {
         self.pass(account, Budget { ram: 0, caps: 0 });
     }
 
     /// Takes in that the test that passed last was a choice.
-    pub(crate) fn choose(&mut self, account: Quotas) {
+    pub fn choose(&mut self, account: Quotas) {
         let need = self.need(account, Budget { ram: 0, caps: 0 });
         self.choice = self.choice.max(need.ram);
+    }
+}
+
+/// What a call charged.
+pub fn charged(before: Quotas, after: Quotas) -> u64 {
+    after.ram_used.0.saturating_sub(before.ram_used.0)
+}
+
+/// The limits of an account.
+pub fn limits_of(account: Quotas) -> Budget {
+    Budget {
+        ram: account.ram_limit.0,
+        caps: u64::from(account.caps_limit.0),
     }
 }
