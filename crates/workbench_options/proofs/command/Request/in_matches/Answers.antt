@@ -4,7 +4,7 @@ use Rattle.clap.specs.Words.{found_of, rows_of, subcommand_rows_of}
 use Rattle.clap.specs.declared.parser.matches.ArgMatches.TheViews.{out-ArgMatches}
 use Rattle.workbench_options.specs.Line.{AsksAs}
 use Rattle.workbench_options.proofs.LineLemmas.{name_in_rows, pair_is}
-use Rattle.workbench_options.proofs.command.Command.in_matches.Goals as goal
+use Rattle.workbench_options.proofs.command.Request.in_matches.Goals as goal
 
 pub returns-in-Some : goal.returns-in-Some
 returns-in-Some c =

@@ -4,7 +4,7 @@ use Rattle.std.proofs.lemmas.Result.{err_from_is_err_and}
 use Rattle.clap.specs.Words.{App, fault_of, is_simple, is_simple_and_free, kind_of, subcommand_of, takes}
 use Rattle.workbench_options.specs.Line.{AsksAs}
 use Rattle.workbench_options.proofs.LineLemmas.{fails_so}
-use Rattle.workbench_options.proofs.command.Command.read.Goals as goal
+use Rattle.workbench_options.proofs.command.Request.read.Goals as goal
 
 pub returns-in_err-matches-clause-refusals : goal.returns-in_err-matches-clause-refusals
 returns-in_err-matches-clause-refusals g c =
