@@ -21,8 +21,8 @@ returns-in_err-matches-clause-takes g c =
     let made = ap (λ (app : App). takes app words) c.in_ok-commands.ensures in
     rw p.1 (λ taken. ap kind_of p.2 ∙ c.in_err-matches.ensures.passes (made ∙ taken))
 
-pub returns-clause-command : goal.returns-clause-command
-returns-clause-command g c =
+pub returns-clause-request : goal.returns-clause-request
+returns-clause-request g c =
     let words = map g.S.AsStr.text c.args.words.now in
     let made = c.in_ok-commands.ensures in
     let asked = (c.in_ok-matches.ensures.matches (ap is_simple made)).1 in

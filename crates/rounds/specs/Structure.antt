@@ -1,0 +1,75 @@
+-- Where rounds begin and end.
+use Rattle.std.specs.Prelude.{ℕ, ◌+◌, ◌-◌, Bool, false, List, [], ◌∷◌, ◌++◌, length, take, codes, nat_eq, nat_lt, slice_index, if◌then◌else◌, Result, Ok, Err}
+use Rattle.std.specs.Str.{bytes_eq}
+use Rattle.friendly_lines.specs.Friendly.{end_of, signs_of}
+use Rattle.friendly_lines.specs.Words.{next_word, skip_blanks}
+use Rattle.scenario_names.specs.Sums.{and_then}
+use Rattle.rounds.specs.declared.fault.Place.{Place}
+use Rattle.rounds.specs.declared.fault.Reason.{Reason}
+use Rattle.rounds.specs.declared.fault.Reason.TheVariants.{EndAlone, EndTakesNothing, NoEnd, TooDeep}
+use Rattle.rounds.specs.declared.fault.RoundsFault.{RoundsFault}
+use Rattle.rounds.specs.declared.lines.Kind.{Kind}
+use Rattle.rounds.specs.declared.lines.Kind.TheVariants.{Repeats, Ends, Plain}
+
+-- ---- one line
+
+-- what a line says, without a comment behind it
+abbrev pub words_of : List ℕ → List ℕ
+words_of line = signs_of (take (end_of line) line)
+
+-- what it is to the rounds, by its first word
+abbrev pub kind_by : List ℕ → Kind
+kind_by word =
+    if bytes_eq word (codes "@repeat") then Repeats else (if bytes_eq word (codes "@end") then Ends else Plain)
+
+abbrev pub kind_of : List ℕ → Kind
+kind_of line = kind_by (next_word (words_of line)).word
+
+-- the column of its first sign
+abbrev pub column_of : List ℕ → ℕ
+column_of line = length line - length (signs_of line) + 1
+
+abbrev pub place_of : ℕ → List ℕ → Place
+place_of number line = record { line = number; column = column_of line }
+
+-- a fault at the line of a number
+abbrev pub fault_at : ℕ → List ℕ → Reason → RoundsFault
+fault_at number line reason = record { at = place_of number line; reason = reason }
+
+-- ---- line after line
+
+-- rounds stand so deep at most
+abbrev pub deepest : ℕ
+deepest = 4
+
+-- the rounds that began and haven't ended, the innermost last, each by the fault that it is if it never does, behind a line
+abbrev pub opens_after : ℕ → List ℕ → Kind → List RoundsFault → Result (List RoundsFault) RoundsFault
+opens_after number line Plain opens = Ok opens
+opens_after number line Repeats opens =
+    if nat_lt (length opens) deepest then Ok (opens ++ fault_at number line NoEnd ∷ [])
+    else Err (fault_at number line TooDeep)
+opens_after number line Ends opens =
+    if nat_eq (length (skip_blanks (next_word (words_of line)).rest)) 0
+    then (if nat_eq (length opens) 0 then Err (fault_at number line EndAlone) else Ok (take (length opens - 1) opens))
+    else Err (fault_at number line EndTakesNothing)
+
+abbrev pub opens_from : ℕ → List RoundsFault → List (List ℕ) → Result (List RoundsFault) RoundsFault
+opens_from number opens [] = Ok opens
+opens_from number opens (line ∷ lines) =
+    and_then (opens_after number line (kind_of line) opens) (λ more. opens_from (number + 1) more lines)
+
+-- how many lines stand before the `@end` of the rounds that began before them, within so many others
+abbrev pub closes : Kind → ℕ → Bool
+closes Ends within = nat_eq within 0
+closes Repeats within = false
+closes Plain within = false
+
+abbrev pub within_after : Kind → ℕ → ℕ
+within_after Repeats within = within + 1
+within_after Ends within = within - 1
+within_after Plain within = within
+
+abbrev pub body_length : ℕ → List (List ℕ) → ℕ
+body_length within [] = 0
+body_length within (line ∷ lines) =
+    if closes (kind_of line) within then 0 else 1 + body_length (within_after (kind_of line) within) lines

@@ -1,0 +1,221 @@
+-- A scenario's lines with their rounds unfolded.
+use Rattle.std.specs.Prelude.{ℕ, ◌+◌, not, Bool, true, false, zero, suc, List, [], ◌∷◌, ◌++◌, length, take, codes, decimal, nat_eq, nat_lt, if◌then◌else◌, Option, Some, None, Result, Ok, Err}
+use Rattle.std.specs.List.{list_any}
+use Rattle.std.specs.Option.{option_and_then, option_map}
+use Rattle.std.specs.Str.{bytes_eq}
+use Rattle.own_model.specs.Text.{lines_of}
+use Rattle.trade_base.specs.Amount.{number_of}
+use Rattle.friendly_lines.specs.Words.{next_word, skip_blanks}
+use Rattle.scenario_names.specs.Directives.{Directive, directive_of, followed}
+use Rattle.scenario_names.specs.Directives.Directive.{Set, Enter, Again, Leave, Repeat, End, Unknown}
+use Rattle.scenario_names.specs.Filling.{Filled, filled, is_directive}
+use Rattle.scenario_names.specs.Known.{Binding, Known, with_bound}
+use Rattle.scenario_names.specs.Names.{is_name}
+use Rattle.scenario_names.specs.Sums.{and_then, map_ok}
+use Rattle.scenario_names.specs.declared.fault.NameFault.{NameFault}
+use Rattle.rounds.specs.Structure.{body_length, fault_at, kind_of, opens_from, place_of, words_of}
+use Rattle.rounds.specs.declared.fault.Place.{Place}
+use Rattle.rounds.specs.declared.fault.Reason.TheVariants.{Name, NoCount, TooDeep, TooMany}
+use Rattle.rounds.specs.declared.fault.RoundsFault.{RoundsFault}
+use Rattle.rounds.specs.declared.lines.Kind.{Kind}
+use Rattle.rounds.specs.declared.lines.Kind.TheVariants.{Repeats, Ends, Plain}
+
+-- what was made so far: a text, how many lines it has, and what names stand for behind it
+pub record Made : Type 0 where
+  pub text : List ℕ
+  pub count : ℕ
+  pub known : Known
+
+-- so many lines are played at most
+abbrev pub most_lines : ℕ
+most_lines = 1000000
+
+-- ---- one line
+
+-- a line more
+abbrev pub with_text : Place → Made → List ℕ → Result Made RoundsFault
+with_text place made line =
+    if nat_lt made.count most_lines
+    then Ok (record { text = made.text ++ line ++ 10 ∷ []; count = made.count + 1; known = made.known })
+    else Err (record { at = place; reason = TooMany })
+
+-- what names stand for behind it; a name that is set to what is told in the play alone stands for nothing before it
+abbrev pub set_by : Known → Option Directive → Known
+set_by known None = known
+set_by known (Some (Set binding)) = with_bound known binding.name binding.value
+set_by known (Some (Enter n counter)) = known
+set_by known (Some (Again n counter)) = known
+set_by known (Some (Leave n)) = known
+set_by known (Some Repeat) = known
+set_by known (Some End) = known
+set_by known (Some Unknown) = known
+
+abbrev pub without_value : Option Directive → Option Directive
+without_value None = None
+without_value (Some (Set binding)) = Some (Set (record { name = binding.name; value = [] }))
+without_value (Some (Enter n counter)) = None
+without_value (Some (Again n counter)) = None
+without_value (Some (Leave n)) = None
+without_value (Some Repeat) = None
+without_value (Some End) = None
+without_value (Some Unknown) = None
+
+abbrev pub said_by : List ℕ → Result Filled NameFault → Option Directive
+said_by line (Ok filled) = directive_of filled.line
+said_by line (Err fault) = without_value (directive_of line)
+
+abbrev pub known_after : Known → List ℕ → Known
+known_after known line = if is_directive line then set_by known (said_by line (filled known line)) else known
+
+abbrev pub with_line : Place → Made → List ℕ → Result Made RoundsFault
+with_line place made line =
+    map_ok (λ more. record more { known = known_after more.known line }) (with_text place made line)
+
+-- ---- marks
+
+abbrev pub counter_text : Option Binding → List ℕ
+counter_text None = []
+counter_text (Some counter) = 32 ∷ counter.name ++ 32 ∷ counter.value
+
+-- a mark, as a line
+abbrev pub mark_text : Directive → List ℕ
+mark_text (Enter n counter) = codes "@enter " ++ decimal n ++ counter_text counter
+mark_text (Again n counter) = codes "@again " ++ decimal n ++ counter_text counter
+mark_text (Leave n) = codes "@leave " ++ decimal n
+mark_text (Set binding) = []
+mark_text Repeat = []
+mark_text End = []
+mark_text Unknown = []
+
+abbrev pub with_mark : Place → Made → Directive → Result Made RoundsFault
+with_mark place made mark =
+    map_ok (λ more. record more { known = followed more.known mark }) (with_text place made (mark_text mark))
+
+-- ---- the line of `@repeat`
+
+-- how many rounds, and the name of their counter
+pub record Head : Type 0 where
+  pub count : ℕ
+  pub counter : Option (List ℕ)
+
+-- what stands behind `as`
+abbrev pub counted_by : ℕ → List ℕ → Option Head
+counted_by n text =
+    if is_name (next_word text).word && nat_eq (length (skip_blanks (next_word text).rest)) 0
+    then Some (record { count = n; counter = Some (next_word text).word }) else None
+
+-- what stands behind a count
+abbrev pub head_by : List ℕ → ℕ → Option Head
+head_by text n =
+    if nat_eq (length (skip_blanks text)) 0 then Some (record { count = n; counter = None })
+    else (if bytes_eq (next_word text).word (codes "as") then counted_by n (next_word text).rest else None)
+
+-- what stands behind `@repeat`
+abbrev pub head_said : List ℕ → Option Head
+head_said text = option_and_then (head_by (next_word text).rest) (number_of (next_word text).word)
+
+abbrev pub head_told : Place → Option Head → Result Head RoundsFault
+head_told place (Some head) = Ok head
+head_told place None = Err (record { at = place; reason = NoCount })
+
+-- with what its names stand for
+abbrev pub head_in : ℕ → List ℕ → Result Filled NameFault → Result Head RoundsFault
+head_in number line (Ok filled) = head_told (place_of number line) (head_said (next_word (words_of filled.line)).rest)
+head_in number line (Err fault) =
+    Err (record { at = record { line = number; column = fault.column }; reason = Name fault.reason })
+
+abbrev pub head_of : Known → ℕ → List ℕ → Result Head RoundsFault
+head_of known number line = head_in number line (filled known line)
+
+-- ---- rounds
+
+-- how lines within are unfolded, by the number of the first
+abbrev pub Inner : Type 0
+Inner = ℕ → Made → List (List ℕ) → Result Made RoundsFault
+
+abbrev pub counter_of : Head → ℕ → Option Binding
+counter_of head k = option_map (λ name. record { name = name; value = decimal k }) head.counter
+
+-- the mark before a round
+abbrev pub mark_of : Head → ℕ → ℕ → Directive
+mark_of head number k =
+    if nat_eq k 0 then Enter (number + 1) (counter_of head k) else Again (number + 1) (counter_of head k)
+
+-- so many rounds from one on, of rounds that begin in a line of this number
+abbrev pub rounds_from : Inner → Place → Head → ℕ → ℕ → Made → List (List ℕ) → Result Made RoundsFault
+rounds_from inner place head k zero made body = Ok made
+rounds_from inner place head k (suc left) made body =
+    and_then (with_mark place made (mark_of head place.line k))
+    (λ marked. and_then (inner (place.line + 1) marked body)
+    (λ more. rounds_from inner place head (k + 1) left more body))
+
+-- where there is no round, they begin and end all the same
+abbrev pub begun : Place → Head → Made → Result Made RoundsFault
+begun place head made = if nat_eq head.count 0 then with_mark place made (Enter (place.line + 1) None) else Ok made
+
+abbrev pub rounds_by : Inner → Place → Made → List (List ℕ) → Head → Result Made RoundsFault
+rounds_by inner place made body head =
+    and_then (begun place head made)
+    (λ more. and_then (rounds_from inner place head 0 head.count more body)
+    (λ all. with_mark place all (Leave (place.line + length body + 2))))
+
+abbrev pub rounds_of : Inner → ℕ → Made → List ℕ → List (List ℕ) → Result Made RoundsFault
+rounds_of inner number made line body =
+    and_then (head_of made.known number line) (rounds_by inner (place_of number line) made body)
+
+-- ---- line after line
+
+-- with a line, by what it is, and by those behind it
+abbrev pub step_of : Inner → ℕ → Made → List ℕ → List (List ℕ) → Kind → Result Made RoundsFault
+step_of inner number made line behind Plain = with_line (place_of number line) made line
+step_of inner number made line behind Ends = Ok made
+step_of inner number made line behind Repeats = rounds_of inner number made line (take (body_length 0 behind) behind)
+
+-- how many of them belong to it
+abbrev pub owned : Kind → List (List ℕ) → ℕ
+owned Repeats behind = body_length 0 behind
+owned Ends behind = 0
+owned Plain behind = 0
+
+-- lines from a number on, of which the first belong to one before
+abbrev pub lines_from : Inner → ℕ → ℕ → Made → List (List ℕ) → Result Made RoundsFault
+lines_from inner skip number made [] = Ok made
+lines_from inner (suc skip) number made (line ∷ lines) = lines_from inner skip (number + 1) made lines
+lines_from inner zero number made (line ∷ lines) =
+    and_then (step_of inner number made line lines (kind_of line))
+    (λ more. lines_from inner (owned (kind_of line) lines) (number + 1) more lines)
+
+-- lines within rounds so deep at most
+abbrev pub within : ℕ → Inner
+within zero number made lines = Err (record { at = record { line = number; column = 1 }; reason = TooDeep })
+within (suc deep) number made lines = lines_from (within deep) 0 number made lines
+
+-- ---- the whole text
+
+abbrev pub is_round : Kind → Bool
+is_round Repeats = true
+is_round Ends = true
+is_round Plain = false
+
+-- rounds stand in a text
+abbrev pub has_rounds : List (List ℕ) → Bool
+has_rounds lines = list_any (λ line. is_round (kind_of line)) lines
+
+-- all rounds that began have ended
+abbrev pub all_ended : List RoundsFault → Result Unit RoundsFault
+all_ended [] = Ok tt
+all_ended (first ∷ more) = Err first
+
+-- the text of a scenario with its rounds unfolded, by what is given from outside
+abbrev pub unfolded_lines : Known → List (List ℕ) → Result (List ℕ) RoundsFault
+unfolded_lines given lines =
+    and_then (opens_from 1 [] lines)
+    (λ opens. and_then (all_ended opens)
+    (λ _. map_ok (λ made. made.text) (within 5 1 (record { text = []; count = 0; known = given }) lines)))
+
+abbrev pub unfolded : Known → List ℕ → Result (List ℕ) RoundsFault
+unfolded given text =
+    if not (has_rounds (lines_of text)) then Ok text
+    else (if nat_lt most_lines (length (lines_of text))
+    then Err (record { at = record { line = most_lines + 1; column = 1 }; reason = TooMany })
+    else unfolded_lines given (lines_of text))

@@ -1,0 +1,14 @@
+//! Rounds of a scenario: the lines between `@repeat` and `@end`, as often as they are to be played.
+#![tactic(auto)]
+
+mod fault;
+mod head;
+mod laws;
+mod lines;
+mod structure;
+mod unfold;
+mod unfolding;
+
+pub use fault::{Place, Reason, RoundsFault, Unfit};
+pub use laws::plain_texts_stay;
+pub use unfold::{Unfolded, unfold};

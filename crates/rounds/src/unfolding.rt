@@ -1,0 +1,224 @@
+//! Lines that are unfolded one after another.
+ghost use Rattle.std.specs.Prelude.{◌≡◌, ◌+◌, ◌≤◌, map};
+ghost use Rattle.scenario_names.specs.Views.{directive_view};
+ghost use Rattle.rounds.specs.Unfolding.{known_after, mark_text, most_lines, rounds_by, rounds_from, rounds_of, step_of, with_line, with_mark, with_text, within};
+ghost use Rattle.rounds.specs.Views.{Makes, head_view, made_view};
+
+use crate::fault::{Place, Reason, RoundsFault, Unfit};
+use crate::head::{Head, head_of};
+use crate::lines::{Kind, kind_of};
+use crate::structure::{body_of, place_of};
+use friendly_lines::{Line, signs_of};
+use itoa::Buffer;
+use scenario_names::{Counter, Directive, Known, directive_of, fill};
+use std::alloc::AllocError;
+
+/// How many lines are played at most.
+pub(crate) const MOST_LINES: usize = 1_000_000;
+
+/// What was made so far: a text, how many lines it has, and what names stand for behind it.
+#[derive(Drop)]
+pub(crate) struct Unfolding {
+    pub text: Vec<u8>,
+    pub count: usize,
+    pub known: Known,
+}
+
+impl Unfolding {
+    /// Unfolds lines from a number on, within rounds so deep at most.
+    #[cycle(rounds)]
+    pub(crate) fn put_lines(
+        &mut self,
+        deep: usize,
+        number: usize,
+        lines: &[&[u8]],
+    ) -> Result<(), Unfit>
+        requires { number + length lines.now ≤ most_lines + 1 }
+        ensures { Makes result
+            (within deep number (made_view self.old) (map (λ line. line.now) lines.now)) (made_view self.new) }
+    {
+        if deep == 0 {
+            return Err(Unfit::Fault(RoundsFault {
+                at: Place {
+                    line: number,
+                    column: 1,
+                },
+                reason: Reason::TooDeep,
+            }));
+        }
+        let mut at = 0;
+        while at < lines.len() {
+            at += self.put_next(deep - 1, number + at, lines[at], &lines[at + 1..])?;
+        }
+        Ok(())
+    }
+
+    // Unfolds a line, by those behind it, and tells how many lines that takes.
+    #[cycle(rounds)]
+    fn put_next(
+        &mut self,
+        deep: usize,
+        number: usize,
+        line: &[u8],
+        behind: &[&[u8]],
+    ) -> Result<usize, Unfit>
+        requires { number + length behind.now ≤ most_lines }
+        ensures made { Makes result
+            (step_of (within deep) number (made_view self.old) line.now (map (λ line. line.now) behind.now) (kind_of line.now))
+            (made_view self.new) }
+        ensures size { IfOk result (λ size. size ≡ 1 + owned (kind_of line.now) (map (λ line. line.now) behind.now)) }
+        ensures inside { IfOk result (λ size. size ≤ 1 + length behind.now) }
+    {
+        match kind_of(line) {
+            Kind::Plain => {
+                self.put_line(place_of(number, line), line)?;
+                Ok(1)
+            }
+            Kind::Ends => Ok(1),
+            Kind::Repeats => {
+                let body = body_of(behind);
+                self.put_rounds(deep, number, line, body)?;
+                Ok(1 + body.len())
+            }
+        }
+    }
+
+    // Unfolds the rounds of lines that begin in a line of this number.
+    #[cycle(rounds)]
+    fn put_rounds(
+        &mut self,
+        deep: usize,
+        number: usize,
+        line: &[u8],
+        body: &[&[u8]],
+    ) -> Result<(), Unfit>
+        requires { number + length body.now ≤ most_lines }
+        ensures { Makes result
+            (rounds_of (within deep) number (made_view self.old) line.now (map (λ line. line.now) body.now))
+            (made_view self.new) }
+    {
+        let mut room = Line::new();
+        let place = place_of(number, line);
+        let head = match head_of(&self.known, number, line, &mut room) {
+            Ok(head) => head,
+            Err(fault) => return Err(Unfit::Fault(fault)),
+        };
+        if head.count == 0 {
+            self.put_begin(
+                place,
+                Head {
+                    count: 0,
+                    counter: None,
+                },
+                0,
+            )?;
+        }
+        for k in 0..head.count {
+            self.put_begin(place, head, k)?;
+            self.put_lines(deep, number + 1, body)?;
+        }
+        let line = number + body.len() + 2;
+        self.put_mark(place, Directive::Leave { line })
+    }
+
+    // Puts the mark before a round.
+    fn put_begin(&mut self, place: Place, head: Head<'_>, k: u64) -> Result<(), Unfit>
+        requires { place.line ≤ most_lines }
+        ensures { Makes result
+            (with_mark place (made_view self.old) (mark_of (head_view head) place.line k)) (made_view self.new) }
+    {
+        let line = place.line + 1;
+        let mut digits = Buffer::new();
+        let counter = match head.counter {
+            Some(name) => Some(Counter {
+                name,
+                value: digits.format(k).as_bytes(),
+            }),
+            None => None,
+        };
+        let mark = if k == 0 {
+            Directive::Enter { line, counter }
+        } else {
+            Directive::Again { line, counter }
+        };
+        self.put_mark(place, mark)
+    }
+
+    // Puts a mark.
+    fn put_mark(&mut self, place: Place, mark: Directive<'_>) -> Result<(), Unfit>
+        ensures { Makes result (with_mark place (made_view self.old) (directive_view mark)) (made_view self.new) }
+    {
+        self.count_line(place)?;
+        put_mark_text(&mut self.text, mark)?;
+        self.text.push(b'\n')?;
+        self.known.follow(mark)?;
+        Ok(())
+    }
+
+    // Puts a line that begins and ends no rounds.
+    fn put_line(&mut self, place: Place, line: &[u8]) -> Result<(), Unfit>
+        ensures { Makes result (with_line place (made_view self.old) line.now) (made_view self.new) }
+    {
+        self.count_line(place)?;
+        self.text.extend_from_slice(line)?;
+        self.text.push(b'\n')?;
+        set_names(&mut self.known, line)?;
+        Ok(())
+    }
+
+    // Counts a line more.
+    fn count_line(&mut self, place: Place) -> Result<(), Unfit> {
+        if self.count >= MOST_LINES {
+            return Err(Unfit::Fault(RoundsFault {
+                at: place,
+                reason: Reason::TooMany,
+            }));
+        }
+        self.count += 1;
+        Ok(())
+    }
+}
+
+// What names stand for behind a line.
+fn set_names(known: &mut Known, line: &[u8]) -> Result<(), AllocError>
+    ensures { OnOk result (known.new ≡ known_after known.old line.now) }
+{
+    if signs_of(line).first() != Some(&b'@') {
+        return Ok(());
+    }
+    let mut room = Line::new();
+    match fill(line, known, &mut room) {
+        Ok(filled) => match directive_of(filled.line) {
+            Some(Directive::Set(binding)) => known.bind(binding.name, binding.value),
+            _ => Ok(()),
+        },
+        // What it stands for is told in the play alone.
+        Err(_) => match directive_of(line) {
+            Some(Directive::Set(binding)) => known.bind(binding.name, b""),
+            _ => Ok(()),
+        },
+    }
+}
+
+// Writes a mark.
+fn put_mark_text(text: &mut Vec<u8>, mark: Directive<'_>) -> Result<(), AllocError>
+    ensures { OnOk result (text.new.items ≡ text.old.items ++ mark_text (directive_view mark)) }
+{
+    let (word, line, counter): (&[u8], usize, Option<Counter<'_>>) = match mark {
+        Directive::Enter { line, counter } => (b"@enter ", line, counter),
+        Directive::Again { line, counter } => (b"@again ", line, counter),
+        Directive::Leave { line } => (b"@leave ", line, None),
+        Directive::Set(_) | Directive::Repeat | Directive::End | Directive::Unknown => return Ok(
+            (),
+        ),
+    };
+    text.extend_from_slice(word)?;
+    text.extend_from_slice(Buffer::new().format(line).as_bytes())?;
+    if let Some(counter) = counter {
+        text.push(b' ')?;
+        text.extend_from_slice(counter.name)?;
+        text.push(b' ')?;
+        text.extend_from_slice(counter.value)?;
+    }
+    Ok(())
+}
