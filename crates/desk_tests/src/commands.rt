@@ -1,6 +1,6 @@
 //! Command lines that are taken: the command that each asks for.
 use std::test::Fail;
-use workbench_options::Command;
+use workbench_options::{Color, Command, Request};
 
 #[test]
 fn each_command_is_read(rt: HostRuntime) -> Result<(), Fail> {
@@ -12,6 +12,8 @@ fn each_command_is_read(rt: HostRuntime) -> Result<(), Fail> {
                 machine: None,
                 only: None,
                 accounts: false,
+                numbers: false,
+                color: Color::Auto,
                 scenario: "a.txt",
             },
         ),
@@ -29,6 +31,8 @@ fn each_command_is_read(rt: HostRuntime) -> Result<(), Fail> {
                 machine: Some("m.json"),
                 only: Some("bob"),
                 accounts: true,
+                numbers: false,
+                color: Color::Auto,
                 scenario: "-",
             },
         ),
@@ -38,6 +42,8 @@ fn each_command_is_read(rt: HostRuntime) -> Result<(), Fail> {
                 machine: None,
                 only: None,
                 accounts: false,
+                numbers: false,
+                color: Color::Auto,
                 scenario: "--accounts",
             },
         ),
@@ -187,13 +193,41 @@ fn each_command_is_read(rt: HostRuntime) -> Result<(), Fail> {
             Command::Test {
                 machine: Some("d"),
                 junit: Some("b"),
+                coverage: false,
+                json: false,
+                color: Color::Auto,
                 paths: vec![in alloc; "a", "c", "e"]?,
             },
         ),
     ];
     for (words, command) in lines {
-        assert!(rt; Command::read(alloc, words)? == Some(command), "{words:?}");
+        let Some(request) = Request::read(alloc, words)? else {
+            return Err(Fail::new("no request"));
+        };
+        assert!(rt; request.command == command, "{words:?}");
+        assert!(rt; request.given.is_empty(), "{words:?}");
     }
+    Ok(())
+}
+
+#[test]
+fn values_are_read_in_order(rt: HostRuntime) -> Result<(), Fail> {
+    let words = [
+        "nethrywel", "run", "--set", "a=1", "--numbers", "x", "--set=b=", "--color=never",
+    ];
+    let Some(request) = Request::read(rt.alloc(), words.as_slice())? else {
+        return Err(Fail::new("no request"));
+    };
+    let command = Command::Run {
+        machine: None,
+        only: None,
+        accounts: false,
+        numbers: true,
+        color: Color::Never,
+        scenario: "x",
+    };
+    assert!(rt; request.command == command);
+    assert!(rt; request.given.as_slice() == ["a=1", "b="].as_slice());
     Ok(())
 }
 
@@ -201,7 +235,7 @@ fn each_command_is_read(rt: HostRuntime) -> Result<(), Fail> {
 fn no_command_is_none(rt: HostRuntime) -> Result<(), Fail> {
     let lines: [&[&str]; 3] = [&[], &["nethrywel"], &["nethrywel", "--"]];
     for words in lines {
-        assert!(rt; Command::read(rt.alloc(), words)?.is_none(), "{words:?}");
+        assert!(rt; Request::read(rt.alloc(), words)?.is_none(), "{words:?}");
     }
     Ok(())
 }

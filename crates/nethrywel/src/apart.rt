@@ -1,7 +1,9 @@
 //! What each script is told in a scenario, among the others and alone, one script after the other.
 use crate::ends::{Played, REFUSED, status_of};
-use crate::files::{STANDARD_INPUT, read_list};
+use crate::files::{STANDARD_INPUT, read_start_list};
+use crate::given::Given;
 use crate::plays::tell_unbooted;
+use crate::unfolding::unfolded;
 use init_core::{Binary, MACHINE_A, StartList};
 use scenario::Output;
 use std::io::{Read, Write};
@@ -23,6 +25,8 @@ pub(crate) struct All<'a> {
     pub(crate) scenario: &'a str,
     /// Whether the last line alone is told of each.
     pub(crate) summary: bool,
+    /// What names stand for.
+    pub(crate) given: Given<'a>,
 }
 
 /// Plays the scenario for each script of the machine in turn, and tells what `alone` tells of it; complaints are told once.
@@ -32,13 +36,17 @@ pub(crate) fn all_alone(rt: &HostRuntime, all: All<'_>) -> u8 {
         let _ = eprintln!(rt; "{}: Unreadable_scenario", all.scenario);
         return REFUSED;
     };
-    let Some(path) = all.machine else {
-        return all_on(rt, MACHINE_A.as_bytes(), &scenario, all);
+    let lines = match unfolded(rt, all.scenario, &scenario, all.given) {
+        Ok(lines) => lines,
+        Err(status) => return status,
     };
-    match read_list(rt, path) {
-        Ok(text) => all_on(rt, &text, &scenario, all),
+    let Some(path) = all.machine else {
+        return all_on(rt, MACHINE_A.as_bytes(), lines.bytes(), all);
+    };
+    match read_start_list(rt, path, all.given) {
+        Ok(text) => all_on(rt, &text, lines.bytes(), all),
         Err(fault) => {
-            let _ = eprintln!(rt; "{path}: {fault}");
+            let _ = eprintln!(rt; "{fault}");
             REFUSED
         }
     }

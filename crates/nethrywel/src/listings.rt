@@ -1,6 +1,7 @@
 //! What is told of a start list, as documents of JSON.
 use crate::ends::{REFUSED, UNWRITTEN, status_of};
-use crate::files::read_list;
+use crate::files::read_start_list;
+use crate::given::Given;
 use crate::lists::{Asked, chosen, review};
 use crate::policies::{BROKEN, Noted, Standing, hold_against};
 use init_core::StartList;
@@ -20,26 +21,28 @@ pub(crate) struct Check<'a> {
     pub(crate) policy: Option<&'a str>,
     /// Whether findings count.
     pub(crate) strict: bool,
+    /// What names stand for.
+    pub(crate) given: Given<'a>,
 }
 
 /// Tells what a check tells, a document each of a list, and answers the exit status.
 pub(crate) fn check_documents(rt: &HostRuntime, check: Check<'_>) -> u8 {
     let mut listing = Listing::new(rt.alloc());
-    match read_list(rt, check.list) {
+    match read_start_list(rt, check.list, check.given) {
         Ok(text) => {
             let added = add_all(rt, check, &text, &mut listing);
             printed(rt, added, listing)
         }
         Err(fault) => {
-            let _ = eprintln!(rt; "{}: {fault}", check.list);
+            let _ = eprintln!(rt; "{fault}");
             REFUSED
         }
     }
 }
 
 /// Tells a tree, a document a line of it, and answers the exit status.
-pub(crate) fn tree_document(rt: &HostRuntime, path: &str) -> u8 {
-    match review(rt, path) {
+pub(crate) fn tree_document(rt: &HostRuntime, path: &str, given: Given<'_>) -> u8 {
+    match review(rt, path, given) {
         Some(review) => print_documents(rt, tree_text(rt.alloc(), &review)),
         None => REFUSED,
     }
@@ -54,7 +57,7 @@ fn tree_text(alloc: Global, review: &Review) -> Result<Vec<u8>, AllocError> {
 
 /// Tells which scripts reach which servers, a document a cell of the table, and answers the exit status.
 pub(crate) fn reach_documents(rt: &HostRuntime, path: &str, asked: Asked<'_>) -> u8 {
-    let Some(review) = review(rt, path) else {
+    let Some(review) = review(rt, path, asked.given) else {
         return REFUSED;
     };
     let list = review.list();

@@ -1,6 +1,7 @@
 //! What is told of a start list: its faults and findings, and where its wishes lead.
 use crate::ends::{REFUSED, UNWRITTEN, status_of};
-use crate::files::read_list;
+use crate::files::read_start_list;
+use crate::given::Given;
 use init_core::StartList;
 use reach::{Chosen, Course, NoCourse, Table, WayList};
 use start_review::{Fault, Review, Whereabouts};
@@ -11,16 +12,21 @@ const DENIED: u8 = 3;
 
 /// Tells what is wrong with a start list, a line each on standard error, and `ok` where nothing is that counts: findings
 /// count where the check is strict. Answers the exit status.
-pub(crate) fn check(rt: &HostRuntime, path: &str, strict: bool) -> u8 {
-    match checked(rt, path, strict) {
+pub(crate) fn check(rt: &HostRuntime, path: &str, given: Given<'_>, strict: bool) -> u8 {
+    match checked(rt, path, given, strict) {
         Some(_) => status_of(rt, println!(rt; "ok")),
         None => REFUSED,
     }
 }
 
 /// The start list of a path with its findings told, or none where it has a fault, or findings that count.
-pub(crate) fn checked(rt: &HostRuntime, path: &str, strict: bool) -> Option<Review> {
-    let review = review(rt, path)?;
+pub(crate) fn checked(
+    rt: &HostRuntime,
+    path: &str,
+    given: Given<'_>,
+    strict: bool,
+) -> Option<Review> {
+    let review = review(rt, path, given)?;
     for finding in review.findings() {
         let _ = eprintln!(rt; "{path}: {finding}");
     }
@@ -31,8 +37,8 @@ pub(crate) fn checked(rt: &HostRuntime, path: &str, strict: bool) -> Option<Revi
 }
 
 /// Shows the components of a start list as text or as a graph, and answers the exit status.
-pub(crate) fn tree(rt: &HostRuntime, path: &str, dot: bool) -> u8 {
-    let Some(review) = review(rt, path) else {
+pub(crate) fn tree(rt: &HostRuntime, path: &str, given: Given<'_>, dot: bool) -> u8 {
+    let Some(review) = review(rt, path, given) else {
         return REFUSED;
     };
     if dot {
@@ -61,12 +67,14 @@ pub(crate) struct Asked<'a> {
     pub(crate) to: &'a [&'a str],
     /// Whether comma-separated values are written in place of a table.
     pub(crate) csv: bool,
+    /// What names stand for.
+    pub(crate) given: Given<'a>,
 }
 
 /// Shows which scripts of a start list reach which servers, as a table or as comma-separated values, and of those that are named
 /// each way; answers the exit status.
 pub(crate) fn reach(rt: &HostRuntime, path: &str, asked: Asked<'_>) -> u8 {
-    let Some(review) = review(rt, path) else {
+    let Some(review) = review(rt, path, asked.given) else {
         return REFUSED;
     };
     let list = review.list();
@@ -140,10 +148,26 @@ fn print_values(rt: &HostRuntime, table: Table<'_>) -> io::Result<()> {
     print!(rt; "{values}")
 }
 
+/// A wish for a session.
+#[derive(Clone, Copy)]
+pub(crate) struct Wish<'a> {
+    /// The path of the script that wishes.
+    pub(crate) client: &'a str,
+    /// The service.
+    pub(crate) service: &'a str,
+    /// The arguments of the session.
+    pub(crate) args: &'a str,
+}
+
 /// Shows where a wish of a script for a session leads, and answers the exit status: where it leads nowhere that of what isn't
 /// as expected.
-pub(crate) fn route(rt: &HostRuntime, path: &str, client: &str, service: &str, args: &str) -> u8 {
-    let Some(review) = review(rt, path) else {
+pub(crate) fn route(rt: &HostRuntime, path: &str, given: Given<'_>, wish: Wish<'_>) -> u8 {
+    let Wish {
+        client,
+        service,
+        args,
+    } = wish;
+    let Some(review) = review(rt, path, given) else {
         return REFUSED;
     };
     let client_path = client.as_bytes();
@@ -170,8 +194,8 @@ pub(crate) fn route(rt: &HostRuntime, path: &str, client: &str, service: &str, a
 }
 
 /// The start list of a path, or none where that is told on standard error.
-pub(crate) fn review(rt: &HostRuntime, path: &str) -> Option<Review> {
-    match read_list(rt, path) {
+pub(crate) fn review(rt: &HostRuntime, path: &str, given: Given<'_>) -> Option<Review> {
+    match read_start_list(rt, path, given) {
         Ok(text) => match Review::read(rt.alloc(), &text) {
             Ok(review) => Some(review),
             Err(fault) => {
@@ -180,7 +204,7 @@ pub(crate) fn review(rt: &HostRuntime, path: &str) -> Option<Review> {
             }
         },
         Err(fault) => {
-            let _ = eprintln!(rt; "{path}: {fault}");
+            let _ = eprintln!(rt; "{fault}");
             None
         }
     }

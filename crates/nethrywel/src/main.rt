@@ -6,6 +6,7 @@ mod changes;
 mod documents;
 mod ends;
 mod files;
+mod given;
 mod listings;
 mod lists;
 mod needs;
@@ -14,28 +15,30 @@ mod policies;
 mod recordings;
 mod scenarios;
 mod tests;
+mod unfolding;
 
 use apart::{All, all_alone};
 use changes::{Compared, diff};
 use clap::Error;
 use ends::{REFUSED, status_of};
+use given::Given;
 use listings::{Check, check_documents, reach_documents, tree_document};
-use lists::{Asked, check, reach, route, tree};
+use lists::{Asked, Wish, check, reach, route, tree};
 use needs::{Telling, least};
 use plays::{Viewing, play};
 use policies::hold;
 use recordings::record_scenario;
 use std::process::ExitCode;
 use tests::{Wanted, test};
-use workbench_options::{Command, alone_takes_a_name_or_all, needs_command, words_given};
+use workbench_options::{Command, Request, alone_takes_a_name_or_all, needs_command, words_given};
 
 fn main(rt: HostRuntime) -> ExitCode {
     let words = match words_given(&rt) {
         Ok(words) => words,
         Err(error) => return refuse(&rt, &error),
     };
-    match Command::read(rt.alloc(), words.as_slice()) {
-        Ok(Some(command)) => ExitCode::from(answer(&rt, command)),
+    match Request::read(rt.alloc(), words.as_slice()) {
+        Ok(Some(request)) => ExitCode::from(answer_request(&rt, request)),
         Ok(None) => match needs_command(rt.alloc()) {
             Ok(error) => refuse(&rt, &error),
             Err(error) => refuse(&rt, &error),
@@ -63,8 +66,16 @@ fn refuse_alone(rt: &HostRuntime) -> u8 {
     }
 }
 
+// Does what is asked for with what names stand for, and answers the exit status.
+fn answer_request(rt: &HostRuntime, request: Request<'_>) -> u8 {
+    match Given::read(rt, request.given.as_slice()) {
+        Ok(given) => answer(rt, request.command, given),
+        Err(status) => status,
+    }
+}
+
 // Does what is asked for, and answers the exit status.
-fn answer(rt: &HostRuntime, command: Command<'_>) -> u8 {
+fn answer(rt: &HostRuntime, command: Command<'_>, given: Given<'_>) -> u8 {
     match command {
         Command::Check {
             strict,
@@ -78,17 +89,18 @@ fn answer(rt: &HostRuntime, command: Command<'_>) -> u8 {
                     list,
                     policy,
                     strict,
+                    given,
                 },
             ),
-            Some(policy) => hold(rt, list, policy, strict),
-            None => check(rt, list, strict),
+            Some(policy) => hold(rt, list, given, policy, strict),
+            None => check(rt, list, given, strict),
         },
         Command::Tree {
             json: true,
             list,
             ..
-        } => tree_document(rt, list),
-        Command::Tree { dot, list, .. } => tree(rt, list, dot),
+        } => tree_document(rt, list, given),
+        Command::Tree { dot, list, .. } => tree(rt, list, given, dot),
         Command::Reach {
             csv,
             json,
@@ -100,6 +112,7 @@ fn answer(rt: &HostRuntime, command: Command<'_>) -> u8 {
                 from: from.as_slice(),
                 to: to.as_slice(),
                 csv,
+                given,
             };
             if json {
                 reach_documents(rt, list, asked)
@@ -112,13 +125,27 @@ fn answer(rt: &HostRuntime, command: Command<'_>) -> u8 {
             client,
             service,
             args,
-        } => route(rt, list, client, service, args),
+        } => {
+            let wish = Wish {
+                client,
+                service,
+                args,
+            };
+            route(rt, list, given, wish)
+        }
         Command::Run {
             machine,
             only,
             accounts,
             scenario,
-        } => play(rt, machine, scenario, Viewing::Run { only, accounts }),
+            ..
+        } => play(
+            rt,
+            machine,
+            scenario,
+            given,
+            Viewing::Run { only, accounts },
+        ),
         Command::Record {
             machine,
             all,
@@ -130,6 +157,7 @@ fn answer(rt: &HostRuntime, command: Command<'_>) -> u8 {
                 all,
                 write,
                 scenario,
+                given,
             };
             record_scenario(rt, wanted)
         }
@@ -137,12 +165,12 @@ fn answer(rt: &HostRuntime, command: Command<'_>) -> u8 {
             machine,
             json,
             scenario,
-        } => play(rt, machine, scenario, Viewing::Trace { json }),
+        } => play(rt, machine, scenario, given, Viewing::Trace { json }),
         Command::Accounts {
             machine,
             json,
             scenario,
-        } => play(rt, machine, scenario, Viewing::Accounts { json }),
+        } => play(rt, machine, scenario, given, Viewing::Accounts { json }),
         Command::Least {
             machine,
             as_donated,
@@ -157,6 +185,7 @@ fn answer(rt: &HostRuntime, command: Command<'_>) -> u8 {
             as_donated,
             Telling::of(csv, json, list, donations),
             scenario,
+            given,
         ),
         Command::Alone {
             machine,
@@ -166,13 +195,14 @@ fn answer(rt: &HostRuntime, command: Command<'_>) -> u8 {
             scenario,
         } => match (all, scenario) {
             (false, Some(scenario)) if !summary => {
-                play(rt, machine, scenario, Viewing::Alone { name })
+                play(rt, machine, scenario, given, Viewing::Alone { name })
             }
             (true, None) => {
                 let all = All {
                     machine,
                     scenario: name,
                     summary,
+                    given,
                 };
                 all_alone(rt, all)
             }
@@ -195,11 +225,13 @@ fn answer(rt: &HostRuntime, command: Command<'_>) -> u8 {
             machine,
             junit,
             paths,
+            ..
         } => {
             let wanted = Wanted {
                 paths: paths.as_slice(),
                 machine,
                 junit,
+                given,
             };
             test(rt, &wanted)
         }

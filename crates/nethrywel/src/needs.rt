@@ -1,6 +1,7 @@
 //! What the accounts of a scenario need.
 use crate::ends::{REFUSED, UNWRITTEN, status_of};
-use crate::files::{STANDARD_INPUT, read_list};
+use crate::files::{STANDARD_INPUT, read_start_list};
+use crate::given::Given;
 use crate::listings::print_documents;
 use crate::lists::tell_fault;
 use init_core::{BootFault, MACHINE_A};
@@ -67,6 +68,7 @@ pub(crate) fn least(
     as_donated: bool,
     telling: Telling,
     scenario: &str,
+    given: Given<'_>,
 ) -> u8 {
     let Some(path) = machine else {
         return least_on(
@@ -78,10 +80,10 @@ pub(crate) fn least(
             scenario,
         );
     };
-    match read_list(rt, path) {
+    match read_start_list(rt, path, given) {
         Ok(text) => least_on(rt, &text, machine, as_donated, telling, scenario),
         Err(fault) => {
-            let _ = eprintln!(rt; "{path}: {fault}");
+            let _ = eprintln!(rt; "{fault}");
             REFUSED
         }
     }

@@ -1,8 +1,10 @@
 //! A scenario's play on a machine, over files and the standard streams.
 use crate::documents::{accounts_document, trace_documents};
 use crate::ends::{Played, REFUSED};
-use crate::files::{STANDARD_INPUT, read_list};
+use crate::files::{STANDARD_INPUT, read_start_list, read_whole};
+use crate::given::Given;
 use crate::lists::tell_fault;
+use crate::unfolding::unfolded;
 use init_core::{BootFault, MACHINE_A};
 use scenario::{Input, Output, Source};
 use start_review::{Fault, Review};
@@ -52,15 +54,16 @@ pub(crate) fn play(
     rt: &HostRuntime,
     machine: Option<&str>,
     scenario: &str,
+    given: Given<'_>,
     viewing: Viewing<'_>,
 ) -> u8 {
     let Some(path) = machine else {
-        return play_on(rt, MACHINE_A.as_bytes(), None, scenario, viewing);
+        return play_on(rt, MACHINE_A.as_bytes(), None, scenario, given, viewing);
     };
-    match read_list(rt, path) {
-        Ok(text) => play_on(rt, &text, machine, scenario, viewing),
+    match read_start_list(rt, path, given) {
+        Ok(text) => play_on(rt, &text, machine, scenario, given, viewing),
         Err(fault) => {
-            let _ = eprintln!(rt; "{path}: {fault}");
+            let _ = eprintln!(rt; "{fault}");
             REFUSED
         }
     }
@@ -72,6 +75,7 @@ fn play_on<'a>(
     text: &'a [u8],
     machine: Option<&str>,
     scenario: &'a str,
+    given: Given<'_>,
     viewing: Viewing<'_>,
 ) -> u8 {
     if let Some(name) = viewing.name() {
@@ -85,6 +89,11 @@ fn play_on<'a>(
     };
     let played = if scenario == STANDARD_INPUT {
         play_from(rt, play, viewing, &mut Input::new(rt.reader()))
+    } else if let Some(whole) = read_whole(rt, scenario) {
+        match unfolded(rt, scenario, &whole, given) {
+            Ok(lines) => play_from(rt, play, viewing, &mut lines.bytes()),
+            Err(status) => return status,
+        }
     } else {
         match fs::open(rt, scenario) {
             Ok(file) => play_from(rt, play, viewing, &mut Input::new(file)),

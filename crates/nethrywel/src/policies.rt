@@ -1,6 +1,7 @@
 //! A policy that is held against a start list: each line of it that the list breaks is told with its place.
 use crate::ends::{REFUSED, UNWRITTEN, status_of};
 use crate::files::read_list;
+use crate::given::Given;
 use crate::lists::checked;
 use init_core::StartList;
 use policy::{Policy, PolicyFault, Told};
@@ -36,8 +37,8 @@ pub(crate) enum Standing {
 
 /// Tells what is wrong with a start list, as a check does, and then which lines of a policy it breaks, a line each on standard
 /// error, and `ok` where it breaks none. Answers the exit status.
-pub(crate) fn hold(rt: &HostRuntime, list: &str, path: &str, strict: bool) -> u8 {
-    let Some(review) = checked(rt, list, strict) else {
+pub(crate) fn hold(rt: &HostRuntime, list: &str, given: Given<'_>, path: &str, strict: bool) -> u8 {
+    let Some(review) = checked(rt, list, given, strict) else {
         return REFUSED;
     };
     match hold_against(rt, review.list(), path) {

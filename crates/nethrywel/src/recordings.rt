@@ -1,6 +1,7 @@
 //! A scenario that is recorded: on standard output, or in its place.
 use crate::ends::{REFUSED, UNWRITTEN, status_of};
-use crate::files::{STANDARD_INPUT, read_list};
+use crate::files::{STANDARD_INPUT, read_start_list};
+use crate::given::Given;
 use crate::needs::{read_scenario, tell_unbooted};
 use init_core::MACHINE_A;
 use recording::{Recording, record};
@@ -22,6 +23,8 @@ pub(crate) struct Wanted<'a> {
     pub(crate) write: bool,
     /// The path of the scenario.
     pub(crate) scenario: &'a str,
+    /// What names stand for.
+    pub(crate) given: Given<'a>,
 }
 
 /// Records a scenario on the machine of a start list, or on the built-in machine. Answers the exit status.
@@ -33,10 +36,10 @@ pub(crate) fn record_scenario(rt: &HostRuntime, wanted: Wanted<'_>) -> u8 {
     let Some(path) = wanted.machine else {
         return record_on(rt, MACHINE_A.as_bytes(), wanted);
     };
-    match read_list(rt, path) {
+    match read_start_list(rt, path, wanted.given) {
         Ok(text) => record_on(rt, &text, wanted),
         Err(fault) => {
-            let _ = eprintln!(rt; "{path}: {fault}");
+            let _ = eprintln!(rt; "{fault}");
             REFUSED
         }
     }

@@ -1,11 +1,13 @@
 //! Scenarios that are run as tests, and what is told of them.
 use crate::ends::{Stopped, UNWRITTEN, status_of};
-use crate::files::read_list;
+use crate::files::{read_start_list, read_whole};
+use crate::given::Given;
 use crate::lists::Told;
 use crate::policies::{Standing, hold_against};
 use crate::scenarios::{Unfound, scenarios_at};
 use init_core::{BootFault, MACHINE_A, StartList};
-use scenario::{Input, Output};
+use rounds::{Unfit, unfold};
+use scenario::{Input, Output, Source};
 use start_review::Review;
 use std::alloc::AllocError;
 use std::io::Write;
@@ -27,13 +29,15 @@ pub(crate) struct Wanted<'a> {
     pub(crate) machine: Option<&'a str>,
     /// The file to which the document of all results is written.
     pub(crate) junit: Option<&'a str>,
+    /// What names stand for.
+    pub(crate) given: Given<'a>,
 }
 
 /// Runs the scenarios of all paths one after the other, each on a machine of its own: the one that stands beside it, or the one
 /// for the others. Tells a line each, and writes the document where one is asked for. Answers the exit status.
 pub(crate) fn test(rt: &HostRuntime, wanted: &Wanted<'_>) -> u8 {
     match scenarios_at(rt, wanted.paths) {
-        Ok(scenarios) => match run_all(rt, scenarios.as_slice(), wanted.machine) {
+        Ok(scenarios) => match run_all(rt, scenarios.as_slice(), wanted) {
             Ok(trials) => end(rt, trials.as_slice(), wanted.junit),
             Err(error) => status_of(rt, Err(error)),
         },
@@ -59,17 +63,13 @@ fn write_document(rt: &HostRuntime, path: &str, trials: &[Trial]) -> io::Result<
 }
 
 // Runs all, and tells a line each.
-fn run_all(
-    rt: &HostRuntime,
-    scenarios: &[String],
-    machine: Option<&str>,
-) -> io::Result<Vec<Trial>> {
+fn run_all(rt: &HostRuntime, scenarios: &[String], wanted: &Wanted<'_>) -> io::Result<Vec<Trial>> {
     let alloc = rt.alloc();
     let mut writer = io::writer(rt);
     writer.write_all(tap_plan(alloc, scenarios.len())?.as_bytes())?;
     let mut trials = Vec::new(alloc);
     for scenario in scenarios {
-        let trial = run_one(rt, scenario.as_str(), machine)?;
+        let trial = run_one(rt, scenario.as_str(), wanted)?;
         let point = tap_point(alloc, trials.len().saturating_add(1), &trial)?;
         writer.write_all(point.as_slice())?;
         trials.push(trial)?;
@@ -78,18 +78,18 @@ fn run_all(
 }
 
 // Runs a scenario on its machine.
-fn run_one(rt: &HostRuntime, scenario: &str, machine: Option<&str>) -> Result<Trial, AllocError> {
+fn run_one(rt: &HostRuntime, scenario: &str, wanted: &Wanted<'_>) -> Result<Trial, AllocError> {
     let beside = machine_beside(rt.alloc(), scenario)?;
     let list = match fs::exists(rt, beside.as_str()) {
-        Ok(false) => machine,
+        Ok(false) => wanted.machine,
         _ => Some(beside.as_str()),
     };
     let Some(path) = list else {
-        return run_whole(rt, scenario, MACHINE_A.as_bytes(), None);
+        return run_whole(rt, scenario, MACHINE_A.as_bytes(), None, wanted.given);
     };
-    match read_list(rt, path) {
-        Ok(text) => run_whole(rt, scenario, &text, list),
-        Err(fault) => failed(rt, scenario, format!(in rt.alloc(); "{path}: {fault}\n")?),
+    match read_start_list(rt, path, wanted.given) {
+        Ok(text) => run_whole(rt, scenario, &text, list, wanted.given),
+        Err(fault) => failed(rt, scenario, format!(in rt.alloc(); "{fault}\n")?),
     }
 }
 
@@ -99,8 +99,9 @@ fn run_whole(
     scenario: &str,
     text: &[u8],
     list: Option<&str>,
+    given: Given<'_>,
 ) -> Result<Trial, AllocError> {
-    let mut trial = run_on(rt, scenario, text, list)?;
+    let mut trial = run_on(rt, scenario, text, list, given)?;
     let policy = policy_beside(rt.alloc(), scenario)?;
     if let Ok(false) = fs::exists(rt, policy.as_str()) {
         return Ok(trial);
@@ -148,15 +149,37 @@ fn run_on(
     scenario: &str,
     text: &[u8],
     list: Option<&str>,
+    given: Given<'_>,
 ) -> Result<Trial, AllocError> {
     let alloc = rt.alloc();
-    let Ok(file) = fs::open(rt, scenario) else {
-        return failed(
+    if let Some(whole) = read_whole(rt, scenario) {
+        return match unfold(alloc, &whole, given.known(alloc)?) {
+            Ok(lines) => run_from(rt, scenario, text, list, &mut lines.bytes()),
+            Err(Unfit::Fault(fault)) => {
+                failed(rt, scenario, format!(in alloc; "{scenario}:{fault}\n")?)
+            }
+            Err(Unfit::NoMemory) => Err(AllocError),
+        };
+    }
+    match fs::open(rt, scenario) {
+        Ok(file) => run_from(rt, scenario, text, list, &mut Input::new(file)),
+        Err(_) => failed(
             rt,
             scenario,
             format!(in alloc; "{scenario}: Unreadable_scenario\n")?,
-        );
-    };
+        ),
+    }
+}
+
+// Runs a scenario of a source on the machine of a text.
+fn run_from<S: Source>(
+    rt: &HostRuntime,
+    scenario: &str,
+    text: &[u8],
+    list: Option<&str>,
+    source: &mut S,
+) -> Result<Trial, AllocError> {
+    let alloc = rt.alloc();
     let play = Play {
         machine: text,
         scenario: scenario.as_bytes(),
@@ -167,7 +190,7 @@ fn run_on(
         play,
         None,
         false,
-        &mut Input::new(file),
+        source,
         &mut Output::new(io::sink()),
         &mut complaints,
     );

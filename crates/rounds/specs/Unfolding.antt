@@ -1,5 +1,5 @@
 -- A scenario's lines with their rounds unfolded.
-use Rattle.std.specs.Prelude.{ℕ, ◌+◌, not, Bool, true, false, zero, suc, List, [], ◌∷◌, ◌++◌, length, take, codes, decimal, nat_eq, nat_lt, if◌then◌else◌, Option, Some, None, Result, Ok, Err}
+use Rattle.std.specs.Prelude.{ℕ, ◌+◌, not, Bool, true, false, zero, suc, List, [], ◌∷◌, ◌++◌, length, take, codes, decimal, nat_eq, nat_lt, if◌then◌else◌, Option, Some, None, Result, Ok, Err, Unit, tt}
 use Rattle.std.specs.List.{list_any}
 use Rattle.std.specs.Option.{option_and_then, option_map}
 use Rattle.std.specs.Str.{bytes_eq}
@@ -32,12 +32,13 @@ most_lines = 1000000
 
 -- ---- one line
 
--- a line more
+-- a line more, if that isn't too many
+abbrev pub counted : Place → ℕ → Result ℕ RoundsFault
+counted place n = if nat_lt n most_lines then Ok (n + 1) else Err (record { at = place; reason = TooMany })
+
 abbrev pub with_text : Place → Made → List ℕ → Result Made RoundsFault
 with_text place made line =
-    if nat_lt made.count most_lines
-    then Ok (record { text = made.text ++ line ++ 10 ∷ []; count = made.count + 1; known = made.known })
-    else Err (record { at = place; reason = TooMany })
+    map_ok (λ n. record { text = made.text ++ line ++ 10 ∷ []; count = n; known = made.known }) (counted place made.count)
 
 -- what names stand for behind it; a name that is set to what is told in the play alone stands for nothing before it
 abbrev pub set_by : Known → Option Directive → Known
@@ -114,13 +115,13 @@ head_by text n =
 abbrev pub head_said : List ℕ → Option Head
 head_said text = option_and_then (head_by (next_word text).rest) (number_of (next_word text).word)
 
-abbrev pub head_told : Place → Option Head → Result Head RoundsFault
-head_told place (Some head) = Ok head
-head_told place None = Err (record { at = place; reason = NoCount })
+abbrev pub head_or : Place → Option Head → Result Head RoundsFault
+head_or place (Some head) = Ok head
+head_or place None = Err (record { at = place; reason = NoCount })
 
 -- with what its names stand for
 abbrev pub head_in : ℕ → List ℕ → Result Filled NameFault → Result Head RoundsFault
-head_in number line (Ok filled) = head_told (place_of number line) (head_said (next_word (words_of filled.line)).rest)
+head_in number line (Ok filled) = head_or (place_of number line) (head_said (next_word (words_of filled.line)).rest)
 head_in number line (Err fault) =
     Err (record { at = record { line = number; column = fault.column }; reason = Name fault.reason })
 

@@ -1,5 +1,8 @@
 //! Why a scenario isn't unfolded.
 
+ghost use Rattle.std.specs.Prelude.{◌≡◌};
+ghost use Rattle.rounds.specs.declared.fault.Unfit.TheVariants.{Fault as AFault, NoMemory};
+
 use scenario_names::NameReason;
 use std::alloc::{AllocError, AllocFailed};
 use thiserror::Error;
@@ -58,13 +61,25 @@ pub enum Unfit {
     NoMemory,
 }
 
+impl From<RoundsFault> for Unfit {
+    ghost from_gives = { λ fault unfit. unfit ≡ AFault fault };
+
+    fn from(fault: RoundsFault) -> Unfit {
+        Unfit::Fault(fault)
+    }
+}
+
 impl From<AllocError> for Unfit {
+    ghost from_gives = { λ _ unfit. unfit ≡ NoMemory };
+
     fn from(_want: AllocError) -> Unfit {
         Unfit::NoMemory
     }
 }
 
 impl<T: Drop> From<AllocFailed<T>> for Unfit {
+    ghost from_gives = { λ _ unfit. unfit ≡ NoMemory };
+
     fn from(_want: AllocFailed<T>) -> Unfit {
         Unfit::NoMemory
     }

@@ -1,7 +1,9 @@
 //! The lines of a scenario, as its rounds see them.
-ghost use Rattle.std.specs.Prelude.{◌≡◌, ◌+◌, ◌<◌, ◌≤◌, length, IfOk};
+ghost use Rattle.std.specs.Prelude.{◌≡◌, ◌≤◌, IfOk, drop, length};
 ghost use Rattle.own_model.specs.Text.{lines_of};
+ghost use Rattle.scenario.specs.Lines.{line_length};
 ghost use Rattle.rounds.specs.Structure.{column_of, kind_of, words_of};
+ghost use Rattle.rounds.specs.Views.{texts};
 
 use friendly_lines::{end_of, next_word, signs_of};
 use std::alloc::{AllocError, Global};
@@ -19,19 +21,40 @@ pub(crate) enum Kind {
 }
 
 /// The lines of a text.
+#[tactic(auto, using(crate::proofs::RoundLemmas::line_steps))]
 pub(crate) fn lines_of(alloc: Global, text: &[u8]) -> Result<Vec<&[u8]>, AllocError>
-    ensures { IfOk result (λ lines. map (λ line. line.now) lines.items ≡ lines_of text.now) }
+    ensures { IfOk result (λ lines. texts lines.items ≡ lines_of text.now) }
 {
     let mut lines = Vec::new(alloc);
     let mut rest = text;
-    while let Some(end) = find_byte(b'\n', rest) {
-        lines.push(&rest[..end])?;
-        rest = &rest[end + 1..];
-    }
-    if !rest.is_empty() {
-        lines.push(rest)?;
+    while !rest.is_empty() {
+        let length = line_length(rest);
+        lines.push(&rest[..length])?;
+        rest = behind(rest, length + 1);
     }
     Ok(lines)
+}
+
+// How many bytes the first line of a text has.
+fn line_length(text: &[u8]) -> usize
+    ensures count { result ≡ line_length text.now }
+    ensures within { result ≤ length text.now }
+{
+    match find_byte(b'\n', text) {
+        Some(end) => end,
+        None => text.len(),
+    }
+}
+
+// What stands behind the first bytes of a text, so many.
+fn behind(text: &[u8], count: usize) -> &[u8]
+    ensures { result.now ≡ drop count text.now }
+{
+    if count < text.len() {
+        &text[count..]
+    } else {
+        b""
+    }
 }
 
 /// What a line is, by its first word.

@@ -1,8 +1,9 @@
 //! Where rounds begin and end.
-ghost use Rattle.std.specs.Prelude.{◌≡◌, ◌≤◌, [], length, map, take};
-ghost use Rattle.rounds.specs.Structure.{body_length, fault_at, opens_after, opens_from, place_of};
+ghost use Rattle.std.specs.Prelude.{◌≡◌, ◌≤◌, [], length, take, tt};
+ghost use Rattle.scenario_names.specs.Sums.{and_then};
+ghost use Rattle.rounds.specs.Structure.{body_length, fault_at, kind_of, opens_after, opens_from, place_of};
 ghost use Rattle.rounds.specs.Unfolding.{all_ended};
-ghost use Rattle.rounds.specs.Views.{Makes};
+ghost use Rattle.rounds.specs.Views.{Makes, texts};
 
 use crate::fault::{Place, Reason, RoundsFault, Unfit};
 use crate::lines::{Kind, column_of, kind_of, words_of};
@@ -14,7 +15,7 @@ const DEEPEST: usize = 4;
 
 /// Whether all rounds begin, end and stand as deep as they may.
 pub(crate) fn check_structure(alloc: Global, lines: &[&[u8]]) -> Result<(), Unfit>
-    ensures { Makes result (and_then (opens_from 1 [] (map (λ line. line.now) lines.now)) all_ended) tt }
+    ensures { Makes result (and_then (opens_from 1 [] (texts lines.now)) all_ended) tt }
 {
     let mut opens = Vec::new(alloc);
     for (i, line) in lines.iter().enumerate() {
@@ -55,7 +56,7 @@ fn keep_open(opens: &mut Vec<RoundsFault>, number: usize, line: &[u8]) -> Result
 
 /// The lines before the `@end` of the rounds that began before them.
 pub(crate) fn body_of<'a, 'l>(lines: &'l [&'a [u8]]) -> &'l [&'a [u8]]
-    ensures value { result.now ≡ take (body_length 0 (map (λ line. line.now) lines.now)) lines.now }
+    ensures value { result.now ≡ take (body_length 0 (texts lines.now)) lines.now }
     ensures within { length result.now ≤ length lines.now }
 {
     let mut within = 0usize;

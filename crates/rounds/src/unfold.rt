@@ -1,7 +1,7 @@
 //! A scenario's text with its rounds unfolded.
-ghost use Rattle.std.specs.Prelude.{◌≡◌, map};
+ghost use Rattle.std.specs.Prelude.{◌≡◌};
 ghost use Rattle.rounds.specs.Unfolding.{has_rounds, unfolded};
-ghost use Rattle.rounds.specs.Views.{Unfolds};
+ghost use Rattle.rounds.specs.Views.{Unfolds, bytes_of, texts};
 
 use crate::fault::{Place, Reason, RoundsFault, Unfit};
 use crate::lines::{Kind, kind_of, lines_of};
@@ -67,7 +67,7 @@ pub fn unfold<'a>(alloc: Global, text: &'a [u8], given: Known) -> Result<Unfolde
 
 // Whether rounds stand among lines.
 fn has_rounds(lines: &[&[u8]]) -> bool
-    ensures { result ≡ has_rounds (map (λ line. line.now) lines.now) }
+    ensures { result ≡ has_rounds (texts lines.now) }
 {
     lines.iter().any(|line| kind_of(line) != Kind::Plain)
 }

@@ -1,8 +1,9 @@
 //! Lines that are unfolded one after another.
-ghost use Rattle.std.specs.Prelude.{◌≡◌, ◌+◌, ◌≤◌, map};
+ghost use Rattle.std.specs.Prelude.{◌≡◌, ◌+◌, ◌≤◌, ◌++◌, length, IfOk, OnOk};
 ghost use Rattle.scenario_names.specs.Views.{directive_view};
-ghost use Rattle.rounds.specs.Unfolding.{known_after, mark_text, most_lines, rounds_by, rounds_from, rounds_of, step_of, with_line, with_mark, with_text, within};
-ghost use Rattle.rounds.specs.Views.{Makes, head_view, made_view};
+ghost use Rattle.rounds.specs.Structure.{kind_of};
+ghost use Rattle.rounds.specs.Unfolding.{counted, known_after, mark_of, mark_text, most_lines, owned, rounds_of, step_of, with_line, with_mark, within};
+ghost use Rattle.rounds.specs.Views.{Makes, head_view, made_of, texts};
 
 use crate::fault::{Place, Reason, RoundsFault, Unfit};
 use crate::head::{Head, head_of};
@@ -35,7 +36,7 @@ impl Unfolding {
     ) -> Result<(), Unfit>
         requires { number + length lines.now ≤ most_lines + 1 }
         ensures { Makes result
-            (within deep number (made_view self.old) (map (λ line. line.now) lines.now)) (made_view self.new) }
+            (within deep number (made_of self.old) (texts lines.now)) (made_of self.new) }
     {
         if deep == 0 {
             return Err(Unfit::Fault(RoundsFault {
@@ -64,9 +65,9 @@ impl Unfolding {
     ) -> Result<usize, Unfit>
         requires { number + length behind.now ≤ most_lines }
         ensures made { Makes result
-            (step_of (within deep) number (made_view self.old) line.now (map (λ line. line.now) behind.now) (kind_of line.now))
-            (made_view self.new) }
-        ensures size { IfOk result (λ size. size ≡ 1 + owned (kind_of line.now) (map (λ line. line.now) behind.now)) }
+            (step_of (within deep) number (made_of self.old) line.now (texts behind.now) (kind_of line.now))
+            (made_of self.new) }
+        ensures size { IfOk result (λ size. size ≡ 1 + owned (kind_of line.now) (texts behind.now)) }
         ensures inside { IfOk result (λ size. size ≤ 1 + length behind.now) }
     {
         match kind_of(line) {
@@ -94,15 +95,12 @@ impl Unfolding {
     ) -> Result<(), Unfit>
         requires { number + length body.now ≤ most_lines }
         ensures { Makes result
-            (rounds_of (within deep) number (made_view self.old) line.now (map (λ line. line.now) body.now))
-            (made_view self.new) }
+            (rounds_of (within deep) number (made_of self.old) line.now (texts body.now))
+            (made_of self.new) }
     {
         let mut room = Line::new();
         let place = place_of(number, line);
-        let head = match head_of(&self.known, number, line, &mut room) {
-            Ok(head) => head,
-            Err(fault) => return Err(Unfit::Fault(fault)),
-        };
+        let head = head_of(&self.known, number, line, &mut room)?;
         if head.count == 0 {
             self.put_begin(
                 place,
@@ -125,7 +123,7 @@ impl Unfolding {
     fn put_begin(&mut self, place: Place, head: Head<'_>, k: u64) -> Result<(), Unfit>
         requires { place.line ≤ most_lines }
         ensures { Makes result
-            (with_mark place (made_view self.old) (mark_of (head_view head) place.line k)) (made_view self.new) }
+            (with_mark place (made_of self.old) (mark_of (head_view head) place.line k)) (made_of self.new) }
     {
         let line = place.line + 1;
         let mut digits = Buffer::new();
@@ -146,9 +144,9 @@ impl Unfolding {
 
     // Puts a mark.
     fn put_mark(&mut self, place: Place, mark: Directive<'_>) -> Result<(), Unfit>
-        ensures { Makes result (with_mark place (made_view self.old) (directive_view mark)) (made_view self.new) }
+        ensures { Makes result (with_mark place (made_of self.old) (directive_view mark)) (made_of self.new) }
     {
-        self.count_line(place)?;
+        self.count = counted(place, self.count)?;
         put_mark_text(&mut self.text, mark)?;
         self.text.push(b'\n')?;
         self.known.follow(mark)?;
@@ -157,25 +155,27 @@ impl Unfolding {
 
     // Puts a line that begins and ends no rounds.
     fn put_line(&mut self, place: Place, line: &[u8]) -> Result<(), Unfit>
-        ensures { Makes result (with_line place (made_view self.old) line.now) (made_view self.new) }
+        ensures { Makes result (with_line place (made_of self.old) line.now) (made_of self.new) }
     {
-        self.count_line(place)?;
+        self.count = counted(place, self.count)?;
         self.text.extend_from_slice(line)?;
         self.text.push(b'\n')?;
         set_names(&mut self.known, line)?;
         Ok(())
     }
+}
 
-    // Counts a line more.
-    fn count_line(&mut self, place: Place) -> Result<(), Unfit> {
-        if self.count >= MOST_LINES {
-            return Err(Unfit::Fault(RoundsFault {
-                at: place,
-                reason: Reason::TooMany,
-            }));
-        }
-        self.count += 1;
-        Ok(())
+// A line more, if that isn't too many.
+fn counted(place: Place, count: usize) -> Result<usize, RoundsFault>
+    ensures { result ≡ counted place count }
+{
+    if count < MOST_LINES {
+        Ok(count + 1)
+    } else {
+        Err(RoundsFault {
+            at: place,
+            reason: Reason::TooMany,
+        })
     }
 }
 

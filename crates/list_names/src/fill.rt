@@ -1,0 +1,106 @@
+//! A start list with what its names stand for.
+ghost use Rattle.std.specs.Prelude.{◌≡◌, ◌+◌, ◌≤◌, ◌<◌, IfOk, drop, length, take};
+ghost use Rattle.list_names.specs.Lists.{filled, place_of};
+ghost use Rattle.list_names.specs.Views.{Fills, bytes_of};
+
+use crate::names::name_at;
+use scenario_names::Known;
+use std::alloc::{AllocError, AllocFailed, Global};
+use text_codec::find_byte;
+use thiserror::Error;
+
+/// The text of a start list with what its names stand for.
+#[derive(Drop)]
+pub enum Filled<'a> {
+    /// The text as it was.
+    Same(&'a [u8]),
+    /// Another.
+    New(Vec<u8>),
+}
+
+impl Filled<'_> {
+    /// Its bytes.
+    pub fn bytes(&self) -> &[u8]
+        ensures { result.now ≡ bytes_of self.now }
+    {
+        match self {
+            Filled::Same(text) => text,
+            Filled::New(text) => text.as_slice(),
+        }
+    }
+}
+
+/// A name in a start list that nothing is given for, and its place, from 1 on.
+#[derive(Clone, Copy, Debug, PartialEq, Eq, Error)]
+#[error("{line}:{column}: nothing has this name")]
+pub struct UnknownName {
+    /// The number of the line.
+    pub line: usize,
+    /// The number of the byte in it at which the `$` stands.
+    pub column: usize,
+}
+
+/// Why a start list isn't filled.
+#[derive(Clone, Copy, Debug, PartialEq, Eq)]
+pub enum Unfilled {
+    /// Nothing is given for a name.
+    Unknown(UnknownName),
+    /// The host has no memory.
+    NoMemory,
+}
+
+impl From<AllocError> for Unfilled {
+    fn from(_want: AllocError) -> Unfilled {
+        Unfilled::NoMemory
+    }
+}
+
+impl<T: Drop> From<AllocFailed<T>> for Unfilled {
+    fn from(_want: AllocFailed<T>) -> Unfilled {
+        Unfilled::NoMemory
+    }
+}
+
+/// Fills the text of a start list: each `${NAME}` with what its name stands for. Any other `$` stands for itself.
+pub fn fill_list<'a>(alloc: Global, text: &'a [u8], known: &Known) -> Result<Filled<'a>, Unfilled>
+    ensures { Fills result (filled known.now text.now) }
+{
+    // Most lists have no names.
+    if find_byte(b'$', text).is_none() {
+        return Ok(Filled::Same(text));
+    }
+    let mut made = Vec::new(alloc);
+    let mut at = 0;
+    while at < text.len() {
+        match name_at(&text[at..]) {
+            Some(name) => match known.value(name) {
+                Some(value) => {
+                    made.extend_from_slice(value)?;
+                    at += name.len() + 3;
+                }
+                None => return Err(Unfilled::Unknown(place_of(&text[..at]))),
+            },
+            None => {
+                made.push(text[at])?;
+                at += 1;
+            }
+        }
+    }
+    Ok(Filled::New(made))
+}
+
+// The place behind a text.
+fn place_of(text: &[u8]) -> UnknownName
+    ensures { result ≡ place_of text.now }
+{
+    let mut place = UnknownName { line: 1, column: 1 };
+    for byte in text {
+        if *byte == b'\n' {
+            place.line += 1;
+            place.column = 1;
+        } else {
+            place.column += 1;
+        }
+    }
+    place
+}
