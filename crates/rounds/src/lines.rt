@@ -1,5 +1,5 @@
 //! The lines of a scenario, as its rounds see them.
-ghost use Rattle.std.specs.Prelude.{◌≡◌, ◌≤◌, IfOk, drop, length};
+ghost use Rattle.std.specs.Prelude.{◌≡◌, ◌≤◌, IfOk, drop, length, take};
 ghost use Rattle.own_model.specs.Text.{lines_of};
 ghost use Rattle.scenario.specs.Lines.{line_length};
 ghost use Rattle.rounds.specs.Structure.{column_of, kind_of, words_of};
@@ -21,7 +21,7 @@ pub(crate) enum Kind {
 }
 
 /// The lines of a text.
-#[tactic(auto, using(crate::proofs::RoundLemmas::line_steps))]
+#[tactic(auto, using(crate::proofs::RoundLemmas::line_more))]
 pub(crate) fn lines_of(alloc: Global, text: &[u8]) -> Result<Vec<&[u8]>, AllocError>
     ensures { IfOk result (λ lines. texts lines.items ≡ lines_of text.now) }
 {
@@ -43,6 +43,17 @@ fn line_length(text: &[u8]) -> usize
     match find_byte(b'\n', text) {
         Some(end) => end,
         None => text.len(),
+    }
+}
+
+// The first bytes of a text, so many, or all.
+fn front(text: &[u8], count: usize) -> &[u8]
+    ensures { result.now ≡ take count text.now }
+{
+    if count < text.len() {
+        &text[..count]
+    } else {
+        text
     }
 }
 
@@ -72,7 +83,7 @@ pub(crate) fn kind_of(line: &[u8]) -> Kind
 pub(crate) fn words_of(line: &[u8]) -> &[u8]
     ensures { result.now ≡ words_of line.now }
 {
-    signs_of(&line[..end_of(line)])
+    signs_of(front(line, end_of(line)))
 }
 
 /// The column of a line's first sign, from 1 on.

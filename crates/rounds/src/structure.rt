@@ -62,9 +62,13 @@ pub(crate) fn body_of<'a, 'l>(lines: &'l [&'a [u8]]) -> &'l [&'a [u8]]
     let mut within = 0usize;
     for (i, line) in lines.iter().enumerate() {
         match kind_of(line) {
-            Kind::Repeats => within = within.saturating_add(1),
-            Kind::Ends if within == 0 => return &lines[..i],
-            Kind::Ends => within -= 1,
+            Kind::Repeats => within += 1,
+            Kind::Ends => {
+                if within == 0 {
+                    return &lines[..i];
+                }
+                within -= 1;
+            }
             Kind::Plain => {}
         }
     }

@@ -2,7 +2,7 @@
 ghost use Rattle.std.specs.Prelude.{◌≡◌, ◌+◌, ◌≤◌, ◌++◌, length, IfOk, OnOk};
 ghost use Rattle.scenario_names.specs.Views.{directive_view};
 ghost use Rattle.rounds.specs.Structure.{kind_of};
-ghost use Rattle.rounds.specs.Unfolding.{counted, known_after, mark_of, mark_text, most_lines, owned, rounds_of, step_of, with_line, with_mark, within};
+ghost use Rattle.rounds.specs.Unfolding.{begun, counted, known_after, mark_of, mark_text, most_lines, owned, rounds_from, rounds_of, step_of, with_line, with_mark, within};
 ghost use Rattle.rounds.specs.Views.{Makes, head_view, made_of, texts};
 
 use crate::fault::{Place, Reason, RoundsFault, Unfit};
@@ -101,22 +101,49 @@ impl Unfolding {
         let mut room = Line::new();
         let place = place_of(number, line);
         let head = head_of(&self.known, number, line, &mut room)?;
-        if head.count == 0 {
-            self.put_begin(
-                place,
-                Head {
-                    count: 0,
-                    counter: None,
-                },
-                0,
-            )?;
-        }
-        for k in 0..head.count {
-            self.put_begin(place, head, k)?;
-            self.put_lines(deep, number + 1, body)?;
-        }
+        self.put_none(place, head)?;
+        self.put_each(deep, place, head, body)?;
         let line = number + body.len() + 2;
         self.put_mark(place, Directive::Leave { line })
+    }
+
+    // Unfolds each of these rounds.
+    #[cycle(rounds)]
+    fn put_each(
+        &mut self,
+        deep: usize,
+        place: Place,
+        head: Head<'_>,
+        body: &[&[u8]],
+    ) -> Result<(), Unfit>
+        requires { place.line + length body.now ≤ most_lines }
+        ensures { Makes result
+            (rounds_from (within deep) place (head_view head) 0 head.count (made_of self.old) (texts body.now))
+            (made_of self.new) }
+    {
+        for k in 0..head.count {
+            self.put_begin(place, head, k)?;
+            self.put_lines(deep, place.line + 1, body)?;
+        }
+        Ok(())
+    }
+
+    // Begins rounds of which there are none.
+    fn put_none(&mut self, place: Place, head: Head<'_>) -> Result<(), Unfit>
+        requires { place.line ≤ most_lines }
+        ensures { Makes result (begun place (head_view head) (made_of self.old)) (made_of self.new) }
+    {
+        if head.count > 0 {
+            return Ok(());
+        }
+        let line = place.line + 1;
+        self.put_mark(
+            place,
+            Directive::Enter {
+                line,
+                counter: None,
+            },
+        )
     }
 
     // Puts the mark before a round.
