@@ -1,34 +1,13 @@
 //! A start list with what its names stand for.
-ghost use Rattle.std.specs.Prelude.{◌≡◌, ◌+◌, ◌≤◌, ◌<◌, IfOk, drop, length, take};
+ghost use Rattle.std.specs.Prelude.{◌≡◌, IfErr, IfOk, Ok};
 ghost use Rattle.list_names.specs.Lists.{filled, place_of};
-ghost use Rattle.list_names.specs.Views.{Fills, bytes_of};
+ghost use Rattle.list_names.specs.declared.fill.Unfilled.TheVariants.{NoMemory};
+ghost use Rattle.list_names.specs.Views.{FailsAs};
 
 use crate::names::name_at;
 use scenario_names::Known;
 use std::alloc::{AllocError, AllocFailed, Global};
-use text_codec::find_byte;
 use thiserror::Error;
-
-/// The text of a start list with what its names stand for.
-#[derive(Drop)]
-pub enum Filled<'a> {
-    /// The text as it was.
-    Same(&'a [u8]),
-    /// Another.
-    New(Vec<u8>),
-}
-
-impl Filled<'_> {
-    /// Its bytes.
-    pub fn bytes(&self) -> &[u8]
-        ensures { result.now ≡ bytes_of self.now }
-    {
-        match self {
-            Filled::Same(text) => text,
-            Filled::New(text) => text.as_slice(),
-        }
-    }
-}
 
 /// A name in a start list that nothing is given for, and its place, from 1 on.
 #[derive(Clone, Copy, Debug, PartialEq, Eq, Error)]
@@ -50,25 +29,26 @@ pub enum Unfilled {
 }
 
 impl From<AllocError> for Unfilled {
+    ghost from_gives = { λ _ unfilled. unfilled ≡ NoMemory };
+
     fn from(_want: AllocError) -> Unfilled {
         Unfilled::NoMemory
     }
 }
 
 impl<T: Drop> From<AllocFailed<T>> for Unfilled {
+    ghost from_gives = { λ _ unfilled. unfilled ≡ NoMemory };
+
     fn from(_want: AllocFailed<T>) -> Unfilled {
         Unfilled::NoMemory
     }
 }
 
 /// Fills the text of a start list: each `${NAME}` with what its name stands for. Any other `$` stands for itself.
-pub fn fill_list<'a>(alloc: Global, text: &'a [u8], known: &Known) -> Result<Filled<'a>, Unfilled>
-    ensures { Fills result (filled known.now text.now) }
+pub fn fill_list(alloc: Global, text: &[u8], known: &Known) -> Result<Vec<u8>, Unfilled>
+    ensures filled { IfOk result (λ made. filled known.now text.now ≡ Ok made.items) }
+    ensures unknown { IfErr result (FailsAs (filled known.now text.now)) }
 {
-    // Most lists have no names.
-    if find_byte(b'$', text).is_none() {
-        return Ok(Filled::Same(text));
-    }
     let mut made = Vec::new(alloc);
     let mut at = 0;
     while at < text.len() {
@@ -86,7 +66,7 @@ pub fn fill_list<'a>(alloc: Global, text: &'a [u8], known: &Known) -> Result<Fil
             }
         }
     }
-    Ok(Filled::New(made))
+    Ok(made)
 }
 
 // The place behind a text.

@@ -4,4 +4,4 @@
 mod fill;
 mod names;
 
-pub use fill::{Filled, Unfilled, UnknownName, fill_list};
+pub use fill::{Unfilled, UnknownName, fill_list};

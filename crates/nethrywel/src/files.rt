@@ -67,13 +67,11 @@ fn filled_list(rt: &HostRuntime, path: &str, given: Given<'_>) -> Result<Vec<u8>
     let Ok(known) = given.known(rt.alloc()) else {
         return Err(Why::Unread(ConfigFault::NoMemory));
     };
-    let filled = match fill_list(rt.alloc(), &text, &known) {
-        Ok(list_names::Filled::Same(_)) => None,
-        Ok(list_names::Filled::New(filled)) => Some(filled),
-        Err(Unfilled::Unknown(name)) => return Err(Why::Unfilled(name)),
-        Err(Unfilled::NoMemory) => return Err(Why::Unread(ConfigFault::NoMemory)),
-    };
-    Ok(filled.unwrap_or(text))
+    match fill_list(rt.alloc(), &text, &known) {
+        Ok(filled) => Ok(filled),
+        Err(Unfilled::Unknown(name)) => Err(Why::Unfilled(name)),
+        Err(Unfilled::NoMemory) => Err(Why::Unread(ConfigFault::NoMemory)),
+    }
 }
 
 /// The bytes of a scenario's file, unless they can't be read to their end or are too many.
