@@ -30,7 +30,7 @@ place_from place (b ∷ bs) =
 abbrev pub place_of : List ℕ → UnknownName
 place_of text = place_from (record { line = 1; column = 1 }) text
 
--- what a name with its value, or a byte, comes to
+-- what stands in the list for a name, and for any other byte
 abbrev pub value_told : List ℕ → Option (List ℕ) → Result (List ℕ) UnknownName
 value_told before (Some value) = Ok value
 value_told before None = Err (place_of before)
