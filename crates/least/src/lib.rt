@@ -14,12 +14,13 @@ mod scene;
 mod script;
 mod session_trial;
 mod shown;
+mod stage;
 mod trial;
 
 pub use account::{Account, Given, Session};
 pub use budget::Budget;
 pub use report::{Question, Report};
 pub use rows::{Hole, Likeness, Row};
-pub use scene::Misread;
+pub use scene::{Misread, Why};
 pub use shown::Csv;
 pub use trial::{LeftOut, Refused, Shortage};

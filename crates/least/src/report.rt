@@ -8,6 +8,7 @@ use crate::script::Script;
 use crate::shown::Csv;
 use init_core::{Binary, BootFault, Entry, StartList, boot};
 use pd_core::Call;
+use scenario_names::Known;
 use std::alloc::Global;
 use trade_base::PAGE;
 
@@ -17,7 +18,7 @@ use trade_base::PAGE;
 pub struct Question<'a> {
     /// The start list.
     pub machine: &'a [u8],
-    /// The scenario.
+    /// The scenario, with its rounds unfolded.
     pub scenario: &'a [u8],
     /// Whether donations stay.
     pub as_donated: bool,
@@ -32,11 +33,11 @@ pub struct Report {
 }
 
 impl Report {
-    /// The answer to a question. An error is that of the start list, which may be none or not boot, or want of memory.
-    pub fn of(alloc: Global, question: Question<'_>) -> Result<Report, BootFault> {
+    /// The answer to a question, where names stand for what is given and what the run binds. An error is that of the start list, which may be none or not boot, or want of memory.
+    pub fn of(alloc: Global, question: Question<'_>, given: Known) -> Result<Report, BootFault> {
         let list = StartList::read(alloc, question.machine)?;
-        drop(boot(alloc, &list)?);
-        let mut scene = Scene::read(alloc, &list, question.scenario)?;
+        let core = boot(alloc, &list)?;
+        let mut scene = Scene::read(alloc, &list, core, question.scenario, given)?;
         let accounts = accounts_of(alloc, question, &list, &mut scene)?;
         let mut report = Report {
             list,
@@ -121,7 +122,8 @@ impl Report {
         draft.text(alloc)
     }
 
-    /// The text of the scenario of which the report tells, with the least donations in place.
+    /// The text of the scenario of which the report tells, with the least donations in place. Lines that are played in several
+    /// rounds stay, and those with names in their arguments.
     pub fn scenario(&self, alloc: Global, text: &[u8]) -> Result<Vec<u8>, BootFault> {
         let mut told = Vec::new(alloc);
         let donating = self.donating(alloc)?;
@@ -131,7 +133,7 @@ impl Report {
                 told.push(b'\n')?;
             }
             number = number.saturating_add(1);
-            match donating.iter().find(|step| step.number == number) {
+            match only_one(donating.as_slice(), number) {
                 Some(step) => add_donating(&mut told, line, step)?,
                 None => told.extend_from_slice(line)?,
             }
@@ -205,6 +207,20 @@ fn add_component(
     let nothing = Some(Budget { ram: 0, caps: 0 });
     accounts.push(Account::idle(alloc, component, given, nothing)?)?;
     Ok(())
+}
+
+// The step of a line, if it is the only one of it.
+fn only_one<'a>(donating: &[&'a Step], number: u64) -> Option<&'a Step> {
+    let mut found = None;
+    for step in donating {
+        if step.number == number {
+            if found.is_some() {
+                return None;
+            }
+            found = Some(*step);
+        }
+    }
+    found
 }
 
 // Adds a line with other arguments in the place of those that it says.

@@ -1,10 +1,14 @@
 //! The lines of a scenario, component by component.
 
+use crate::stage::Stage;
 use friendly_lines::{Fault, Line, Said, meets, read_friendly};
 use init_core::{BootFault, StartList};
-use pd_core::Call;
+use pd_core::{Call, Core, Router};
 use scenario::{LONGEST_LINE, read_line};
+use scenario_names::{Directive, Filled, Known, NameFault, directive_of, fill, source_column};
 use std::alloc::Global;
+use text_codec::find_byte;
+use thiserror::Error;
 
 /// A line that a component says.
 #[derive(Drop)]
@@ -61,13 +65,24 @@ impl Step {
     }
 }
 
+/// Why a line isn't read, behind its column.
+#[derive(Clone, Copy, Debug, PartialEq, Eq, Error)]
+pub enum Why {
+    /// It has a fault.
+    #[error("{0}")]
+    Line(Fault),
+    /// A name in it has one.
+    #[error("{0}")]
+    Name(NameFault),
+}
+
 /// A line that is no call.
 #[derive(Clone, Copy, Debug)]
 pub struct Misread {
     /// Which line of the scenario it is, from 1 on.
     pub number: u64,
     /// What is wrong.
-    pub fault: Fault,
+    pub why: Why,
 }
 
 /// The lines of each component, and those that are no calls.
@@ -75,64 +90,118 @@ pub struct Misread {
 pub(crate) struct Scene {
     pub(crate) steps: Vec<Vec<Step>>,
     pub(crate) misread: Vec<Misread>,
+    /// The number of the next line.
+    number: u64,
+}
+
+// Room for a line that is filled, and for one that is read.
+#[derive(Drop)]
+struct Rooms {
+    filled: Line,
+    read: Line,
 }
 
 impl Scene {
-    /// Those of a scenario's text, by the components of a list.
-    pub(crate) fn read(alloc: Global, list: &StartList, text: &[u8]) -> Result<Scene, BootFault> {
+    /// Those of a scenario's unfolded text, by the components of a list, filled with what the run on this core binds.
+    pub(crate) fn read<R: Router + Drop>(
+        alloc: Global,
+        list: &StartList,
+        core: Core<R>,
+        text: &[u8],
+        given: Known,
+    ) -> Result<Scene, BootFault> {
         let mut scene = Scene {
             steps: Vec::new(alloc),
             misread: Vec::new(alloc),
+            number: 1,
         };
         for _ in 0..list.count() {
             scene.steps.push(Vec::new(alloc))?;
         }
-        let mut room = Line::new();
-        let mut number = 0u64;
+        let mut rooms = Rooms {
+            filled: Line::new(),
+            read: Line::new(),
+        };
+        let binds = find_byte(b'$', text).is_some();
+        let mut stage = Stage::new(alloc, core, given, binds)?;
         for line in text.split(|byte| *byte == b'\n') {
-            number = number.saturating_add(1);
-            scene.add(alloc, list, number, line, &mut room)?;
+            let number = scene.number;
+            scene.number = number.saturating_add(1);
+            if line.len() <= LONGEST_LINE {
+                scene.add(alloc, list, &mut stage, number, line, &mut rooms)?;
+            }
         }
         Ok(scene)
     }
 
-    // Adds a line.
-    fn add(
+    // Adds a line with what its names stand for.
+    fn add<R: Router + Drop>(
         &mut self,
         alloc: Global,
         list: &StartList,
+        stage: &mut Stage<R>,
         number: u64,
         line: &[u8],
-        room: &mut Line,
+        rooms: &mut Rooms,
     ) -> Result<(), BootFault> {
-        if line.len() > LONGEST_LINE {
-            return Ok(());
+        let filled = match fill(line, &stage.known, &mut rooms.filled) {
+            Ok(filled) => filled,
+            Err(fault) => return self.misread_at(number, Why::Name(fault)),
+        };
+        if let Some(directive) = directive_of(filled.line) {
+            self.follow(directive);
+            return stage.follow(directive);
         }
-        match read_friendly(line, room) {
-            Ok(Said::Call { line, reply, .. }) => self.add_call(alloc, list, number, line, reply),
+        match read_friendly(filled.line, &mut rooms.read) {
+            Ok(
+                Said::Call {
+                    line: call,
+                    reply,
+                    ..
+                },
+            ) => self.add_call(alloc, list, stage, number, call, reply, &filled),
             Ok(_) => Ok(()),
             Err(fault) => {
-                self.misread.push(Misread { number, fault })?;
-                Ok(())
+                let column = source_column(line, &stage.known, fault.column);
+                self.misread_at(number, Why::Line(Fault { column, ..fault }))
             }
         }
     }
 
+    // Keeps that a line isn't read.
+    fn misread_at(&mut self, number: u64, why: Why) -> Result<(), BootFault> {
+        self.misread.push(Misread { number, why })?;
+        Ok(())
+    }
+
+    // The number of the line behind a directive: a mark tells it, and has none itself.
+    fn follow(&mut self, directive: Directive<'_>) {
+        match directive {
+            Directive::Enter { line, .. }
+            | Directive::Again { line, .. }
+            | Directive::Leave { line } => self.number = line as u64,
+            Directive::Set(_) | Directive::Repeat | Directive::End | Directive::Unknown => (),
+        }
+    }
+
     // Adds a call under the name that it is said under.
-    fn add_call(
+    fn add_call<R: Router + Drop>(
         &mut self,
         alloc: Global,
         list: &StartList,
+        stage: &mut Stage<R>,
         number: u64,
         line: &[u8],
         reply: Option<&[u8]>,
+        filled: &Filled<'_>,
     ) -> Result<(), BootFault> {
-        let Ok((name, _)) = read_line(line) else {
+        let Ok((name, call)) = read_line(line) else {
             return Ok(());
         };
         let Some(component) = list.find(name) else {
             return Ok(());
         };
+        stage.answer(component, call, filled)?;
         let mut kept = Vec::new(alloc);
         kept.extend_from_slice(line)?;
         if let Some(steps) = self.steps.get_mut(component) {

@@ -4,6 +4,7 @@ use crate::files::{STANDARD_INPUT, read_start_list};
 use crate::given::Given;
 use crate::listings::print_documents;
 use crate::lists::tell_fault;
+use crate::unfolding::unfolded;
 use init_core::{BootFault, MACHINE_A};
 use json_documents::{Column, row_documents};
 use least::{Question, Report};
@@ -78,10 +79,11 @@ pub(crate) fn least(
             as_donated,
             telling,
             scenario,
+            given,
         );
     };
     match read_start_list(rt, path, given) {
-        Ok(text) => least_on(rt, &text, machine, as_donated, telling, scenario),
+        Ok(text) => least_on(rt, &text, machine, as_donated, telling, scenario, given),
         Err(fault) => {
             let _ = eprintln!(rt; "{fault}");
             REFUSED
@@ -97,20 +99,28 @@ fn least_on(
     as_donated: bool,
     telling: Telling,
     scenario: &str,
+    given: Given<'_>,
 ) -> u8 {
     let text = match read_scenario(rt, scenario) {
         Ok(text) => text,
         Err(status) => return status,
     };
+    let (lines, known) = match (
+        unfolded(rt, scenario, text.as_slice(), given),
+        given.known_or_told(rt),
+    ) {
+        (Ok(lines), Ok(known)) => (lines, known),
+        (Err(status), _) | (_, Err(status)) => return status,
+    };
     let question = Question {
         machine,
-        scenario: text.as_slice(),
+        scenario: lines.bytes(),
         as_donated,
     };
-    match Report::of(rt.alloc(), question) {
+    match Report::of(rt.alloc(), question, known) {
         Ok(report) => {
             let status = tell_misread(rt, scenario, &report);
-            let told = tell(rt, question, telling, report);
+            let told = tell(rt, machine, text.as_slice(), telling, report);
             if told == 0 { status } else { told }
         }
         Err(fault) => tell_unbooted(rt, machine, path, &fault),
@@ -146,8 +156,8 @@ pub(crate) fn read_scenario(rt: &HostRuntime, scenario: &str) -> Result<Vec<u8>,
 // Tells the lines that are no calls, and answers the exit status.
 fn tell_misread(rt: &HostRuntime, scenario: &str, report: &Report) -> u8 {
     for misread in report.misread() {
-        let (number, fault) = (misread.number, misread.fault);
-        let _ = eprintln!(rt; "{scenario}:{number}:{fault}");
+        let (number, why) = (misread.number, misread.why);
+        let _ = eprintln!(rt; "{scenario}:{number}:{why}");
     }
     if report.misread().is_empty() {
         0
@@ -157,7 +167,7 @@ fn tell_misread(rt: &HostRuntime, scenario: &str, report: &Report) -> u8 {
 }
 
 // Tells a report in a form, and answers the exit status.
-fn tell(rt: &HostRuntime, question: Question<'_>, telling: Telling, report: Report) -> u8 {
+fn tell(rt: &HostRuntime, machine: &[u8], scenario: &[u8], telling: Telling, report: Report) -> u8 {
     match telling {
         Telling::Text => status_of(rt, print!(rt; "{report}")),
         Telling::Values => {
@@ -165,11 +175,11 @@ fn tell(rt: &HostRuntime, question: Question<'_>, telling: Telling, report: Repo
             status_of(rt, print!(rt; "{values}"))
         }
         Telling::Documents => print_documents(rt, documents(rt.alloc(), report)),
-        Telling::List => match report.start_list(rt.alloc(), question.machine) {
+        Telling::List => match report.start_list(rt.alloc(), machine) {
             Ok(text) => status_of(rt, println!(rt; "{text}")),
             Err(fault) => tell_fault_of_run(rt, &fault),
         },
-        Telling::Scenario => match report.scenario(rt.alloc(), question.scenario) {
+        Telling::Scenario => match report.scenario(rt.alloc(), scenario) {
             Ok(text) => status_of(rt, io::writer(rt).write_all(text.as_slice())),
             Err(fault) => tell_fault_of_run(rt, &fault),
         },

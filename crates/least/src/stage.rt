@@ -1,0 +1,57 @@
+//! The run of a scenario that its names are bound by.
+
+use init_core::BootFault;
+use pd_core::{Call, Core, Reply, Router};
+use scenario_names::{Directive, Filled, Known};
+use std::alloc::Global;
+
+/// A machine on which all lines are answered in turn, and what names stand for.
+#[derive(Drop)]
+pub(crate) struct Stage<R: Router + Drop> {
+    pub(crate) known: Known,
+    core: Core<R>,
+    reply: Reply,
+    /// Whether replies may bind names; without any no line has to be answered.
+    binds: bool,
+}
+
+impl<R: Router + Drop> Stage<R> {
+    ghost use Rattle.pd_core.specs.Call.{IsWellFormed};
+
+    /// A machine that has answered nothing.
+    pub(crate) fn new(
+        alloc: Global,
+        core: Core<R>,
+        known: Known,
+        binds: bool,
+    ) -> Result<Stage<R>, BootFault> {
+        Ok(Stage {
+            known,
+            core,
+            reply: Reply::boot(alloc)?,
+            binds,
+        })
+    }
+
+    /// Follows a directive.
+    pub(crate) fn follow(&mut self, directive: Directive<'_>) -> Result<(), BootFault> {
+        self.known.follow(directive)?;
+        Ok(())
+    }
+
+    /// Answers the call of a line that a component says, and binds what it binds.
+    pub(crate) fn answer(
+        &mut self,
+        component: usize,
+        call: Call<'_>,
+        filled: &Filled<'_>,
+    ) -> Result<(), BootFault>
+        requires { IsWellFormed call }
+    {
+        if self.binds && component < self.core.count() {
+            self.core.step(component, call, &mut self.reply);
+            self.known.learn(filled, self.reply.text())?;
+        }
+        Ok(())
+    }
+}
