@@ -1,0 +1,5 @@
+pub mod HexLemmas
+pub mod KnownLemmas
+pub mod SumLemmas
+pub mod FillLemmas
+pub mod LawLemmas

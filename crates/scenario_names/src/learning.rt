@@ -22,6 +22,7 @@ impl Known {
     }
 
     // Binds each to what its star stands for.
+    #[tactic(auto, using(crate::proofs::KnownLemmas::learns))]
     fn bind_all(
         &mut self,
         reply: &[u8],
