@@ -1,17 +1,18 @@
 -- What is known, binding by binding.
-use Rattle.std.proofs.Common.{◌≡◌, ℕ, ◌+◌, ◌-◌, ◌<◌, ◌≤◌, Bool, true, false, cond, nat_eq, slice_index, List, [], ◌∷◌, ◌++◌, length, take, drop, map, get_or, Option, Some, None, refl, sym, ap, ◌∙◌, subst, arith, add-one, length-append, suc}
+use Rattle.std.proofs.Common.{◌≡◌, ℕ, ◌+◌, ◌-◌, ◌<◌, ◌≤◌, ◌||◌, Bool, true, false, cond, nat_eq, slice_index, List, [], ◌∷◌, ◌++◌, length, take, drop, map, get_or, Option, Some, None, refl, sym, ap, ◌∙◌, subst, arith, add-one, length-append, suc}
 use Rattle.std.proofs.Math.Seq.{drop-cons, take-suc}
 use Rattle.std.proofs.lemmas.Bool.Decides.{nat_tests}
 use Rattle.std.proofs.lemmas.List.{drop_all, map-append}
-use Rattle.std.specs.List.{list_any, take-map}
+use Rattle.std.specs.List.{take-map}
 use Rattle.std.specs.Option.{option_or}
 use Rattle.std.specs.Str.{bytes_eq}
-use Rattle.friendly_lines.specs.Expected.{stands_for}
+use Rattle.friendly_lines.specs.Expected.{meets, stands_for}
 use Rattle.scenario_names.specs.Bindings.{binding_of, known_in}
 use Rattle.scenario_names.specs.Filling.{Hole, is_among}
 use Rattle.scenario_names.specs.Known.{Binding, Known, left, newest, with_bound}
-use Rattle.scenario_names.specs.Learning.{learnt_of}
-use Rattle.scenario_names.specs.Views.{hole_view}
+use Rattle.scenario_names.specs.Learning.{learnt, learnt_of}
+use Rattle.scenario_names.specs.Views.{filled_view, hole_view}
+use Rattle.scenario_names.specs.declared.filling.Filled.{Filled as Line}
 use Rattle.scenario_names.specs.declared.holes.Hole.{Hole as Star}
 use Rattle.scenario_names.specs.declared.known.Binding.{Binding as Bound}
 
@@ -27,7 +28,7 @@ or_both (Some v) y z = refl
 
 -- what one binding tells of a name
 abbrev pub told : List ℕ → Binding → Option (List ℕ)
-told name b = if bytes_eq b.name name then Some b.value else None
+told name b = cond (bytes_eq b.name name) (Some b.value) None
 
 pub newest_last : (name : List ℕ) (bs : List Binding) (b : Binding) → newest name (bs ++ b ∷ []) ≡ option_or (told name b) (newest name bs)
 newest_last name [] b = or_none (told name b)
@@ -95,15 +96,45 @@ left_behind given bound kept rounds ns n is keeps =
 
 -- ---- holes
 
-pub among_is : (name : List ℕ) (holes : List Star) → list_any (λ (h : Star). bytes_eq h.name.now name) holes ≡ is_among name (map hole_view holes)
-among_is name [] = refl
-among_is name (h ∷ hs) = rw (among_is name hs) refl
+cut_at : (holes : List Star) (i : ℕ) (h : Star) → i < length holes → get_or holes i h ≡ h → drop i holes ≡ h ∷ drop (i + 1) holes
+cut_at holes i h within is = rw add-one (drop-cons holes i h within ∙ ap (λ (x : Star). x ∷ drop (suc i) holes) is)
+
+pub among_here : (name : List ℕ) (holes : List Star) (i : ℕ) (h : Star) → i < length holes → get_or holes i h ≡ h → bytes_eq h.name.now name ≡ true →
+    is_among name (map hole_view (drop i holes)) ≡ true
+among_here name holes i h within is same =
+    ap (λ l. is_among name (map hole_view l)) (cut_at holes i h within is)
+    ∙ ap (λ (t : Bool). t || is_among name (map hole_view (drop (i + 1) holes))) same
+
+pub among_step : (name : List ℕ) (holes : List Star) (i : ℕ) (h : Star) → i < length holes → get_or holes i h ≡ h → bytes_eq h.name.now name ≡ false →
+    is_among name (map hole_view (drop i holes)) ≡ is_among name (map hole_view (drop (i + 1) holes))
+among_step name holes i h within is other =
+    ap (λ l. is_among name (map hole_view l)) (cut_at holes i h within is)
+    ∙ ap (λ (t : Bool). t || is_among name (map hole_view (drop (i + 1) holes))) other
+
+pub among_end : (name : List ℕ) (holes : List Star) (i : ℕ) → length holes ≤ i → is_among name (map hole_view (drop i holes)) ≡ false
+among_end name holes i past = rw (drop_all i holes past) refl
+
+pub ruleset among = (among_here, among_step, among_end)
+
+-- nothing is bound where there is no hole
+both_ways : (t : Bool) (known : Known) → known ≡ cond t known known
+both_ways true known = refl
+both_ways false known = refl
+
+none_learnt : (known : Known) (reply expected : List ℕ) (holes : List Star) → length holes ≡ 0 → learnt_of known reply expected (map hole_view holes) ≡ known
+none_learnt known reply expected [] none = refl
+none_learnt known reply expected (h ∷ hs) none = absurd (omega (arith, none))
+
+pub nothing_learnt : (known : Known) (filled : Line) (reply : List ℕ) → length filled.holes.items ≡ 0 → known ≡ learnt known (filled_view filled) reply
+nothing_learnt known filled reply none =
+    both_ways (meets reply filled.expected.now) known
+    ∙ ap (λ (k : Known). cond (meets reply filled.expected.now) k known) (sym (none_learnt known reply filled.expected.now filled.holes.items none))
 
 pub learnt_step : (known next : Known) (reply expected value : List ℕ) (holes : List Star) (i : ℕ) (h : Star) → i < length holes → get_or holes i h ≡ h →
     value ≡ stands_for reply expected h.place → next ≡ with_bound known h.name.now value →
     learnt_of known reply expected (map hole_view (drop i holes)) ≡ learnt_of next reply expected (map hole_view (drop (i + 1) holes))
 learnt_step known next reply expected value holes i h within is values nexts =
-    let cut : drop i holes ≡ h ∷ drop (i + 1) holes = rw add-one (drop-cons holes i h within ∙ ap (λ (x : Star). x ∷ drop (suc i) holes) is) in
+    let cut : drop i holes ≡ h ∷ drop (i + 1) holes = cut_at holes i h within is in
     let made : with_bound known h.name.now (stands_for reply expected h.place) ≡ next =
     ap (with_bound known h.name.now) (sym values) ∙ sym nexts in
     ap (λ l. learnt_of known reply expected (map hole_view l)) cut

@@ -3,3 +3,4 @@ pub mod KnownLemmas
 pub mod SumLemmas
 pub mod FillLemmas
 pub mod LawLemmas
+pub mod TrimLemmas

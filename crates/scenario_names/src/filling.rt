@@ -9,6 +9,7 @@ use crate::fault::{NameFault, NameReason};
 use crate::holes::{Hole, Holes, Zone, keep_hole, made_length};
 use crate::known::Known;
 use crate::pieces::{Piece, piece_of};
+use crate::texts::behind;
 use friendly_lines::{Line, arrow_of, end_of, signs_of};
 use text_codec::find_byte;
 
@@ -153,17 +154,6 @@ fn quote_place(text: &[u8]) -> usize
     }
 }
 
-// What stands behind the first bytes of a text, so many.
-fn behind(text: &[u8], count: usize) -> &[u8]
-    ensures { result.now ≡ drop count text.now }
-{
-    if count < text.len() {
-        &text[count..]
-    } else {
-        b""
-    }
-}
-
 // Fills a text that stands at a place of a line.
 #[tactic(auto, using(crate::proofs::FillLemmas::fills))]
 fn fill_text<'a>(
@@ -180,7 +170,8 @@ fn fill_text<'a>(
 {
     let mut at = 0;
     while at < text.len() {
-        match put_next(&text[at..], known, zone, place + at, room, holes) {
+        let rest = behind(text, at);
+        match put_next(rest, known, zone, place + at, room, holes) {
             Ok(size) => at += size,
             Err(reason) => {
                 return Err(NameFault {
@@ -242,7 +233,7 @@ fn source_place(text: &[u8], known: &Known, place: usize) -> usize
     let mut at = 0;
     let mut left = place;
     while at < text.len() {
-        let (length, size) = piece_lengths(&text[at..], known);
+        let (length, size) = piece_lengths(behind(text, at), known);
         if left < length {
             return if text[at] == b'$' { at } else { at + left };
         }

@@ -75,25 +75,23 @@ fn piece_by<'a, 'k>(
     ensures within { IfOk result (λ piece. piece.size ≤ length text.now) }
 {
     match sign {
-        Sign::Alone => Ok(dollar(1)),
-        Sign::Doubled => Ok(dollar(2)),
-        Sign::Named { name, size } => {
-            let rest = &text[1 + size..];
-            named_piece(name, 1 + size, known, rest)
-        }
+        Sign::Alone => dollar(1),
+        Sign::Doubled => dollar(2),
+        Sign::Named { name, size } => named_at(name, 1 + size, known, text),
         Sign::Broken => Err(NameReason::OpenBrace),
     }
 }
 
-// A `$`, for so many bytes of the text.
-fn dollar<'a, 'k>(size: usize) -> Piece<'a, 'k>
-    ensures { piece_view result ≡ plain (codes "$") size }
+// A `$` for so many bytes of the text, which is no fault.
+fn dollar<'a, 'k>(size: usize) -> Result<Piece<'a, 'k>, NameReason>
+    ensures value { piece_seen result ≡ Ok (plain (codes "$") size) }
+    ensures size { IfOk result (λ piece. piece.size ≡ size) }
 {
-    Piece {
+    Ok(Piece {
         text: Text::Slice(b"$"),
         size,
         hole: None,
-    }
+    })
 }
 
 // Bytes as they are, for so many of the text.
@@ -105,6 +103,24 @@ fn plain<'a, 'k>(bytes: &'k [u8], size: usize) -> Piece<'a, 'k>
         size,
         hole: None,
     }
+}
+
+// A name that a text begins with, which has so many bytes.
+fn named_at<'a, 'k>(
+    name: &'a [u8],
+    size: usize,
+    known: &'k Known,
+    text: &[u8],
+) -> Result<Piece<'a, 'k>, NameReason>
+    requires some { 1 ≤ size }
+    requires within { size ≤ length text.now }
+    ensures value { piece_seen result
+        ≡ named_piece name.now size (value_of known.now name.now) (drop size text.now) }
+    ensures some { IfOk result (λ piece. 1 ≤ piece.size) }
+    ensures within { IfOk result (λ piece. piece.size ≤ length text.now) }
+{
+    let rest = &text[size..];
+    named_piece(name, size, known, rest)
 }
 
 // A name of so many bytes, by what stands behind it.

@@ -1,5 +1,5 @@
 //! Sums behind a name.
-ghost use Rattle.std.specs.Prelude.{◌≡◌, ◌+◌, ◌<◌, ◌≤◌, ◌&&◌, length, not, position, slice_index, true, IfSome, IfOk, Result, Ok, Err};
+ghost use Rattle.std.specs.Prelude.{◌≡◌, ◌+◌, ◌<◌, ◌≤◌, ◌&&◌, length, not, position, slice_index, take, true, IfSome, IfOk, Result, Ok, Err};
 ghost use Rattle.std.specs.Char.{is_ascii_alphanumeric};
 ghost use Rattle.std.specs.List.{position_or_len};
 ghost use Rattle.scenario_names.specs.Sums.{begins_sum, count_length, count_of, number_with, sum_of, sums_length, total_from, value_with};
@@ -8,6 +8,7 @@ ghost use Rattle.scenario_names.specs.Views.{total_count, value_seen};
 use crate::digits::{address, decimal};
 use crate::fault::NameReason;
 use crate::pieces::Text;
+use crate::texts::behind;
 use text_codec::read_address;
 use trade_base::read_amount;
 
@@ -59,16 +60,31 @@ fn total_of(count: u64, text: &[u8]) -> Result<Total, NameReason>
 {
     let mut total = count;
     let mut at = 0;
-    'sums: while begins_sum(&text[at..]) {
-        let behind = &text[at + 1..];
-        let length = count_length(behind);
-        total = sum_of(total, count_of(&behind[..length]))?;
-        at += 1 + length;
+    'sums: while begins_sum(behind(text, at)) {
+        let rest = behind(text, at + 1);
+        let next = next_count(rest);
+        match sum_of(total, next.0) {
+            Ok(sum) => {
+                total = sum;
+                at += 1 + next.1;
+            }
+            Err(reason) => return Err(reason),
+        }
     }
     Ok(Total {
         count: total,
         size: at,
     })
+}
+
+// The number that a `+` stands before, if it is one, and how many bytes it has.
+fn next_count(text: &[u8]) -> (Option<u64>, usize)
+    ensures count { result.0 ≡ count_of (take (count_length text.now) text.now) }
+    ensures size { result.1 ≡ count_length text.now }
+    ensures within { result.1 ≤ length text.now }
+{
+    let length = count_length(text);
+    (count_of(&text[..length]), length)
 }
 
 // With a number more.
