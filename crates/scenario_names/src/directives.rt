@@ -165,6 +165,7 @@ fn binding_of(text: &[u8]) -> Option<Counter<'_>>
 }
 
 // A text without the blanks at its end.
+#[tactic(auto, using(crate::proofs::TrimLemmas::trims))]
 fn trimmed(text: &[u8]) -> &[u8]
     ensures { result.now ≡ trimmed text.now }
 {

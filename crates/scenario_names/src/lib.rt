@@ -13,8 +13,7 @@ mod learning;
 mod names;
 mod pieces;
 mod sums;
-#[cfg(test)]
-mod tests;
+mod texts;
 
 pub use directives::{Counter, Directive, directive_of};
 pub use fault::{NameFault, NameReason};
