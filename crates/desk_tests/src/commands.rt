@@ -213,7 +213,14 @@ fn each_command_is_read(rt: HostRuntime) -> Result<(), Fail> {
 #[test]
 fn values_are_read_in_order(rt: HostRuntime) -> Result<(), Fail> {
     let words = [
-        "nethrywel", "run", "--set", "a=1", "--numbers", "x", "--set=b=", "--color=never",
+        "nethrywel",
+        "run",
+        "--set",
+        "a=1",
+        "--numbers",
+        "x",
+        "--set=b=",
+        "--color=never",
     ];
     let Some(request) = Request::read(rt.alloc(), words.as_slice())? else {
         return Err(Fail::new("no request"));
