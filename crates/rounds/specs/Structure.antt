@@ -3,6 +3,7 @@ use Rattle.std.specs.Prelude.{ℕ, ◌+◌, ◌-◌, Bool, false, List, [], ◌�
 use Rattle.std.specs.Str.{bytes_eq}
 use Rattle.friendly_lines.specs.Friendly.{end_of, signs_of}
 use Rattle.friendly_lines.specs.Words.{next_word, skip_blanks}
+use Rattle.scenario_names.specs.Filling.{is_directive}
 use Rattle.scenario_names.specs.Sums.{and_then}
 use Rattle.rounds.specs.declared.fault.Place.{Place}
 use Rattle.rounds.specs.declared.fault.Reason.{Reason}
@@ -17,13 +18,13 @@ use Rattle.rounds.specs.declared.lines.Kind.TheVariants.{Repeats, Ends, Plain}
 abbrev pub words_of : List ℕ → List ℕ
 words_of line = signs_of (take (end_of line) line)
 
--- what it is to the rounds, by its first word
+-- what it is to the rounds, where it begins with `@` by its first word
 abbrev pub kind_by : List ℕ → Kind
 kind_by word =
     if bytes_eq word (codes "@repeat") then Repeats else (if bytes_eq word (codes "@end") then Ends else Plain)
 
 abbrev pub kind_of : List ℕ → Kind
-kind_of line = kind_by (next_word (words_of line)).word
+kind_of line = if is_directive line then kind_by (next_word (words_of line)).word else Plain
 
 -- the column of its first sign
 abbrev pub column_of : List ℕ → ℕ

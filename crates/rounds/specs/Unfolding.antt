@@ -207,12 +207,15 @@ abbrev pub all_ended : List RoundsFault → Result Unit RoundsFault
 all_ended [] = Ok tt
 all_ended (first ∷ more) = Err first
 
+-- rounds begin and end as they may
+abbrev pub is_whole : List (List ℕ) → Result Unit RoundsFault
+is_whole lines = and_then (opens_from 1 [] lines) all_ended
+
 -- the text of a scenario with its rounds unfolded, by what is given from outside
 abbrev pub unfolded_lines : Known → List (List ℕ) → Result (List ℕ) RoundsFault
 unfolded_lines given lines =
-    and_then (opens_from 1 [] lines)
-    (λ opens. and_then (all_ended opens)
-    (λ _. map_ok (λ made. made.text) (within 5 1 (record { text = []; count = 0; known = given }) lines)))
+    and_then (is_whole lines)
+    (λ _. map_ok (λ made. made.text) (within 5 1 (record { text = []; count = 0; known = given }) lines))
 
 abbrev pub unfolded : Known → List ℕ → Result (List ℕ) RoundsFault
 unfolded given text =

@@ -68,10 +68,13 @@ fn behind(text: &[u8], count: usize) -> &[u8]
     }
 }
 
-/// What a line is, by its first word.
+/// What a line is: where it begins with `@` by its first word.
 pub(crate) fn kind_of(line: &[u8]) -> Kind
     ensures { result ≡ kind_of line.now }
 {
+    if signs_of(line).first() != Some(&b'@') {
+        return Kind::Plain;
+    }
     match next_word(words_of(line)).0 {
         b"@repeat" => Kind::Repeats,
         b"@end" => Kind::Ends,

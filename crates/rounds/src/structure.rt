@@ -1,8 +1,7 @@
 //! Where rounds begin and end.
-ghost use Rattle.std.specs.Prelude.{◌≡◌, ◌≤◌, [], length, take, tt};
-ghost use Rattle.scenario_names.specs.Sums.{and_then};
-ghost use Rattle.rounds.specs.Structure.{body_length, fault_at, kind_of, opens_after, opens_from, place_of};
-ghost use Rattle.rounds.specs.Unfolding.{all_ended};
+ghost use Rattle.std.specs.Prelude.{◌≡◌, ◌≤◌, length, take, tt};
+ghost use Rattle.rounds.specs.Structure.{body_length, fault_at, kind_of, opens_after, place_of};
+ghost use Rattle.rounds.specs.Unfolding.{is_whole};
 ghost use Rattle.rounds.specs.Views.{Makes, texts};
 
 use crate::fault::{Place, Reason, RoundsFault, Unfit};
@@ -15,7 +14,7 @@ const DEEPEST: usize = 4;
 
 /// Whether all rounds begin, end and stand as deep as they may.
 pub(crate) fn check_structure(alloc: Global, lines: &[&[u8]]) -> Result<(), Unfit>
-    ensures { Makes result (and_then (opens_from 1 [] (texts lines.now)) all_ended) tt }
+    ensures { Makes result (is_whole (texts lines.now)) tt }
 {
     let mut opens = Vec::new(alloc);
     for (i, line) in lines.iter().enumerate() {

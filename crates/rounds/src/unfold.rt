@@ -9,7 +9,6 @@ use crate::structure::check_structure;
 use crate::unfolding::{MOST_LINES, Unfolding};
 use scenario_names::Known;
 use std::alloc::Global;
-use text_codec::find_byte;
 
 /// A scenario's text with its rounds unfolded.
 #[derive(Drop)]
@@ -38,10 +37,6 @@ impl Unfolded<'_> {
 pub fn unfold<'a>(alloc: Global, text: &'a [u8], given: Known) -> Result<Unfolded<'a>, Unfit>
     ensures { Unfolds result (unfolded given.entry text.now) }
 {
-    // Most scenarios have none.
-    if find_byte(b'@', text).is_none() {
-        return Ok(Unfolded::Same(text));
-    }
     let lines = lines_of(alloc, text)?;
     if !has_rounds(lines.as_slice()) {
         return Ok(Unfolded::Same(text));
@@ -69,5 +64,7 @@ pub fn unfold<'a>(alloc: Global, text: &'a [u8], given: Known) -> Result<Unfolde
 fn has_rounds(lines: &[&[u8]]) -> bool
     ensures { result ≡ has_rounds (texts lines.now) }
 {
-    lines.iter().any(|line| kind_of(line) != Kind::Plain)
+    lines
+        .iter()
+        .any(|line| matches!(kind_of(line), Kind::Repeats | Kind::Ends))
 }
