@@ -4,3 +4,4 @@ pub mod SumLemmas
 pub mod FillLemmas
 pub mod LawLemmas
 pub mod TrimLemmas
+pub mod PartLemmas

@@ -74,12 +74,13 @@ fn piece_by<'a, 'k>(
     ensures some { IfOk result (λ piece. 1 ≤ piece.size) }
     ensures within { IfOk result (λ piece. piece.size ≤ length text.now) }
 {
-    match sign {
-        Sign::Alone => dollar(1),
-        Sign::Doubled => dollar(2),
-        Sign::Named { name, size } => named_at(name, 1 + size, known, text),
-        Sign::Broken => Err(NameReason::OpenBrace),
-    }
+    let size = match sign {
+        Sign::Alone => 1,
+        Sign::Doubled => 2,
+        Sign::Named { name, size } => return named_at(name, 1 + size, known, text),
+        Sign::Broken => return Err(NameReason::OpenBrace),
+    };
+    dollar(size)
 }
 
 // A `$` for so many bytes of the text, which is no fault.
