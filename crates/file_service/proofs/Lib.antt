@@ -26,6 +26,7 @@ pub mod TailFileLemmas
 pub mod UnlistLemmas
 pub mod LinkBackLemmas
 pub mod NextLemmas
+pub mod NewContentLemmas
 pub mod EnterLemmas
 pub mod NameReadLemmas
 pub mod NameCallLemmas

@@ -49,48 +49,6 @@ place_then nodes mid later block first second = record {
   padded = λ is. second.padded (first.padded is);
 }
 
--- bytes that stand for a node of the same name
-module _ (nodes later : OwnHeap) (block : ℕ) (v : FileNode) (has : HasBytes nodes.payloads block 0 96) (is : IsNode v)
-    (stored : later.payloads ≡ insert nodes.payloads block (with_part (payload_in nodes.payloads block) 0 (bytes_of v))) where
-  abbrev p : List ℕ
-  p = payload_in nodes.payloads block
-
-  now : get later.payloads block ≡ Some (with_part p 0 (bytes_of v))
-  now = ap (λ m. get m block) stored ∙ get-insert_same nodes.payloads block (with_part p 0 (bytes_of v)) block refl
-
-  pub payload_stored : payload_in later.payloads block ≡ with_part p 0 (bytes_of v)
-  payload_stored = ap (λ o. unwrap_or o []) now
-
-  alone : bytes_of v ++ [] ≡ bytes_of v
-  alone = append-nil (bytes_of v)
-
-  pub node_now : node_at later block ≡ v
-  node_now = ap node_of (payload_stored ∙ ap (with_part p 0) (sym alone)) ∙ node_stored_back v is p [] (omega (arith, has.within))
-
-  tail_word : (o : ℕ) → 64 ≤ o → word_from (payload_in later.payloads block) o ≡ word_from p o
-  tail_word o far =
-      let size = length-bytes_of v is.name in
-      ap word_of (ap (λ l. slice_range l o (o + 8)) (payload_stored ∙ with_part-within p 0 (bytes_of v) (omega (arith, size, has.within)))
-      ∙ range_after p 0 (bytes_of v) o (o + 8) (omega (arith, size, far)) (omega (arith, size, has.within)))
-
-  pub there_stored : HasBytes later.payloads block 0 96
-  there_stored = record { there = ap is_some now; within = omega (arith, ap length payload_stored, length-with_part p 0 (bytes_of v), has.within) }
-
-  pub front_now : take 64 (payload_in later.payloads block) ≡ bytes_of (node_at later block)
-  front_now = ap (take 64) (payload_stored ∙ ap (with_part p 0) (sym alone)) ∙ front_stored v is p [] (omega (arith, has.within)) ∙ ap bytes_of (sym node_now)
-
-  pub place_stored : v.name ≡ (node_at nodes block).name → KeepsPlace nodes later block
-  place_stored name = record {
-    name = ap (λ (n : FileNode). n.name) node_now ∙ name;
-    links = λ i. record { left = tail_word 64 (omega arith) i; right = tail_word 72 (omega arith) i; high = tail_word 80 (omega arith) i };
-    previous = tail_word 88 (omega arith);
-    padded = λ was. record {
-      there = there_stored;
-      front = front_now;
-      name = ap are_bytes (ap (λ (n : FileNode). n.name) node_now ∙ name) ∙ was.name;
-    };
-  }
-
 -- the block of a new node, which is linked back to another one
 module _ (nodes later : OwnHeap) (block : ℕ) (v : FileNode) (previous : ℕ) (low : previous < 2 ^ 64) (has : HasBytes nodes.payloads block 0 96) (is : IsNode v)
     (stored : later.payloads ≡ insert nodes.payloads block (with_part (payload_in nodes.payloads block) 0 (bytes_of v ++ (zeros 24 ++ word_bytes previous)))) where

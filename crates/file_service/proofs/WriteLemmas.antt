@@ -43,8 +43,8 @@ pub above_limit : (account : Account) (ram : ℕ) → account.ram_limit < ram �
 above_limit account ram above = grind (arith, nat_tests)
 
 -- nor a content whose size doesn't fit a word, where the limit does
-pub above_words : (account : Account) (n : ℕ) → account.ram_limit < 2 ^ 64 → 2 ^ 64 ≤ n → shortage account (sliced_size n) 1 ≡ Some OutOfRam
-above_words account n limit above = above_limit account (sliced_size n) (omega (arith, content_long n, limit, above))
+pub past_limit : (account : Account) (n : ℕ) → account.ram_limit < n → shortage account (sliced_size n) 1 ≡ Some OutOfRam
+past_limit account n past = above_limit account (sliced_size n) (omega (arith, content_long n, past))
 
 -- a content is refused for want of what the account lacks for it
 pub refused_short : (n : ℕ) (account : Account) (r : Refusal) → 0 < n → account.ram_limit < 2 ^ 64 → sliced_refusal n account ≡ Some r →

@@ -20,7 +20,7 @@ use Rattle.file_service.specs.Index.{AreFiles, IsNamed, KeepsPlace, LeadsBack, p
 use Rattle.file_service.specs.Links.{last_of}
 use Rattle.file_service.specs.Node.{FileNode}
 use Rattle.file_service.specs.Node.{value_of as node_value}
-use Rattle.file_service.specs.declared.session.Found.{Found}
+use Rattle.file_service.specs.declared.session.FoundFile.{FoundFile}
 use Rattle.file_service.specs.Furnished.{Stock}
 use Rattle.file_service.specs.Rooms.{stock_of, AreFurnished, AreKept, StayFurnished}
 use Rattle.file_service.specs.Lent.{KeepsBuffer, HasBuffer, buffer_key}
@@ -119,7 +119,7 @@ pub record IsFound (first last : ℕ) (nodes : OwnHeap) (contents : NatMap (List
   pub node_is : node ≡ node_at nodes address
 
 -- a search for a name ends there
-abbrev pub Finds : FileSession → Stock → List ℕ → Found → Type 0
+abbrev pub Finds : FileSession → Stock → List ℕ → FoundFile → Type 0
 Finds session stock name found =
     IsFound session.first session.last stock.nodes stock.contents name (previous_at stock.nodes found.address) found.address (node_value found.node)
 

@@ -1,12 +1,10 @@
 //! What requests do to files.
-ghost use Rattle.std.specs.Prelude.{◌≡◌, ◌≢◌, ℕ, true, ◌+◌, ◌-◌, ◌<◌, ◌≤◌, ◌==◌, if◌then◌else◌, ◌++◌, ◌^◌, ◌∷◌, [], length, take};
+ghost use Rattle.std.specs.Prelude.{◌≡◌, ◌≢◌, ℕ, true, ◌+◌, ◌-◌, ◌<◌, ◌≤◌, ◌==◌, if◌then◌else◌, ◌++◌, ◌∷◌, [], length, take};
 ghost use Rattle.own_model.specs.FileService as model;
 ghost use Rattle.own_model.specs.FileService.{content_credited, rewritten};
 ghost use Rattle.own_model.specs.Heap.{header};
 ghost use Rattle.own_model.specs.OwnHeap.{chunk_with, offset_of};
 ghost use Rattle.own_model.specs.FileText.FileRequest.{Create, Write, Clear, Drop};
-ghost use Rattle.dataspace_core.specs.Store.{account_in, IsOpenIn};
-ghost use Rattle.sliced_heap.specs.Heap.{payer_of};
 ghost use Rattle.session_proto.specs.FileReply.{model_error};
 ghost use Rattle.file_service.specs.Calls.{payload_in, content_copied, HasBytes};
 ghost use Rattle.sliced_heap.specs.Chain.{is_listed};
@@ -20,11 +18,13 @@ ghost use Rattle.file_service.specs.Session.{files_in, HasFiles, Finds, LinksTo,
 use crate::names::PREVIOUS;
 use crate::node::{NEXT, Node, copied};
 use crate::rooms::Rooms;
-use crate::session::{FileSession, Found};
+use crate::session::{FileSession, FoundFile};
 use crate::source::Source;
 use dataspace_core::Memory;
 use region_map::RegionMap;
 use session_proto::FileError;
+use std::marker::Brand;
+use std::sync::ledger::Blank;
 use text_codec::is_name;
 use trade_base::Refusal;
 
@@ -93,7 +93,7 @@ impl FileSession {
         &mut self,
         memory: &mut Memory,
         map: &mut RegionMap,
-        found: Found,
+        found: FoundFile,
         offset: u64,
         source: Source<'_>,
     ) -> Result<u64, FileError>
@@ -160,7 +160,7 @@ impl FileSession {
             memory.old memory.new map.old map.new }
     {
         let found = self.find(memory, map, name).ok_or(FileError::NotFound)?;
-        let Found { address, node } = found;
+        let FoundFile { address, node } = found;
         let previous = self.unlist(memory, map, address, &node);
         self.link(memory, map, previous, node.next);
         self.last = last_without(self.last, address, previous);
@@ -210,7 +210,9 @@ impl FileSession {
         self.rooms.store_new(memory, map, address, &node, last);
         self.link(memory, map, last, address);
         self.last = address;
-        self.root = self.rooms.enter(memory, map, self.root, name, address);
+        self.root = self
+            .rooms
+            .enter::<Brand>(memory, map, self.root, name, address, Blank::new(1));
     }
 
     // Takes a file's node out of the tree, links the node behind it back to the one before it, and tells that one.
@@ -231,7 +233,9 @@ impl FileSession {
             memory.old memory.new map.now map.now }
     {
         let previous = self.rooms.load_word(memory, map, address, PREVIOUS);
-        self.root = self.rooms.leave(memory, map, self.root, &node.name);
+        self.root = self
+            .rooms
+            .leave::<Brand>(memory, map, self.root, &node.name, Blank::new(1));
         self.rooms.link_back(memory, map, node.next, previous);
         previous
     }
@@ -264,7 +268,7 @@ impl FileSession {
         &mut self,
         memory: &mut Memory,
         map: &mut RegionMap,
-        found: Found,
+        found: FoundFile,
         offset: u64,
         source: Source<'_>,
     ) -> Result<u64, FileError>
@@ -284,9 +288,11 @@ impl FileSession {
         ensures keeps { KeepsRooms self.old.rooms self.new.rooms
             memory.old memory.new map.old map.new }
     {
-        self.rooms.ram_fits(memory);
         let count = source.count();
-        let size = offset.checked_add(count).ok_or(FileError::OutOfRam)?;
+        let size = self
+            .rooms
+            .size_within(memory, offset, count)
+            .ok_or(FileError::OutOfRam)?;
         let content = self
             .rooms
             .take_content(memory, map, size)
@@ -303,7 +309,7 @@ impl FileSession {
         &mut self,
         memory: &mut Memory,
         map: &mut RegionMap,
-        found: Found,
+        found: FoundFile,
         content: u64,
         size: u64,
     )
@@ -332,15 +338,11 @@ impl FileSession {
         ensures keeps { KeepsRooms self.old.rooms self.new.rooms
             memory.old memory.new map.old map.new }
     {
-        let Found { address, node } = found;
-        let mut node = node;
-        let old = node.content;
-        let was = node.size;
-        node.content = content;
-        node.size = size;
-        self.rooms.store_node(memory, map, address, &node);
-        if was > 0 {
-            self.rooms.give_content(memory, map, old);
+        let FoundFile { address, node } = found;
+        self.rooms
+            .store_content(memory, map, address, content, size);
+        if node.size > 0 {
+            self.rooms.give_content(memory, map, node.content);
         }
     }
 }
@@ -361,14 +363,6 @@ impl Rooms {
             let word = previous.to_le_bytes();
             self.put_bytes(memory, map, address, PREVIOUS, &word);
         }
-    }
-
-    /// The RAM of an account is counted in 64 bits, so a content whose size is above them is out of RAM.
-    fn ram_fits(&self, memory: &Memory)
-        requires { IsOpenIn memory.now (payer_of self.now.contents) }
-        ensures { (account_in memory.now (payer_of self.now.contents)).ram_limit < 2 ^ 64 }
-    {
-        let _ = memory.limits(self.contents.account());
     }
 }
 

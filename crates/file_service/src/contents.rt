@@ -1,10 +1,11 @@
 //! Contents of files: blocks of a session's sliced heap.
-ghost use Rattle.std.specs.Prelude.{◌≡◌, ◌≢◌, ◌+◌, ◌<◌, ◌≤◌, length, slice_range, None, IsSome, IfOk, OnErr};
+ghost use Rattle.std.specs.Prelude.{◌≡◌, ◌≢◌, ◌+◌, ◌^◌, ◌<◌, ◌≤◌, length, slice_range, None, SomeIff, IsSome, IfOk, OnErr};
 ghost use Rattle.std.specs.FinMap.{get};
 ghost use Rattle.std.specs.Result.{result_err};
 ghost use Rattle.own_model.specs.Sliced.{sliced_refusal};
 ghost use Rattle.file_service.specs.Calls.{payload_in, content_taken, content_given, content_written, content_copied, HasBytes};
-ghost use Rattle.dataspace_core.specs.Store.{space_at};
+ghost use Rattle.dataspace_core.specs.Store.{account_in, space_at, IsOpenIn};
+ghost use Rattle.sliced_heap.specs.Heap.{payer_of};
 ghost use Rattle.file_service.specs.Found.{FindsContent, IsElsewhere, IsThere};
 ghost use Rattle.file_service.specs.Rooms.{stock_of, AreFurnished, KeepsRooms};
 
@@ -40,6 +41,22 @@ impl Rooms {
         ensures err { OnErr result (self.new ≡ self.old) }
     {
         self.contents.alloc(memory, map, bytes)
+    }
+
+    /// The size of a content of so many bytes and so many more, where the account's limit of RAM isn't below it.
+    pub(crate) fn size_within(&self, memory: &Memory, front: u64, more: u64) -> Option<u64>
+        requires { IsOpenIn memory.now (payer_of self.now.contents) }
+        ensures size { SomeIff result
+            (front + more ≤ (account_in memory.now (payer_of self.now.contents)).ram_limit)
+            (front + more) }
+        ensures word { (account_in memory.now (payer_of self.now.contents)).ram_limit < 2 ^ 64 }
+    {
+        let (ram, _) = memory.limits(self.contents.account());
+        let size = front.checked_add(more)?;
+        if size > ram.0 {
+            return None;
+        }
+        Some(size)
     }
 
     /// Gives back the content at an address, and credits the account with all that it was charged for it.

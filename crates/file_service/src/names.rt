@@ -12,7 +12,7 @@ ghost use Rattle.file_service.specs.Session.{files_in, HasFiles, Finds};
 
 use crate::node::{LONGEST_NAME, NAME_LENGTH, NODE_SIZE, NameKey, append_word};
 use crate::rooms::Rooms;
-use crate::session::{FileSession, Found};
+use crate::session::{FileSession, FoundFile};
 use arrayvec::ArrayVec;
 use avl_tree::{Links, Nodes, Step, find, insert, remove};
 use dataspace_core::Memory;
@@ -200,8 +200,8 @@ impl<'m, L: Ledger> Nodes for FileNodes<'_, Counted<'m, L>> {
 }
 
 impl<'m, L: Ledger> FileNodes<'_, Counted<'m, L>> {
-    // The node of a key, where there is one.
-    fn seek(&self, memory: &mut Counted<'m, L>, root: u64, key: NameKey) -> u64
+    /// The node of a key, where there is one.
+    pub(crate) fn seek(&self, memory: &mut Counted<'m, L>, root: u64, key: NameKey) -> u64
         requires furnished { AreFurnished self.now.rooms.now
             memory.old.memory.now self.now.map.now }
         requires named { (blocks : List ℕ) × IsNamed root
@@ -218,8 +218,14 @@ impl<'m, L: Ledger> FileNodes<'_, Counted<'m, L>> {
         find(self, memory, root, key)
     }
 
-    // Enters the node of a new file in the tree, and tells the tree's root.
-    fn enter(&self, memory: &mut Counted<'m, L>, root: u64, key: NameKey, address: u64) -> u64
+    /// Enters the node of a new file in the tree, and tells the tree's root.
+    pub(crate) fn enter(
+        &self,
+        memory: &mut Counted<'m, L>,
+        root: u64,
+        key: NameKey,
+        address: u64,
+    ) -> u64
         requires furnished { AreFurnished self.now.rooms.now
             memory.old.memory.now self.now.map.now }
         requires unnamed { (blocks : List ℕ) × CanEnter root blocks address
@@ -242,8 +248,8 @@ impl<'m, L: Ledger> FileNodes<'_, Counted<'m, L>> {
         insert(self, memory, root, key, address)
     }
 
-    // Takes the node of a key out of the tree, and tells the tree's root.
-    fn leave(&self, memory: &mut Counted<'m, L>, root: u64, key: NameKey) -> u64
+    /// Takes the node of a key out of the tree, and tells the tree's root.
+    pub(crate) fn leave(&self, memory: &mut Counted<'m, L>, root: u64, key: NameKey) -> u64
         requires furnished { AreFurnished self.now.rooms.now
             memory.old.memory.now self.now.map.now }
         requires named { (blocks : List ℕ) × IsNamed root
@@ -266,7 +272,12 @@ impl<'m, L: Ledger> FileNodes<'_, Counted<'m, L>> {
 
 impl FileSession {
     /// The file of a name, if there is one. The memory is as it was.
-    pub(crate) fn find(&self, memory: &mut Memory, map: &RegionMap, name: &[u8]) -> Option<Found>
+    pub(crate) fn find(
+        &self,
+        memory: &mut Memory,
+        map: &RegionMap,
+        name: &[u8],
+    ) -> Option<FoundFile>
         requires furnished { AreFurnished self.now.rooms memory.old map.now }
         requires files { HasFiles self.now (stock_of self.now.rooms memory.old map.now) }
         ensures some { IfSome result
@@ -279,7 +290,9 @@ impl FileSession {
         if name.len() > LONGEST_NAME {
             return None;
         }
-        let address = self.rooms.seek(memory, map, self.root, name);
+        let address = self
+            .rooms
+            .seek::<Brand>(memory, map, self.root, name, Blank::new(1));
         if address == 0 {
             return None;
         }
@@ -287,26 +300,13 @@ impl FileSession {
         if node.name.as_slice() != name {
             return None;
         }
-        Some(Found { address, node })
+        Some(FoundFile { address, node })
     }
 }
 
 impl Rooms {
     /// The address of the node that has a name where any has it, by the root of the tree. The memory is as it was.
-    pub(crate) fn seek(&self, memory: &mut Memory, map: &RegionMap, root: u64, name: &[u8]) -> u64
-        requires few { length name.now ≤ 32 }
-        requires furnished { AreFurnished self.now memory.old map.now }
-        requires named { (blocks : List ℕ) × IsNamed root
-            (stock_of self.now memory.old map.now).nodes blocks }
-        ensures found { Seeks root (rank_of name.now)
-            (stock_of self.now memory.old map.now).nodes result }
-        ensures memory { memory.new ≡ memory.old }
-    {
-        self.seek_counted::<Brand>(memory, map, root, name, Blank::new(1))
-    }
-
-    // The same, with loads counted by a ledger.
-    fn seek_counted<L: Ledger>(
+    pub(crate) fn seek<L: Ledger>(
         &self,
         memory: &mut Memory,
         map: &RegionMap,
@@ -333,31 +333,7 @@ impl Rooms {
     }
 
     /// Enters a new file's node in the tree by its name, and tells the tree's root.
-    pub(crate) fn enter(
-        &self,
-        memory: &mut Memory,
-        map: &RegionMap,
-        root: u64,
-        name: &[u8],
-        address: u64,
-    ) -> u64
-        requires few { length name.now ≤ 32 }
-        requires furnished { AreFurnished self.now memory.old map.now }
-        requires unnamed { (blocks : List ℕ) × CanEnter root blocks address (rank_of name.now)
-            (stock_of self.now memory.old map.now).nodes }
-        ensures enters { Enters root address (rank_of name.now) result
-            (stock_of self.now memory.old map.now).nodes
-            (stock_of self.now memory.new map.now).nodes }
-        ensures tree { ChangesTree (stock_of self.now memory.old map.now)
-            (stock_of self.now memory.new map.now) }
-        ensures keeps { KeepsRooms self.now self.now
-            memory.old memory.new map.now map.now }
-    {
-        self.enter_counted::<Brand>(memory, map, root, name, address, Blank::new(1))
-    }
-
-    // The same, with loads counted by a ledger.
-    fn enter_counted<L: Ledger>(
+    pub(crate) fn enter<L: Ledger>(
         &self,
         memory: &mut Memory,
         map: &RegionMap,
@@ -389,24 +365,7 @@ impl Rooms {
     }
 
     /// Takes the node of a name out of the tree, and tells the tree's root.
-    pub(crate) fn leave(&self, memory: &mut Memory, map: &RegionMap, root: u64, name: &[u8]) -> u64
-        requires few { length name.now ≤ 32 }
-        requires furnished { AreFurnished self.now memory.old map.now }
-        requires named { (blocks : List ℕ) × IsNamed root
-            (stock_of self.now memory.old map.now).nodes blocks }
-        ensures gone { Leaves root (rank_of name.now) result
-            (stock_of self.now memory.old map.now).nodes
-            (stock_of self.now memory.new map.now).nodes }
-        ensures tree { ChangesTree (stock_of self.now memory.old map.now)
-            (stock_of self.now memory.new map.now) }
-        ensures keeps { KeepsRooms self.now self.now
-            memory.old memory.new map.now map.now }
-    {
-        self.leave_counted::<Brand>(memory, map, root, name, Blank::new(1))
-    }
-
-    // The same, with loads counted by a ledger.
-    fn leave_counted<L: Ledger>(
+    pub(crate) fn leave<L: Ledger>(
         &self,
         memory: &mut Memory,
         map: &RegionMap,

@@ -1,5 +1,5 @@
 //! The node of a file.
-ghost use Rattle.std.specs.Prelude.{◌≡◌, ℕ, ◌+◌, ◌-◌, ◌*◌, ◌<◌, ◌++◌, ◌≤◌, length, slice_index};
+ghost use Rattle.std.specs.Prelude.{◌≡◌, ℕ, ◌+◌, ◌-◌, ◌*◌, ◌^◌, ◌<◌, ◌++◌, ◌≤◌, length, slice_index};
 ghost use Rattle.trade_base.specs.Word.{word_bytes};
 ghost use Rattle.own_model.specs.OwnState.{zeros};
 ghost use Rattle.file_service.specs.Node.{value_of, node_of, bytes_of, name_bytes, rank_by, rank_of, word_from, IsNode};
@@ -17,6 +17,9 @@ pub(crate) const NODE_SIZE: usize = 96;
 
 /// Where the address of the next file's node stands.
 pub(crate) const NEXT: u64 = 0;
+
+/// Where the address of the content stands, and its bytes behind it.
+pub(crate) const CONTENT: u64 = 8;
 
 /// Where the length of the name stands, and the name.
 pub(crate) const NAME_LENGTH: usize = 24;
@@ -52,7 +55,7 @@ impl Node {
     }
 
     /// The bytes that stand for the node, with room for the links behind them.
-    pub(crate) fn to_bytes(&self) -> ArrayVec<u8, NODE_SIZE>
+    fn to_bytes(&self) -> ArrayVec<u8, NODE_SIZE>
         ensures bytes { result.items ≡ bytes_of (value_of self.now) }
         ensures len { length result.items ≡ 64 }
         ensures node { IsNode (value_of self.now) }
@@ -106,6 +109,19 @@ impl NameKey {
         ];
         NameKey { words }
     }
+}
+
+/// The bytes that stand for a content: its address, and its bytes.
+pub(crate) fn content_bytes(content: u64, size: u64) -> ArrayVec<u8, NODE_SIZE>
+    ensures bytes { result.items ≡ word_bytes content ++ word_bytes size }
+    ensures len { length result.items ≡ 16 }
+    ensures content { content < 2 ^ 64 }
+    ensures size { size < 2 ^ 64 }
+{
+    let mut bytes = ArrayVec::new();
+    append_word(&mut bytes, content);
+    append_word(&mut bytes, size);
+    bytes
 }
 
 /// A copy of a name's bytes.

@@ -14,7 +14,7 @@ ghost use Rattle.own_model.specs.OwnState.{zeros};
 ghost use Rattle.trade_base.specs.Word.{word_bytes};
 ghost use Rattle.file_service.specs.Node.{value_of, node_of, bytes_of, word_from, IsNode};
 
-use crate::node::{NODE_BYTES, NODE_SIZE, Node};
+use crate::node::{CONTENT, NODE_BYTES, NODE_SIZE, Node, content_bytes};
 use crate::rooms::Rooms;
 use dataspace_core::Memory;
 use region_map::RegionMap;
@@ -96,26 +96,35 @@ impl Rooms {
         memory.load_word(ds, at + offset)
     }
 
-    /// Puts a node at an address. What stands behind the bytes that stand for it stays.
-    pub(crate) fn store_node(&self, memory: &mut Memory, map: &RegionMap, address: u64, node: &Node)
+    /// Gives a node another content, of so many bytes. All else of its block stays.
+    pub(crate) fn store_content(
+        &self,
+        memory: &mut Memory,
+        map: &RegionMap,
+        address: u64,
+        content: u64,
+        size: u64,
+    )
         requires furnished { AreFurnished self.now memory.old map.now }
         requires there { HasBytes
             (stock_of self.now memory.old map.now).nodes.payloads address 0 96 }
         ensures stored { stock_of self.now memory.new map.now
-            ≡ node_stored address 0 (bytes_of (value_of node.now))
+            ≡ node_stored address 8 (word_bytes content ++ word_bytes size)
             (stock_of self.now memory.old map.now) }
         ensures back { node_at (stock_of self.now memory.new map.now).nodes address
-            ≡ value_of node.now }
-        ensures place { node.now.name.items
-            ≡ (node_at (stock_of self.now memory.old map.now).nodes address).name →
-            KeepsPlace (stock_of self.now memory.old map.now).nodes
+            ≡ record (node_at (stock_of self.now memory.old map.now).nodes address) {
+              content = content;
+              size = size;
+            } }
+        ensures place { KeepsPlace (stock_of self.now memory.old map.now).nodes
             (stock_of self.now memory.new map.now).nodes address }
         ensures there { HasBytes
             (stock_of self.now memory.new map.now).nodes.payloads address 0 96 }
         ensures keeps { KeepsRooms self.now self.now
             memory.old memory.new map.now map.now }
     {
-        self.put_bytes(memory, map, address, 0, &node.to_bytes());
+        let bytes = content_bytes(content, size);
+        self.put_bytes(memory, map, address, CONTENT, &bytes);
     }
 
     /// Puts a new node at an address, linked back to another one.

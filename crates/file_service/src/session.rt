@@ -34,7 +34,7 @@ pub(crate) struct Lent {
 
 /// A file that is found, and where its node is.
 #[derive(Drop)]
-pub(crate) struct Found {
+pub(crate) struct FoundFile {
     pub(crate) address: u64,
     pub(crate) node: Node,
 }

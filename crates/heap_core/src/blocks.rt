@@ -1,4 +1,5 @@
-//! The blocks in a heap's chunks: best fit over the words in the memory. Loads are counted, and no caller sees the count.
+//! The blocks in a heap's chunks: best fit over the words in the memory. Loads are counted, and no caller sees the count: it
+//! gives a blank for a ledger, which the call has for itself.
 ghost use Rattle.std.specs.Prelude.{◌≡◌, ◌+◌, ◌-◌, ◌^◌, ◌<◌, ◌≤◌, length};
 ghost use Rattle.std.specs.Option.{option_map};
 ghost use Rattle.own_model.specs.BestFit.{chunk_of, payload_at};
@@ -10,26 +11,10 @@ ghost use Rattle.heap_core.specs.Words.{keys_of, around, bytes_around, words_of}
 use crate::words::{Chunk, Words};
 use avl_alloc::{BestFit, BlockAddr, UsedBlock};
 use dataspace_core::Memory;
-use std::marker::Brand;
 use std::sync::ledger::{Blank, Ledger};
 
 /// One chunk more, the last of `chunks`, which is one hole.
-pub fn add(fit: &mut BestFit, memory: &mut Memory, chunks: &[Chunk], bytes: u64)
-    requires stand { StandAt fit.old (keys_of chunks.now) memory.old }
-    requires last { length (sizes_of fit.old) + 1 ≡ length chunks.now }
-    requires few { length chunks.now ≤ 64 }
-    requires size { IsChunkSize bytes }
-    requires there { bytes
-        ≤ bytes_around (around (keys_of chunks.now) memory.old) (length chunks.now - 1) }
-    ensures adds { Adds bytes fit.old fit.new (words_of (keys_of chunks.now) memory.old)
-        (words_of (keys_of chunks.now) memory.new) }
-    ensures around { KeepsAround (keys_of chunks.now) memory.old memory.new }
-{
-    add_counted::<Brand>(fit, memory, chunks, bytes, Blank::new(1));
-}
-
-/// The same, with loads counted by a ledger.
-fn add_counted<L: Ledger>(
+pub fn add<L: Ledger>(
     fit: &mut BestFit,
     memory: &mut Memory,
     chunks: &[Chunk],
@@ -52,23 +37,7 @@ fn add_counted<L: Ledger>(
 }
 
 /// Takes the best hole for so many bytes, or answers `None` where no hole is large enough.
-pub fn take(
-    fit: &mut BestFit,
-    memory: &mut Memory,
-    chunks: &[Chunk],
-    bytes: u64,
-) -> Option<BlockAddr>
-    requires stand { StandAt fit.old (keys_of chunks.now) memory.old }
-    requires few { bytes < 65536 }
-    ensures takes { Takes bytes result fit.old fit.new (words_of (keys_of chunks.now) memory.old)
-        (words_of (keys_of chunks.now) memory.new) }
-    ensures around { KeepsAround (keys_of chunks.now) memory.old memory.new }
-{
-    take_counted::<Brand>(fit, memory, chunks, bytes, Blank::new(1))
-}
-
-/// The same, with loads counted by a ledger.
-fn take_counted<L: Ledger>(
+pub fn take<L: Ledger>(
     fit: &mut BestFit,
     memory: &mut Memory,
     chunks: &[Chunk],
@@ -87,22 +56,7 @@ fn take_counted<L: Ledger>(
 }
 
 /// Gives back the used block that starts at an address and tells its size, or answers `None` where none does.
-pub fn give(
-    fit: &mut BestFit,
-    memory: &mut Memory,
-    chunks: &[Chunk],
-    block: BlockAddr,
-) -> Option<u64>
-    requires stand { StandAt fit.old (keys_of chunks.now) memory.old }
-    ensures gives { Gives block result fit.old fit.new (words_of (keys_of chunks.now) memory.old)
-        (words_of (keys_of chunks.now) memory.new) }
-    ensures around { KeepsAround (keys_of chunks.now) memory.old memory.new }
-{
-    give_counted::<Brand>(fit, memory, chunks, block, Blank::new(1))
-}
-
-/// The same, with loads counted by a ledger.
-fn give_counted<L: Ledger>(
+pub fn give<L: Ledger>(
     fit: &mut BestFit,
     memory: &mut Memory,
     chunks: &[Chunk],
@@ -120,25 +74,7 @@ fn give_counted<L: Ledger>(
 }
 
 /// The used block whose payload holds an address, or `None` where no payload does.
-pub fn look(
-    fit: &BestFit,
-    memory: &mut Memory,
-    chunks: &[Chunk],
-    addr: BlockAddr,
-) -> Option<UsedBlock>
-    requires stand { StandAt fit.now (keys_of chunks.now) memory.old }
-    ensures block { let blocks = chunk_of
-        (heap_of fit.now (words_of (keys_of chunks.now) memory.old)) addr.chunk in
-        result ≡ option_map (used_block addr.chunk) (payload_at 0 addr.offset blocks) }
-    ensures words { words_of (keys_of chunks.now) memory.new
-        ≡ words_of (keys_of chunks.now) memory.old }
-    ensures around { KeepsAround (keys_of chunks.now) memory.old memory.new }
-{
-    look_counted::<Brand>(fit, memory, chunks, addr, Blank::new(1))
-}
-
-/// The same, with loads counted by a ledger.
-fn look_counted<L: Ledger>(
+pub fn look<L: Ledger>(
     fit: &BestFit,
     memory: &mut Memory,
     chunks: &[Chunk],

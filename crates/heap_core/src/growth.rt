@@ -14,6 +14,8 @@ use crate::words::Chunk;
 use avl_alloc::block_bytes;
 use dataspace_core::Memory;
 use region_map::RegionMap;
+use std::marker::Brand;
+use std::sync::ledger::Blank;
 use trade_base::{PAGE, Refusal};
 
 /// The most that the growth number can be.
@@ -80,7 +82,13 @@ impl Heap {
         let start = map.attach_block(ds, pages, self.chunks.len() as u64);
         self.chunks.push(Chunk { ds, start });
         self.growth = next;
-        add(&mut self.fit, memory, &self.chunks, pages * PAGE);
+        add::<Brand>(
+            &mut self.fit,
+            memory,
+            &self.chunks,
+            pages * PAGE,
+            Blank::new(1),
+        );
         Ok(())
     }
 }

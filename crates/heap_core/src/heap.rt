@@ -22,6 +22,8 @@ use arrayvec::ArrayVec;
 use avl_alloc::{BestFit, BlockAddr, MOST_CHUNKS};
 use dataspace_core::Memory;
 use region_map::RegionMap;
+use std::marker::Brand;
+use std::sync::ledger::Blank;
 use trade_base::{AccountId, PAGE, Refusal};
 
 /// The most large blocks that a machine can hold at once.
@@ -220,6 +222,6 @@ impl Heap {
     {
         // The contract speaks of the map, which stays as it is: a hole is taken in the chunks' words.
         let _ = map;
-        take(&mut self.fit, memory, &self.chunks, bytes)
+        take::<Brand>(&mut self.fit, memory, &self.chunks, bytes, Blank::new(1))
     }
 }

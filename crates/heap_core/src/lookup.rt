@@ -13,6 +13,8 @@ use crate::heap::{Heap, LARGE};
 use avl_alloc::BlockAddr;
 use dataspace_core::Memory;
 use region_map::RegionMap;
+use std::marker::Brand;
+use std::sync::ledger::Blank;
 use trade_base::DsId;
 
 /// Where an address lies.
@@ -143,7 +145,7 @@ impl Heap {
         // The contract speaks of the map and of the address; the allocator knows the block by its place in the chunk.
         let _ = map;
         let _ = address;
-        let block = look(&self.fit, memory, &self.chunks, at)?;
+        let block = look::<Brand>(&self.fit, memory, &self.chunks, at, Blank::new(1))?;
         if count > block.size - (at.offset - block.offset) {
             return None;
         }

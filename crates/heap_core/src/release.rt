@@ -15,6 +15,8 @@ use crate::lookup::Site;
 use avl_alloc::BlockAddr;
 use dataspace_core::Memory;
 use region_map::RegionMap;
+use std::marker::Brand;
+use std::sync::ledger::Blank;
 use trade_base::{DsId, Refusal};
 
 /// The bytes of a block's header.
@@ -137,7 +139,7 @@ impl Heap {
             chunk: at.chunk,
             offset: at.offset - HEADER,
         };
-        let given = give(&mut self.fit, memory, &self.chunks, block);
+        let given = give::<Brand>(&mut self.fit, memory, &self.chunks, block, Blank::new(1));
         if given.is_none() {
             return Err(Refusal::PageFault);
         }

@@ -1,5 +1,5 @@
 -- The new content is taken, filled, and given to the file.
-use Rattle.std.proofs.Common.{◌≡◌, ◌∙◌, ◌+◌, ◌<◌, ◌^◌, length, None, Err, sym, ap, subst, arith, rules}
+use Rattle.std.proofs.Common.{◌≡◌, ◌∙◌, ◌+◌, ◌≤◌, length, None, Err, sym, ap, subst, arith, rules}
 use Rattle.std.specs.Prelude.{IfOk, OnErr}
 use Rattle.std.specs.Option.{option_map}
 use Rattle.std.specs.Result.{result_err}
@@ -23,7 +23,7 @@ use Rattle.file_service.proofs.SourceLemmas.{source_kept, bytes_kept}
 use Rattle.file_service.proofs.LengthenLemmas.{TakesLonger, sum_is, no_sum, not_new, source, target, room, made_has, made_own, made_found, made_served}
 use Rattle.file_service.proofs.ResultLemmas.{err_case, err_and}
 use Rattle.file_service.proofs.ServeLemmas.{keeps_both, serves_told, serves_refused, was_ok}
-use Rattle.file_service.proofs.WriteLemmas.{above_words, refused_short, granted_covered, longer_refused}
+use Rattle.file_service.proofs.WriteLemmas.{past_limit, refused_short, granted_covered, longer_refused}
 use Rattle.file_service.proofs.session.FileSession.lengthen.Goals.{In_ok-content, After-copy_content}
 use Rattle.file_service.proofs.session.FileSession.lengthen.Goals as goal
 
@@ -35,7 +35,7 @@ takes c =
     let taken : Stock = stock_of c.take_content.new.self c.take_content.new.memory c.take_content.new.map in
     let size = c.in_ok-size.size in
     let count_is = c.count-count.ensures c.args.self.now.rooms.contents c.args.memory.now c.args.map.now c.requires.source in
-    let size_is = sum_is c.checked_add.result c.ok_or.result _ size (c.args.offset + c.count-count.result) c.checked_add.ensures c.ok_or.ensures.ok_part c.in_ok-size.was ∙ ap (λ n. c.args.offset + n) count_is in
+    let size_is = sum_is c.size_within.result c.ok_or.result _ size (c.args.offset + c.count-count.result) c.size_within.ensures.size c.ok_or.ensures.ok_part c.in_ok-size.was ∙ ap (λ n. c.args.offset + n) count_is in
     let ok = was_ok c.take_content.result c.map_err.result c.in_ok-content.content _ c.map_err.ensures.cases c.map_err.ensures.variant c.in_ok-content.was in
     record {
       size_is = size_is;
@@ -118,22 +118,22 @@ returns-in_err-size-clause-serves c =
     let was : Stock = stock_of c.args.self.now.rooms c.args.memory.now c.args.map.now in
     let size = c.args.offset + length (bytes_from c.args.source c.args.memory.now) in
     let count_is = c.count-count.ensures c.args.self.now.rooms.contents c.args.memory.now c.args.map.now c.requires.source in
-    let above = no_sum c.checked_add.result c.ok_or.result (c.args.offset + c.count-count.result < 2 ^ 64) _ (c.args.offset + c.count-count.result) c.checked_add.ensures c.ok_or.ensures.ok_part c.in_err-size.was in
+    let above = no_sum c.size_within.result c.ok_or.result (c.args.offset + c.count-count.result ≤ was.account.ram_limit) _ (c.args.offset + c.count-count.result) c.size_within.ensures.size c.ok_or.ensures.ok_part c.in_err-size.was in
     let tells : c.from_residual.result ≡ Err OutOfRam = search rules in
     serves_told (served_in (Write c.args.found.node.name.items c.args.offset (bytes_from c.args.source c.args.memory.now)) c.args.self.now was) _ c.args.self.now was c.requires.files
     (longer_refused c.args.self.now was _ _ _ _ c.requires.found c.args.offset (bytes_from c.args.source c.args.memory.now) c.requires.low c.requires.longer model.FileError.OutOfRam
-    (ap (option_map error_of) (above_words was.account size c.ram_fits.ensures (omega (arith, above, count_is))))
+    (ap (option_map error_of) (past_limit was.account size (omega (arith, above, count_is))))
     ∙ ap (λ r. told (counted_reply r) (files_in c.args.self.now was) was.account) (sym tells))
 
 pub returns-in_err-content-clause-serves : goal.returns-in_err-content-clause-serves
 returns-in_err-content-clause-serves c =
     let was : Stock = stock_of c.args.self.now.rooms c.args.memory.now c.args.map.now in
     let count_is = c.count-count.ensures c.args.self.now.rooms.contents c.args.memory.now c.args.map.now c.requires.source in
-    let size_is = sum_is c.checked_add.result c.ok_or.result _ c.in_ok-size.size (c.args.offset + c.count-count.result) c.checked_add.ensures c.ok_or.ensures.ok_part c.in_ok-size.was ∙ ap (λ n. c.args.offset + n) count_is in
+    let size_is = sum_is c.size_within.result c.ok_or.result _ c.in_ok-size.size (c.args.offset + c.count-count.result) c.size_within.ensures.size c.ok_or.ensures.ok_part c.in_ok-size.was ∙ ap (λ n. c.args.offset + n) count_is in
     let refused = err_case c.take_content.result c.map_err.result c.in_err-content.field-0.0 _ c.map_err.ensures.cases c.map_err.ensures.variant c.in_err-content.was in
     let error : model_error c.in_err-content.field-0.0 ≡ error_of refused.0 = err_and c.map_err.result c.in_err-content.field-0.0 _ c.in_err-content.was refused.1.1 in
     let tells : c.from_residual-in_err-content.result ≡ Err c.in_err-content.field-0.0 = search rules in
-    let short = refused_short c.in_ok-size.size was.account refused.0 (omega (arith, size_is, c.requires.longer)) c.ram_fits.ensures (sym c.take_content.ensures.refusal ∙ ap result_err refused.1.0) in
+    let short = refused_short c.in_ok-size.size was.account refused.0 (omega (arith, size_is, c.requires.longer)) c.size_within.ensures.word (sym c.take_content.ensures.refusal ∙ ap result_err refused.1.0) in
     serves_refused (served_in (Write c.args.found.node.name.items c.args.offset (bytes_from c.args.source c.args.memory.now)) c.args.self.now was) _ c.args.self.now
     c.take_content.new.self c.args.memory.now c.take_content.new.memory c.args.map.now c.take_content.new.map c.requires.files
     (subst (λ r. OnErr r (c.take_content.new.self ≡ c.args.self.now.rooms)) refused.1.0 c.take_content.ensures.err)

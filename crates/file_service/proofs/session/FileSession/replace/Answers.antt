@@ -12,83 +12,84 @@ use Rattle.file_service.specs.Files.{node_at, files_of}
 use Rattle.file_service.specs.Index.{AreFiles, previous_at}
 use Rattle.file_service.specs.Furnished.{Stock}
 use Rattle.file_service.specs.Rooms.{stock_of}
-use Rattle.file_service.specs.Node.{FileNode, value_of, bytes_of}
+use Rattle.file_service.specs.Node.{FileNode, value_of}
+use Rattle.file_service.proofs.NewContentLemmas.{two_words}
 use Rattle.file_service.proofs.ReplaceLemmas.{kept_alone, files_alone, kept_left, files_left, credited_is}
 use Rattle.file_service.proofs.SearchLemmas.{found_file, found_long}
 use Rattle.file_service.proofs.session.FileSession.replace.Goals as goal
 
-pub store_node-requires-clause-there : goal.store_node-requires-clause-there
-store_node-requires-clause-there c =
+pub store_content-requires-clause-there : goal.store_content-requires-clause-there
+store_content-requires-clause-there c =
     let was : Stock = stock_of c.args.self.now.rooms c.args.memory.now c.args.map.now in
     (found_file c.args.self.now.first c.args.self.now.last was.nodes was.contents c.args.found.node.name.items (previous_at was.nodes c.args.found.address) c.args.found.address (value_of c.args.found.node) c.requires.found).there
 
 pub give_content-requires-clause-there : goal.give_content-requires-clause-there
 give_content-requires-clause-there c =
     let was : Stock = stock_of c.args.self.now.rooms c.args.memory.now c.args.map.now in
-    let mid : Stock = stock_of c.args.self.now.rooms c.store_node.new.memory c.args.map.now in
+    let mid : Stock = stock_of c.args.self.now.rooms c.store_content.new.memory c.args.map.now in
     let node_is : value_of c.args.found.node ≡ node_at was.nodes c.args.found.address = c.requires.found.node_is in
     let file = found_file c.args.self.now.first c.args.self.now.last was.nodes was.contents c.args.found.node.name.items (previous_at was.nodes c.args.found.address) c.args.found.address (value_of c.args.found.node) c.requires.found in
     let some : 0 < c.args.found.node.size = omega arith in
     let has = file.content (subst (λ (n : FileNode). 0 < n.size) node_is some) in
-    let contents : mid.contents ≡ was.contents = ap (λ (s : Stock). s.contents) c.store_node.ensures.stored in
+    let contents : mid.contents ≡ was.contents = ap (λ (s : Stock). s.contents) c.store_content.ensures.stored in
     ap is_some (ap (λ (m : NatMap (List ℕ)). get m c.args.found.node.content) contents ∙ ap (get was.contents) (ap (λ (n : FileNode). n.content) node_is) ∙ has.there)
 
-pub returns-else-was-gt0-clause-kept : goal.returns-else-was-gt0-clause-kept
-returns-else-was-gt0-clause-kept c =
+pub returns-else-node-gt0-clause-kept : goal.returns-else-node-gt0-clause-kept
+returns-else-node-gt0-clause-kept c =
     let was : Stock = stock_of c.args.self.now.rooms c.args.memory.now c.args.map.now in
-    let mid : Stock = stock_of c.args.self.now.rooms c.store_node.new.memory c.args.map.now in
-    let node : FileNode = record (value_of c.args.found.node) { content = c.args.content; size = c.args.size } in
-    let contents : mid.contents ≡ was.contents = ap (λ (s : Stock). s.contents) c.store_node.ensures.stored in
+    let mid : Stock = stock_of c.args.self.now.rooms c.store_content.new.memory c.args.map.now in
+    let back = c.store_content.ensures.back ∙ ap (λ (n : FileNode). record n { content = c.args.content; size = c.args.size }) (sym c.requires.found.node_is) in
+    let contents : mid.contents ≡ was.contents = ap (λ (s : Stock). s.contents) c.store_content.ensures.stored in
     subst (AreFiles c.args.self.now.first c.args.self.now.last c.args.self.now.root mid.nodes) (sym contents)
     (kept_alone c.args.self.now.first c.args.self.now.last was.nodes mid.nodes was.contents c.args.found.node.name.items (previous_at was.nodes c.args.found.address) c.args.found.address (value_of c.args.found.node) c.requires.found
-    (with_part (payload_in was.nodes.payloads c.args.found.address) 0 (bytes_of node)) (ap (λ (s : Stock). s.nodes) c.store_node.ensures.stored) c.args.content c.args.size
-    c.store_node.ensures.back c.store_node.ensures.there c.requires.content c.requires.own c.args.self.now.root c.requires.indexed (c.store_node.ensures.place (ap (λ (n : FileNode). n.name) c.requires.found.node_is)))
+    (with_part (payload_in was.nodes.payloads c.args.found.address) 8 (two_words c.args.content c.args.size)) (ap (λ (s : Stock). s.nodes) c.store_content.ensures.stored) c.args.content c.args.size
+    back c.store_content.ensures.there c.requires.content c.requires.own c.args.self.now.root c.requires.indexed c.store_content.ensures.place)
 
-pub returns-else-was-gt0-clause-files : goal.returns-else-was-gt0-clause-files
-returns-else-was-gt0-clause-files c =
+pub returns-else-node-gt0-clause-files : goal.returns-else-node-gt0-clause-files
+returns-else-node-gt0-clause-files c =
     let was : Stock = stock_of c.args.self.now.rooms c.args.memory.now c.args.map.now in
-    let mid : Stock = stock_of c.args.self.now.rooms c.store_node.new.memory c.args.map.now in
-    let node : FileNode = record (value_of c.args.found.node) { content = c.args.content; size = c.args.size } in
-    let contents : mid.contents ≡ was.contents = ap (λ (s : Stock). s.contents) c.store_node.ensures.stored in
+    let mid : Stock = stock_of c.args.self.now.rooms c.store_content.new.memory c.args.map.now in
+    let back = c.store_content.ensures.back ∙ ap (λ (n : FileNode). record n { content = c.args.content; size = c.args.size }) (sym c.requires.found.node_is) in
+    let contents : mid.contents ≡ was.contents = ap (λ (s : Stock). s.contents) c.store_content.ensures.stored in
     ap (files_of c.args.self.now.first mid.nodes) contents
     ∙ files_alone c.args.self.now.first c.args.self.now.last was.nodes mid.nodes was.contents c.args.found.node.name.items (previous_at was.nodes c.args.found.address) c.args.found.address (value_of c.args.found.node) c.requires.found
-    (with_part (payload_in was.nodes.payloads c.args.found.address) 0 (bytes_of node)) (ap (λ (s : Stock). s.nodes) c.store_node.ensures.stored) c.args.content c.args.size
-    c.store_node.ensures.back c.store_node.ensures.there c.requires.content c.requires.own c.args.self.now.root c.requires.indexed (c.store_node.ensures.place (ap (λ (n : FileNode). n.name) c.requires.found.node_is))
+    (with_part (payload_in was.nodes.payloads c.args.found.address) 8 (two_words c.args.content c.args.size)) (ap (λ (s : Stock). s.nodes) c.store_content.ensures.stored) c.args.content c.args.size
+    back c.store_content.ensures.there c.requires.content c.requires.own c.args.self.now.root c.requires.indexed c.store_content.ensures.place
 
-pub returns-then-was-gt0-clause-kept : goal.returns-then-was-gt0-clause-kept
-returns-then-was-gt0-clause-kept c =
+pub returns-then-node-gt0-clause-kept : goal.returns-then-node-gt0-clause-kept
+returns-then-node-gt0-clause-kept c =
     let was : Stock = stock_of c.args.self.now.rooms c.args.memory.now c.args.map.now in
-    let mid : Stock = stock_of c.args.self.now.rooms c.store_node.new.memory c.args.map.now in
+    let mid : Stock = stock_of c.args.self.now.rooms c.store_content.new.memory c.args.map.now in
     let now : Stock = stock_of c.give_content.new.self c.give_content.new.memory c.give_content.new.map in
-    let node : FileNode = record (value_of c.args.found.node) { content = c.args.content; size = c.args.size } in
+    let back = c.store_content.ensures.back ∙ ap (λ (n : FileNode). record n { content = c.args.content; size = c.args.size }) (sym c.requires.found.node_is) in
     let some : 0 < c.args.found.node.size = omega arith in
     let nodes : now.nodes ≡ mid.nodes = ap (λ (s : Stock). s.nodes) c.give_content.ensures.given in
     let contents : now.contents ≡ remove was.contents c.args.found.node.content =
-    ap (λ (s : Stock). s.contents) c.give_content.ensures.given ∙ ap (λ (s : Stock). remove s.contents c.args.found.node.content) c.store_node.ensures.stored in
+    ap (λ (s : Stock). s.contents) c.give_content.ensures.given ∙ ap (λ (s : Stock). remove s.contents c.args.found.node.content) c.store_content.ensures.stored in
     subst (λ n. AreFiles c.args.self.now.first c.args.self.now.last c.args.self.now.root n now.contents) (sym nodes)
     (subst (AreFiles c.args.self.now.first c.args.self.now.last c.args.self.now.root mid.nodes) (sym contents)
     (kept_left c.args.self.now.first c.args.self.now.last was.nodes mid.nodes was.contents c.args.found.node.name.items (previous_at was.nodes c.args.found.address) c.args.found.address (value_of c.args.found.node) c.requires.found
-    (with_part (payload_in was.nodes.payloads c.args.found.address) 0 (bytes_of node)) (ap (λ (s : Stock). s.nodes) c.store_node.ensures.stored) c.args.content c.args.size
-    c.store_node.ensures.back c.store_node.ensures.there c.requires.content c.requires.own c.args.self.now.root c.requires.indexed (c.store_node.ensures.place (ap (λ (n : FileNode). n.name) c.requires.found.node_is)) some))
+    (with_part (payload_in was.nodes.payloads c.args.found.address) 8 (two_words c.args.content c.args.size)) (ap (λ (s : Stock). s.nodes) c.store_content.ensures.stored) c.args.content c.args.size
+    back c.store_content.ensures.there c.requires.content c.requires.own c.args.self.now.root c.requires.indexed c.store_content.ensures.place some))
 
-pub returns-then-was-gt0-clause-files : goal.returns-then-was-gt0-clause-files
-returns-then-was-gt0-clause-files c =
+pub returns-then-node-gt0-clause-files : goal.returns-then-node-gt0-clause-files
+returns-then-node-gt0-clause-files c =
     let was : Stock = stock_of c.args.self.now.rooms c.args.memory.now c.args.map.now in
-    let mid : Stock = stock_of c.args.self.now.rooms c.store_node.new.memory c.args.map.now in
+    let mid : Stock = stock_of c.args.self.now.rooms c.store_content.new.memory c.args.map.now in
     let now : Stock = stock_of c.give_content.new.self c.give_content.new.memory c.give_content.new.map in
-    let node : FileNode = record (value_of c.args.found.node) { content = c.args.content; size = c.args.size } in
+    let back = c.store_content.ensures.back ∙ ap (λ (n : FileNode). record n { content = c.args.content; size = c.args.size }) (sym c.requires.found.node_is) in
     let some : 0 < c.args.found.node.size = omega arith in
     let nodes : now.nodes ≡ mid.nodes = ap (λ (s : Stock). s.nodes) c.give_content.ensures.given in
     let contents : now.contents ≡ remove was.contents c.args.found.node.content =
-    ap (λ (s : Stock). s.contents) c.give_content.ensures.given ∙ ap (λ (s : Stock). remove s.contents c.args.found.node.content) c.store_node.ensures.stored in
+    ap (λ (s : Stock). s.contents) c.give_content.ensures.given ∙ ap (λ (s : Stock). remove s.contents c.args.found.node.content) c.store_content.ensures.stored in
     ap (λ n. files_of c.args.self.now.first n now.contents) nodes
     ∙ ap (files_of c.args.self.now.first mid.nodes) contents
     ∙ files_left c.args.self.now.first c.args.self.now.last was.nodes mid.nodes was.contents c.args.found.node.name.items (previous_at was.nodes c.args.found.address) c.args.found.address (value_of c.args.found.node) c.requires.found
-    (with_part (payload_in was.nodes.payloads c.args.found.address) 0 (bytes_of node)) (ap (λ (s : Stock). s.nodes) c.store_node.ensures.stored) c.args.content c.args.size
-    c.store_node.ensures.back c.store_node.ensures.there c.requires.content c.requires.own c.args.self.now.root c.requires.indexed (c.store_node.ensures.place (ap (λ (n : FileNode). n.name) c.requires.found.node_is)) some
+    (with_part (payload_in was.nodes.payloads c.args.found.address) 8 (two_words c.args.content c.args.size)) (ap (λ (s : Stock). s.nodes) c.store_content.ensures.stored) c.args.content c.args.size
+    back c.store_content.ensures.there c.requires.content c.requires.own c.args.self.now.root c.requires.indexed c.store_content.ensures.place some
 
-pub returns-then-was-gt0-clause-account : goal.returns-then-was-gt0-clause-account
-returns-then-was-gt0-clause-account c =
+pub returns-then-node-gt0-clause-account : goal.returns-then-node-gt0-clause-account
+returns-then-node-gt0-clause-account c =
     let was : Stock = stock_of c.args.self.now.rooms c.args.memory.now c.args.map.now in
     let node_is : value_of c.args.found.node ≡ node_at was.nodes c.args.found.address = c.requires.found.node_is in
     let file = found_file c.args.self.now.first c.args.self.now.last was.nodes was.contents c.args.found.node.name.items (previous_at was.nodes c.args.found.address) c.args.found.address (value_of c.args.found.node) c.requires.found in
@@ -98,7 +99,7 @@ returns-then-was-gt0-clause-account c =
     ap (λ o. unwrap_or o []) (ap (get was.contents) (ap (λ (n : FileNode). n.content) node_is) ∙ has.there) in
     let long : length has.payload ≡ sliced_size c.args.found.node.size - 32 = subst (λ n. length has.payload ≡ sliced_size n - 32) (ap (λ (n : FileNode). n.size) (sym node_is)) has.long in
     ap (λ (s : Stock). s.account) c.give_content.ensures.given
-    ∙ ap (λ (s : Stock). credited s.account (block_size (payload_in s.contents c.args.found.node.content)) 1) c.store_node.ensures.stored
+    ∙ ap (λ (s : Stock). credited s.account (block_size (payload_in s.contents c.args.found.node.content)) 1) c.store_content.ensures.stored
     ∙ ap (λ p. credited was.account (block_size p) 1) payload
     ∙ credited_is was.account c.args.found.node.size has.payload some long
     ∙ ap (λ n. credited was.account (content_ram n) (content_caps n))

@@ -34,7 +34,7 @@ pub attach_block-start-requires-clause-fits : goal.attach_block-start-requires-c
 attach_block-start-requires-clause-fits c = let e = pages c in let f = (has_room c).fits in omega (arith, e, f)
 
 -- the chunks' keys with the new one
-keys_are : (c : goal.After-deref) → keys_of c.deref.result.now ≡ keys c.args.self.now c.args.memory.now c.alloc.new.self c.args.map.now c.in_ok-ds.ds.0 c.args.bytes c.requires.sound c.in_ok-ds.ensures.fresh c.in_ok-ds.ensures.ok c.in_ok-ds.ensures.part c.requires.room
+keys_are : (c : goal.After-new) → keys_of c.deref.result.now ≡ keys c.args.self.now c.args.memory.now c.alloc.new.self c.args.map.now c.in_ok-ds.ds.0 c.args.bytes c.requires.sound c.in_ok-ds.ensures.fresh c.in_ok-ds.ensures.ok c.in_ok-ds.ensures.part c.requires.room
 keys_are c = ap keys_of (c.deref.ensures.0 ∙ c.push.ensures.items) ∙ keys_more c.args.self.now.chunks.items _
 
 pub add-requires-clause-stand : goal.add-requires-clause-stand
@@ -42,10 +42,10 @@ add-requires-clause-stand c =
     subst (λ (ks : List ℕ). StandIn c.args.self.now.fit (words_of ks c.alloc.new.self) (bytes_around (around ks c.alloc.new.self))) (sym (keys_are c))
     (stand_then c.args.self.now c.args.memory.now c.alloc.new.self c.args.map.now c.in_ok-ds.ds.0 c.args.bytes c.requires.sound c.in_ok-ds.ensures.fresh c.in_ok-ds.ensures.ok c.in_ok-ds.ensures.part c.requires.room)
 
-length_are : (c : goal.After-deref) → length c.deref.result.now ≡ length c.args.self.now.chunks.items + 1
+length_are : (c : goal.After-new) → length c.deref.result.now ≡ length c.args.self.now.chunks.items + 1
 length_are c = ap length (c.deref.ensures.0 ∙ c.push.ensures.items) ∙ length-append c.args.self.now.chunks.items _
 
-whole : (c : goal.After-deref) → c.size-pages.result / 4096 ≡ page_of c.args.bytes / 4096
+whole : (c : goal.After-new) → c.size-pages.result / 4096 ≡ page_of c.args.bytes / 4096
 whole c = new_pages _ _ _ _ _ _ c.in_ok-ds.ensures.part c.size-pages.ensures
 
 pub add-requires-clause-last : goal.add-requires-clause-last

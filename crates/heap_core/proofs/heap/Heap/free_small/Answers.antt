@@ -16,9 +16,9 @@ returns-then-at-lt-HEADER-clause-refusal c =
 pub returns-then-at-lt-HEADER-clause-is_small : goal.returns-then-at-lt-HEADER-clause-is_small
 returns-then-at-lt-HEADER-clause-is_small c = not_large _ _ _ c.requires.sound _ _ _ c.requires.lies
 
-pub give-given-requires : goal.give-given-requires
-give-given-requires c =
-    record { stand = subst (λ (xs : List Chunk). StandIn c.args.self.now.fit (words_of (keys_of xs) c.args.memory.now) (bytes_around (around (keys_of xs) c.args.memory.now))) (sym c.deref.ensures.0) (stand_in c.args.self.now c.args.memory.now c.args.map.now c.requires.sound) }
+pub give-given-requires-clause-stand : goal.give-given-requires-clause-stand
+give-given-requires-clause-stand c =
+    subst (λ (xs : List Chunk). StandIn c.args.self.now.fit (words_of (keys_of xs) c.args.memory.now) (bytes_around (around (keys_of xs) c.args.memory.now))) (sym c.deref.ensures.0) (stand_in c.args.self.now c.args.memory.now c.args.map.now c.requires.sound)
 
 pub returns-then-is_none-clause-refusal : goal.returns-then-is_none-clause-refusal
 returns-then-is_none-clause-refusal c =

@@ -9,9 +9,9 @@ use Rattle.heap_core.proofs.LookupLemmas.{none_there, told_has, none_past, range
 use Rattle.heap_core.proofs.MemoryLemmas.{memory_same}
 use Rattle.heap_core.proofs.heap.Heap.range_in_chunk.Goals as goal
 
-pub look-requires : goal.look-requires
-look-requires c =
-    record { stand = subst (λ (xs : List Chunk). StandIn c.args.self.now.fit (words_of (keys_of xs) c.args.memory.now) (bytes_around (around (keys_of xs) c.args.memory.now))) (sym c.deref.ensures.0) (stand_in c.args.self.now c.args.memory.now c.args.map.now c.requires.sound) }
+pub look-requires-clause-stand : goal.look-requires-clause-stand
+look-requires-clause-stand c =
+    subst (λ (xs : List Chunk). StandIn c.args.self.now.fit (words_of (keys_of xs) c.args.memory.now) (bytes_around (around (keys_of xs) c.args.memory.now))) (sym c.deref.ensures.0) (stand_in c.args.self.now c.args.memory.now c.args.map.now c.requires.sound)
 
 pub returns-in_err-block-clause-finds : goal.returns-in_err-block-clause-finds
 returns-in_err-block-clause-finds c =

@@ -2,7 +2,7 @@
 use Rattle.std.proofs.Common.{arith}
 use Rattle.heap_core.proofs.BlockLemmas.{length-heap_of}
 use Rattle.heap_core.specs.Words.{words_of, keys_of}
-use Rattle.heap_core.proofs.blocks.add_counted.Goals as goal
+use Rattle.heap_core.proofs.blocks.add.Goals as goal
 
 pub add_chunk-requires-clause-next : goal.add_chunk-requires-clause-next
 add_chunk-requires-clause-next g c =

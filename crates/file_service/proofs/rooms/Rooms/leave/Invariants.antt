@@ -1,4 +1,0 @@
-use Rattle.file_service.proofs.rooms.Rooms.leave.Given as goal
-
-abbrev pub ghosts-leave_counted : goal.ghosts-leave_counted
-ghosts-leave_counted a = record { name = a.blank.name; parts = a.blank.parts }

@@ -1,0 +1,4 @@
+use Rattle.file_service.proofs.session.FileSession.unlist.Given as goal
+
+abbrev pub ghosts-leave : goal.ghosts-leave
+ghosts-leave a = record { name = a.blank.name; parts = a.blank.parts }

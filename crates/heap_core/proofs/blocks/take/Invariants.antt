@@ -1,4 +1,0 @@
-use Rattle.heap_core.proofs.blocks.take.Given as goal
-
-abbrev pub ghosts-take_counted : goal.ghosts-take_counted
-ghosts-take_counted a = record { name = a.blank.name; parts = a.blank.parts }
