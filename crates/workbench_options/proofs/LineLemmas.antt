@@ -6,13 +6,13 @@ use Rattle.std.specs.Str.{bytes_eq}
 use Rattle.std.specs.Str.Parse.{ParsesBool}
 use Rattle.std.proofs.lemmas.Slice.Eq.{bytes_eq-Decides}
 use Rattle.clap.specs.Kinds.{HasKind}
-use Rattle.clap.specs.Words.{AddsArg, AddsSubcommand, App, FailsBy, Kinds, ReadsOne, Row, Rule, Shape, Text, app_of, rule_of, subcommand_rows, with_rule, with_subcommand}
-use Rattle.clap.specs.declared.builder.arg.Arg.{Arg}
+use Rattle.clap.specs.Words.{AddsSubcommand, App, FailsBy, Kinds, ReadsOne, Row, Text, app_of, subcommand_rows, with_subcommand}
 use Rattle.clap.specs.declared.builder.command.Command.{Command}
 use Rattle.clap.specs.declared.error.Error.{Error}
 use Rattle.clap.specs.declared.parser.matches.ArgMatches.TheViews.{out-SubCommand}
 use Rattle.clap.specs.declared.parser.matches.SubCommand.{SubCommand}
-use Rattle.workbench_options.specs.Line.{HasShape, is_true}
+use Rattle.workbench_options.specs.Line.{IsTold, command_told, is_true}
+use Rattle.workbench_options.specs.declared.table.Form.{Form}
 
 -- a text that reads as a flag says what the flag is, and a text that doesn't isn't `true`
 pub flag_read : (E : Type 0) (text : Option (List ℕ)) (read : Option Bool) → (text ≡ None → read ≡ None)
@@ -32,18 +32,11 @@ pub value_or : (found : Option (Bor (List ℕ))) (other result : Bor (List ℕ))
 value_or None other result same = ap (λ (t : Bor (List ℕ)). t.now) same
 value_or (Some t) other result same = ap (λ (t : Bor (List ℕ)). t.now) same
 
--- an argument is added to a command of a shape
-pub arg_added : (old : Command) (arg : Arg) (new : Command) (shape : Shape) (rule : Rule) → AddsArg old arg new
-    → rule_of arg ≡ rule → arg.global ≡ false → HasShape shape old
-    → HasShape (record shape { rules = shape.rules ++ rule ∷ [] }) new
-arg_added old arg new shape rule adds has local made =
-    (adds.shape local ∙ ap₂ with_rule made.0 has, adds.globals ∙ ap₂ (λ (a b : Bool). a || b) made.1 local)
-
--- a subcommand of a shape is added
-pub added : (old sub new : Command) (shape : Shape) (app : App) → AddsSubcommand old sub new → HasShape shape sub
-    → app_of old ≡ app → app_of new ≡ with_subcommand app shape
-added old sub new shape app adds has same =
-    adds.shape has.1 ∙ ap₂ with_subcommand same (ap (λ (a : App). a.top) has.0)
+-- a command of a table is added
+pub added : (old sub new : Command) (form : Form) → AddsSubcommand old sub new → IsTold form sub
+    → app_of new ≡ with_subcommand (app_of old) (command_told form).top
+added old sub new form adds told =
+    adds.shape told.1 ∙ ap (λ (a : App). with_subcommand (app_of old) a.top) told.0
 
 -- a name and rows told apart
 pub pair_is : (asked : Option (Text × List Row)) (name : Text) (rows : List Row)

@@ -3,13 +3,19 @@ use Rattle.std.specs.Prelude.{◌≡◌, Bool, false, true, List, [], ◌∷◌,
 use Rattle.std.specs.List.{All}
 use Rattle.std.specs.Option.{option_map_or}
 use Rattle.std.specs.Str.{bytes_eq}
-use Rattle.clap.specs.Words.{App, all_of, app_of, Row, Rule, Shape, Text, first_of, new_app, new_rule, one_of, with_subcommand}
+use Rattle.clap.specs.Words.{App, all_of, app_of, Row, Rule, Shape, Text, first_of, new_app, new_rule, one_of, with_rule, with_subcommand}
 use Rattle.clap.specs.Simple.{new_shape}
 use Rattle.clap.specs.declared.builder.ArgAction.TheVariants.{Append, SetTrue}
 use Rattle.clap.specs.declared.builder.command.Command.{Command as Words}
 use Rattle.clap.specs.declared.builder.command.Command.TheViews.{out-Command}
+use Rattle.workbench_options.specs.declared.command.Color.{Color}
+use Rattle.workbench_options.specs.declared.command.Color.TheVariants.{Always, Auto, Never, Unknown}
 use Rattle.workbench_options.specs.declared.command.Command.{Command}
 use Rattle.workbench_options.specs.declared.command.Command.TheVariants as command
+use Rattle.workbench_options.specs.declared.command.Request.{Request}
+use Rattle.workbench_options.specs.declared.table.Form.{Form}
+use Rattle.workbench_options.specs.declared.table.Word.{Word}
+use Rattle.workbench_options.specs.declared.table.Word.TheVariants as word
 
 -- a flag of this name
 abbrev pub flag_rule : Text → Rule
@@ -39,14 +45,18 @@ words_rule name = record (new_rule name) { required = true; value_names = 1; act
 abbrev pub with_rules : Text → List Rule → Shape
 with_rules name rules = record (new_shape name) { rules = rules }
 
--- a command on a start list, with a flag, and as a document
-abbrev pub of_list : Text → Text → Shape
-of_list name flag = with_rules name (flag_rule flag ∷ flag_rule (codes "json") ∷ file_rule (codes "list") ∷ [])
+-- the option that gives a name its value
+abbrev pub set : Rule
+set = options_rule (codes "set")
+
+-- a command on a start list
+abbrev pub of_list : Text → List Rule → Shape
+of_list name rules = with_rules name (rules ++ set ∷ file_rule (codes "list") ∷ [])
 
 -- a command on a scenario
 abbrev pub of_scenario : Text → List Rule → Shape
 of_scenario name rules =
-    with_rules name (option_rule (codes "machine") ∷ (rules ++ file_rule (codes "scenario") ∷ []))
+    with_rules name (option_rule (codes "machine") ∷ (rules ++ set ∷ file_rule (codes "scenario") ∷ []))
 
 -- the program without its commands
 abbrev pub bare : App
@@ -54,9 +64,38 @@ bare = record (new_app (codes "nethrywel")) {
   top = record (new_shape (codes "nethrywel")) { has_version = true; disable_help_subcommand = true };
 }
 
+-- a program with these commands behind those that it has
+abbrev pub with_commands : App → List Shape → App
+with_commands app [] = app
+with_commands app (shape ∷ shapes) = with_commands (with_subcommand app shape) shapes
+
+-- a command with these arguments behind those that it has
+abbrev pub with_arguments : App → List Rule → App
+with_arguments app [] = app
+with_arguments app (rule ∷ rules) = with_arguments (with_rule app rule) rules
+
+-- a word or an option of a table
+abbrev pub rule_told : Word → Rule
+rule_told (word.Flag id _) = flag_rule id.now
+rule_told (word.Value id _ _) = option_rule id.now
+rule_told (word.Values id _ _) = options_rule id.now
+rule_told (word.Needed id _ _) = file_rule id.now
+rule_told (word.Optional id _ _) = word_rule id.now
+rule_told (word.Several id _ _) = words_rule id.now
+
+-- a command of a table
+abbrev pub command_told : Form → App
+command_told form = with_arguments (new_app form.name.now) (map rule_told form.words.now)
+
+-- a command is that of a table, and no argument of it counts for others
+abbrev pub IsTold : Form → Words → Type 0
+IsTold form made = (app_of made ≡ command_told form) × ((out-Command made).has_globals ≡ false)
+
 -- the command that answers a scenario
 abbrev pub run : Shape
-run = of_scenario (codes "run") (option_rule (codes "only") ∷ flag_rule (codes "accounts") ∷ [])
+run =
+    of_scenario (codes "run")
+    (option_rule (codes "only") ∷ flag_rule (codes "accounts") ∷ flag_rule (codes "numbers") ∷ option_rule (codes "color") ∷ [])
 
 -- the command that records a scenario
 abbrev pub record_shape : Shape
@@ -65,34 +104,38 @@ record_shape = of_scenario (codes "record") (flag_rule (codes "all") ∷ flag_ru
 -- the command that tells what is wrong with a start list
 abbrev pub check : Shape
 check =
-    with_rules (codes "check")
-    (flag_rule (codes "strict") ∷ flag_rule (codes "json") ∷ option_rule (codes "policy") ∷ file_rule (codes "list") ∷ [])
+    of_list (codes "check")
+    (flag_rule (codes "strict") ∷ flag_rule (codes "json") ∷ option_rule (codes "policy") ∷ [])
+
+-- the command that shows a start list's components
+abbrev pub tree : Shape
+tree = of_list (codes "tree") (flag_rule (codes "dot") ∷ flag_rule (codes "json") ∷ [])
 
 -- the command that shows a component's two runs, or those of all scripts
 abbrev pub alone : Shape
 alone =
     with_rules (codes "alone")
-    (option_rule (codes "machine") ∷ flag_rule (codes "all") ∷ flag_rule (codes "summary") ∷ file_rule (codes "name")
+    (option_rule (codes "machine") ∷ flag_rule (codes "all") ∷ flag_rule (codes "summary") ∷ set ∷ file_rule (codes "name")
     ∷ word_rule (codes "scenario") ∷ [])
 
 -- the command that tells which scripts reach which servers
 abbrev pub reach : Shape
 reach =
-    with_rules (codes "reach")
-    (flag_rule (codes "csv") ∷ flag_rule (codes "json") ∷ options_rule (codes "from") ∷ options_rule (codes "to")
-    ∷ file_rule (codes "list") ∷ [])
+    of_list (codes "reach")
+    (flag_rule (codes "csv") ∷ flag_rule (codes "json") ∷ options_rule (codes "from") ∷ options_rule (codes "to") ∷ [])
 
 -- the command that tells where one wish leads
 abbrev pub route : Shape
 route =
     with_rules (codes "route")
-    (file_rule (codes "list") ∷ file_rule (codes "client") ∷ file_rule (codes "service") ∷ word_rule (codes "args") ∷ [])
+    (set ∷ file_rule (codes "list") ∷ file_rule (codes "client") ∷ file_rule (codes "service") ∷ word_rule (codes "args") ∷ [])
 
 -- the command that runs scenarios as tests
 abbrev pub test : Shape
 test =
     with_rules (codes "test")
-    (option_rule (codes "machine") ∷ option_rule (codes "junit") ∷ words_rule (codes "path") ∷ [])
+    (option_rule (codes "machine") ∷ option_rule (codes "junit") ∷ flag_rule (codes "coverage") ∷ flag_rule (codes "json")
+    ∷ set ∷ option_rule (codes "color") ∷ words_rule (codes "path") ∷ [])
 
 -- the command that compares two start lists
 abbrev pub diff : Shape
@@ -109,19 +152,14 @@ abbrev pub least : Shape
 least =
     with_rules (codes "least")
     (option_rule (codes "machine") ∷ flag_rule (codes "as-donated") ∷ flag_rule (codes "csv") ∷ flag_rule (codes "json")
-    ∷ flag_rule (codes "list") ∷ flag_rule (codes "scenario") ∷ file_rule (codes "played") ∷ [])
-
--- a command has this shape, and no argument of it counts for others
-abbrev pub HasShape : Shape → Words → Type 0
-HasShape shape made = (app_of made ≡ record { top = shape; subs = [] }) × ((out-Command made).has_globals ≡ false)
+    ∷ flag_rule (codes "list") ∷ flag_rule (codes "scenario") ∷ set ∷ file_rule (codes "played") ∷ [])
 
 -- the program itself
 abbrev pub program : App
 program =
-    with_subcommand (with_subcommand (with_subcommand (with_subcommand (with_subcommand (with_subcommand (with_subcommand (with_subcommand (with_subcommand (with_subcommand
-    (with_subcommand (with_subcommand bare run) record_shape) check) (of_list (codes "tree") (codes "dot")))
-    reach) route)
-    (of_scenario (codes "trace") json_flag)) (of_scenario (codes "accounts") json_flag)) alone) least) test) diff
+    with_commands bare
+    (run ∷ record_shape ∷ check ∷ tree ∷ reach ∷ route ∷ of_scenario (codes "trace") json_flag
+    ∷ of_scenario (codes "accounts") json_flag ∷ alone ∷ least ∷ test ∷ diff ∷ [])
 
 -- a text says that a flag was used
 abbrev pub is_true : Option Text → Bool
@@ -135,12 +173,21 @@ is_set id rows = is_true (one_of id rows)
 abbrev pub first_or : Text → Text → List Row → Text
 first_or text id rows = unwrap_or (first_of id rows) text
 
+-- when lines are coloured, by its word
+abbrev pub IsColor : Color → Text → Type 0
+IsColor Auto word = word ≡ codes "auto"
+IsColor Always word = word ≡ codes "always"
+IsColor Never word = word ≡ codes "never"
+IsColor Unknown word = (word ≢ codes "auto") × (word ≢ codes "always") × (word ≢ codes "never")
+
 -- a command is what these rows ask for behind this name
 abbrev pub Asks : Command → Text → List Row → Type 0
-Asks (command.Run machine only accounts scenario) name rows = (name ≡ codes "run")
+Asks (command.Run machine only accounts numbers color scenario) name rows = (name ≡ codes "run")
     × (option_map (λ t. t.now) machine ≡ first_of (codes "machine") rows)
     × (option_map (λ t. t.now) only ≡ first_of (codes "only") rows)
     × (accounts ≡ is_set (codes "accounts") rows)
+    × (numbers ≡ is_set (codes "numbers") rows)
+    × IsColor color (first_or (codes "auto") (codes "color") rows)
     × (scenario.now ≡ first_or (codes "-") (codes "scenario") rows)
 Asks (command.Record machine all write scenario) name rows = (name ≡ codes "record")
     × (option_map (λ t. t.now) machine ≡ first_of (codes "machine") rows)
@@ -194,18 +241,27 @@ Asks (command.Diff json before after scenario) name rows = (name ≡ codes "diff
     × (before.now ≡ first_or [] (codes "before") rows)
     × (after.now ≡ first_or [] (codes "after") rows)
     × (option_map (λ t. t.now) scenario ≡ first_of (codes "scenario") rows)
-Asks (command.Test machine junit paths) name rows = (name ≡ codes "test")
+Asks (command.Test machine junit coverage json color paths) name rows = (name ≡ codes "test")
     × (option_map (λ t. t.now) machine ≡ first_of (codes "machine") rows)
     × (option_map (λ t. t.now) junit ≡ first_of (codes "junit") rows)
+    × (coverage ≡ is_set (codes "coverage") rows)
+    × (json ≡ is_set (codes "json") rows)
+    × IsColor color (first_or (codes "auto") (codes "color") rows)
     × (map (λ t. t.now) paths.items ≡ unwrap_or (all_of (codes "path") rows) [])
 
 -- the names of all commands
 abbrev pub names : List Text
 names = codes "run" ∷ codes "record" ∷ codes "check" ∷ codes "tree" ∷ codes "reach" ∷ codes "route" ∷ codes "trace" ∷ codes "accounts" ∷ codes "alone" ∷ codes "least" ∷ codes "test" ∷ codes "diff" ∷ []
 
--- a command, if one is asked for, is what a command line asks for
-abbrev pub AsksAs : Option Command → Option (Text × List Row) → Type 0
-AsksAs (Some command) (Some asked) = Asks command asked.0 asked.1
-AsksAs (Some command) None = ⊥
-AsksAs None (Some asked) = All (λ name. asked.0 ≢ name) names
+-- a command, if there is one, is what these rows ask for behind this name
+abbrev pub IsCommand : Option Command → Text → List Row → Type 0
+IsCommand (Some command) name rows = Asks command name rows
+IsCommand None name rows = All (λ known. name ≢ known) names
+
+-- a request, if there is one, is what a command line asks for
+abbrev pub AsksAs : Option Request → Option (Text × List Row) → Type 0
+AsksAs (Some request) (Some asked) = Asks request.command asked.0 asked.1
+    × (map (λ t. t.now) request.given.items ≡ unwrap_or (all_of (codes "set") asked.1) [])
+AsksAs (Some request) None = ⊥
+AsksAs None (Some asked) = All (λ known. asked.0 ≢ known) names
 AsksAs None None = ⊤

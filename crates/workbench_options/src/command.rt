@@ -1,13 +1,35 @@
 //! What is asked for.
 ghost use Rattle.std.specs.Prelude.{◌≡◌, ◌≢◌, [], IfErr, IfOk, Some, codes, map, true, unwrap_or};
 ghost use Rattle.clap.specs.Words.{FailsBy, all_of, fault_of, found_of, kind_of, rows_of, subcommand_of, subcommand_rows_of, takes};
-ghost use Rattle.workbench_options.specs.Line.{AsksAs, first_or, is_set, program};
+ghost use Rattle.workbench_options.specs.Line.{AsksAs, IsColor, IsCommand, first_or, is_set, program};
 
 use crate::commands::commands;
 use clap::error::ErrorKind;
 use clap::{ArgMatches, Error};
 use std::alloc::{AllocError, Global};
 use std::convert::AsStr;
+
+/// What is asked of the workbench.
+#[derive(Debug, Drop)]
+pub struct Request<'a> {
+    /// What it has to do.
+    pub command: Command<'a>,
+    /// The values of names, each `NAME=VALUE`, in their order.
+    pub given: Vec<&'a str>,
+}
+
+/// When lines are coloured.
+#[derive(Clone, Copy, Debug, PartialEq, Eq)]
+pub enum Color {
+    /// Where they are told to a terminal.
+    Auto,
+    /// Always.
+    Always,
+    /// Never.
+    Never,
+    /// It is told by a word that says none of these.
+    Unknown,
+}
 
 /// What the workbench is asked to do. Paths are as they stand, and `-` is standard input.
 #[derive(Debug, PartialEq, Eq, Drop)]
@@ -20,6 +42,10 @@ pub enum Command<'a> {
         only: Option<&'a str>,
         /// Whether the account list is told after the last reply.
         accounts: bool,
+        /// Whether each line is told with its number in the scenario.
+        numbers: bool,
+        /// When lines are coloured.
+        color: Color,
         /// The path of the scenario.
         scenario: &'a str,
     },
@@ -143,38 +169,62 @@ pub enum Command<'a> {
         machine: Option<&'a str>,
         /// The path of the document of all results, or none.
         junit: Option<&'a str>,
+        /// Whether it is told which replies and servers the scenarios reach.
+        coverage: bool,
+        /// Whether that is told as a document of JSON.
+        json: bool,
+        /// When lines are coloured.
+        color: Color,
         /// The paths of scenarios, and of folders with scenarios.
         paths: Vec<&'a str>,
     },
 }
 
-impl<'a> Command<'a> {
+impl<'a> Request<'a> {
     /// Reads the words of a command line, of which the first is the program's own name. None where they name no command.
-    pub fn read<S: AsStr>(alloc: Global, words: &'a [S]) -> Result<Option<Command<'a>>, Error>
-        ensures command { IfOk result (λ command.
-            AsksAs command (subcommand_of program (map S.text words.entry.now))) }
+    pub fn read<S: AsStr>(alloc: Global, words: &'a [S]) -> Result<Option<Request<'a>>, Error>
+        ensures request { IfOk result (λ request.
+            AsksAs request (subcommand_of program (map S.text words.entry.now))) }
         ensures refusals { FailsBy (fault_of program (map S.text words.entry.now)) result }
         ensures takes { IfErr result (λ error.
             takes program (map S.text words.entry.now) ≡ true
             → kind_of error ≡ ErrorKind.OutOfMemory) }
     {
         let matches = commands(alloc)?.try_get_matches_from(words)?;
-        Ok(Command::in_matches(alloc, &matches)?)
+        Ok(Request::in_matches(alloc, &matches)?)
     }
 
-    // The command that these matches name, if they name one.
+    // The request that these matches name, if they name one.
     fn in_matches(
         alloc: Global,
         matches: &ArgMatches<'a>,
-    ) -> Result<Option<Command<'a>>, AllocError>
-        ensures { IfOk result (λ command. AsksAs command (subcommand_rows_of matches.now)) }
+    ) -> Result<Option<Request<'a>>, AllocError>
+        ensures { IfOk result (λ request. AsksAs request (subcommand_rows_of matches.now)) }
     {
         match matches.subcommand() {
-            Some((name, found)) => Command::asked(alloc, name, found),
+            Some((name, found)) => Request::asked(alloc, name, found),
             None => Ok(None),
         }
     }
 
+    // The request of a name, by what was found behind it.
+    fn asked(
+        alloc: Global,
+        name: &'a str,
+        found: &ArgMatches<'a>,
+    ) -> Result<Option<Request<'a>>, AllocError>
+        ensures { IfOk result (λ request.
+            AsksAs request (Some (name.entry.now, rows_of (found_of found.now)))) }
+    {
+        let Some(command) = Command::asked(alloc, name, found)? else {
+            return Ok(None);
+        };
+        let given = words(alloc, found, "set")?;
+        Ok(Some(Request { command, given }))
+    }
+}
+
+impl<'a> Command<'a> {
     // The command of a name, by what was found behind it.
     fn asked(
         alloc: Global,
@@ -182,12 +232,15 @@ impl<'a> Command<'a> {
         found: &ArgMatches<'a>,
     ) -> Result<Option<Command<'a>>, AllocError>
         ensures { IfOk result (λ command.
-            AsksAs command (Some (name.entry.now, rows_of (found_of found.now)))) }
+            IsCommand command name.entry.now (rows_of (found_of found.now))) }
     {
         match name {
             "test" => Ok(Some(Command::Test {
                 machine: found.get_str("machine"),
                 junit: found.get_str("junit"),
+                coverage: is_set(found, "coverage"),
+                json: is_set(found, "json"),
+                color: colored(found),
                 paths: words(alloc, found, "path")?,
             })),
             "reach" => Ok(Some(Command::Reach {
@@ -205,13 +258,15 @@ impl<'a> Command<'a> {
     fn of(name: &'a str, found: &ArgMatches<'a>) -> Option<Command<'a>>
         requires test { name.now ≢ codes "test" }
         requires reach { name.now ≢ codes "reach" }
-        ensures { AsksAs result (Some (name.entry.now, rows_of (found_of found.now))) }
+        ensures { IsCommand result name.entry.now (rows_of (found_of found.now)) }
     {
         match name {
             "run" => Some(Command::Run {
                 machine: found.get_str("machine"),
                 only: found.get_str("only"),
                 accounts: is_set(found, "accounts"),
+                numbers: is_set(found, "numbers"),
+                color: colored(found),
                 scenario: path(found, "scenario"),
             }),
             "record" => Some(Command::Record {
@@ -271,6 +326,25 @@ impl<'a> Command<'a> {
             }),
             _ => None,
         }
+    }
+}
+
+// When lines are coloured: on a terminal where it isn't told.
+fn colored(found: &ArgMatches<'_>) -> Color
+    ensures { IsColor result (first_or (codes "auto") (codes "color") (rows_of (found_of found.now))) }
+{
+    color_named(found.get_str("color").unwrap_or("auto"))
+}
+
+// When lines are coloured, by its word.
+fn color_named(word: &str) -> Color
+    ensures { IsColor result word.now }
+{
+    match word {
+        "auto" => Color::Auto,
+        "always" => Color::Always,
+        "never" => Color::Never,
+        _ => Color::Unknown,
     }
 }
 

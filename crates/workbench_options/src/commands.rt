@@ -1,12 +1,11 @@
 //! The command line as `clap` reads it.
-ghost use Rattle.std.specs.Prelude.{◌≡◌, IfOk, MatchResult, false};
-ghost use Rattle.clap.specs.Words.{app_of, kind_of, rule_of, with_subcommand};
-ghost use Rattle.workbench_options.specs.Line.{HasShape, alone as alone_shape, bare as bare_app, file_rule, flag_rule, json_flag, least as least_shape, of_list as list_shape, of_scenario as scenario_shape, option_rule, program, route as route_shape, run as run_shape, word_rule};
+ghost use Rattle.std.specs.Prelude.{◌≡◌, IfOk, MatchResult, false, map};
+ghost use Rattle.clap.specs.Words.{app_of, kind_of, rule_of, with_rule, with_subcommand};
+ghost use Rattle.clap.specs.declared.builder.command.Command.TheViews.{out-Command};
+ghost use Rattle.workbench_options.specs.Line.{IsTold, bare as bare_app, command_told, program, rule_told, with_commands};
 
-use crate::checking::{with_check, with_reach};
 use crate::help;
-use crate::pipeline::{with_diff, with_test};
-use crate::recording::with_record;
+use crate::table::{COMMANDS, Form, Word};
 use clap::error::ErrorKind;
 use clap::{Arg, ArgAction, Command as Words, Error};
 use std::alloc::{AllocError, Global};
@@ -18,18 +17,7 @@ pub(crate) fn commands<'a>(alloc: Global) -> Result<Words<'a>, Error>
     ensures { MatchResult result (λ made. app_of made ≡ program)
         (λ error. kind_of error ≡ ErrorKind.OutOfMemory) }
 {
-    let words = with_run(alloc, bare(alloc))?;
-    let words = with_record(alloc, words)?;
-    let words = with_check(alloc, words)?;
-    let words = with_list(alloc, words, "tree", help::TREE, "dot", help::DOT)?;
-    let words = with_reach(alloc, words)?;
-    let words = with_route(alloc, words)?;
-    let words = with_scenario(alloc, words, "trace", help::TRACE)?;
-    let words = with_scenario(alloc, words, "accounts", help::ACCOUNTS)?;
-    let words = with_alone(alloc, words)?;
-    let words = with_least(alloc, words)?;
-    let words = with_test(alloc, words)?;
-    let words = with_diff(alloc, words)?;
+    let words = with_forms(alloc, bare(alloc), COMMANDS)?;
     Ok(words)
 }
 
@@ -44,229 +32,86 @@ fn bare<'a>(alloc: Global) -> Words<'a>
         .disable_help_subcommand(true)
 }
 
-// Adds the command that answers a scenario.
-fn with_run<'a>(alloc: Global, words: Words<'a>) -> Result<Words<'a>, AllocError>
+// Adds the commands of a table.
+fn with_forms<'a>(
+    alloc: Global,
+    words: Words<'a>,
+    forms: &[Form<'a>],
+) -> Result<Words<'a>, AllocError>
     ensures { IfOk result (λ made. app_of made
-        ≡ with_subcommand (app_of words.entry) run_shape) }
+        ≡ with_commands (app_of words.entry) (map (λ form. (command_told form).top) forms.now)) }
 {
-    let run = run(alloc)?;
-    let words = words.subcommand(run)?;
+    let mut words = words;
+    for form in forms {
+        words = with_form(alloc, words, form)?;
+    }
     Ok(words)
 }
 
-// Adds a command on a start list, with a flag, and as a document.
-fn with_list<'a>(
-    alloc: Global,
-    words: Words<'a>,
-    name: &'a str,
-    about: &'a str,
-    id: &'a str,
-    help: &'a str,
-) -> Result<Words<'a>, AllocError>
+// Adds a command.
+fn with_form<'a>(alloc: Global, words: Words<'a>, form: &Form<'a>) -> Result<Words<'a>, AllocError>
     ensures { IfOk result (λ made. app_of made
-        ≡ with_subcommand (app_of words.entry) (list_shape name.entry.now id.entry.now)) }
+        ≡ with_subcommand (app_of words.entry) (command_told form.now).top) }
 {
-    let command = of_list(alloc, name, about, id, help)?;
+    let command = command(alloc, form)?;
     let words = words.subcommand(command)?;
     Ok(words)
 }
 
-// Adds the command that tells where one wish leads.
-fn with_route<'a>(alloc: Global, words: Words<'a>) -> Result<Words<'a>, AllocError>
-    ensures { IfOk result (λ made. app_of made
-        ≡ with_subcommand (app_of words.entry) route_shape) }
+// A command of a table.
+fn command<'a>(alloc: Global, form: &Form<'a>) -> Result<Words<'a>, AllocError>
+    ensures { IfOk result (IsTold form.now) }
 {
-    let route = route(alloc)?;
-    let words = words.subcommand(route)?;
-    Ok(words)
+    let mut command = Words::new(alloc, form.name).about(form.about);
+    for word in form.words {
+        command = with_argument(alloc, command, *word)?;
+    }
+    Ok(command)
 }
 
-// Adds a command on a scenario and a machine.
-fn with_scenario<'a>(
+// Adds a word or an option to a command.
+fn with_argument<'a>(
     alloc: Global,
-    words: Words<'a>,
-    name: &'a str,
-    about: &'a str,
+    command: Words<'a>,
+    word: Word<'a>,
 ) -> Result<Words<'a>, AllocError>
-    ensures { IfOk result (λ made. app_of made
-        ≡ with_subcommand (app_of words.entry) (scenario_shape name.entry.now json_flag)) }
+    ensures rule { IfOk result (λ made. app_of made
+        ≡ with_rule (app_of command.entry) (rule_told word.entry)) }
+    ensures local { IfOk result (λ made. (out-Command made).has_globals
+        ≡ (out-Command command.entry).has_globals) }
 {
-    let command = of_scenario(alloc, name, about)?;
-    let words = words.subcommand(command)?;
-    Ok(words)
-}
-
-// Adds the command that shows a component's two runs.
-fn with_alone<'a>(alloc: Global, words: Words<'a>) -> Result<Words<'a>, AllocError>
-    ensures { IfOk result (λ made. app_of made
-        ≡ with_subcommand (app_of words.entry) alone_shape) }
-{
-    let alone = alone(alloc)?;
-    let words = words.subcommand(alone)?;
-    Ok(words)
-}
-
-// Adds the command that tells what accounts need.
-fn with_least<'a>(alloc: Global, words: Words<'a>) -> Result<Words<'a>, AllocError>
-    ensures { IfOk result (λ made. app_of made
-        ≡ with_subcommand (app_of words.entry) least_shape) }
-{
-    let least = least(alloc)?;
-    let words = words.subcommand(least)?;
-    Ok(words)
-}
-
-// The command that answers a scenario.
-fn run<'a>(alloc: Global) -> Result<Words<'a>, AllocError>
-    ensures { IfOk result (HasShape run_shape) }
-{
-    let accounts = flag(alloc, "accounts", help::WITH_ACCOUNTS);
-    let only = option(alloc, "only", "NAME", help::ONLY);
-    let machine = option(alloc, "machine", "FILE", help::MACHINE);
-    let scenario = file(alloc, "scenario", "SCENARIO", help::SCENARIO);
-    let command = Words::new(alloc, "run")
-        .about(help::RUN)
-        .arg(machine)?
-        .arg(only)?
-        .arg(accounts)?
-        .arg(scenario)?;
+    let argument = argument(alloc, word);
+    let command = command.arg(argument)?;
     Ok(command)
 }
 
-// A command on a start list, with a flag, and as a document.
-fn of_list<'a>(
-    alloc: Global,
-    name: &'a str,
-    about: &'a str,
-    id: &'a str,
-    help: &'a str,
-) -> Result<Words<'a>, AllocError>
-    ensures { IfOk result (HasShape (list_shape name.entry.now id.entry.now)) }
-{
-    let list = file(alloc, "list", "FILE", help::LIST);
-    let json = flag(alloc, "json", help::JSON);
-    let flag = flag(alloc, id, help);
-    let command = Words::new(alloc, name)
-        .about(about)
-        .arg(flag)?
-        .arg(json)?
-        .arg(list)?;
-    Ok(command)
-}
-
-// A command on a scenario and a machine.
-fn of_scenario<'a>(alloc: Global, name: &'a str, about: &'a str) -> Result<Words<'a>, AllocError>
-    ensures { IfOk result (HasShape (scenario_shape name.entry.now json_flag)) }
-{
-    let machine = option(alloc, "machine", "FILE", help::MACHINE);
-    let json = flag(alloc, "json", help::JSON);
-    let scenario = file(alloc, "scenario", "SCENARIO", help::SCENARIO);
-    let command = Words::new(alloc, name)
-        .about(about)
-        .arg(machine)?
-        .arg(json)?
-        .arg(scenario)?;
-    Ok(command)
-}
-
-// The command that shows a component's two runs.
-fn alone<'a>(alloc: Global) -> Result<Words<'a>, AllocError>
-    ensures { IfOk result (HasShape alone_shape) }
-{
-    let machine = option(alloc, "machine", "FILE", help::MACHINE);
-    let all = flag(alloc, "all", help::ALL);
-    let summary = flag(alloc, "summary", help::SUMMARY);
-    let name = file(alloc, "name", "NAME", help::NAME);
-    let scenario = last(alloc, "scenario", "SCENARIO", help::SCENARIO);
-    let command = Words::new(alloc, "alone")
-        .about(help::ALONE)
-        .arg(machine)?
-        .arg(all)?
-        .arg(summary)?
-        .arg(name)?
-        .arg(scenario)?;
-    Ok(command)
-}
-
-// The command that tells where one wish leads.
-fn route<'a>(alloc: Global) -> Result<Words<'a>, AllocError>
-    ensures { IfOk result (HasShape route_shape) }
-{
-    let list = file(alloc, "list", "FILE", help::LIST);
-    let client = file(alloc, "client", "NAME", help::CLIENT);
-    let service = file(alloc, "service", "SERVICE", help::SERVICE);
-    let args = last(alloc, "args", "ARGS", help::ARGS);
-    let command = Words::new(alloc, "route")
-        .about(help::ROUTE)
-        .arg(list)?
-        .arg(client)?
-        .arg(service)?
-        .arg(args)?;
-    Ok(command)
-}
-
-// The command that tells what accounts need.
-fn least<'a>(alloc: Global) -> Result<Words<'a>, AllocError>
-    ensures { IfOk result (HasShape least_shape) }
-{
-    let machine = option(alloc, "machine", "FILE", help::MACHINE);
-    let as_donated = flag(alloc, "as-donated", help::AS_DONATED);
-    let csv = flag(alloc, "csv", help::CSV);
-    let json = flag(alloc, "json", help::JSON);
-    let list = flag(alloc, "list", help::LEAST_LIST);
-    let donations = flag(alloc, "scenario", help::LEAST_SCENARIO);
-    let scenario = file(alloc, "played", "SCENARIO", help::SCENARIO);
-    let command = Words::new(alloc, "least")
-        .about(help::LEAST)
-        .arg(machine)?
-        .arg(as_donated)?
-        .arg(csv)?
-        .arg(json)?
-        .arg(list)?
-        .arg(donations)?
-        .arg(scenario)?;
-    Ok(command)
-}
-
-/// A flag by its name.
-pub(crate) fn flag<'a>(alloc: Global, name: &'a str, help: &'a str) -> Arg<'a>
-    ensures rule { rule_of result ≡ flag_rule name.entry.now }
+// A word or an option as an argument.
+fn argument<'a>(alloc: Global, word: Word<'a>) -> Arg<'a>
+    ensures rule { rule_of result ≡ rule_told word.entry }
     ensures local { result.global ≡ false }
 {
-    Arg::new(alloc, name)
-        .long(name)
-        .action(ArgAction::SetTrue)
-        .help(help)
-}
-
-/// An option with a value.
-pub(crate) fn option<'a>(alloc: Global, name: &'a str, value: &'a str, help: &'a str) -> Arg<'a>
-    ensures rule { rule_of result ≡ option_rule name.entry.now }
-    ensures local { result.global ≡ false }
-{
-    Arg::new(alloc, name)
-        .long(name)
-        .value_name(value)
-        .help(help)
-}
-
-/// A word that has to be there.
-pub(crate) fn file<'a>(alloc: Global, name: &'a str, value: &'a str, help: &'a str) -> Arg<'a>
-    ensures rule { rule_of result ≡ file_rule name.entry.now }
-    ensures local { result.global ≡ false }
-{
-    Arg::new(alloc, name)
-        .required(true)
-        .value_name(value)
-        .help(help)
-}
-
-/// A word that may be left out.
-pub(crate) fn last<'a>(alloc: Global, name: &'a str, value: &'a str, help: &'a str) -> Arg<'a>
-    ensures rule { rule_of result ≡ word_rule name.entry.now }
-    ensures local { result.global ≡ false }
-{
-    Arg::new(alloc, name).value_name(value).help(help)
+    match word {
+        Word::Flag(id, help) => Arg::new(alloc, id)
+            .long(id)
+            .action(ArgAction::SetTrue)
+            .help(help),
+        Word::Value(id, value, help) => Arg::new(alloc, id).long(id).value_name(value).help(help),
+        Word::Values(id, value, help) => Arg::new(alloc, id)
+            .long(id)
+            .value_name(value)
+            .action(ArgAction::Append)
+            .help(help),
+        Word::Needed(id, value, help) => Arg::new(alloc, id)
+            .required(true)
+            .value_name(value)
+            .help(help),
+        Word::Optional(id, value, help) => Arg::new(alloc, id).value_name(value).help(help),
+        Word::Several(id, value, help) => Arg::new(alloc, id)
+            .required(true)
+            .value_name(value)
+            .action(ArgAction::Append)
+            .help(help),
+    }
 }
 
 /// The error of a command line that names no command.
@@ -282,6 +127,14 @@ pub fn alone_takes_a_name_or_all(alloc: Global) -> Result<Error, Error> {
     Ok(commands(alloc)?.error(
         ErrorKind::MissingRequiredArgument,
         "'nethrywel alone' takes NAME and SCENARIO, or --all and SCENARIO",
+    )?)
+}
+
+/// The error of a `--color` that is none of three words.
+pub fn color_is_one_of_three(alloc: Global) -> Result<Error, Error> {
+    Ok(commands(alloc)?.error(
+        ErrorKind::InvalidValue,
+        "'--color <WHEN>' takes auto, always or never",
     )?)
 }
 
