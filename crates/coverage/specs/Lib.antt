@@ -3,3 +3,4 @@ pub mod Forms
 pub mod Requests
 pub mod Rules
 pub mod Covered
+pub mod Reported

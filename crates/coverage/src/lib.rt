@@ -4,14 +4,17 @@
 
 mod asked;
 mod covering;
+mod documents;
 mod event;
 mod form;
+mod report;
 mod row;
 mod table;
 mod wish;
 
 pub use asked::Asked;
 pub use covering::{Coverage, cover};
-pub use event::{Event, Route};
+pub use event::{Event, Route, RuleAt};
 pub use form::Form;
+pub use report::Report;
 pub use row::Row;

@@ -3,6 +3,8 @@
 
 mod apart;
 mod changes;
+mod coloring;
+mod coverings;
 mod documents;
 mod ends;
 mod files;
@@ -18,6 +20,7 @@ mod tests;
 use apart::{All, all_alone};
 use changes::{Compared, diff};
 use clap::Error;
+use coloring::Coloring;
 use ends::{REFUSED, status_of};
 use listings::{Check, check_documents, reach_documents, tree_document};
 use lists::{Asked, check, reach, route, tree};
@@ -27,15 +30,17 @@ use policies::hold;
 use recordings::record_scenario;
 use std::process::ExitCode;
 use tests::{Wanted, test};
-use workbench_options::{Command, alone_takes_a_name_or_all, needs_command, words_given};
+use workbench_options::{
+    Command, Request, alone_takes_a_name_or_all, color_is_one_of_three, needs_command, words_given,
+};
 
 fn main(rt: HostRuntime) -> ExitCode {
     let words = match words_given(&rt) {
         Ok(words) => words,
         Err(error) => return refuse(&rt, &error),
     };
-    match Command::read(rt.alloc(), words.as_slice()) {
-        Ok(Some(command)) => ExitCode::from(answer(&rt, command)),
+    match Request::read(rt.alloc(), words.as_slice()) {
+        Ok(Some(request)) => ExitCode::from(answer(&rt, request.command)),
         Ok(None) => match needs_command(rt.alloc()) {
             Ok(error) => refuse(&rt, &error),
             Err(error) => refuse(&rt, &error),
@@ -56,6 +61,16 @@ fn refuse(rt: &HostRuntime, error: &Error) -> ExitCode {
 // Tells what `alone` takes, and answers the exit status.
 fn refuse_alone(rt: &HostRuntime) -> u8 {
     match alone_takes_a_name_or_all(rt.alloc()) {
+        Ok(error) | Err(error) => {
+            let _ = error.print(rt);
+            REFUSED
+        }
+    }
+}
+
+// Tells which words `--color` takes, and answers the exit status.
+fn refuse_color(rt: &HostRuntime) -> u8 {
+    match color_is_one_of_three(rt.alloc()) {
         Ok(error) | Err(error) => {
             let _ = error.print(rt);
             REFUSED
@@ -117,8 +132,20 @@ fn answer(rt: &HostRuntime, command: Command<'_>) -> u8 {
             machine,
             only,
             accounts,
+            color,
             scenario,
-        } => play(rt, machine, scenario, Viewing::Run { only, accounts }),
+            ..
+        } => match Coloring::asked(rt, color) {
+            Some(coloring) => {
+                let viewing = Viewing::Run {
+                    only,
+                    accounts,
+                    coloring,
+                };
+                play(rt, machine, scenario, viewing)
+            }
+            None => refuse_color(rt),
+        },
         Command::Record {
             machine,
             all,
@@ -194,14 +221,23 @@ fn answer(rt: &HostRuntime, command: Command<'_>) -> u8 {
         Command::Test {
             machine,
             junit,
+            coverage,
+            json,
+            color,
             paths,
-        } => {
-            let wanted = Wanted {
-                paths: paths.as_slice(),
-                machine,
-                junit,
-            };
-            test(rt, &wanted)
-        }
+        } => match Coloring::asked(rt, color) {
+            Some(coloring) => {
+                let wanted = Wanted {
+                    paths: paths.as_slice(),
+                    machine,
+                    junit,
+                    coverage,
+                    json,
+                    colored: coloring.out,
+                };
+                test(rt, &wanted)
+            }
+            None => refuse_color(rt),
+        },
     }
 }
