@@ -21,7 +21,7 @@ use Rattle.coverage.specs.declared.asked.Asked.{Asked}
 use Rattle.coverage.specs.declared.event.Event.{Event}
 use Rattle.coverage.specs.declared.event.Event.TheVariants.{Refused, Failed, Decided}
 use Rattle.coverage.specs.declared.event.Route.{Route}
-use Rattle.coverage.specs.declared.event.Route.TheVariants.{Own, Default}
+use Rattle.coverage.specs.declared.event.Route.TheVariants.{Own, Inner, Machine}
 use Rattle.coverage.specs.declared.event.RuleAt.{RuleAt}
 use Rattle.coverage.specs.declared.form.Form.{Form}
 use Rattle.coverage.specs.declared.row.Row.{Row}
@@ -106,7 +106,7 @@ own_rows number None = []
 own_rows number (Some rules) = route_rows (Own number) (length rules)
 
 abbrev pub rows_of_entry : ℕ → ListedEntry → List Row
-rows_of_entry number entry = own_rows number entry.route ++ route_rows (Default (number + 1)) (length entry.inner_route)
+rows_of_entry number entry = own_rows number entry.route ++ route_rows (Inner number) (length entry.inner_route)
 
 abbrev pub rows_of_entries : ℕ → List ListedEntry → List Row
 rows_of_entries number [] = []
@@ -121,13 +121,13 @@ requests_rows = flat_map error_rows requests
 -- those of a machine, none of which was met
 abbrev pub rows_of : Listed → List Row
 rows_of list =
-    calls_rows ++ requests_rows ++ route_rows (Default 0) (length list.default_route) ++ rows_of_entries 0 list.entries
+    calls_rows ++ requests_rows ++ route_rows Machine (length list.default_route) ++ rows_of_entries 0 list.entries
 
 -- ---- a scenario
 
--- a row by whether some answer shows its event
+-- a row is met also where some answer shows its event
 abbrev pub row_by : Listed → List Answer → Row → Row
-row_by list answers row = record { event = row.event; met = list_any (is_shown list row.event) answers }
+row_by list answers row = record { event = row.event; met = row.met || list_any (is_shown list row.event) answers }
 
 -- on the machine of a list a scenario shows this: a row is met exactly where some answer to a call of it shows that
 pub record IsCovered (list : Listed) (scenario : List ℕ) (rows : List Row) : Type 0 where

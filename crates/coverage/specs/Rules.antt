@@ -12,28 +12,38 @@ use Rattle.own_model.specs.Listed.{Listed, ListedEntry}
 use Rattle.own_model.specs.Session.{given}
 use Rattle.reach.specs.Hops.{HopAt, hops_of}
 use Rattle.coverage.specs.declared.event.Route.{Route}
-use Rattle.coverage.specs.declared.event.Route.TheVariants.{Own, Default}
+use Rattle.coverage.specs.declared.event.Route.TheVariants.{Own, Inner, Machine}
 use Rattle.coverage.specs.declared.event.RuleAt.{RuleAt}
 
 abbrev pub is_same : Route → Route → Bool
 is_same (Own entry) (Own number) = entry == number
-is_same (Own entry) (Default number) = false
-is_same (Default init) (Own number) = false
-is_same (Default init) (Default number) = init == number
+is_same (Own entry) (Inner number) = false
+is_same (Own entry) Machine = false
+is_same (Inner init) (Own number) = false
+is_same (Inner init) (Inner number) = init == number
+is_same (Inner init) Machine = false
+is_same Machine (Own number) = false
+is_same Machine (Inner number) = false
+is_same Machine Machine = true
 
 abbrev pub is_rule : RuleAt → RuleAt → Bool
 is_rule rule other = rule.place == other.place && is_same rule.route other.route
 
 -- ---- where rules stand
 
--- the rules for an entry: its own, or those of its list
-abbrev pub route_by : ℕ → ListedEntry → Route
-route_by client entry = if is_some entry.route then Own client else Default entry.home
-
 -- the number of the entry that is an init, by the init's number; the machine's is none
 abbrev pub init_place : ℕ → Option ℕ
 init_place zero = None
 init_place (suc place) = Some place
+
+-- the default route of the list of an init
+abbrev pub default_of : Option ℕ → Route
+default_of None = Machine
+default_of (Some place) = Inner place
+
+-- the rules for an entry: its own, or those of its list
+abbrev pub route_by : ℕ → ListedEntry → Route
+route_by client entry = if is_some entry.route then Own client else default_of (init_place entry.home)
 
 abbrev pub init_of : Listed → ℕ → Option ℕ
 init_of list client = option_and_then (λ (entry : ListedEntry). init_place entry.home) (slice_get list.entries client)

@@ -19,11 +19,13 @@ pub enum Event {
     Decided(RuleAt),
 }
 
-/// The rules of which one decides: those of an entry by its number, or of the default route in the list of an init by its number.
+/// The rules of which one decides: those of an entry by its number, of the default route in the list of an init by its entry's
+/// number, or of the machine's default route.
 #[derive(Clone, Copy, Debug, PartialEq, Eq)]
 pub enum Route {
     Own(usize),
-    Default(usize),
+    Inner(usize),
+    Machine,
 }
 
 /// A rule, by its place in its route.
@@ -43,7 +45,8 @@ impl Route {
     {
         match (self, other) {
             (Route::Own(entry), Route::Own(number)) => entry == number,
-            (Route::Default(init), Route::Default(number)) => init == number,
+            (Route::Inner(init), Route::Inner(number)) => init == number,
+            (Route::Machine, Route::Machine) => true,
             _ => false,
         }
     }

@@ -152,8 +152,8 @@ fn rule_name(alloc: Global, list: &StartList, rule: RuleAt) -> Result<String, Al
     let place = rule.place;
     let (route, number) = match rule.route {
         Route::Own(number) => ("route", Some(number)),
-        Route::Default(0) => ("default-route", None),
-        Route::Default(init) => ("default-route", Some(init - 1)),
+        Route::Inner(number) => ("default-route", Some(number)),
+        Route::Machine => ("default-route", None),
     };
     let owner = match number {
         Some(number) => list.entries().get(number),

@@ -1,8 +1,7 @@
 //! The rows of a machine, none of which was met.
 ghost use Rattle.std.specs.Prelude.{◌≡◌, ◌++◌, length, map, OnOk, IfOk};
 ghost use Rattle.std.specs.List.{flat_map};
-ghost use Rattle.own_model.specs.Listed.{default_of};
-ghost use Rattle.coverage.specs.Covered.{error_rows, refusal_rows, requests_rows, calls_rows, route_rows, rows_of, rows_of_entries, rows_of_entry, unmet};
+ghost use Rattle.coverage.specs.Covered.{error_rows, refusal_rows, route_rows, rows_of, rows_of_entries, rows_of_entry, unmet};
 
 use crate::asked::{Asked, REQUESTS};
 use crate::event::{Event, Route, RuleAt};
@@ -16,13 +15,9 @@ pub(crate) fn rows_of(alloc: Global, list: &StartList) -> Result<Vec<Row>, Alloc
     ensures { IfOk result (λ rows. rows.items ≡ rows_of list.now) }
 {
     let mut rows = Vec::new(alloc);
-    for form in &FORMS {
-        add_refusals(&mut rows, *form)?;
-    }
-    for asked in &REQUESTS {
-        add_errors(&mut rows, *asked)?;
-    }
-    add_rules(&mut rows, Route::Default(0), list.default_route().len())?;
+    add_calls(&mut rows, &FORMS)?;
+    add_requests(&mut rows, &REQUESTS)?;
+    add_rules(&mut rows, Route::Machine, list.default_route().len())?;
     add_entries(&mut rows, list.entries())?;
     Ok(rows)
 }
@@ -32,6 +27,26 @@ fn unmet(event: Event) -> Row
     ensures { result ≡ unmet event }
 {
     Row { event, met: false }
+}
+
+// Adds what calls of these forms are refused for.
+fn add_calls(rows: &mut Vec<Row>, forms: &[Form]) -> Result<(), AllocError>
+    ensures { OnOk result (rows.new.items ≡ rows.old.items ++ flat_map refusal_rows forms.now) }
+{
+    for form in forms {
+        add_refusals(rows, *form)?;
+    }
+    Ok(())
+}
+
+// Adds what requests of these forms are answered in error.
+fn add_requests(rows: &mut Vec<Row>, requests: &[Asked]) -> Result<(), AllocError>
+    ensures { OnOk result (rows.new.items ≡ rows.old.items ++ flat_map error_rows requests.now) }
+{
+    for asked in requests {
+        add_errors(rows, *asked)?;
+    }
+    Ok(())
 }
 
 // Adds what calls of a form are refused for.
@@ -68,10 +83,8 @@ fn add_rules(rows: &mut Vec<Row>, route: Route, count: usize) -> Result<(), Allo
 fn add_entries(rows: &mut Vec<Row>, entries: &[Entry]) -> Result<(), AllocError>
     ensures { OnOk result (rows.new.items ≡ rows.old.items ++ rows_of_entries 0 entries.now) }
 {
-    let mut number = 0;
-    for entry in entries {
-        add_entry(rows, number, entry)?;
-        number += 1;
+    for number in 0..entries.len() {
+        add_entry(rows, number, &entries[number])?;
     }
     Ok(())
 }
@@ -83,5 +96,5 @@ fn add_entry(rows: &mut Vec<Row>, number: usize, entry: &Entry) -> Result<(), Al
     if let Some(rules) = entry.route() {
         add_rules(rows, Route::Own(number), rules.len())?;
     }
-    add_rules(rows, Route::Default(number + 1), entry.inner_route().len())
+    add_rules(rows, Route::Inner(number), entry.inner_route().len())
 }

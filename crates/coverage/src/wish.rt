@@ -4,7 +4,7 @@ ghost use Rattle.std.specs.List.{slice_get};
 ghost use Rattle.std.specs.Option.{option_and_then, option_map};
 ghost use Rattle.own_model.specs.Call.{spoken};
 ghost use Rattle.own_model.specs.Session.{given};
-ghost use Rattle.coverage.specs.Rules.{decided_by, init_of, init_place, is_turned_away, route_by, route_for, rule_in, rules_from, rules_of_wish, wish_in};
+ghost use Rattle.coverage.specs.Rules.{decided_by, default_of, init_of, init_place, is_turned_away, route_by, route_for, rule_in, rules_from, rules_of_wish, wish_in};
 
 use crate::event::{Route, RuleAt};
 use init_core::{Entry, StartList};
@@ -132,7 +132,17 @@ fn route_by(client: usize, entry: &Entry) -> Route
     if entry.route().is_some() {
         Route::Own(client)
     } else {
-        Route::Default(entry.home())
+        default_of(init_place(entry.home()))
+    }
+}
+
+// The default route of the list of an init.
+fn default_of(init: Option<usize>) -> Route
+    ensures { result ≡ default_of init }
+{
+    match init {
+        None => Route::Machine,
+        Some(place) => Route::Inner(place),
     }
 }
 
