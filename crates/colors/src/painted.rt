@@ -1,9 +1,9 @@
 //! Lines that are coloured on their way.
-ghost use Rattle.std.specs.Prelude.{◌≡◌, ◌++◌, ◌∷◌, [], false, IfOk, OnOk};
+ghost use Rattle.std.specs.Prelude.{◌≡◌, ◌++◌, ◌∷◌, ◌||◌, [], false, IfOk, OnOk};
 ghost use Rattle.colors.specs.Painted.{left_of, painted, painted_lines, shade_of};
 
 use crate::shade::{Lines, Shade};
-use scenario::{DeviceFault, Sink};
+use scenario::{DeviceFault, Gather, Sink};
 use std::alloc::{AllocError, Global};
 
 /// A sink that colours each line once it is whole, and writes it to another.
@@ -14,6 +14,7 @@ pub struct Painted<S> {
     lines: Lines,
     // What came of the line that isn't whole yet.
     line: Vec<u8>,
+    gathered: Gather,
     failed: bool,
 }
 
@@ -28,6 +29,7 @@ impl<S: Sink> Painted<S> {
             sink,
             lines,
             line: Vec::new(alloc),
+            gathered: Gather::new(),
             failed: false,
         }
     }
@@ -38,17 +40,22 @@ impl<S: Sink> Painted<S> {
     }
 
     // Takes bytes in, and writes the lines that they end.
-    fn take(&mut self, bytes: &[u8]) -> Result<(), DeviceFault> {
+    fn take(&mut self, bytes: &[u8]) -> Result<(), DeviceFault>
+        requires { S.has_failed self.old.sink ≡ false }
+        ensures works { OnOk result (S.has_failed self.new.sink ≡ false) }
+        ensures kept { self.new.failed ≡ self.old.failed }
+    {
         let mut text = Vec::new(self.alloc);
-        match add_painted(&mut text, self.lines, &mut self.line, bytes) {
-            Ok(()) => write_whole(&mut self.sink, text.as_slice()),
-            Err(_) => Err(DeviceFault),
+        if add_painted(&mut text, self.lines, &mut self.line, bytes).is_err() {
+            return Err(DeviceFault);
         }
+        self.gathered.put(&mut self.sink, text.as_slice())?;
+        self.gathered.flush(&mut self.sink)
     }
 }
 
 impl<S: Sink> Sink for Painted<S> {
-    ghost has_failed = { λ painted. painted.failed };
+    ghost has_failed = { λ painted. painted.failed || S.has_failed painted.sink };
 
     fn write(&mut self, buffer: &[u8]) -> Result<usize, DeviceFault> {
         if self.take(buffer).is_err() {
@@ -59,27 +66,7 @@ impl<S: Sink> Sink for Painted<S> {
     }
 
     fn failed(&self) -> bool {
-        self.failed
-    }
-}
-
-// Writes all of a text to a sink, unless that has failed.
-fn write_whole<S: Sink>(sink: &mut S, text: &[u8]) -> Result<(), DeviceFault> {
-    let mut rest = text;
-    for _ in 0..text.len() {
-        if rest.is_empty() {
-            return Ok(());
-        }
-        if sink.failed() {
-            return Err(DeviceFault);
-        }
-        let count = sink.write(rest)?;
-        rest = &rest[count..];
-    }
-    if rest.is_empty() {
-        Ok(())
-    } else {
-        Err(DeviceFault)
+        self.failed || self.sink.failed()
     }
 }
 
