@@ -99,7 +99,7 @@ class Gathered:
     def route(self, client, service, label):
         """Returns where one wish leads."""
         words = [f'label="{label}"'] if label else []
-        return route_of(self.run(["route", "list.json", client, service, *words])[1], client, self.rules)
+        return route_of(self.run(["route", "--", "list.json", client, service, *words])[1], client, self.rules)
 
     def routes(self, reach):
         """Returns where the wish of each cell leads, by its name."""

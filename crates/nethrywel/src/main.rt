@@ -3,6 +3,8 @@
 
 mod apart;
 mod changes;
+mod coloring;
+mod coverings;
 mod documents;
 mod ends;
 mod files;
@@ -20,6 +22,7 @@ mod unfolding;
 use apart::{All, all_alone};
 use changes::{Compared, diff};
 use clap::Error;
+use coloring::Coloring;
 use ends::{REFUSED, status_of};
 use given::Given;
 use listings::{Check, check_documents, reach_documents, tree_document};
@@ -30,7 +33,9 @@ use policies::hold;
 use recordings::record_scenario;
 use std::process::ExitCode;
 use tests::{Wanted, test};
-use workbench_options::{Command, Request, alone_takes_a_name_or_all, needs_command, words_given};
+use workbench_options::{
+    Command, Request, alone_takes_a_name_or_all, color_is_one_of_three, needs_command, words_given,
+};
 
 fn main(rt: HostRuntime) -> ExitCode {
     let words = match words_given(&rt) {
@@ -71,6 +76,16 @@ fn answer_request(rt: &HostRuntime, request: Request<'_>) -> u8 {
     match Given::read(rt, request.given.as_slice()) {
         Ok(given) => answer(rt, request.command, given),
         Err(status) => status,
+    }
+}
+
+// Tells which words `--color` takes, and answers the exit status.
+fn refuse_color(rt: &HostRuntime) -> u8 {
+    match color_is_one_of_three(rt.alloc()) {
+        Ok(error) | Err(error) => {
+            let _ = error.print(rt);
+            REFUSED
+        }
     }
 }
 
@@ -137,15 +152,20 @@ fn answer(rt: &HostRuntime, command: Command<'_>, given: Given<'_>) -> u8 {
             machine,
             only,
             accounts,
+            color,
             scenario,
             ..
-        } => play(
-            rt,
-            machine,
-            scenario,
-            given,
-            Viewing::Run { only, accounts },
-        ),
+        } => match Coloring::asked(rt, color) {
+            Some(coloring) => {
+                let viewing = Viewing::Run {
+                    only,
+                    accounts,
+                    coloring,
+                };
+                play(rt, machine, scenario, given, viewing)
+            }
+            None => refuse_color(rt),
+        },
         Command::Record {
             machine,
             all,
@@ -224,16 +244,24 @@ fn answer(rt: &HostRuntime, command: Command<'_>, given: Given<'_>) -> u8 {
         Command::Test {
             machine,
             junit,
+            coverage,
+            json,
+            color,
             paths,
-            ..
-        } => {
-            let wanted = Wanted {
-                paths: paths.as_slice(),
-                machine,
-                junit,
-                given,
-            };
-            test(rt, &wanted)
-        }
+        } => match Coloring::asked(rt, color) {
+            Some(coloring) => {
+                let wanted = Wanted {
+                    paths: paths.as_slice(),
+                    machine,
+                    junit,
+                    given,
+                    coverage,
+                    json,
+                    colored: coloring.out,
+                };
+                test(rt, &wanted)
+            }
+            None => refuse_color(rt),
+        },
     }
 }

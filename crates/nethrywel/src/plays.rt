@@ -1,15 +1,17 @@
 //! A scenario's play on a machine, over files and the standard streams.
+use crate::coloring::Coloring;
 use crate::documents::{accounts_document, trace_documents};
 use crate::ends::{Played, REFUSED};
 use crate::files::{STANDARD_INPUT, read_start_list, read_whole};
 use crate::given::Given;
 use crate::lists::tell_fault;
 use crate::unfolding::unfolded;
+use colors::{Lines, Painted};
 use init_core::{BootFault, MACHINE_A};
-use scenario::{Input, Output, Source};
+use scenario::{Input, Output, Sink, Source};
 use start_review::{Fault, Review};
 use std::{fs, io};
-use workbench::{Play, accounts, alone, run, trace};
+use workbench::{Ending, Play, accounts, alone, run, trace};
 
 /// What is told of a scenario.
 #[derive(Clone, Copy, Debug)]
@@ -20,6 +22,8 @@ pub(crate) enum Viewing<'a> {
         only: Option<&'a str>,
         /// Whether the account list is told after the last reply.
         accounts: bool,
+        /// Where lines are coloured.
+        coloring: Coloring,
     },
     /// A table of its lines.
     Trace {
@@ -145,20 +149,14 @@ fn play_from<S: Source>(
         Viewing::Run {
             only,
             accounts: listed,
+            coloring,
         } => {
-            let only = match only {
-                Some(name) => Some(name.as_bytes()),
-                None => None,
-            };
-            run(
-                alloc,
-                play,
+            let running = Running {
                 only,
                 listed,
-                reader,
-                &mut writer,
-                &mut complaints,
-            )
+                coloring,
+            };
+            return run_colored(rt, play, running, reader);
         }
         Viewing::Trace { json: true } => return trace_documents(rt, play, reader),
         Viewing::Accounts { json: true } => return accounts_document(rt, play, reader),
@@ -177,6 +175,80 @@ fn play_from<S: Source>(
         ended,
         unread: writer.is_unread(),
     }
+}
+
+// What is asked of a run.
+#[derive(Clone, Copy)]
+struct Running<'a> {
+    only: Option<&'a str>,
+    listed: bool,
+    coloring: Coloring,
+}
+
+impl<'a> Running<'a> {
+    // The name whose lines alone are answered.
+    fn name(self) -> Option<&'a [u8]> {
+        match self.only {
+            Some(name) => Some(name.as_bytes()),
+            None => None,
+        }
+    }
+}
+
+// Runs a scenario over the standard streams, with colours on those that have them.
+fn run_colored<S: Source>(
+    rt: &HostRuntime,
+    play: Play<'_>,
+    running: Running<'_>,
+    reader: &mut S,
+) -> Played {
+    let mut writer = Output::new(io::writer(rt));
+    if running.coloring.out {
+        let mut painted = Painted::new(rt.alloc(), writer, Lines::Replies);
+        let ended = run_told(rt, play, running, reader, &mut painted);
+        return Played {
+            ended,
+            unread: painted.sink().is_unread(),
+        };
+    }
+    let ended = run_told(rt, play, running, reader, &mut writer);
+    Played {
+        ended,
+        unread: writer.is_unread(),
+    }
+}
+
+// The same with the transcript on a sink.
+fn run_told<S: Source, K: Sink>(
+    rt: &HostRuntime,
+    play: Play<'_>,
+    running: Running<'_>,
+    reader: &mut S,
+    writer: &mut K,
+) -> Result<Ending, BootFault> {
+    let alloc = rt.alloc();
+    let mut complaints = Output::new(rt.stderr());
+    if running.coloring.err {
+        let mut painted = Painted::new(alloc, complaints, Lines::Complaints);
+        return run(
+            alloc,
+            play,
+            running.name(),
+            running.listed,
+            reader,
+            writer,
+            &mut painted,
+        );
+    }
+    run(
+        alloc,
+        play,
+        running.name(),
+        running.listed,
+        reader,
+        writer,
+        &mut complaints,
+    )
 }
 
 /// Tells why no machine was booted, with the place in its start list where that is a file's.

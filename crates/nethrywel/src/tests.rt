@@ -1,16 +1,18 @@
 //! Scenarios that are run as tests, and what is told of them.
+use crate::coverings::{BUILT_IN, Coverings};
 use crate::ends::{Stopped, UNWRITTEN, status_of};
 use crate::files::{read_start_list, read_whole};
 use crate::given::Given;
 use crate::lists::Told;
 use crate::policies::{Standing, hold_against};
 use crate::scenarios::{Unfound, scenarios_at};
+use colors::{Lines, paint};
 use init_core::{BootFault, MACHINE_A, StartList};
 use rounds::{Unfit, unfold};
 use scenario::{Input, Output, Source};
 use start_review::Review;
 use std::alloc::AllocError;
-use std::io::Write;
+use std::io::{IsTerminal, Write};
 use std::{fs, io};
 use test_report::{
     Trial, failures, junit_document, machine_beside, policy_beside, tap_plan, tap_point,
@@ -31,6 +33,12 @@ pub(crate) struct Wanted<'a> {
     pub(crate) junit: Option<&'a str>,
     /// What names stand for.
     pub(crate) given: Given<'a>,
+    /// Whether it is told what the scenarios show of their machines.
+    pub(crate) coverage: bool,
+    /// Whether that is told as a document, in place of all lines.
+    pub(crate) json: bool,
+    /// Whether lines are coloured.
+    pub(crate) colored: bool,
 }
 
 /// Runs the scenarios of all paths one after the other, each on a machine of its own: the one that stands beside it, or the one
@@ -62,33 +70,91 @@ fn write_document(rt: &HostRuntime, path: &str, trials: &[Trial]) -> io::Result<
     fs::write(rt, path, document)
 }
 
-// Runs all, and tells a line each.
+// Runs all, and tells a line each, and behind them what they show, where that is asked for.
 fn run_all(rt: &HostRuntime, scenarios: &[String], wanted: &Wanted<'_>) -> io::Result<Vec<Trial>> {
     let alloc = rt.alloc();
-    let mut writer = io::writer(rt);
-    writer.write_all(tap_plan(alloc, scenarios.len())?.as_bytes())?;
+    let mut coverings = Coverings::new(rt, wanted.coverage, wanted.json);
+    let mut teller = Teller::new(rt, wanted.colored, coverings.is_document(), scenarios.len());
+    teller.tell(rt, tap_plan(alloc, scenarios.len())?.as_bytes())?;
     let mut trials = Vec::new(alloc);
     for scenario in scenarios {
-        let trial = run_one(rt, scenario.as_str(), wanted)?;
+        let trial = run_one(rt, scenario.as_str(), wanted, &mut coverings)?;
         let point = tap_point(alloc, trials.len().saturating_add(1), &trial)?;
-        writer.write_all(point.as_slice())?;
+        teller.tell(rt, point.as_slice())?;
         trials.push(trial)?;
+        teller.progress(rt, trials.len());
     }
+    coverings.tell(rt)?;
     Ok(trials)
 }
 
-// Runs a scenario on its machine.
-fn run_one(rt: &HostRuntime, scenario: &str, wanted: &Wanted<'_>) -> Result<Trial, AllocError> {
+// How lines are told.
+#[derive(Clone, Copy)]
+struct Teller {
+    colored: bool,
+    silent: bool,
+    // Whether it is told on standard error how far the run is: where that is a terminal, and the lines go elsewhere.
+    progress: bool,
+    all: usize,
+}
+
+impl Teller {
+    fn new(rt: &HostRuntime, colored: bool, silent: bool, all: usize) -> Teller {
+        Teller {
+            colored,
+            silent,
+            progress: rt.stderr().is_terminal() && !rt.stdout().is_terminal(),
+            all,
+        }
+    }
+
+    // Tells lines, unless a document is told in their place.
+    fn tell(self, rt: &HostRuntime, lines: &[u8]) -> io::Result<()> {
+        if self.silent {
+            return Ok(());
+        }
+        let mut writer = io::writer(rt);
+        if self.colored {
+            return writer.write_all(paint(rt.alloc(), Lines::Tests, lines)?.as_slice());
+        }
+        writer.write_all(lines)
+    }
+
+    // Tells how many were run, over what was told before; nothing once all were.
+    fn progress(self, rt: &HostRuntime, done: usize) {
+        if !self.progress {
+            return;
+        }
+        let all = self.all;
+        let _ = if done < all {
+            eprint!(rt; "\r{done} of {all}")
+        } else {
+            eprint!(rt; "\r\x1b[K")
+        };
+    }
+}
+
+// Runs a scenario on its machine, and adds what it shows of that.
+fn run_one(
+    rt: &HostRuntime,
+    scenario: &str,
+    wanted: &Wanted<'_>,
+    coverings: &mut Coverings,
+) -> Result<Trial, AllocError> {
     let beside = machine_beside(rt.alloc(), scenario)?;
     let list = match fs::exists(rt, beside.as_str()) {
         Ok(false) => wanted.machine,
         _ => Some(beside.as_str()),
     };
     let Some(path) = list else {
+        coverings.add(rt, MACHINE_A.as_bytes(), BUILT_IN, scenario, wanted.given)?;
         return run_whole(rt, scenario, MACHINE_A.as_bytes(), None, wanted.given);
     };
     match read_start_list(rt, path, wanted.given) {
-        Ok(text) => run_whole(rt, scenario, &text, list, wanted.given),
+        Ok(text) => {
+            coverings.add(rt, &text, path, scenario, wanted.given)?;
+            run_whole(rt, scenario, &text, list, wanted.given)
+        }
         Err(fault) => failed(rt, scenario, format!(in rt.alloc(); "{fault}\n")?),
     }
 }

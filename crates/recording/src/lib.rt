@@ -8,6 +8,7 @@ mod sheet;
 mod unread;
 mod writing;
 
+pub use pieces::first_piece;
 pub use recording::record;
 pub use sheet::Recording;
 pub use unread::{Unread, Why};

@@ -8,7 +8,7 @@ use text_codec::find_byte;
 
 /// A text up to its first newline, and what stands behind that, if there is one.
 #[tactic(auto, using(crate::proofs::PieceLemmas::cuts))]
-pub(crate) fn first_piece(text: &[u8]) -> (&[u8], Option<&[u8]>)
+pub fn first_piece(text: &[u8]) -> (&[u8], Option<&[u8]>)
     ensures pieces { pieces_of text.now ≡ result.0.now ∷ pieces_in (option_copied result.1) }
     ensures less { IfSome result.1 (λ rest. length rest.now < length text.now) }
 {

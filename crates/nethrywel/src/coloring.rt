@@ -1,0 +1,45 @@
+//! Whether lines are coloured.
+use std::env;
+use std::io::IsTerminal;
+use workbench_options::Color;
+
+/// Where lines are coloured.
+#[derive(Clone, Copy, Debug, PartialEq, Eq)]
+pub(crate) struct Coloring {
+    /// On standard output.
+    pub(crate) out: bool,
+    /// On standard error.
+    pub(crate) err: bool,
+}
+
+impl Coloring {
+    /// As it is asked for, or none for a word that says nothing. By itself a terminal has colours, unless `NO_COLOR` is set.
+    pub(crate) fn asked(rt: &HostRuntime, color: Color) -> Option<Coloring> {
+        match color {
+            Color::Always => Some(Coloring {
+                out: true,
+                err: true,
+            }),
+            Color::Never => Some(Coloring {
+                out: false,
+                err: false,
+            }),
+            Color::Auto => {
+                let wanted = !is_unwanted(rt);
+                Some(Coloring {
+                    out: wanted && rt.stdout().is_terminal(),
+                    err: wanted && rt.stderr().is_terminal(),
+                })
+            }
+            Color::Unknown => None,
+        }
+    }
+}
+
+// Whether the environment says that no colours are wanted.
+fn is_unwanted(rt: &HostRuntime) -> bool {
+    match env::var(rt, "NO_COLOR") {
+        Ok(value) => !value.is_empty(),
+        Err(_) => false,
+    }
+}

@@ -1,0 +1,82 @@
+//! What the scenarios that are run as tests show.
+use crate::files::read_whole;
+use crate::given::Given;
+use coverage::{Report, cover};
+use init_core::{BootFault, StartList};
+use rounds::{Unfit, unfold};
+use std::alloc::AllocError;
+use std::io;
+use std::io::Write;
+
+/// How the machine is told beside which no start list stands.
+pub(crate) const BUILT_IN: &str = "built-in machine";
+
+/// What is told of what all show.
+#[derive(Drop)]
+pub(crate) struct Coverings {
+    // None where it isn't asked for.
+    report: Option<Report>,
+    json: bool,
+}
+
+impl Coverings {
+    /// Of no scenario yet; where it isn't asked for, of none at all.
+    pub(crate) fn new(rt: &HostRuntime, coverage: bool, json: bool) -> Coverings {
+        let report = if coverage {
+            Some(Report::new(rt.alloc()))
+        } else {
+            None
+        };
+        Coverings { report, json }
+    }
+
+    /// Whether a document is told in place of lines.
+    pub(crate) fn is_document(&self) -> bool {
+        self.json && self.report.is_some()
+    }
+
+    /// Adds what a scenario shows of the machine of a text. One that can't be read or unfolded, or whose machine doesn't boot,
+    /// shows nothing: it fails as a test.
+    pub(crate) fn add(
+        &mut self,
+        rt: &HostRuntime,
+        machine: &[u8],
+        path: &str,
+        scenario: &str,
+        given: Given<'_>,
+    ) -> Result<(), AllocError> {
+        let alloc = rt.alloc();
+        let Some(report) = &mut self.report else {
+            return Ok(());
+        };
+        let Some(text) = read_whole(rt, scenario) else {
+            return Ok(());
+        };
+        let Ok(list) = StartList::read(alloc, machine) else {
+            return Ok(());
+        };
+        let lines = match unfold(alloc, &text, given.known(alloc)?) {
+            Ok(lines) => lines,
+            Err(Unfit::Fault(_)) => return Ok(()),
+            Err(Unfit::NoMemory) => return Err(AllocError),
+        };
+        match cover(alloc, &list, lines.bytes()) {
+            Ok(coverage) => report.add(&list, path, scenario, coverage),
+            Err(BootFault::NoMemory) => Err(AllocError),
+            Err(_) => Ok(()),
+        }
+    }
+
+    /// Tells it: lines of comments, or the document.
+    pub(crate) fn tell(&self, rt: &HostRuntime) -> io::Result<()> {
+        let alloc = rt.alloc();
+        let Some(report) = &self.report else {
+            return Ok(());
+        };
+        if self.json {
+            return io::writer(rt).write_all(report.document(alloc)?.as_slice());
+        }
+        let text = format!(in alloc; "{report}")?;
+        io::writer(rt).write_all(text.as_bytes())
+    }
+}
