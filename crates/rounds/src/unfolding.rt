@@ -120,7 +120,7 @@ impl Unfolding {
     ) -> Result<(), Unfit>
         requires { place.line + length body.now ≤ most_lines }
         ensures { Makes result
-            (rounds_from (within deep) place (head_view head) 0 head.count (made_of self.old) (texts body.now))
+            (rounds_from (within deep) place (head_view head.entry) 0 head.entry.count (made_of self.old) (texts body.now))
             (made_of self.new) }
     {
         for k in 0..head.count {
@@ -133,7 +133,7 @@ impl Unfolding {
     // Begins rounds of which there are none.
     fn put_none(&mut self, place: Place, head: Head<'_>) -> Result<(), Unfit>
         requires { place.line ≤ most_lines }
-        ensures { Makes result (begun place (head_view head) (made_of self.old)) (made_of self.new) }
+        ensures { Makes result (begun place (head_view head.entry) (made_of self.old)) (made_of self.new) }
     {
         if head.count > 0 {
             return Ok(());
@@ -152,7 +152,7 @@ impl Unfolding {
     fn put_begin(&mut self, place: Place, head: Head<'_>, k: u64) -> Result<(), Unfit>
         requires { place.line ≤ most_lines }
         ensures { Makes result
-            (with_mark place (made_of self.old) (mark_before (head_view head) place.line k)) (made_of self.new) }
+            (with_mark place (made_of self.old) (mark_before (head_view head.entry) place.line k)) (made_of self.new) }
     {
         let mut digits = Buffer::new();
         let counter = counter_of(head, digits.format(k).as_bytes());
@@ -161,7 +161,7 @@ impl Unfolding {
 
     // Puts a mark.
     fn put_mark(&mut self, place: Place, mark: Directive<'_>) -> Result<(), Unfit>
-        ensures { Makes result (with_mark place (made_of self.old) (directive_view mark)) (made_of self.new) }
+        ensures { Makes result (with_mark place (made_of self.old) (directive_view mark.entry)) (made_of self.new) }
     {
         self.count = counted(place, self.count)?;
         put_mark_text(&mut self.text, mark)?;
@@ -245,7 +245,7 @@ fn set_names(known: &mut Known, line: &[u8]) -> Result<(), AllocError>
 
 // Writes a mark.
 fn put_mark_text(text: &mut Vec<u8>, mark: Directive<'_>) -> Result<(), AllocError>
-    ensures { OnOk result (text.new.items ≡ text.old.items ++ mark_text (directive_view mark)) }
+    ensures { OnOk result (text.new.items ≡ text.old.items ++ mark_text (directive_view mark.entry)) }
 {
     let (word, line, counter): (&[u8], usize, Option<Counter<'_>>) = match mark {
         Directive::Enter { line, counter } => (b"@enter ", line, counter),
