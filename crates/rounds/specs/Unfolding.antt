@@ -1,5 +1,5 @@
 -- A scenario's lines with their rounds unfolded.
-use Rattle.std.specs.Prelude.{ℕ, ◌+◌, not, Bool, true, false, zero, suc, List, [], ◌∷◌, ◌++◌, length, take, codes, decimal, nat_eq, nat_lt, if◌then◌else◌, Option, Some, None, Result, Ok, Err, Unit, tt}
+use Rattle.std.specs.Prelude.{ℕ, ◌+◌, ◌&&◌, not, Bool, true, false, zero, suc, List, [], ◌∷◌, ◌++◌, length, take, codes, decimal, nat_eq, nat_lt, if◌then◌else◌, Option, Some, None, Result, Ok, Err}
 use Rattle.std.specs.List.{list_any}
 use Rattle.std.specs.Option.{option_and_then, option_map}
 use Rattle.std.specs.Str.{bytes_eq}
@@ -70,7 +70,7 @@ known_after known line = if is_directive line then set_by known (said_by line (f
 
 abbrev pub with_line : Place → Made → List ℕ → Result Made RoundsFault
 with_line place made line =
-    map_ok (λ more. record more { known = known_after more.known line }) (with_text place made line)
+    map_ok (λ (more : Made). record more { known = known_after more.known line }) (with_text place made line)
 
 -- ---- marks
 
@@ -90,7 +90,7 @@ mark_text Unknown = []
 
 abbrev pub with_mark : Place → Made → Directive → Result Made RoundsFault
 with_mark place made mark =
-    map_ok (λ more. record more { known = followed more.known mark }) (with_text place made (mark_text mark))
+    map_ok (λ (more : Made). record more { known = followed more.known mark }) (with_text place made (mark_text mark))
 
 -- ---- the line of `@repeat`
 
@@ -215,7 +215,7 @@ is_whole lines = and_then (opens_from 1 [] lines) all_ended
 abbrev pub unfolded_lines : Known → List (List ℕ) → Result (List ℕ) RoundsFault
 unfolded_lines given lines =
     and_then (is_whole lines)
-    (λ _. map_ok (λ made. made.text) (within 5 1 (record { text = []; count = 0; known = given }) lines))
+    (λ _. map_ok (λ (made : Made). made.text) (within 5 1 (record { text = []; count = 0; known = given }) lines))
 
 abbrev pub unfolded : Known → List ℕ → Result (List ℕ) RoundsFault
 unfolded given text =

@@ -7,8 +7,8 @@ use Rattle.rounds.specs.declared.fault.RoundsFault.{RoundsFault}
 use Rattle.rounds.specs.declared.fault.Unfit.{Unfit}
 use Rattle.rounds.specs.declared.fault.Unfit.TheVariants.{Fault, NoMemory}
 use Rattle.rounds.specs.declared.head.Head.{Head as Line}
-use Rattle.rounds.specs.declared.unfold.Unfolded.{Unfolded}
-use Rattle.rounds.specs.declared.unfold.Unfolded.TheVariants.{Same, New}
+use Rattle.rounds.specs.declared.whole.Unfolded.{Unfolded}
+use Rattle.rounds.specs.declared.whole.Unfolded.TheVariants.{Same, New}
 use Rattle.rounds.specs.declared.unfolding.Unfolding.{Unfolding}
 
 -- the bytes of lines

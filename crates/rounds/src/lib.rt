@@ -6,9 +6,9 @@ mod head;
 mod laws;
 mod lines;
 mod structure;
-mod unfold;
 mod unfolding;
+mod whole;
 
 pub use fault::{Place, Reason, RoundsFault, Unfit};
 pub use laws::plain_texts_stay;
-pub use unfold::{Unfolded, unfold};
+pub use whole::{Unfolded, unfold};

@@ -75,10 +75,13 @@ pub(crate) fn kind_of(line: &[u8]) -> Kind
     if signs_of(line).first() != Some(&b'@') {
         return Kind::Plain;
     }
-    match next_word(words_of(line)).0 {
-        b"@repeat" => Kind::Repeats,
-        b"@end" => Kind::Ends,
-        _ => Kind::Plain,
+    let (word, _) = next_word(words_of(line));
+    if word == b"@repeat".as_slice() {
+        Kind::Repeats
+    } else if word == b"@end".as_slice() {
+        Kind::Ends
+    } else {
+        Kind::Plain
     }
 }
 

@@ -1,5 +1,5 @@
 //! Where rounds begin and end.
-ghost use Rattle.std.specs.Prelude.{◌≡◌, ◌≤◌, length, take, tt};
+ghost use Rattle.std.specs.Prelude.{◌≡◌, ◌≤◌, length, take};
 ghost use Rattle.rounds.specs.Structure.{body_length, fault_at, kind_of, opens_after, place_of};
 ghost use Rattle.rounds.specs.Unfolding.{is_whole};
 ghost use Rattle.rounds.specs.Views.{Makes, texts};

@@ -1,8 +1,10 @@
 //! Lines that are unfolded one after another.
-ghost use Rattle.std.specs.Prelude.{◌≡◌, ◌+◌, ◌≤◌, ◌++◌, length, IfOk, OnOk};
-ghost use Rattle.scenario_names.specs.Views.{directive_view};
+ghost use Rattle.std.specs.Prelude.{◌≡◌, ◌+◌, ◌≤◌, ◌++◌, length, nat_eq, if◌then◌else◌, IfOk, OnOk};
+ghost use Rattle.std.specs.Option.{option_map};
+ghost use Rattle.scenario_names.specs.Directives.Directive.{Enter, Again};
+ghost use Rattle.scenario_names.specs.Views.{counter_view, directive_view};
 ghost use Rattle.rounds.specs.Structure.{kind_of};
-ghost use Rattle.rounds.specs.Unfolding.{begun, counted, known_after, mark_of, mark_text, most_lines, owned, rounds_from, rounds_of, step_of, with_line, with_mark, within};
+ghost use Rattle.rounds.specs.Unfolding.{begun, counted, known_after, mark_of as mark_before, mark_text, most_lines, owned, rounds_from, rounds_of, step_of, with_line, with_mark, within};
 ghost use Rattle.rounds.specs.Views.{Makes, head_view, made_of, texts};
 
 use crate::fault::{Place, Reason, RoundsFault, Unfit};
@@ -118,7 +120,7 @@ impl Unfolding {
     ) -> Result<(), Unfit>
         requires { place.line + length body.now ≤ most_lines }
         ensures { Makes result
-            (rounds_from (within deep) place (head_view head) 0 head.count (made_of self.old) (texts body.now))
+            (rounds_from (within deep) place (head_view head.entry) 0 head.entry.count (made_of self.old) (texts body.now))
             (made_of self.new) }
     {
         for k in 0..head.count {
@@ -131,7 +133,7 @@ impl Unfolding {
     // Begins rounds of which there are none.
     fn put_none(&mut self, place: Place, head: Head<'_>) -> Result<(), Unfit>
         requires { place.line ≤ most_lines }
-        ensures { Makes result (begun place (head_view head) (made_of self.old)) (made_of self.new) }
+        ensures { Makes result (begun place (head_view head.entry) (made_of self.old)) (made_of self.new) }
     {
         if head.count > 0 {
             return Ok(());
@@ -150,28 +152,16 @@ impl Unfolding {
     fn put_begin(&mut self, place: Place, head: Head<'_>, k: u64) -> Result<(), Unfit>
         requires { place.line ≤ most_lines }
         ensures { Makes result
-            (with_mark place (made_of self.old) (mark_of (head_view head) place.line k)) (made_of self.new) }
+            (with_mark place (made_of self.old) (mark_before (head_view head.entry) place.line k)) (made_of self.new) }
     {
-        let line = place.line + 1;
         let mut digits = Buffer::new();
-        let counter = match head.counter {
-            Some(name) => Some(Counter {
-                name,
-                value: digits.format(k).as_bytes(),
-            }),
-            None => None,
-        };
-        let mark = if k == 0 {
-            Directive::Enter { line, counter }
-        } else {
-            Directive::Again { line, counter }
-        };
-        self.put_mark(place, mark)
+        let counter = counter_of(head, digits.format(k).as_bytes());
+        self.put_mark(place, mark_of(place.line + 1, k, counter))
     }
 
     // Puts a mark.
     fn put_mark(&mut self, place: Place, mark: Directive<'_>) -> Result<(), Unfit>
-        ensures { Makes result (with_mark place (made_of self.old) (directive_view mark)) (made_of self.new) }
+        ensures { Makes result (with_mark place (made_of self.old) (directive_view mark.entry)) (made_of self.new) }
     {
         self.count = counted(place, self.count)?;
         put_mark_text(&mut self.text, mark)?;
@@ -189,6 +179,32 @@ impl Unfolding {
         self.text.push(b'\n')?;
         set_names(&mut self.known, line)?;
         Ok(())
+    }
+}
+
+// The counter of a round, if it has one, by its digits.
+fn counter_of<'a>(head: Head<'a>, digits: &'a [u8]) -> Option<Counter<'a>>
+    ensures { counter_view result ≡ option_map (λ name. record {
+      name = name;
+      value = digits.now;
+    }) (head_view head.entry).counter }
+{
+    let name = head.counter?;
+    Some(Counter {
+        name,
+        value: digits,
+    })
+}
+
+// The mark before a round whose first line has this number.
+fn mark_of<'a>(line: usize, k: u64, counter: Option<Counter<'a>>) -> Directive<'a>
+    ensures { directive_view result ≡ (if nat_eq k 0 then Enter line (counter_view counter.entry)
+        else Again line (counter_view counter.entry)) }
+{
+    if k == 0 {
+        Directive::Enter { line, counter }
+    } else {
+        Directive::Again { line, counter }
     }
 }
 
@@ -229,7 +245,7 @@ fn set_names(known: &mut Known, line: &[u8]) -> Result<(), AllocError>
 
 // Writes a mark.
 fn put_mark_text(text: &mut Vec<u8>, mark: Directive<'_>) -> Result<(), AllocError>
-    ensures { OnOk result (text.new.items ≡ text.old.items ++ mark_text (directive_view mark)) }
+    ensures { OnOk result (text.new.items ≡ text.old.items ++ mark_text (directive_view mark.entry)) }
 {
     let (word, line, counter): (&[u8], usize, Option<Counter<'_>>) = match mark {
         Directive::Enter { line, counter } => (b"@enter ", line, counter),

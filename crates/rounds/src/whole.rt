@@ -35,7 +35,7 @@ impl Unfolded<'_> {
 /// number of its first line in the scenario and what its counter is, and behind the last one that tells the number of the line
 /// behind them.
 pub fn unfold<'a>(alloc: Global, text: &'a [u8], given: Known) -> Result<Unfolded<'a>, Unfit>
-    ensures { Unfolds result (unfolded given.entry text.now) }
+    ensures { Unfolds result (unfolded given text.now) }
 {
     let lines = lines_of(alloc, text)?;
     if !has_rounds(lines.as_slice()) {
