@@ -9,10 +9,13 @@ use Rattle.scenario.specs.Next.{is_write_fault as is_unwritten}
 use Rattle.scenario.specs.declared.lines.LineFault.{LineFault}
 use Rattle.scenario.specs.declared.lines.LineFault.TheVariants.{Read, Write, Endless}
 use Rattle.workbench.specs.Devices.{AllWork}
-use Rattle.workbench.specs.Faults.{Fails, fault_before, is_write_fault, line_fault, line_takes_room, takes_room}
+use Rattle.workbench.specs.Faults.{Fails, fault_before, is_write_fault, line_fault, takes_in, takes_room}
 use Rattle.workbench.specs.Plays.{line_played}
+use Rattle.workbench.specs.Turns.{deed_of}
 use Rattle.workbench.specs.declared.ending.PlayFault.{PlayFault}
 use Rattle.workbench.specs.declared.ending.PlayFault.TheVariants.{ReadFault, WriteFault, TooManyLines, NoMemory}
+use Rattle.workbench.specs.declared.stand.Stand.{Stand}
+use Rattle.workbench.proofs.PlayedLemmas.{deed_of-short}
 
 -- with none of two failed one of them is
 pub or_none : (a b : Bool) → a ≡ false → b ≡ false → (a || b) ≡ false
@@ -82,10 +85,8 @@ fault_writing T Write a b fails works = or_first a b works ∙ fails
 fault_writing T Endless a b fails works = or_first a b works ∙ fails
 
 -- what a line's reading takes
-pub line_takes : (calls : Bool) (line : List ℕ) (said : Result Said Fault) → length line ≤ longest_line → said ≡ said_of line → takes_room calls said ≡ true → line_takes_room calls line ≡ true
-line_takes calls line said short is takes =
-    let fits : nat_le (length line) longest_line ≡ true = grind (arith, nat_tests) in
-    ap (λ b. cond b (takes_room calls (said_of line)) false) fits ∙ ap (takes_room calls) (sym is) ∙ takes
+pub line_takes : (calls : Bool) (stand : Stand) (line : List ℕ) (said : Result Said Fault) → length line ≤ longest_line → said ≡ said_of line → takes_room calls said ≡ true → takes_in calls (deed_of stand line) ≡ true
+line_takes calls stand line said short is takes = ap (takes_in calls) (deed_of-short stand line short) ∙ ap (takes_room calls) (sym is) ∙ takes
 
 -- devices of which none had failed
 pub all_work : (read_failed write_failed complaint_failed : Bool) → fault_before read_failed (write_failed || complaint_failed) ≡ None → AllWork read_failed write_failed complaint_failed

@@ -14,14 +14,16 @@ use Rattle.scenario.specs.Answer.{AnswersLine}
 use Rattle.scenario.specs.declared.answering.LineAnswer.{LineAnswer}
 use Rattle.workbench.specs.Judging.{Awaited, IsJudged, awaited_after, is_other}
 use Rattle.workbench.specs.declared.ending.PlayFault.{PlayFault}
-use Rattle.workbench.specs.Played.{call_in, call_of, told_of_calls}
+use Rattle.workbench.specs.Played.{told_of_calls}
+use Rattle.workbench.specs.Turns.{call_in, call_of, calls_in, left_behind}
+use Rattle.workbench.specs.declared.stand.Stand.{Stand}
 use Rattle.workbench.specs.Watching.{Watches}
 use Rattle.workbench.proofs.PlayLemmas.{watches_none}
-use Rattle.workbench.proofs.PlayedLemmas.{call_of-short}
+use Rattle.workbench.proofs.PlayedLemmas.{deed_of-short}
 
 -- what a line says by what was read of it
-pub call_of-said : (line : List ℕ) (said : Result Said Fault) → length line ≤ longest_line → said ≡ said_of line → call_of line ≡ call_in said
-call_of-said line said short is = call_of-short line short ∙ ap call_in (sym is)
+pub call_of-said : (stand : Stand) (line : List ℕ) (said : Result Said Fault) → length line ≤ longest_line → said ≡ said_of line → call_of stand line ≡ call_in said
+call_of-said stand line said short is = ap calls_in (deed_of-short stand line short) ∙ ap call_in (sym is)
 
 -- what a watch has seen where it watches
 pub sees_on : {T E : Type 0} (r : Result T E) (seen : World → List (List ℕ) → Type 0) (start world : World) (calls : List (List ℕ)) → OnOk r (Watches seen start calls world) → OnOk r (seen start calls)
@@ -37,33 +39,33 @@ pub on_ok : {T E : Type 0} {P : Type 0} (judged : Result T E) → P → OnOk jud
 on_ok (Ok complained) p = p
 on_ok (Err fault) p = tt
 
-module _ (only : Option (List ℕ)) (line : List ℕ) (calls : List (List ℕ)) (says : call_of line ≡ calls) where
+module _ (only : Option (List ℕ)) (stand : Stand) (line : List ℕ) (calls : List (List ℕ)) (says : call_of stand line ≡ calls) where
   -- what a line's calls do the line does
-  pub left_said : (world left : World) → left ≡ after_all only world calls → left ≡ after_all only world (call_of line)
+  pub left_said : (world left : World) → left ≡ after_all only world calls → left ≡ left_behind only world stand line
   left_said world left is = is ∙ ap (after_all only world) (sym says)
 
   pub told_said : {T E : Type 0} (judged : Result T E) (tells : List (List ℕ) → ℕ → List ℕ → List ℕ) (earlier : List (List ℕ)) (number : ℕ) (w w' : Option (List ℕ)) (g g' : List ℕ) →
-      TellsUnless judged w g w' g' (told_of_calls tells earlier number (said_by only calls)) → TellsUnless judged w g w' g' (told_of_calls tells earlier number (said_by only (call_of line)))
+      TellsUnless judged w g w' g' (told_of_calls tells earlier number (said_by only calls)) → TellsUnless judged w g w' g' (told_of_calls tells earlier number (said_by only (call_of stand line)))
   told_said judged tells earlier number w w' g g' told = rw says told
 
   pub seen_said : {T E : Type 0} (judged : Result T E) (seen : World → List (List ℕ) → Type 0) (start left : World) (earlier : List (List ℕ)) →
-      OnOk judged (Watches seen start (earlier ++ said_by only calls) left) → OnOk judged (Watches seen start (earlier ++ said_by only (call_of line)) left)
+      OnOk judged (Watches seen start (earlier ++ said_by only calls) left) → OnOk judged (Watches seen start (earlier ++ said_by only (call_of stand line)) left)
   seen_said judged seen start left earlier sees = rw says sees
 
 -- a line that says no call changes nothing
-module _ (only : Option (List ℕ)) (line : List ℕ) (silent : call_of line ≡ []) where
-  pub left_silent : (world : World) → world ≡ after_all only world (call_of line)
-  left_silent world = left_said only line [] silent world world (sym (left_none only world))
+module _ (only : Option (List ℕ)) (stand : Stand) (line : List ℕ) (silent : call_of stand line ≡ []) where
+  pub left_silent : (world : World) → world ≡ left_behind only world stand line
+  left_silent world = left_said only stand line [] silent world world (sym (left_none only world))
 
   pub told_silent : {T E : Type 0} (judged : Result T E) (tells : List (List ℕ) → ℕ → List ℕ → List ℕ) (earlier : List (List ℕ)) (number : ℕ) (w : Option (List ℕ)) (g : List ℕ) →
-      TellsUnless judged w g w g (told_of_calls tells earlier number (said_by only (call_of line)))
+      TellsUnless judged w g w g (told_of_calls tells earlier number (said_by only (call_of stand line)))
   told_silent judged tells earlier number w g =
-      told_said only line [] silent judged tells earlier number w w g g (rw (said_none only) (judged_told judged (Tells-none w g)))
+      told_said only stand line [] silent judged tells earlier number w w g g (rw (said_none only) (judged_told judged (Tells-none w g)))
 
   pub seen_silent : {T E : Type 0} (judged : Result T E) {seen : World → List (List ℕ) → Type 0} {start world : World} {earlier : List (List ℕ)} →
-      Watches seen start earlier world → OnOk judged (Watches seen start (earlier ++ said_by only (call_of line)) world)
+      Watches seen start earlier world → OnOk judged (Watches seen start (earlier ++ said_by only (call_of stand line)) world)
   seen_silent judged watches =
-      on_ok judged (watches_none (said_by only (call_of line)) (ap (said_by only) silent ∙ said_none only) watches)
+      on_ok judged (watches_none (said_by only (call_of stand line)) (ap (said_by only) silent ∙ said_none only) watches)
 
 -- ---- what is complained of
 

@@ -14,6 +14,7 @@ mod peak_columns;
 mod peaks;
 mod playing;
 mod row;
+mod stand;
 mod text;
 mod tracing;
 mod transcript;

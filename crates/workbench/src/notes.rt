@@ -1,7 +1,9 @@
 //! What is kept of a play from line to line.
 ghost use Rattle.std.specs.Prelude.{◌≡◌, [], IfOk};
+ghost use Rattle.workbench.specs.Turns.{first_stand};
 
 use crate::critic::Critic;
+use crate::stand::Stand;
 use friendly_lines::Line;
 use pd_core::Reply;
 use scenario::Buffers;
@@ -11,8 +13,8 @@ use trade_base::NoMemory;
 /// What is kept from line to line, beside the machine.
 #[derive(Drop)]
 pub(crate) struct Notes<'a> {
-    /// The number of the line that is played, from 1 on.
-    pub number: u64,
+    /// Where the play is.
+    pub stand: Stand,
     /// What was read and not yet passed, and what was told and not yet written.
     pub buffers: Buffers,
     /// What a line is read and judged with.
@@ -33,11 +35,12 @@ pub(crate) struct Desk<'a> {
 impl<'a> Notes<'a> {
     /// What is kept before the first line of a scenario by its name.
     pub(crate) fn new(alloc: Global, scenario: &'a [u8]) -> Result<Notes<'a>, NoMemory>
+        ensures stand { IfOk result (λ notes. notes.stand ≡ first_stand) }
         ensures ahead { IfOk result (λ notes. notes.buffers.ahead ≡ []) }
         ensures gathered { IfOk result (λ notes. notes.buffers.gathered ≡ []) }
     {
         Ok(Notes {
-            number: 0,
+            stand: Stand::new(),
             buffers: Buffers::new(),
             desk: Desk {
                 room: Line::new(),

@@ -1,5 +1,5 @@
 //! The play: lines of the friendly form are read, answered, told and judged.
-ghost use Rattle.std.specs.Prelude.{◌≡◌, ◌+◌, ◌≤◌, ◌∷◌, ◌++◌, ◌||◌, ℕ, List, [], length, take, drop, IfSome, IfNone, IfOk, OnOk, None, false};
+ghost use Rattle.std.specs.Prelude.{◌≡◌, ◌+◌, ◌<◌, ◌≤◌, ◌^◌, ◌∷◌, ◌++◌, ◌||◌, ℕ, List, [], length, take, drop, IfSome, IfNone, IfOk, OnOk, None, false};
 ghost use Rattle.std.specs.Option.{option_copied};
 ghost use Rattle.std.specs.Result.{result_err};
 ghost use Rattle.own_model.specs.Listed.{start_list_of};
@@ -12,14 +12,16 @@ ghost use Rattle.scenario.specs.Answered.{after_all, point};
 ghost use Rattle.scenario.specs.Gathered.{TellsUnless};
 ghost use Rattle.scenario.specs.Read.{IsReadAs};
 ghost use Rattle.workbench.specs.Devices.{AllWork, OutputsWork};
-ghost use Rattle.workbench.specs.Faults.{Fails, fault_before, is_write_fault, line_takes_room, unplayed};
+ghost use Rattle.workbench.specs.Faults.{Fails, fault_before, is_write_fault, takes_in, unplayed};
 ghost use Rattle.workbench.specs.Judging.{IsJudged, awaited_after};
-ghost use Rattle.workbench.specs.Played.{call_of, told_of_calls};
+ghost use Rattle.workbench.specs.Played.{told_of_calls};
 ghost use Rattle.workbench.specs.Plays.{PlaysAll, PlaysNext, line_played};
+ghost use Rattle.workbench.specs.Turns.{StaysLow, call_of, deed_of, left_behind, low, next_stand};
 ghost use Rattle.workbench.specs.Watching.{Watches};
 
 use crate::ending::{Ending, PlayFault};
 use crate::notes::{Desk, Notes};
+use crate::stand::Stand;
 use crate::watch::{Heard, Watch};
 use friendly_lines::{Said, read_friendly};
 use pd_core::{Core, Reply, Router};
@@ -58,12 +60,13 @@ pub(crate) fn play<R: Router + Drop, W: Watch, S: Source, K: Sink, E: Sink>(
 ) -> Ending
     requires listed { core.old.entries ≡ entries_of (start_list_of run.now.list.now) }
     requires fresh { notes.old.buffers.ahead ≡ [] }
+    requires low { notes.old.stand.number ≤ low }
     requires empty { notes.old.buffers.gathered ≡ [] }
     ensures plays { fault_before (S.has_failed reader.old)
         (K.has_failed writer.old || E.has_failed complaints.old) ≡ None →
         W.sees watch.old run.now.list.now core.old [] →
         PlaysAll (W.tells watch.old core.old) W.takes (W.sees watch.new run.now.list.now core.old)
-        (option_copied run.now.only) result.fault result.lines core.old core.new front.now
+        (option_copied run.now.only) notes.old.stand result.fault result.lines core.old core.new front.now
         (S.remaining reader.old) (S.remaining reader.new) (S.has_failed reader.new)
         (K.contents writer.old) (K.contents writer.new) }
     ensures same { W.tells watch.new ≡ W.tells watch.old }
@@ -126,13 +129,14 @@ fn play_behind<R: Router + Drop, W: Watch, S: Source, K: Sink, E: Sink>(
 ) -> Result<(), PlayFault>
     requires listed { core.old.entries ≡ entries_of (start_list_of run.now.list.now) }
     requires fresh { notes.old.buffers.ahead ≡ [] }
+    requires low { notes.old.stand.number ≤ low }
     requires empty { notes.old.buffers.gathered ≡ [] }
     requires few { tally.old.lines ≤ MAX_LINES }
     requires works { AllWork (S.has_failed reader.old) (K.has_failed writer.old)
         (E.has_failed complaints.old) }
     ensures plays { W.sees watch.old run.now.list.now core.old [] →
         PlaysAll (W.tells watch.old core.old) W.takes (W.sees watch.new run.now.list.now core.old)
-        (option_copied run.now.only) (result_err result) tally.new.lines core.old core.new front.now
+        (option_copied run.now.only) notes.old.stand (result_err result) tally.new.lines core.old core.new front.now
         (S.remaining reader.old) (S.remaining reader.new) (S.has_failed reader.new)
         (K.contents writer.old) (K.contents writer.new) }
     ensures same { W.tells watch.new ≡ W.tells watch.old }
@@ -162,11 +166,12 @@ fn play_all<R: Router + Drop, W: Watch, S: Source, K: Sink, E: Sink>(
 ) -> Result<(), PlayFault>
     requires listed { core.old.entries ≡ entries_of (start_list_of run.now.list.now) }
     requires fresh { notes.old.buffers.ahead ≡ [] }
+    requires low { notes.old.stand.number ≤ low }
     requires works { AllWork (S.has_failed reader.old) (K.has_failed writer.old)
         (E.has_failed complaints.old) }
     ensures plays { W.sees watch.old run.now.list.now core.old [] →
         PlaysAll (W.tells watch.old core.old) W.takes (W.sees watch.new run.now.list.now core.old)
-        (option_copied run.now.only) (result_err result) tally.new.lines core.old core.new
+        (option_copied run.now.only) notes.old.stand (result_err result) tally.new.lines core.old core.new
         notes.old.buffers.gathered (S.remaining reader.old) (S.remaining reader.new)
         (S.has_failed reader.new) (K.contents writer.old) (K.contents writer.new) }
     ensures same { W.tells watch.new ≡ W.tells watch.old }
@@ -180,7 +185,6 @@ fn play_all<R: Router + Drop, W: Watch, S: Source, K: Sink, E: Sink>(
     tally.lines = 0;
     tally.complaints = 0;
     for count in 0..MAX_LINES {
-        notes.number = count + 1;
         match play_next(run, core, notes, watch, reader, writer, complaints) {
             Ok(Played::Line { complained }) => {
                 tally.lines = count + 1;
@@ -224,14 +228,16 @@ fn play_next<R: Router + Drop, W: Watch, S: Source, K: Sink, E: Sink>(
     complaints: &mut E,
 ) -> Result<Played, PlayFault>
     requires listed { core.old.entries ≡ entries_of (start_list_of run.now.list.now) }
+    requires low { notes.old.stand.number < 2 ^ 63 }
     requires works { AllWork (S.has_failed reader.old) (K.has_failed writer.old)
         (E.has_failed complaints.old) }
     ensures next { (start : World) (earlier : List (List ℕ)) →
         Watches (W.sees watch.old run.now.list.now) start earlier core.old →
         PlaysNext (W.tells watch.old start) W.takes (W.sees watch.new run.now.list.now start)
-        (option_copied run.now.only) notes.old.number earlier result (S.has_failed reader.new)
+        (option_copied run.now.only) notes.old.stand notes.new.stand earlier result (S.has_failed reader.new)
         (point core.old notes.old.buffers (S.remaining reader.old) (K.contents writer.old))
         (point core.new notes.new.buffers (S.remaining reader.new) (K.contents writer.new)) }
+    ensures low { OnOk result (StaysLow notes.old.stand notes.new.stand) }
     ensures same { W.tells watch.new ≡ W.tells watch.old }
     ensures held { W.holds watch.new ≡ W.holds watch.old }
     ensures listed { core.new.entries ≡ core.old.entries }
@@ -244,7 +250,11 @@ fn play_next<R: Router + Drop, W: Watch, S: Source, K: Sink, E: Sink>(
         Ok(Next::Line(count)) => {
             line_played(play_ahead(run, core, notes, count, watch, writer, complaints))
         }
-        Ok(Next::TooLong) => line_played(notes.desk.critic.tell_too_long(notes.number, complaints)),
+        Ok(Next::TooLong) => {
+            let number = notes.stand.number;
+            notes.stand.number = number + 1;
+            line_played(notes.desk.critic.tell_too_long(number, complaints))
+        }
         Ok(Next::End) => Ok(Played::End),
         Err(fault) => Err(PlayFault::from(fault)),
     }
@@ -274,32 +284,36 @@ fn play_ahead<R: Router + Drop, W: Watch, K: Sink, E: Sink>(
     requires inside { count ≤ length notes.old.buffers.ahead }
     requires short { count ≤ LONGEST_LINE }
     requires listed { core.old.entries ≡ entries_of (start_list_of run.now.list.now) }
+    requires low { notes.old.stand.number < 2 ^ 63 }
     requires works { OutputsWork (K.has_failed writer.old) (E.has_failed complaints.old) }
-    ensures world { core.new ≡ after_all (option_copied run.now.only) core.old
-        (call_of (take count notes.old.buffers.ahead)) }
+    ensures world { core.new ≡ left_behind (option_copied run.now.only) core.old notes.old.stand
+        (take count notes.old.buffers.ahead) }
     ensures passed { notes.new.buffers.ahead ≡ drop (count + 1) notes.old.buffers.ahead }
     ensures told { (start : World) (earlier : List (List ℕ)) →
         Watches (W.sees watch.old run.now.list.now) start earlier core.old →
         TellsUnless result (K.contents writer.old) notes.old.buffers.gathered
         (K.contents writer.new) notes.new.buffers.gathered
-        (told_of_calls (W.tells watch.old start) earlier notes.old.number
-        (said_by (option_copied run.now.only) (call_of (take count notes.old.buffers.ahead)))) }
+        (told_of_calls (W.tells watch.old start) earlier notes.old.stand.number
+        (said_by (option_copied run.now.only) (call_of notes.old.stand (take count notes.old.buffers.ahead)))) }
     ensures seen { (start : World) (earlier : List (List ℕ)) →
         Watches (W.sees watch.old run.now.list.now) start earlier core.old →
         OnOk result (Watches (W.sees watch.new run.now.list.now) start
-        (earlier ++ said_by (option_copied run.now.only) (call_of (take count notes.old.buffers.ahead))) core.new) }
+        (earlier ++ said_by (option_copied run.now.only) (call_of notes.old.stand (take count notes.old.buffers.ahead))) core.new) }
+    ensures stands { OnOk result (notes.new.stand ≡ next_stand (option_copied run.now.only) core.old
+        notes.old.stand (take count notes.old.buffers.ahead)) }
+    ensures low { OnOk result (StaysLow notes.old.stand notes.new.stand) }
     ensures same { W.tells watch.new ≡ W.tells watch.old }
     ensures held { W.holds watch.new ≡ W.holds watch.old }
     ensures works { OnOk result (OutputsWork (K.has_failed writer.new)
         (E.has_failed complaints.new)) }
     ensures failing { Fails result (K.has_failed writer.new || E.has_failed complaints.new)
-        (line_takes_room W.takes (take count notes.old.buffers.ahead)) }
+        (takes_in W.takes (deed_of notes.old.stand (take count notes.old.buffers.ahead))) }
 {
     let line = &notes.buffers.ahead.ahead()[..count];
     let judged = play_line(
         run,
         core,
-        notes.number,
+        &mut notes.stand,
         line,
         &mut notes.desk,
         watch,
@@ -315,7 +329,7 @@ fn play_ahead<R: Router + Drop, W: Watch, K: Sink, E: Sink>(
 fn play_line<R: Router + Drop, W: Watch, K: Sink, E: Sink>(
     run: &Run<'_>,
     core: &mut Core<R>,
-    number: u64,
+    stand: &mut Stand,
     line: &[u8],
     desk: &mut Desk<'_>,
     watch: &mut W,
@@ -325,28 +339,34 @@ fn play_line<R: Router + Drop, W: Watch, K: Sink, E: Sink>(
 ) -> Result<bool, PlayFault>
     requires short { length line.now ≤ LONGEST_LINE }
     requires listed { core.old.entries ≡ entries_of (start_list_of run.now.list.now) }
+    requires low { stand.old.number < 2 ^ 63 }
     requires works { OutputsWork (K.has_failed writer.old) (E.has_failed complaints.old) }
-    ensures world { core.new ≡ after_all (option_copied run.now.only) core.old (call_of line.now) }
+    ensures world { core.new ≡ left_behind (option_copied run.now.only) core.old stand.old line.now }
     ensures told { (start : World) (earlier : List (List ℕ)) →
         Watches (W.sees watch.old run.now.list.now) start earlier core.old →
         TellsUnless result (K.contents writer.old) gathered.old (K.contents writer.new) gathered.new
-        (told_of_calls (W.tells watch.old start) earlier number
-        (said_by (option_copied run.now.only) (call_of line.now))) }
+        (told_of_calls (W.tells watch.old start) earlier stand.old.number
+        (said_by (option_copied run.now.only) (call_of stand.old line.now))) }
     ensures seen { (start : World) (earlier : List (List ℕ)) →
         Watches (W.sees watch.old run.now.list.now) start earlier core.old →
         OnOk result (Watches (W.sees watch.new run.now.list.now) start
-        (earlier ++ said_by (option_copied run.now.only) (call_of line.now)) core.new) }
+        (earlier ++ said_by (option_copied run.now.only) (call_of stand.old line.now)) core.new) }
+    ensures stands { OnOk result (stand.new
+        ≡ next_stand (option_copied run.now.only) core.old stand.old line.now) }
+    ensures low { OnOk result (StaysLow stand.old stand.new) }
     ensures same { W.tells watch.new ≡ W.tells watch.old }
     ensures held { W.holds watch.new ≡ W.holds watch.old }
     ensures works { OnOk result (OutputsWork (K.has_failed writer.new)
         (E.has_failed complaints.new)) }
     ensures failing { Fails result (K.has_failed writer.new || E.has_failed complaints.new)
-        (line_takes_room W.takes line.now) }
+        (takes_in W.takes (deed_of stand.old line.now)) }
     ensures judged { IfOk result (IsJudged (option_copied run.now.only) core.old (said_of line.now)
         desk.old.critic.expected) }
     ensures expects { OnOk result (desk.new.critic.expected
-        ≡ awaited_after number (said_of line.now) desk.old.critic.expected) }
+        ≡ awaited_after stand.old.number (said_of line.now) desk.old.critic.expected) }
 {
+    let number = stand.number;
+    stand.number = number + 1;
     match read_friendly(line, &mut desk.room) {
         Ok(Said::Nothing) => Ok(false),
         Ok(Said::Log(text)) => desk.critic.expect_line(number, text),

@@ -16,48 +16,48 @@ failed fault = Err fault
 
 pub returns-in-Ok-Nothing-clause-told : goal.returns-in-Ok-Nothing-clause-told
 returns-in-Ok-Nothing-clause-told g c = λ start earlier watches.
-    told_silent (option_copied c.args.run.now.only) c.args.line.now (call_of-said c.args.line.now _ c.requires.short (ap (λ s. says (Ok s)) (sym c.in-Ok-Nothing.field-0-is) ∙ c.in-Ok-Nothing.ensures.value))
-    silent_ok (g.W.Watch.tells c.args.watch.now start) earlier c.args.number _ _
+    told_silent (option_copied c.args.run.now.only) c.args.stand.now c.args.line.now (call_of-said c.args.stand.now c.args.line.now _ c.requires.short (ap (λ s. says (Ok s)) (sym c.in-Ok-Nothing.field-0-is) ∙ c.in-Ok-Nothing.ensures.value))
+    silent_ok (g.W.Watch.tells c.args.watch.now start) earlier c.args.stand.now.number _ _
 
 pub returns-in-Ok-Log-clause-told : goal.returns-in-Ok-Log-clause-told
 returns-in-Ok-Log-clause-told g c = λ start earlier watches.
-    told_silent (option_copied c.args.run.now.only) c.args.line.now (call_of-said c.args.line.now _ c.requires.short (ap (λ s. says (Ok s)) (sym c.in-Ok-Log.field-0-is) ∙ c.in-Ok-Log.ensures.value))
-    c.expect_line.result (g.W.Watch.tells c.args.watch.now start) earlier c.args.number _ _
+    told_silent (option_copied c.args.run.now.only) c.args.stand.now c.args.line.now (call_of-said c.args.stand.now c.args.line.now _ c.requires.short (ap (λ s. says (Ok s)) (sym c.in-Ok-Log.field-0-is) ∙ c.in-Ok-Log.ensures.value))
+    c.expect_line.result (g.W.Watch.tells c.args.watch.now start) earlier c.args.stand.now.number _ _
 
 pub returns-in-Ok-clause-told : goal.returns-in-Ok-clause-told
 returns-in-Ok-clause-told g c = λ start earlier watches.
-    told_said (option_copied c.args.run.now.only) c.args.line.now _ (call_of-said c.args.line.now _ c.requires.short (ap (λ s. says (Ok s)) (sym c.in-Ok-Call.field-0-is) ∙ c.in-Ok-Call.ensures.value))
-    c.judge.result (g.W.Watch.tells c.args.watch.now start) earlier c.args.number _ _ _ _ (judged_told c.judge.result (c.in-Ok.ensures.told start earlier watches))
+    told_said (option_copied c.args.run.now.only) c.args.stand.now c.args.line.now _ (call_of-said c.args.stand.now c.args.line.now _ c.requires.short (ap (λ s. says (Ok s)) (sym c.in-Ok-Call.field-0-is) ∙ c.in-Ok-Call.ensures.value))
+    c.judge.result (g.W.Watch.tells c.args.watch.now start) earlier c.args.stand.now.number _ _ _ _ (judged_told c.judge.result (c.in-Ok.ensures.told start earlier watches))
 
 pub returns-in-Err-answer_call-clause-told : goal.returns-in-Err-answer_call-clause-told
 returns-in-Err-answer_call-clause-told g c = λ start earlier watches.
-    told_said (option_copied c.args.run.now.only) c.args.line.now _ (call_of-said c.args.line.now _ c.requires.short (ap (λ s. says (Ok s)) (sym c.in-Ok-Call.field-0-is) ∙ c.in-Ok-Call.ensures.value))
-    (failed c.in-Err-answer_call.fault) (g.W.Watch.tells c.args.watch.now start) earlier c.args.number _ _ _ c.args.gathered.now (c.in-Err-answer_call.ensures.told start earlier watches)
+    told_said (option_copied c.args.run.now.only) c.args.stand.now c.args.line.now _ (call_of-said c.args.stand.now c.args.line.now _ c.requires.short (ap (λ s. says (Ok s)) (sym c.in-Ok-Call.field-0-is) ∙ c.in-Ok-Call.ensures.value))
+    (failed c.in-Err-answer_call.fault) (g.W.Watch.tells c.args.watch.now start) earlier c.args.stand.now.number _ _ _ c.args.gathered.now (c.in-Err-answer_call.ensures.told start earlier watches)
 
 pub returns-in-Err-clause-told : goal.returns-in-Err-clause-told
 returns-in-Err-clause-told g c = λ start earlier watches.
-    told_silent (option_copied c.args.run.now.only) c.args.line.now (call_of-said c.args.line.now _ c.requires.short c.in-Err.ensures.value)
-    c.tell_unread.result (g.W.Watch.tells c.args.watch.now start) earlier c.args.number _ _
+    told_silent (option_copied c.args.run.now.only) c.args.stand.now c.args.line.now (call_of-said c.args.stand.now c.args.line.now _ c.requires.short c.in-Err.ensures.value)
+    c.tell_unread.result (g.W.Watch.tells c.args.watch.now start) earlier c.args.stand.now.number _ _
 
 -- what the watch has seen of it
 pub returns-in-Ok-Nothing-clause-seen : goal.returns-in-Ok-Nothing-clause-seen
 returns-in-Ok-Nothing-clause-seen g c = λ start earlier watches.
-    seen_silent (option_copied c.args.run.now.only) c.args.line.now (call_of-said c.args.line.now _ c.requires.short (ap (λ s. says (Ok s)) (sym c.in-Ok-Nothing.field-0-is) ∙ c.in-Ok-Nothing.ensures.value))
+    seen_silent (option_copied c.args.run.now.only) c.args.stand.now c.args.line.now (call_of-said c.args.stand.now c.args.line.now _ c.requires.short (ap (λ s. says (Ok s)) (sym c.in-Ok-Nothing.field-0-is) ∙ c.in-Ok-Nothing.ensures.value))
     silent_ok watches
 
 pub returns-in-Ok-Log-clause-seen : goal.returns-in-Ok-Log-clause-seen
 returns-in-Ok-Log-clause-seen g c = λ start earlier watches.
-    seen_silent (option_copied c.args.run.now.only) c.args.line.now (call_of-said c.args.line.now _ c.requires.short (ap (λ s. says (Ok s)) (sym c.in-Ok-Log.field-0-is) ∙ c.in-Ok-Log.ensures.value))
+    seen_silent (option_copied c.args.run.now.only) c.args.stand.now c.args.line.now (call_of-said c.args.stand.now c.args.line.now _ c.requires.short (ap (λ s. says (Ok s)) (sym c.in-Ok-Log.field-0-is) ∙ c.in-Ok-Log.ensures.value))
     c.expect_line.result watches
 
 pub returns-in-Ok-clause-seen : goal.returns-in-Ok-clause-seen
 returns-in-Ok-clause-seen g c = λ start earlier watches.
-    seen_said (option_copied c.args.run.now.only) c.args.line.now _ (call_of-said c.args.line.now _ c.requires.short (ap (λ s. says (Ok s)) (sym c.in-Ok-Call.field-0-is) ∙ c.in-Ok-Call.ensures.value))
+    seen_said (option_copied c.args.run.now.only) c.args.stand.now c.args.line.now _ (call_of-said c.args.stand.now c.args.line.now _ c.requires.short (ap (λ s. says (Ok s)) (sym c.in-Ok-Call.field-0-is) ∙ c.in-Ok-Call.ensures.value))
     c.judge.result (g.W.Watch.sees c.answer_call.new.watch c.args.run.now.list.now) start c.answer_call.new.core earlier (on_ok c.judge.result (c.in-Ok.ensures.seen start earlier watches))
 
 pub returns-in-Err-clause-seen : goal.returns-in-Err-clause-seen
 returns-in-Err-clause-seen g c = λ start earlier watches.
-    seen_silent (option_copied c.args.run.now.only) c.args.line.now (call_of-said c.args.line.now _ c.requires.short c.in-Err.ensures.value) c.tell_unread.result watches
+    seen_silent (option_copied c.args.run.now.only) c.args.stand.now c.args.line.now (call_of-said c.args.stand.now c.args.line.now _ c.requires.short c.in-Err.ensures.value) c.tell_unread.result watches
 
 -- which faults come of it
 pub returns-in-Ok-Nothing-clause-failing : goal.returns-in-Ok-Nothing-clause-failing
@@ -66,7 +66,7 @@ returns-in-Ok-Nothing-clause-failing g c = or_none _ _ c.requires.works.writes c
 pub returns-in-Ok-Log-clause-failing : goal.returns-in-Ok-Log-clause-failing
 returns-in-Ok-Log-clause-failing g c =
     fails_for_room c.expect_line.result _ _ (or_none _ _ c.requires.works.writes c.requires.works.complains)
-    (line_takes g.W.Watch.takes c.args.line.now _ c.requires.short (ap (λ s. says (Ok s)) (sym c.in-Ok-Log.field-0-is) ∙ c.in-Ok-Log.ensures.value) refl) c.expect_line.ensures.fault
+    (line_takes g.W.Watch.takes c.args.stand.now c.args.line.now _ c.requires.short (ap (λ s. says (Ok s)) (sym c.in-Ok-Log.field-0-is) ∙ c.in-Ok-Log.ensures.value) refl) c.expect_line.ensures.fault
 
 pub returns-in-Ok-clause-failing : goal.returns-in-Ok-clause-failing
 returns-in-Ok-clause-failing g c = fails_beside c.judge.result _ _ false _ c.in-Ok.ensures.works c.judge.ensures.failing (λ takes. cc)
@@ -74,12 +74,12 @@ returns-in-Ok-clause-failing g c = fails_beside c.judge.result _ _ false _ c.in-
 pub returns-in-Err-answer_call-clause-failing : goal.returns-in-Err-answer_call-clause-failing
 returns-in-Err-answer_call-clause-failing g c =
     fails_before (failed c.in-Err-answer_call.fault) _ _ g.W.Watch.takes _ c.requires.works.complains c.in-Err-answer_call.ensures.failing
-    (λ takes. line_takes g.W.Watch.takes c.args.line.now _ c.requires.short (ap (λ s. says (Ok s)) (sym c.in-Ok-Call.field-0-is) ∙ c.in-Ok-Call.ensures.value) takes)
+    (λ takes. line_takes g.W.Watch.takes c.args.stand.now c.args.line.now _ c.requires.short (ap (λ s. says (Ok s)) (sym c.in-Ok-Call.field-0-is) ∙ c.in-Ok-Call.ensures.value) takes)
 
 pub returns-in-Err-clause-failing : goal.returns-in-Err-clause-failing
 returns-in-Err-clause-failing g c =
     fails_beside c.tell_unread.result _ _ _ _ c.requires.works.writes c.tell_unread.ensures.failing
-    (λ takes. line_takes g.W.Watch.takes c.args.line.now _ c.requires.short c.in-Err.ensures.value refl)
+    (λ takes. line_takes g.W.Watch.takes c.args.stand.now c.args.line.now _ c.requires.short c.in-Err.ensures.value refl)
 
 -- what is complained of, and what is expected then
 pub returns-in-Ok-Nothing-clause-judged : goal.returns-in-Ok-Nothing-clause-judged
@@ -89,7 +89,7 @@ returns-in-Ok-Nothing-clause-judged g c =
 
 pub returns-in-Ok-Nothing-clause-expects : goal.returns-in-Ok-Nothing-clause-expects
 returns-in-Ok-Nothing-clause-expects g c =
-    expects_by (Ok false) c.args.number c.args.line.now _ _ _ (ap (λ s. says (Ok s)) (sym c.in-Ok-Nothing.field-0-is) ∙ c.in-Ok-Nothing.ensures.value) refl
+    expects_by (Ok false) c.args.stand.now.number c.args.line.now _ _ _ (ap (λ s. says (Ok s)) (sym c.in-Ok-Nothing.field-0-is) ∙ c.in-Ok-Nothing.ensures.value) refl
 
 pub returns-in-Ok-Log-clause-judged : goal.returns-in-Ok-Log-clause-judged
 returns-in-Ok-Log-clause-judged g c =
@@ -98,7 +98,7 @@ returns-in-Ok-Log-clause-judged g c =
 
 pub returns-in-Ok-Log-clause-expects : goal.returns-in-Ok-Log-clause-expects
 returns-in-Ok-Log-clause-expects g c =
-    expects_by c.expect_line.result c.args.number c.args.line.now _ _ _ (ap (λ s. says (Ok s)) (sym c.in-Ok-Log.field-0-is) ∙ c.in-Ok-Log.ensures.value) c.expect_line.ensures.expects
+    expects_by c.expect_line.result c.args.stand.now.number c.args.line.now _ _ _ (ap (λ s. says (Ok s)) (sym c.in-Ok-Log.field-0-is) ∙ c.in-Ok-Log.ensures.value) c.expect_line.ensures.expects
 
 pub returns-in-Ok-clause-judged : goal.returns-in-Ok-clause-judged
 returns-in-Ok-clause-judged g c =
@@ -107,7 +107,7 @@ returns-in-Ok-clause-judged g c =
 
 pub returns-in-Ok-clause-expects : goal.returns-in-Ok-clause-expects
 returns-in-Ok-clause-expects g c =
-    expects_by c.judge.result c.args.number c.args.line.now _ _ _ (ap (λ s. says (Ok s)) (sym c.in-Ok-Call.field-0-is) ∙ c.in-Ok-Call.ensures.value)
+    expects_by c.judge.result c.args.stand.now.number c.args.line.now _ _ _ (ap (λ s. says (Ok s)) (sym c.in-Ok-Call.field-0-is) ∙ c.in-Ok-Call.ensures.value)
     (on_ok c.judge.result c.judge.ensures.forgets)
 
 pub returns-in-Err-clause-judged : goal.returns-in-Err-clause-judged
@@ -116,4 +116,4 @@ returns-in-Err-clause-judged g c =
 
 pub returns-in-Err-clause-expects : goal.returns-in-Err-clause-expects
 returns-in-Err-clause-expects g c =
-    expects_by c.tell_unread.result c.args.number c.args.line.now _ _ _ c.in-Err.ensures.value (on_ok c.tell_unread.result c.tell_unread.ensures.keeps)
+    expects_by c.tell_unread.result c.args.stand.now.number c.args.line.now _ _ _ c.in-Err.ensures.value (on_ok c.tell_unread.result c.tell_unread.ensures.keeps)
