@@ -1,5 +1,5 @@
 -- When a reply is one that is expected.
-use Rattle.std.specs.Prelude.{ℕ, ◌+◌, ◌==◌, ◌&&◌, ◌||◌, not, Bool, true, false, List, [], ◌∷◌, length, take, drop, codes, nat_eq, nat_lt, position, slice_index, if◌then◌else◌, Option, Some, None}
+use Rattle.std.specs.Prelude.{ℕ, ◌+◌, ◌==◌, ◌&&◌, ◌||◌, not, Bool, true, false, List, [], ◌∷◌, length, take, drop, codes, zero, suc, nat_eq, nat_lt, position, slice_index, if◌then◌else◌, Option, Some, None}
 use Rattle.std.specs.Char.{is_ascii_digit, is_ascii_uppercase}
 use Rattle.std.specs.List.{position_or_len, starts_with}
 use Rattle.std.specs.Option.{option_and_then, option_map, option_map_or}
@@ -47,6 +47,17 @@ reply_behind begins [] reply = Some reply
 reply_behind begins (b ∷ more) reply =
     if nat_lt 0 (bytes_for begins b more reply)
     then reply_behind (is_blank b) more (drop (bytes_for begins b more reply) reply) else None
+
+-- what stands in a reply for the byte at a place of what is expected
+abbrev pub stands_from : ℕ → Bool → List ℕ → List ℕ → List ℕ
+stands_from place begins [] reply = []
+stands_from zero begins (b ∷ more) reply = take (bytes_for begins b more reply) reply
+stands_from (suc place) begins (b ∷ more) reply =
+    stands_from place (is_blank b) more (drop (bytes_for begins b more reply) reply)
+
+-- and the whole reply for a star alone
+abbrev pub stands_for : List ℕ → List ℕ → ℕ → List ℕ
+stands_for reply expected place = if bytes_eq expected (codes "*") then reply else stands_from place true expected reply
 
 -- a reply begins so and ends so
 abbrev pub meets_both : List ℕ → List ℕ → List ℕ → Bool

@@ -5,7 +5,7 @@ ghost use Rattle.std.specs.Char.{is_ascii_digit};
 ghost use Rattle.std.specs.Option.{option_copied};
 ghost use Rattle.std.specs.Str.{bytes_eq};
 ghost use Rattle.own_model.specs.Reply.{hex_text};
-ghost use Rattle.friendly_lines.specs.Expected.{bytes_for, is_refusal, is_word_end, meets, meets_both, meets_words, reply_behind, written_fault, written_in};
+ghost use Rattle.friendly_lines.specs.Expected.{bytes_for, is_refusal, is_word_end, meets, meets_both, meets_words, reply_behind, stands_for, written_fault, written_in};
 ghost use Rattle.friendly_lines.specs.Expectations.{IsExact, RefusalsAreTold};
 ghost use Rattle.friendly_lines.specs.Signs.{bytes_of};
 ghost use Rattle.friendly_lines.specs.Views.{written_view};
@@ -116,6 +116,27 @@ fn reply_behind<'a>(reply: &'a [u8], expected: &[u8]) -> Option<&'a [u8]>
         begins = is_blank(*byte);
     }
     Some(left)
+}
+
+/// What stands in a reply for the byte at a place of what is expected of it: for a star the word or the number that it stands
+/// for, and for a star alone the reply.
+pub fn stands_for<'a>(reply: &'a [u8], expected: &[u8], place: usize) -> &'a [u8]
+    ensures { result.now ≡ stands_for reply.now expected.now place }
+{
+    if expected == b"*".as_slice() {
+        return reply;
+    }
+    let mut left = reply;
+    let mut begins = true;
+    for (i, byte) in expected.iter().enumerate() {
+        let count = bytes_for(begins, *byte, behind(expected, i + 1), left);
+        if i == place {
+            return &left[..count];
+        }
+        left = behind(left, count);
+        begins = is_blank(*byte);
+    }
+    b""
 }
 
 // For how many bytes of a reply the first byte of what is expected stands.

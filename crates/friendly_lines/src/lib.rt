@@ -15,9 +15,11 @@ mod signs;
 mod why;
 mod words;
 
-pub use expected::meets;
+pub use expected::{meets, stands_for};
 pub use fault::{Fault, Reason};
 pub use forms::Form;
 pub use laws::calls_are_calls;
 pub use line::Line;
-pub use reading::{Said, end_of, read_friendly};
+pub use quotes::arrow_of;
+pub use reading::{Said, end_of, read_friendly, signs_of};
+pub use words::{next_word, skip_blanks};

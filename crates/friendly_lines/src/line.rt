@@ -45,7 +45,7 @@ impl Line {
     }
 
     /// Takes all bytes out.
-    pub(crate) fn clear(&mut self)
+    pub fn clear(&mut self)
         ensures { self.new ≡ Some [] }
     {
         self.len = 0;
@@ -53,7 +53,7 @@ impl Line {
     }
 
     /// The bytes, or nothing where more were put in than there is room for.
-    pub(crate) fn text(&self) -> Option<&[u8]>
+    pub fn text(&self) -> Option<&[u8]>
         ensures value { option_copied result ≡ self.now }
         ensures short { IfSome result (λ text. length text.now ≤ longest_line) }
     {
@@ -66,7 +66,7 @@ impl Line {
 
     /// Puts bytes at the end.
     #[tactic(auto, unfolding(crate::specs::Written::added))]
-    pub(crate) fn put(&mut self, more: &[u8])
+    pub fn put(&mut self, more: &[u8])
         ensures { self.new ≡ added self.old more.now }
     {
         if more.len() > LONGEST - self.len {

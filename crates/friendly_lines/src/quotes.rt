@@ -85,6 +85,14 @@ pub(crate) fn marks_of(text: &[u8]) -> Marks
     Marks { end, arrow, quote }
 }
 
+/// Where a text has its last arrow outside of quotes, with the blank before it.
+pub fn arrow_of(text: &[u8]) -> Option<usize>
+    ensures place { result ≡ last_outside is_arrow Quoting.Outside text.now }
+    ensures inside { IfSome result (λ n. n + 4 ≤ length text.now) }
+{
+    marks_of(text).arrow
+}
+
 // A place outside of quotes where something is, or else the one before.
 fn last_place(is_outside: bool, is_here: bool, place: usize, before: Option<usize>) -> Option<usize>
     ensures { result ≡ (if is_outside && is_here then Some place else before) }

@@ -4,7 +4,7 @@ ghost use Rattle.std.specs.Option.{option_copied, option_map, option_or};
 ghost use Rattle.own_model.specs.Call.{spoken};
 ghost use Rattle.own_model.specs.Transcript.{longest_line};
 ghost use Rattle.scenario.specs.Read.{IsReadAs};
-ghost use Rattle.friendly_lines.specs.Friendly.{end_of, expects_bad_line, fault_behind, fault_in, no_call, said_of, said_of_both, said_of_call, said_of_line, said_of_signs, said_of_text, without_comment, without_mark, without_return};
+ghost use Rattle.friendly_lines.specs.Friendly.{end_of, expects_bad_line, fault_behind, fault_in, no_call, said_of, said_of_both, said_of_call, said_of_line, said_of_signs, said_of_text, signs_of, without_comment, without_mark, without_return};
 ghost use Rattle.friendly_lines.specs.Friendly.Said.{Call};
 ghost use Rattle.friendly_lines.specs.Handed.{HandsOn};
 ghost use Rattle.friendly_lines.specs.Laws.{IsPlain, LaterFormsAreMarked};
@@ -64,7 +64,7 @@ fn said_of<'a>(line: &'a [u8], room: &'a mut Line) -> Result<Said<'a>, Fault>
     ensures value { says result ≡ said_of line.now }
     ensures read { HandsOn result }
 {
-    let signs = skip_blanks(without_mark(line));
+    let signs = signs_of(line);
     said_of_signs(line.len() - signs.len() + 1, signs, room)
 }
 
@@ -73,8 +73,16 @@ fn said_of<'a>(line: &'a [u8], room: &'a mut Line) -> Result<Said<'a>, Fault>
 pub fn end_of(line: &[u8]) -> usize
     ensures { result ≡ end_of line.now }
 {
-    let signs = skip_blanks(without_mark(line));
+    let signs = signs_of(line);
     line.len() - signs.len() + without_comment(without_return(signs)).len()
+}
+
+/// What stands from a line's first sign on: behind a byte order mark and blanks.
+pub fn signs_of(line: &[u8]) -> &[u8]
+    ensures value { result.now ≡ signs_of line.now }
+    ensures within { length result.now ≤ length line.now }
+{
+    skip_blanks(without_mark(line))
 }
 
 // What stands behind a byte order mark, where a line begins with one.

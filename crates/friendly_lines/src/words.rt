@@ -20,7 +20,7 @@ pub(crate) fn behind(text: &[u8], count: usize) -> &[u8]
 
 /// A text without the blanks at its front.
 #[tactic(auto, using(crate::proofs::WordLemmas::skipped))]
-pub(crate) fn skip_blanks(text: &[u8]) -> &[u8]
+pub fn skip_blanks(text: &[u8]) -> &[u8]
     ensures value { result.now ≡ skip_blanks text.now }
     ensures within { length result.now ≤ length text.now }
 {
@@ -29,7 +29,7 @@ pub(crate) fn skip_blanks(text: &[u8]) -> &[u8]
 
 /// The first word of a text, whatever blanks stand before it, and what follows it.
 #[tactic(auto, using(crate::proofs::WordLemmas::parts))]
-pub(crate) fn next_word(text: &[u8]) -> (&[u8], &[u8])
+pub fn next_word(text: &[u8]) -> (&[u8], &[u8])
     ensures word { result.0.now ≡ (next_word text.now).word }
     ensures rest { result.1.now ≡ (next_word text.now).rest }
     ensures within { length result.1.now ≤ length text.now }

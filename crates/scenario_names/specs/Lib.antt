@@ -1,0 +1,9 @@
+pub mod Names
+pub mod Known
+pub mod Bindings
+pub mod Sums
+pub mod Filling
+pub mod Learning
+pub mod Directives
+pub mod Views
+pub mod Laws

@@ -1,0 +1,39 @@
+-- Names in a text.
+use Rattle.std.specs.Prelude.{ℕ, ◌+◌, ◌==◌, ◌&&◌, ◌||◌, not, Bool, List, length, take, drop, nat_eq, slice_index, if◌then◌else◌}
+use Rattle.std.specs.Char.{is_ascii_alphabetic, is_ascii_alphanumeric}
+use Rattle.std.specs.List.{position_or_len}
+
+-- a name begins with a letter or `_`, and goes on with letters, digits and `_`
+abbrev pub begins_name : List ℕ → Bool
+begins_name text = is_ascii_alphabetic (slice_index text 0) || slice_index text 0 == 95
+
+abbrev pub is_name_byte : ℕ → Bool
+is_name_byte b = is_ascii_alphanumeric b || b == 95
+
+-- how many bytes at the front of a text may stand in a name
+abbrev pub name_length : List ℕ → ℕ
+name_length text = position_or_len (λ b. not (is_name_byte b)) text
+
+abbrev pub is_name : List ℕ → Bool
+is_name word = begins_name word && nat_eq (name_length word) (length word)
+
+-- what a `$` begins, by what stands behind it: nothing, so that it stands for itself; `$$`; a name, with how many bytes stand
+-- behind the `$` up to its end; or a brace that isn't closed or has no name
+pub data Sign : Type 0 where
+  Alone : Sign
+  Doubled : Sign
+  Named : List ℕ → ℕ → Sign
+  Broken : Sign
+
+-- a name behind `${`, with its brace
+abbrev pub braced : List ℕ → Sign
+braced text =
+    if begins_name text && slice_index text (name_length text) == 125
+    then Named (take (name_length text) text) (name_length text + 2) else Broken
+
+abbrev pub sign_of : List ℕ → Sign
+sign_of text =
+    if slice_index text 0 == 36 then Doubled
+    else (if slice_index text 0 == 123 then braced (drop 1 text)
+    else (if begins_name text then Named (take (name_length text) text) (name_length text)
+    else Alone))

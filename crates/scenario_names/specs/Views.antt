@@ -1,0 +1,114 @@
+-- What contracts see of pieces, lines and directives, by their bytes.
+use Rattle.std.specs.Prelude.{ℕ, List, map, Option, Some, None, Result, Ok, Err}
+use Rattle.std.specs.Option.{option_copied}
+use Rattle.scenario_names.specs.Directives.{Directive, Round}
+use Rattle.scenario_names.specs.Directives.Directive as said
+use Rattle.scenario_names.specs.Filling.{Filled, Hole, Made, Piece, Zone}
+use Rattle.scenario_names.specs.Known.{Binding}
+use Rattle.scenario_names.specs.Names.{Sign}
+use Rattle.scenario_names.specs.Names.Sign as mark
+use Rattle.scenario_names.specs.declared.directives.Counter.{Counter}
+use Rattle.scenario_names.specs.declared.directives.Round.{Round as Turn}
+use Rattle.scenario_names.specs.declared.directives.Directive.{Directive as Told}
+use Rattle.scenario_names.specs.declared.directives.Directive.TheVariants as told
+use Rattle.scenario_names.specs.declared.fault.NameFault.{NameFault}
+use Rattle.scenario_names.specs.declared.fault.NameReason.{NameReason}
+use Rattle.scenario_names.specs.declared.filling.Filled.{Filled as Line}
+use Rattle.scenario_names.specs.declared.holes.Hole.{Hole as Star}
+use Rattle.scenario_names.specs.declared.holes.Zone.{Zone as Place}
+use Rattle.scenario_names.specs.declared.names.Sign.{Sign as Mark}
+use Rattle.scenario_names.specs.declared.names.Sign.TheVariants as sign
+use Rattle.scenario_names.specs.declared.pieces.Piece.{Piece as Part}
+use Rattle.scenario_names.specs.declared.pieces.Text.{Text}
+use Rattle.scenario_names.specs.declared.pieces.Text.TheVariants as text
+use Rattle.scenario_names.specs.declared.sums.Total.{Total}
+
+abbrev pub binding_view : Counter → Binding
+binding_view counter = record { name = counter.name.now; value = counter.value.now }
+
+abbrev pub counter_view : Option Counter → Option Binding
+counter_view None = None
+counter_view (Some counter) = Some (binding_view counter)
+
+abbrev pub directive_view : Told → Directive
+directive_view (told.Set binding) = said.Set (binding_view binding)
+directive_view (told.Enter line counter) = said.Enter line (counter_view counter)
+directive_view (told.Again line counter) = said.Again line (counter_view counter)
+directive_view (told.Leave line) = said.Leave line
+directive_view told.Repeat = said.Repeat
+directive_view told.End = said.End
+directive_view told.Unknown = said.Unknown
+
+abbrev pub directive_seen : Option Told → Option Directive
+directive_seen None = None
+directive_seen (Some directive) = Some (directive_view directive)
+
+abbrev pub sign_view : Mark → Sign
+sign_view sign.Alone = mark.Alone
+sign_view sign.Doubled = mark.Doubled
+sign_view (sign.Named name size) = mark.Named name.now size
+sign_view sign.Broken = mark.Broken
+
+abbrev pub text_view : Text → List ℕ
+text_view (text.Slice bytes) = bytes.now
+text_view (text.Digits digits) = digits.items
+
+abbrev pub text_seen : Result Text NameReason → Result (List ℕ) NameReason
+text_seen (Ok made) = Ok (text_view made)
+text_seen (Err reason) = Err reason
+
+abbrev pub piece_view : Part → Piece
+piece_view part = record { text = text_view part.text; size = part.size; hole = option_copied part.hole }
+
+abbrev pub piece_seen : Result Part NameReason → Result Piece NameReason
+piece_seen (Ok part) = Ok (piece_view part)
+piece_seen (Err reason) = Err reason
+
+abbrev pub hole_view : Star → Hole
+hole_view star = record { name = star.name.now; place = star.place }
+
+abbrev pub made_view : Option (List ℕ) → List Star → Made
+made_view line holes = record { line = line; holes = map hole_view holes }
+
+abbrev pub filled_view : Line → Filled
+filled_view line = record {
+  line = line.line.now;
+  expected = line.expected.now;
+  holes = map hole_view line.holes.items;
+}
+
+abbrev pub filled_seen : Result Line NameFault → Result Filled NameFault
+filled_seen (Ok line) = Ok (filled_view line)
+filled_seen (Err fault) = Err fault
+
+abbrev pub total_count : Result Total NameReason → Result ℕ NameReason
+total_count (Ok total) = Ok total.count
+total_count (Err reason) = Err reason
+
+abbrev pub value_seen : Result (Text × ℕ) NameReason → Result (List ℕ) NameReason
+value_seen (Ok made) = Ok (text_view made.0)
+value_seen (Err reason) = Err reason
+
+-- a filled text: what was made, or why it wasn't
+abbrev pub made_seen : Result Unit NameFault → Option (List ℕ) → List Star → Result Made NameFault
+made_seen (Ok done) line holes = Ok (made_view line holes)
+made_seen (Err fault) line holes = Err fault
+
+abbrev pub holes_seen : Result Unit NameReason → List Star → Result (List Hole) NameReason
+holes_seen (Ok done) holes = Ok (map hole_view holes)
+holes_seen (Err reason) holes = Err reason
+
+abbrev pub zone_view : Place → Zone
+zone_view zone = record { limit = zone.limit; start = zone.start }
+
+abbrev pub done_seen : Result Unit NameReason → Option (List ℕ) → List Star → Result Made NameReason
+done_seen (Ok done) line holes = Ok (made_view line holes)
+done_seen (Err reason) line holes = Err reason
+
+abbrev pub step_seen : Result ℕ NameReason → Option (List ℕ) → List Star → Result Made NameReason
+step_seen (Ok size) line holes = Ok (made_view line holes)
+step_seen (Err reason) line holes = Err reason
+
+abbrev pub round_view : Option Turn → Option Round
+round_view None = None
+round_view (Some round) = Some (record { line = round.line; counter = counter_view round.counter })

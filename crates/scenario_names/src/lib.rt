@@ -1,0 +1,27 @@
+//! Names in a scenario: what they stand for, how a line is filled with that, what a reply binds, and the lines that begin
+//! with `@`.
+#![tactic(auto)]
+
+mod digits;
+mod directives;
+mod fault;
+mod filling;
+mod holes;
+mod known;
+mod laws;
+mod learning;
+mod names;
+mod pieces;
+mod sums;
+#[cfg(test)]
+mod tests;
+
+pub use directives::{Counter, Directive, directive_of};
+pub use fault::{NameFault, NameReason};
+pub use filling::{Filled, fill, source_column};
+pub use holes::Hole;
+pub use known::Known;
+pub use laws::{
+    bound_names_stand, given_names_count, marked_lines_stay, plain_lines_stay, rounds_are_forgotten,
+};
+pub use names::is_name;

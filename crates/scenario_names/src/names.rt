@@ -1,0 +1,97 @@
+//! Names in a text.
+ghost use Rattle.std.specs.Prelude.{◌≡◌, ◌+◌, ◌<◌, ◌≤◌, drop, length, not, position, slice_index, true, IfSome};
+ghost use Rattle.std.specs.List.{position_or_len};
+ghost use Rattle.scenario_names.specs.Names.{begins_name, braced, is_name, is_name_byte, name_length, sign_of};
+ghost use Rattle.scenario_names.specs.Views.{sign_view};
+
+/// What a `$` begins.
+#[derive(Clone, Copy, Debug)]
+pub(crate) enum Sign<'a> {
+    /// Nothing: it stands for itself.
+    Alone,
+    /// `$$`.
+    Doubled,
+    /// A name, and how many bytes stand behind the `$` up to its end.
+    Named { name: &'a [u8], size: usize },
+    /// A brace that isn't closed, or has no name.
+    Broken,
+}
+
+/// Whether a word is a name: a letter or `_`, and then letters, digits and `_`.
+pub fn is_name(word: &[u8]) -> bool
+    ensures { result ≡ is_name word.now }
+{
+    begins_name(word) && name_length(word) == word.len()
+}
+
+/// What a `$` begins, by what stands behind it.
+pub(crate) fn sign_of(text: &[u8]) -> Sign<'_>
+    ensures value { sign_view result ≡ sign_of text.now }
+{
+    match text.first() {
+        Some(b'$') => Sign::Doubled,
+        Some(b'{') => braced(&text[1..]),
+        _ => {
+            if begins_name(text) {
+                let size = name_length(text);
+                Sign::Named {
+                    name: &text[..size],
+                    size,
+                }
+            } else {
+                Sign::Alone
+            }
+        }
+    }
+}
+
+// A name behind `${`, with its brace.
+fn braced(text: &[u8]) -> Sign<'_>
+    ensures { sign_view result ≡ braced text.now }
+{
+    let length = name_length(text);
+    if begins_name(text) && text.get(length) == Some(&b'}') {
+        Sign::Named {
+            name: &text[..length],
+            size: length + 2,
+        }
+    } else {
+        Sign::Broken
+    }
+}
+
+// Whether a text begins as names do.
+fn begins_name(text: &[u8]) -> bool
+    ensures value { result ≡ begins_name text.now }
+{
+    match text.first() {
+        Some(byte) => byte.is_ascii_alphabetic() || *byte == b'_',
+        None => false,
+    }
+}
+
+// How many bytes at the front of a text may stand in a name.
+fn name_length(text: &[u8]) -> usize
+    ensures count { result ≡ name_length text.now }
+    ensures within { result ≤ length text.now }
+{
+    match first_other(text) {
+        Some(place) => place,
+        None => text.len(),
+    }
+}
+
+// Where a text has its first byte that may not.
+fn first_other(text: &[u8]) -> Option<usize>
+    ensures place { result ≡ position (λ b. not (is_name_byte b)) text.now }
+    ensures inside { IfSome result (λ place. place < length text.now) }
+{
+    text.iter().position(|byte| !is_name_byte(*byte))
+}
+
+// Whether a byte may stand in a name.
+fn is_name_byte(byte: u8) -> bool
+    ensures { result ≡ is_name_byte byte }
+{
+    byte.is_ascii_alphanumeric() || byte == b'_'
+}

@@ -1,0 +1,110 @@
+//! Sums behind a name.
+ghost use Rattle.std.specs.Prelude.{◌≡◌, ◌+◌, ◌<◌, ◌≤◌, ◌&&◌, length, not, position, slice_index, true, IfSome, IfOk, Result, Ok, Err};
+ghost use Rattle.std.specs.List.{position_or_len};
+ghost use Rattle.scenario_names.specs.Sums.{begins_sum, count_length, count_of, number_with, sum_of, sums_length, total_from, value_with};
+ghost use Rattle.scenario_names.specs.Views.{total_count, value_seen};
+
+use crate::digits::{address, decimal};
+use crate::fault::NameReason;
+use crate::pieces::Text;
+use text_codec::read_address;
+use trade_base::read_amount;
+
+/// A number with the sums behind it, and how many bytes these have.
+#[derive(Clone, Copy, Debug)]
+pub(crate) struct Total {
+    pub count: u64,
+    pub size: usize,
+}
+
+/// Whether a sum stands at the front of a text: `+` and a digit.
+pub(crate) fn begins_sum(text: &[u8]) -> bool
+    ensures { result ≡ begins_sum text.now }
+{
+    match text {
+        [b'+', digit, ..] => digit.is_ascii_digit(),
+        _ => false,
+    }
+}
+
+/// What stands in a line for a value, by what stands behind its name, and how many bytes of that are sums.
+pub(crate) fn value_with<'a>(value: &'a [u8], text: &[u8]) -> Result<(Text<'a>, usize), NameReason>
+    ensures text { value_seen result ≡ value_with value.now text.now }
+    ensures size { IfOk result (λ made. made.1 ≡ sums_length text.now) }
+    ensures within { IfOk result (λ made. made.1 ≤ length text.now) }
+{
+    if !begins_sum(text) {
+        return Ok((Text::Slice(value), 0));
+    }
+    if let Some(count) = read_amount(value) {
+        let total = total_of(count, text)?;
+        return Ok((Text::Digits(decimal(total.count)), total.size));
+    }
+    let Some(count) = read_address(value) else {
+        return Err(NameReason::NoNumber);
+    };
+    let total = total_of(count, text)?;
+    Ok((Text::Digits(address(total.count)), total.size))
+}
+
+// A number with the sums at the front of a text.
+fn total_of(count: u64, text: &[u8]) -> Result<Total, NameReason>
+    ensures count { total_count result ≡ total_from 0 count text.now }
+    ensures size { IfOk result (λ total. total.size ≡ sums_length text.now) }
+    ensures within { IfOk result (λ total. total.size ≤ length text.now) }
+{
+    let mut total = count;
+    let mut at = 0;
+    while begins_sum(&text[at..]) {
+        let behind = &text[at + 1..];
+        let length = count_length(behind);
+        total = sum_of(total, count_of(&behind[..length]))?;
+        at += 1 + length;
+    }
+    Ok(Total {
+        count: total,
+        size: at,
+    })
+}
+
+// With a number more.
+fn sum_of(total: u64, count: Option<u64>) -> Result<u64, NameReason>
+    ensures { result ≡ sum_of total count }
+{
+    let Some(count) = count else {
+        return Err(NameReason::NoSum);
+    };
+    match total.checked_add(count) {
+        Some(sum) => Ok(sum),
+        None => Err(NameReason::SumTooLarge),
+    }
+}
+
+// The number that is added: an amount, or an address.
+fn count_of(word: &[u8]) -> Option<u64>
+    ensures { result ≡ count_of word.now }
+{
+    match read_amount(word) {
+        Some(count) => Some(count),
+        None => read_address(word),
+    }
+}
+
+// How many letters and digits stand at the front of a text.
+fn count_length(text: &[u8]) -> usize
+    ensures count { result ≡ count_length text.now }
+    ensures within { result ≤ length text.now }
+{
+    match first_other(text) {
+        Some(place) => place,
+        None => text.len(),
+    }
+}
+
+// Where a text has its first byte that is no letter and no digit.
+fn first_other(text: &[u8]) -> Option<usize>
+    ensures place { result ≡ position (λ b. not (is_ascii_alphanumeric b)) text.now }
+    ensures inside { IfSome result (λ place. place < length text.now) }
+{
+    text.iter().position(|byte| !byte.is_ascii_alphanumeric())
+}
