@@ -6,6 +6,7 @@ use init_core::{Binary, MACHINE_A, StartList};
 use scenario::Output;
 use std::io::{Read, Write};
 use std::{fs, io};
+use scenario_names::Known;
 use workbench::{Play, alone};
 
 /// The exit status where something isn't as expected, or a script is told something else alone.
@@ -64,16 +65,12 @@ fn all_on(rt: &HostRuntime, text: &[u8], scenario: &[u8], all: All<'_>) -> u8 {
             return REFUSED;
         }
     };
-    let play = Play {
-        machine: text,
-        scenario: all.scenario.as_bytes(),
-    };
     let mut status = 0;
     let mut complained = false;
     for entry in list.entries() {
         if entry.binary() == Binary::Script {
             let one = One {
-                play,
+                text,
                 name: entry.path(),
                 scenario,
                 silent: complained,
@@ -92,7 +89,7 @@ fn all_on(rt: &HostRuntime, text: &[u8], scenario: &[u8], all: All<'_>) -> u8 {
 // One script's play.
 #[derive(Clone, Copy)]
 struct One<'a> {
-    play: Play<'a>,
+    text: &'a [u8],
     name: &'a [u8],
     scenario: &'a [u8],
     // Whether complaints were told already.
@@ -105,11 +102,16 @@ impl<'a> One<'a> {
         let alloc = rt.alloc();
         let mut source = self.scenario;
         let mut writer = Output::new(Vec::new(alloc));
+        let play = Play {
+            machine: self.text,
+            scenario: all.scenario.as_bytes(),
+            given: Known::new(alloc),
+        };
         let ended = if self.silent {
             let mut complaints = Output::new(io::sink());
             alone(
                 alloc,
-                self.play,
+                play,
                 self.name,
                 &mut source,
                 &mut writer,
@@ -119,7 +121,7 @@ impl<'a> One<'a> {
             let mut complaints = Output::new(rt.stderr());
             alone(
                 alloc,
-                self.play,
+                play,
                 self.name,
                 &mut source,
                 &mut writer,
@@ -128,7 +130,7 @@ impl<'a> One<'a> {
         };
         if let Err(fault) = &ended {
             if !self.silent {
-                tell_unbooted(rt, self.play.machine, all.machine, fault);
+                tell_unbooted(rt, self.text, all.machine, fault);
             }
             return REFUSED;
         }

@@ -11,6 +11,7 @@ use start_review::Review;
 use std::alloc::{AllocError, Global};
 use std::io::Write;
 use std::{fs, io};
+use scenario_names::Known;
 use workbench::{Play, trace};
 
 /// The exit status where something is changed.
@@ -193,6 +194,7 @@ fn traced(
     let play = Play {
         machine: &policy.text,
         scenario: path.as_bytes(),
+        given: Known::new(alloc),
     };
     let mut source = scenario;
     let mut writer = Output::new(Vec::new(alloc));

@@ -5,6 +5,7 @@ use crate::files::{STANDARD_INPUT, read_list};
 use crate::lists::tell_fault;
 use init_core::{BootFault, MACHINE_A};
 use scenario::{Input, Output, Source};
+use scenario_names::Known;
 use start_review::{Fault, Review};
 use std::{fs, io};
 use workbench::{Play, accounts, alone, run, trace};
@@ -82,6 +83,7 @@ fn play_on<'a>(
     let play = Play {
         machine: text,
         scenario: scenario.as_bytes(),
+        given: Known::new(rt.alloc()),
     };
     let played = if scenario == STANDARD_INPUT {
         play_from(rt, play, viewing, &mut Input::new(rt.reader()))

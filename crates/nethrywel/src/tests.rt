@@ -13,6 +13,7 @@ use std::{fs, io};
 use test_report::{
     Trial, failures, junit_document, machine_beside, policy_beside, tap_plan, tap_point,
 };
+use scenario_names::Known;
 use workbench::{Ending, Play, exit_status, run};
 
 /// The exit status where a scenario isn't answered as it expects.
@@ -160,6 +161,7 @@ fn run_on(
     let play = Play {
         machine: text,
         scenario: scenario.as_bytes(),
+        given: Known::new(alloc),
     };
     let mut complaints = Output::new(Vec::new(alloc));
     let ended = run(

@@ -8,6 +8,7 @@ mod complaint;
 mod critic;
 mod ending;
 mod expected;
+mod given;
 mod machine;
 mod notes;
 mod peak_columns;

@@ -1,12 +1,13 @@
 //! What is kept of a play from line to line.
 ghost use Rattle.std.specs.Prelude.{◌≡◌, [], IfOk};
-ghost use Rattle.workbench.specs.Turns.{first_stand};
+ghost use Rattle.workbench.specs.Turns.{first_with};
 
 use crate::critic::Critic;
 use crate::stand::Stand;
 use friendly_lines::Line;
 use pd_core::Reply;
 use scenario::Buffers;
+use scenario_names::Known;
 use std::alloc::Global;
 use trade_base::NoMemory;
 
@@ -21,9 +22,18 @@ pub(crate) struct Notes<'a> {
     pub desk: Desk<'a>,
 }
 
-/// What a line is read and judged with.
+/// What a line is filled, read and judged with.
 #[derive(Drop)]
 pub(crate) struct Desk<'a> {
+    /// Room for the line with what its names stand for.
+    pub sheet: Line,
+    /// What it is read and judged with then.
+    pub tools: Tools<'a>,
+}
+
+/// What a line is read and judged with.
+#[derive(Drop)]
+pub(crate) struct Tools<'a> {
     /// Room for the engine's line.
     pub room: Line,
     /// Room for a reply.
@@ -33,19 +43,26 @@ pub(crate) struct Desk<'a> {
 }
 
 impl<'a> Notes<'a> {
-    /// What is kept before the first line of a scenario by its name.
-    pub(crate) fn new(alloc: Global, scenario: &'a [u8]) -> Result<Notes<'a>, NoMemory>
-        ensures stand { IfOk result (λ notes. notes.stand ≡ first_stand) }
+    /// What is kept before the first line of a scenario by its name, with what names stand for.
+    pub(crate) fn new(
+        alloc: Global,
+        scenario: &'a [u8],
+        given: Known,
+    ) -> Result<Notes<'a>, NoMemory>
+        ensures stand { IfOk result (λ notes. notes.stand ≡ first_with given) }
         ensures ahead { IfOk result (λ notes. notes.buffers.ahead ≡ []) }
         ensures gathered { IfOk result (λ notes. notes.buffers.gathered ≡ []) }
     {
         Ok(Notes {
-            stand: Stand::new(),
+            stand: Stand::new(given),
             buffers: Buffers::new(),
             desk: Desk {
-                room: Line::new(),
-                reply: Reply::boot(alloc)?,
-                critic: Critic::new(alloc, scenario),
+                sheet: Line::new(),
+                tools: Tools {
+                    room: Line::new(),
+                    reply: Reply::boot(alloc)?,
+                    critic: Critic::new(alloc, scenario),
+                },
             },
         })
     }
