@@ -6,12 +6,12 @@ use Rattle.own_model.specs.SaidBy.{said_by}
 use Rattle.own_model.specs.Transcript.{longest_line}
 use Rattle.own_model.specs.World.{World, world_running}
 use Rattle.own_model.proofs.RunningLemmas.{Tracks-none, told_after-running}
-use Rattle.friendly_lines.specs.Friendly.{said_of}
 use Rattle.scenario.specs.Answered.{after_all, told_of_all}
 use Rattle.scenario.proofs.Serving.{left_by_both, left_none, said_by-append, said_none, told_running-append, world_running-append}
 use Rattle.workbench.specs.Played.{calls_answered, calls_said, engine_tells, told_of_calls, told_of_turns}
-use Rattle.workbench.specs.Turns.{Deed, Turn, call_in, call_of, calls_in, deed_of, left_behind, next_stand, stand_behind, turn_of, turns_of}
-use Rattle.workbench.specs.Turns.Deed.{TooLong, Says}
+use Rattle.workbench.specs.Turns.{Deed, Turn, call_of, calls_in, deed_filled, deed_of, left_behind, next_stand, stand_behind, turn_of, turns_of}
+use Rattle.workbench.specs.Turns.Deed.{TooLong}
+use Rattle.scenario_names.specs.Filling.{filled}
 use Rattle.workbench.specs.Writes.{transcript_of}
 use Rattle.workbench.specs.declared.stand.Stand.{Stand}
 
@@ -23,12 +23,12 @@ is_long : (n : ℕ) → longest_line < n → nat_le n longest_line ≡ false
 is_long n long = grind (arith, nat_tests)
 
 -- what a line is that isn't too long
-pub deed_of-short : (stand : Stand) (line : List ℕ) → length line ≤ longest_line → deed_of stand line ≡ Says (said_of line)
-deed_of-short stand line short = ap (λ b. cond b (Says (said_of line)) TooLong) (is_short (length line) short)
+pub deed_of-short : (stand : Stand) (line : List ℕ) → length line ≤ longest_line → deed_of stand line ≡ deed_filled (filled stand.known line)
+deed_of-short stand line short = ap (λ b. cond b (deed_filled (filled stand.known line)) TooLong) (is_short (length line) short)
 
 -- and one that is
 pub deed_of-long : (stand : Stand) (line : List ℕ) → longest_line < length line → deed_of stand line ≡ TooLong
-deed_of-long stand line long = ap (λ b. cond b (Says (said_of line)) TooLong) (is_long (length line) long)
+deed_of-long stand line long = ap (λ b. cond b (deed_filled (filled stand.known line)) TooLong) (is_long (length line) long)
 
 -- the calls of turns, and then of others
 pub calls_said-append : (xs ys : List Turn) → calls_said (xs ++ ys) ≡ calls_said xs ++ calls_said ys

@@ -19,7 +19,7 @@ use Rattle.workbench.specs.Played.{calls_answered, calls_said, engine_tells, tol
 use Rattle.workbench.specs.Plays.{PlaysAll}
 use Rattle.workbench.specs.Tracing.{trace_header, trace_tells}
 use Rattle.workbench.specs.Turns.{Deed, Turn, call_in, calls_in, turns_of}
-use Rattle.workbench.specs.Turns.Deed.{TooLong, Says}
+use Rattle.workbench.specs.Turns.Deed.{TooLong, Unnamed, Follows, Says}
 use Rattle.workbench.specs.Writes.{Closes, IsPlayedFrom, WritesAfter, list_behind, transcript_of}
 use Rattle.workbench.specs.declared.ending.Ending.{Ending}
 use Rattle.workbench.specs.declared.ending.PlayFault.{PlayFault}
@@ -60,7 +60,9 @@ one_call (Err fault) = omega arith
 
 one_in : (deed : Deed) → length (calls_in deed) ≤ 1
 one_in TooLong = omega arith
-one_in (Says said) = one_call said
+one_in (Unnamed fault) = omega arith
+one_in (Follows directive) = omega arith
+one_in (Says filled said) = one_call said
 
 -- so there are no more calls than turns, and as many of these as lines
 few_calls : (turns : List Turn) → length (calls_said turns) ≤ length turns

@@ -169,14 +169,16 @@ played_from {told = told} {behind = behind} {calls = calls} {only = only} {first
     }
 
 -- on the machine of a text
-pub is_played : {text : List ℕ} {listed : Listed} {calls : Bool} (only : Option (List ℕ)) (first : Stand) (told : World → List Turn → List ℕ) (behind : Listed → World → List Turn → List ℕ) (ending : Ending) {start : World}
+pub is_played : {text : List ℕ} {listed : Listed} {calls : Bool} (only : Option (List ℕ)) (first : Stand) (told : World → List Turn → List ℕ) (behind : Listed → World → List Turn → List ℕ) (ending : Ending) {start : World} {begun : Stand}
     (input rest : Option (List ℕ)) (failed : Bool) (w w' : Option (List ℕ)) →
-    list_in text ≡ Ok listed → Boots (start_list_of listed) → start ≡ world_of listed → IsPlayedFrom (turns_of only start first) (told start) (behind listed start) calls ending input rest failed w w' →
+    list_in text ≡ Ok listed → Boots (start_list_of listed) → start ≡ world_of listed → begun ≡ first → IsPlayedFrom (turns_of only start begun) (told start) (behind listed start) calls ending input rest failed w w' →
     IsPlayed text (turns_on only first) (λ l. told (world_of l)) (λ l. behind l (world_of l)) calls ending input rest failed w w'
-is_played {listed = listed} {calls = calls} only first told behind ending input rest failed w w' reads boots starts played = record {
+is_played {listed = listed} {calls = calls} only first told behind ending {start = start} input rest failed w w' reads boots starts begins played = record {
   listed = listed;
   machine = record { reads = reads; boots = boots };
-  played = subst (λ world. IsPlayedFrom (turns_of only world first) (told world) (behind listed world) calls ending input rest failed w w') starts played;
+  played =
+      subst (λ world. IsPlayedFrom (turns_of only world first) (told world) (behind listed world) calls ending input rest failed w w') starts
+      (subst (λ stand. IsPlayedFrom (turns_of only start stand) (told start) (behind listed start) calls ending input rest failed w w') begins played);
 }
 
 -- it has booted, and nothing more

@@ -1,6 +1,5 @@
 -- The turns of a play: what each line of a scenario is, when its turn comes.
-use Rattle.std.specs.Prelude.{◌≡◌, ℕ, ◌+◌, ◌≤◌, Bool, true, false, List, [], ◌∷◌, length, min, nat_le, nat_lt, position, if◌then◌else◌, Option, Some, None, Result, Ok, Err}
-use Rattle.std.specs.List.{All}
+use Rattle.std.specs.Prelude.{◌≡◌, ℕ, ◌+◌, ◌≤◌, Bool, true, false, ⊤, List, [], ◌∷◌, length, min, nat_le, nat_lt, position, if◌then◌else◌, Option, Some, None, Result, Ok, Err}
 use Rattle.std.specs.Option.{unwrap_or}
 use Rattle.own_model.specs.Reply.{reply_text}
 use Rattle.own_model.specs.SaidBy.{said_by}
@@ -159,15 +158,21 @@ pub record IsBare (line : List ℕ) : Type 0 where
   pub nameless : position is_dollar line ≡ None
   pub says : is_directive line ≡ false
 
+abbrev pub AreBare : List (List ℕ) → Type 0
+AreBare [] = ⊤
+AreBare (line ∷ lines) = IsBare line × AreBare lines
+
+-- what such a line is whatever is known
+abbrev pub bare_deed : List ℕ → Deed
+bare_deed line = if nat_le (length line) longest_line then Says (whole line) (said_of line) else TooLong
+
 -- the turns of lines as they stand, from one of this number on
 abbrev pub turns_from : ℕ → List (List ℕ) → List Turn
 turns_from number [] = []
-turns_from number (line ∷ lines) =
-    record { number = number; deed = if nat_le (length line) longest_line then Says (whole line) (said_of line) else TooLong }
-    ∷ turns_from (number + 1) lines
+turns_from number (line ∷ lines) = record { number = number; deed = bare_deed line } ∷ turns_from (number + 1) lines
 
 -- bare lines are played as they stand, one after another, whatever is known, and whatever they are answered
 abbrev pub BareLinesStand : Type 0
 BareLinesStand =
-    (only : Option (List ℕ)) (world : World) (stand : Stand) (lines : List (List ℕ)) → All IsBare lines →
+    (only : Option (List ℕ)) (world : World) (stand : Stand) (lines : List (List ℕ)) → AreBare lines →
     turns_of only world stand lines ≡ turns_from stand.number lines

@@ -1,5 +1,5 @@
 -- A line that was found is played and passed, one that is too long is passed, or a fault comes before any.
-use Rattle.std.proofs.Common.{Ok, ap, arith, false, refl, subst, take}
+use Rattle.std.proofs.Common.{Ok, ap, arith, false, refl, subst, sym, take}
 use Rattle.std.proofs.lemmas.List.{length-take}
 use Rattle.std.specs.Option.{option_copied}
 use Rattle.own_model.specs.SaidBy.{said_by}
@@ -9,7 +9,7 @@ use Rattle.scenario.specs.Next.{FindsNextIn, IsReady}
 use Rattle.scenario.specs.declared.lines.Next.{Next}
 use Rattle.scenario.proofs.Serving.{passes_ahead}
 use Rattle.std.proofs.Common.{◌++◌}
-use Rattle.workbench.specs.Turns.{call_of, calls_in, passed}
+use Rattle.workbench.specs.Turns.{call_of, calls_in, passed, stand_after}
 use Rattle.workbench.proofs.LineLemmas.{left_silent, on_ok, seen_silent, sees_on, told_silent}
 use Rattle.workbench.proofs.FailLemmas.{fails_beside, fails_wider, fault_writing, line_writing}
 use Rattle.workbench.proofs.PlayLemmas.{breaks_before, passes_long, played_line}
@@ -52,11 +52,11 @@ returns-in-Ok-TooLong-clause-next g c = λ start earlier watches.
     (point c.args.core.now c.next_line.new.self rest (g.K.Sink.contents c.next_line.new.sink))
     (g.K.Sink.contents c.next_line.new.sink) c.next_line.new.self.gathered long.0
     c.in-Ok-TooLong.ensures.finds.told
-    (left_silent only stand long.0 silent c.args.core.now) long.2 long.3
+    (left_silent only (call_of stand long.0) silent c.args.core.now) long.2 long.3
     c.tell_too_long.result _
-    (told_silent only stand long.0 silent c.tell_too_long.result (g.W.Watch.tells c.args.watch.now start) earlier stand.number (g.K.Sink.contents c.next_line.new.sink) c.next_line.new.self.gathered)
-    (sees_on c.tell_too_long.result (g.W.Watch.sees c.args.watch.now c.args.run.now.list.now) start c.args.core.now (earlier ++ said_by only (call_of stand long.0)) (seen_silent only stand long.0 silent c.tell_too_long.result watches))
-    (on_ok c.tell_too_long.result refl)
+    (told_silent only (call_of stand long.0) silent c.tell_too_long.result (g.W.Watch.tells c.args.watch.now start) earlier stand.number (g.K.Sink.contents c.next_line.new.sink) c.next_line.new.self.gathered)
+    (sees_on c.tell_too_long.result (g.W.Watch.sees c.args.watch.now c.args.run.now.list.now) start c.args.core.now (earlier ++ said_by only (call_of stand long.0)) (seen_silent only (call_of stand long.0) silent c.tell_too_long.result watches))
+    (on_ok c.tell_too_long.result (ap (stand_after only c.args.core.now (passed stand)) (sym deed)))
     (fails_wider c.tell_too_long.result _ _ c.tell_too_long.ensures.failing))
 
 pub returns-in-Err-clause-next : goal.returns-in-Err-clause-next
