@@ -1,5 +1,5 @@
 -- What is expected of a reply, byte by byte.
-use Rattle.std.proofs.Common.{◌≡◌, ℕ, ◌+◌, ◌<◌, ◌≤◌, ◌&&◌, ◌||◌, Bool, true, false, true≢false, cond, not, nat_eq, nat_lt, List, [], ◌∷◌, length, drop, take, get_or, position, Option, Some, None, refl, sym, ap, ◌∙◌, subst, arith, codes}
+use Rattle.std.proofs.Common.{◌≡◌, ℕ, ◌+◌, ◌<◌, ◌≤◌, ◌&&◌, ◌||◌, Bool, true, false, true≢false, cond, not, nat_eq, nat_lt, zero, suc, ◌-◌, List, [], ◌∷◌, length, drop, take, get_or, position, Option, Some, None, refl, sym, ap, ◌∙◌, subst, arith, codes}
 use Rattle.std.specs.List.{list_all, position_or_len}
 use Rattle.std.specs.Option.{option_map_or}
 use Rattle.std.specs.Str.{bytes_eq}
@@ -12,7 +12,7 @@ use Rattle.trade_base.specs.Refusal.{refusal_name}
 use Rattle.trade_base.specs.declared.refusal.Refusal.{Refusal}
 use Rattle.trade_base.specs.declared.refusal.Refusal.TheVariants.{BadLine, UnknownComponent, NotAScript, Gone, BadArgs, InvalidSize, InvalidCap, OutOfRam, OutOfCaps, RegionConflict, TooManyRegions, PageFault, TooManyChunks, ServiceDenied, InsufficientRamQuota, InsufficientCapQuota, InvalidSession}
 use Rattle.friendly_lines.specs.Expectations.{IsExact, RefusalsAreTold, denies, refuses}
-use Rattle.friendly_lines.specs.Expected.{bytes_for, is_refusal, meets, meets_both, meets_words, reply_behind, written_in}
+use Rattle.friendly_lines.specs.Expected.{bytes_for, is_refusal, meets, meets_both, meets_words, reply_behind, stands_from, written_in}
 use Rattle.friendly_lines.specs.Words.{is_blank}
 use Rattle.friendly_lines.proofs.QuoteLemmas.{byte_at}
 use Rattle.friendly_lines.proofs.WordLemmas.{place_none}
@@ -35,6 +35,28 @@ pub behind_none : (expected left : List ℕ) (begins : Bool) (i b count : ℕ) �
 behind_none expected left begins i b count within is counts none =
     let zero : nat_lt 0 (bytes_for begins b (drop (i + 1) expected) left) ≡ false = subst (λ n. nat_lt 0 n ≡ false) counts (grind (arith, nat_tests)) in
     rw (byte_at expected i b within is, zero) refl
+
+-- ---- what stands at a place
+
+pub stands_step : (expected left : List ℕ) (begins : Bool) (place i b count : ℕ) → i < length expected → get_or expected i 0 ≡ b →
+    count ≡ bytes_for begins b (drop (i + 1) expected) left → i < place →
+    stands_from (place - i) begins (drop i expected) left ≡ stands_from (place - (i + 1)) (is_blank b) (drop (i + 1) expected) (drop count left)
+stands_step expected left begins place i b count within is counts before =
+    let less : place - i ≡ suc (place - (i + 1)) = omega arith in
+    rw (byte_at expected i b within is, less) (ap (λ n. stands_from (place - (i + 1)) (is_blank b) (drop (i + 1) expected) (drop n left)) (sym counts))
+
+pub stands_here : (expected left : List ℕ) (begins : Bool) (place i b count : ℕ) → i < length expected → get_or expected i 0 ≡ b →
+    count ≡ bytes_for begins b (drop (i + 1) expected) left → i ≡ place → stands_from (place - i) begins (drop i expected) left ≡ take count left
+stands_here expected left begins place i b count within is counts here =
+    let none : place - i ≡ 0 = omega arith in
+    rw (byte_at expected i b within is, none) (ap (λ n. take n left) (sym counts))
+
+pub stands_end : (expected left : List ℕ) (begins : Bool) (place i : ℕ) → length expected ≤ i → stands_from place begins (drop i expected) left ≡ []
+stands_end expected left begins place i past = rw (drop_all i expected past) refl
+
+pub ruleset places_stand = (stands_step, stands_here, stands_end)
+
+-- ---- what is behind it
 
 pub behind_end : (expected left : List ℕ) (begins : Bool) (i : ℕ) → length expected ≤ i → reply_behind begins (drop i expected) left ≡ Some left
 behind_end expected left begins i past = rw (drop_all i expected past) refl

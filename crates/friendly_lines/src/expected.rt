@@ -120,6 +120,7 @@ fn reply_behind<'a>(reply: &'a [u8], expected: &[u8]) -> Option<&'a [u8]>
 
 /// What stands in a reply for the byte at a place of what is expected of it: for a star the word or the number that it stands
 /// for, and for a star alone the reply.
+#[tactic(auto, using(crate::proofs::ExpectedLemmas::places_stand, crate::proofs::ExpectedLemmas::passes))]
 pub fn stands_for<'a>(reply: &'a [u8], expected: &[u8], place: usize) -> &'a [u8]
     ensures { result.now ≡ stands_for reply.now expected.now place }
 {

@@ -37,3 +37,10 @@ sign_of text =
     else (if slice_index text 0 == 123 then braced (drop 1 text)
     else (if begins_name text then Named (take (name_length text) text) (name_length text)
     else Alone))
+
+-- how many bytes behind the `$` it has
+abbrev pub sign_length : Sign → ℕ
+sign_length Alone = 0
+sign_length Doubled = 1
+sign_length (Named name size) = size
+sign_length Broken = 0

@@ -2,11 +2,11 @@
 use Rattle.std.specs.Prelude.{ℕ, List, map, Option, Some, None, Result, Ok, Err}
 use Rattle.std.specs.Option.{option_copied}
 use Rattle.scenario_names.specs.Directives.{Directive, Round}
-use Rattle.scenario_names.specs.Directives.Directive as said
+use Rattle.scenario_names.specs.Directives.Directive.{Set, Enter, Again, Leave, Repeat, End, Unknown}
 use Rattle.scenario_names.specs.Filling.{Filled, Hole, Made, Piece, Zone}
 use Rattle.scenario_names.specs.Known.{Binding}
 use Rattle.scenario_names.specs.Names.{Sign}
-use Rattle.scenario_names.specs.Names.Sign as mark
+use Rattle.scenario_names.specs.Names.Sign.{Alone, Doubled, Named, Broken}
 use Rattle.scenario_names.specs.declared.directives.Counter.{Counter}
 use Rattle.scenario_names.specs.declared.directives.Round.{Round as Turn}
 use Rattle.scenario_names.specs.declared.directives.Directive.{Directive as Told}
@@ -31,23 +31,23 @@ counter_view None = None
 counter_view (Some counter) = Some (binding_view counter)
 
 abbrev pub directive_view : Told → Directive
-directive_view (told.Set binding) = said.Set (binding_view binding)
-directive_view (told.Enter line counter) = said.Enter line (counter_view counter)
-directive_view (told.Again line counter) = said.Again line (counter_view counter)
-directive_view (told.Leave line) = said.Leave line
-directive_view told.Repeat = said.Repeat
-directive_view told.End = said.End
-directive_view told.Unknown = said.Unknown
+directive_view (told.Set binding) = Set (binding_view binding)
+directive_view (told.Enter line counter) = Enter line (counter_view counter)
+directive_view (told.Again line counter) = Again line (counter_view counter)
+directive_view (told.Leave line) = Leave line
+directive_view told.Repeat = Repeat
+directive_view told.End = End
+directive_view told.Unknown = Unknown
 
 abbrev pub directive_seen : Option Told → Option Directive
 directive_seen None = None
 directive_seen (Some directive) = Some (directive_view directive)
 
 abbrev pub sign_view : Mark → Sign
-sign_view sign.Alone = mark.Alone
-sign_view sign.Doubled = mark.Doubled
-sign_view (sign.Named name size) = mark.Named name.now size
-sign_view sign.Broken = mark.Broken
+sign_view sign.Alone = Alone
+sign_view sign.Doubled = Doubled
+sign_view (sign.Named name size) = Named name.now size
+sign_view sign.Broken = Broken
 
 abbrev pub text_view : Text → List ℕ
 text_view (text.Slice bytes) = bytes.now

@@ -13,8 +13,6 @@ mod learning;
 mod names;
 mod pieces;
 mod sums;
-#[cfg(test)]
-mod tests;
 
 pub use directives::{Counter, Directive, directive_of};
 pub use fault::{NameFault, NameReason};

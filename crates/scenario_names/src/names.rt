@@ -1,7 +1,7 @@
 //! Names in a text.
 ghost use Rattle.std.specs.Prelude.{◌≡◌, ◌+◌, ◌<◌, ◌≤◌, drop, length, not, position, slice_index, true, IfSome};
 ghost use Rattle.std.specs.List.{position_or_len};
-ghost use Rattle.scenario_names.specs.Names.{begins_name, braced, is_name, is_name_byte, name_length, sign_of};
+ghost use Rattle.scenario_names.specs.Names.{begins_name, braced, is_name, is_name_byte, name_length, sign_length, sign_of};
 ghost use Rattle.scenario_names.specs.Views.{sign_view};
 
 /// What a `$` begins.
@@ -27,6 +27,7 @@ pub fn is_name(word: &[u8]) -> bool
 /// What a `$` begins, by what stands behind it.
 pub(crate) fn sign_of(text: &[u8]) -> Sign<'_>
     ensures value { sign_view result ≡ sign_of text.now }
+    ensures within { sign_length (sign_view result) ≤ length text.now }
 {
     match text.first() {
         Some(b'$') => Sign::Doubled,
@@ -47,7 +48,8 @@ pub(crate) fn sign_of(text: &[u8]) -> Sign<'_>
 
 // A name behind `${`, with its brace.
 fn braced(text: &[u8]) -> Sign<'_>
-    ensures { sign_view result ≡ braced text.now }
+    ensures value { sign_view result ≡ braced text.now }
+    ensures within { sign_length (sign_view result) ≤ length text.now + 1 }
 {
     let length = name_length(text);
     if begins_name(text) && text.get(length) == Some(&b'}') {

@@ -1,9 +1,10 @@
 //! What stands at the front of a text: a name, or a text that stands for itself.
 ghost use Rattle.std.specs.Prelude.{◌≡◌, ◌+◌, ◌<◌, ◌≤◌, ◌^◌, drop, length, position, IfSome, IfOk, Result, Ok, Err};
 ghost use Rattle.std.specs.Option.{option_copied};
-ghost use Rattle.scenario_names.specs.Filling.{is_dollar, kept_length, named_piece, piece_of, plain};
+ghost use Rattle.scenario_names.specs.Filling.{is_dollar, kept_length, named_piece, piece_by, piece_of, plain};
 ghost use Rattle.scenario_names.specs.Known.{value_of};
-ghost use Rattle.scenario_names.specs.Views.{piece_seen, piece_view, text_view};
+ghost use Rattle.scenario_names.specs.Names.{sign_length};
+ghost use Rattle.scenario_names.specs.Views.{piece_seen, piece_view, sign_view, text_view};
 
 use crate::digits::Digits;
 use crate::fault::NameReason;
@@ -56,10 +57,34 @@ pub(crate) fn piece_of<'a: 'k, 'k>(
         let size = kept_length(text);
         return Ok(plain(&text[..size], size));
     }
-    match sign_of(&text[1..]) {
-        Sign::Alone => Ok(plain(b"$", 1)),
-        Sign::Doubled => Ok(plain(b"$", 2)),
-        Sign::Named { name, size } => named_piece(name, 1 + size, known, &text[1 + size..]),
+    let sign = sign_of(&text[1..]);
+    piece_by(sign, text, known)
+}
+
+// What a `$` is, of a text that begins with it.
+fn piece_by<'a, 'k>(
+    sign: Sign<'a>,
+    text: &[u8],
+    known: &'k Known,
+) -> Result<Piece<'a, 'k>, NameReason>
+    requires { 1 + sign_length (sign_view sign) ≤ length text.now }
+    ensures value { piece_seen result ≡ piece_by known.now text.now (sign_view sign.entry) }
+    ensures some { IfOk result (λ piece. 1 ≤ piece.size) }
+    ensures within { IfOk result (λ piece. piece.size ≤ length text.now) }
+{
+    match sign {
+        Sign::Alone => {
+            let dollar = b"$".as_slice();
+            Ok(plain(dollar, 1))
+        }
+        Sign::Doubled => {
+            let dollar = b"$".as_slice();
+            Ok(plain(dollar, 2))
+        }
+        Sign::Named { name, size } => {
+            let rest = &text[1 + size..];
+            named_piece(name, 1 + size, known, rest)
+        }
         Sign::Broken => Err(NameReason::OpenBrace),
     }
 }
@@ -83,7 +108,9 @@ fn named_piece<'a, 'k>(
     rest: &[u8],
 ) -> Result<Piece<'a, 'k>, NameReason>
     requires { size + length rest.now < 2 ^ 64 }
-    ensures { piece_seen result ≡ named_piece name.now size (value_of known.now name.now) rest.now }
+    ensures some { 1 ≤ size → IfOk result (λ piece. 1 ≤ piece.size) }
+    ensures within { IfOk result (λ piece. piece.size ≤ size + length rest.now) }
+    ensures value { piece_seen result ≡ named_piece name.now size (value_of known.now name.now) rest.now }
 {
     match known.value(name) {
         Some(value) => {
