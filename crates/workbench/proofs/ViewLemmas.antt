@@ -18,7 +18,7 @@ use Rattle.workbench.specs.PeakList.{peaks_beside, peaks_text}
 use Rattle.workbench.specs.Played.{calls_answered, calls_said, engine_tells, told_of_calls, told_of_turns}
 use Rattle.workbench.specs.Plays.{PlaysAll}
 use Rattle.workbench.specs.Tracing.{trace_header, trace_tells}
-use Rattle.workbench.specs.Turns.{Deed, Turn, call_in, calls_in, turns_of}
+use Rattle.workbench.specs.Turns.{Deed, Turn, call_in, calls_in, left_behind, next_stand, turns_of}
 use Rattle.workbench.specs.Turns.Deed.{TooLong, Unnamed, Follows, Says}
 use Rattle.workbench.specs.Writes.{Closes, IsPlayedFrom, WritesAfter, list_behind, transcript_of}
 use Rattle.workbench.specs.declared.ending.Ending.{Ending}
@@ -71,7 +71,7 @@ few_calls (turn ∷ turns) = omega (arith, few_calls turns, one_in turn.deed, le
 
 few_turns : (only : Option (List ℕ)) (world : World) (stand : Stand) (lines : List (List ℕ)) → length (turns_of only world stand lines) ≡ length lines
 few_turns only world stand [] = refl
-few_turns only world stand (line ∷ lines) = omega (arith, few_turns only _ _ lines)
+few_turns only world stand (line ∷ lines) = omega (arith, few_turns only (left_behind only world stand line) (next_stand only world stand line) lines)
 
 pub few_of_name : (name : List ℕ) (world : World) (stand : Stand) (lines : List (List ℕ)) → length (calls_answered (Some name) (turns_of None world stand lines)) ≤ length lines
 few_of_name name world stand lines =
