@@ -71,7 +71,8 @@ fn said_of<'a>(line: &'a [u8], room: &'a mut Line) -> Result<Said<'a>, Fault>
 /// Where what a line says ends: before a comment behind its call and the blanks before that, or a carriage return. There the
 /// reply ends that is expected.
 pub fn end_of(line: &[u8]) -> usize
-    ensures { result ≡ end_of line.now }
+    ensures value { result ≡ end_of line.now }
+    ensures within { result ≤ length line.now }
 {
     let signs = signs_of(line);
     line.len() - signs.len() + without_comment(without_return(signs)).len()

@@ -2,7 +2,7 @@
 ghost use Rattle.std.specs.Prelude.{◌≡◌, ◌≤◌, length, OnOk};
 ghost use Rattle.std.specs.List.{list_all};
 ghost use Rattle.friendly_lines.specs.Words.{is_blank};
-ghost use Rattle.scenario_names.specs.Directives.{binding_of, directive_by, directive_of, followed, round_of, trimmed, with_counter};
+ghost use Rattle.scenario_names.specs.Directives.{again_by, binding_of, directive_by, directive_of, enter_by, followed, leave_by, leave_with, round_of, set_by, trimmed, with_counter};
 ghost use Rattle.scenario_names.specs.Views.{counter_view, round_view, directive_seen, directive_view};
 
 use crate::filling::is_directive;
@@ -103,29 +103,84 @@ impl Known {
 fn directive_by<'a>(word: &[u8], rest: &'a [u8]) -> Directive<'a>
     ensures { directive_view result ≡ directive_by word.now rest.now }
 {
-    match word {
-        b"@set" => match binding_of(rest) {
-            Some(binding) => Directive::Set(binding),
-            None => Directive::Unknown,
+    if word == b"@set".as_slice() {
+        let binding = binding_of(rest);
+        return set_by(binding);
+    }
+    if word == b"@enter".as_slice() {
+        let round = round_of(rest);
+        return enter_by(round);
+    }
+    if word == b"@again".as_slice() {
+        let round = round_of(rest);
+        return again_by(round);
+    }
+    if word == b"@leave".as_slice() {
+        let round = round_of(rest);
+        return leave_by(round);
+    }
+    if word == b"@repeat".as_slice() {
+        return Directive::Repeat;
+    }
+    if word == b"@end".as_slice() {
+        return Directive::End;
+    }
+    Directive::Unknown
+}
+
+// A name is set, if one was read.
+fn set_by(binding: Option<Counter<'_>>) -> Directive<'_>
+    ensures { directive_view result ≡ set_by (counter_view binding.entry) }
+{
+    match binding {
+        Some(binding) => Directive::Set(binding),
+        None => Directive::Unknown,
+    }
+}
+
+// A round begins, if one was read.
+fn enter_by(round: Option<Round<'_>>) -> Directive<'_>
+    ensures { directive_view result ≡ enter_by (round_view round.entry) }
+{
+    match round {
+        Some(round) => Directive::Enter {
+            line: round.line,
+            counter: round.counter,
         },
-        b"@enter" => match round_of(rest) {
-            Some(Round { line, counter }) => Directive::Enter { line, counter },
-            None => Directive::Unknown,
+        None => Directive::Unknown,
+    }
+}
+
+// The next round of the same begins, if one was read.
+fn again_by(round: Option<Round<'_>>) -> Directive<'_>
+    ensures { directive_view result ≡ again_by (round_view round.entry) }
+{
+    match round {
+        Some(round) => Directive::Again {
+            line: round.line,
+            counter: round.counter,
         },
-        b"@again" => match round_of(rest) {
-            Some(Round { line, counter }) => Directive::Again { line, counter },
-            None => Directive::Unknown,
-        },
-        b"@leave" => match round_of(rest) {
-            Some(Round {
-                line,
-                counter: None,
-            }) => Directive::Leave { line },
-            _ => Directive::Unknown,
-        },
-        b"@repeat" => Directive::Repeat,
-        b"@end" => Directive::End,
-        _ => Directive::Unknown,
+        None => Directive::Unknown,
+    }
+}
+
+// The last round ends, if a line's number was read and no counter.
+fn leave_by(round: Option<Round<'_>>) -> Directive<'_>
+    ensures { directive_view result ≡ leave_by (round_view round.entry) }
+{
+    match round {
+        Some(round) => leave_with(round.line, round.counter),
+        None => Directive::Unknown,
+    }
+}
+
+// The last round ends: no counter follows.
+fn leave_with(line: usize, counter: Option<Counter<'_>>) -> Directive<'_>
+    ensures { directive_view result ≡ leave_with line (counter_view counter.entry) }
+{
+    match counter {
+        Some(_) => Directive::Unknown,
+        None => Directive::Leave { line },
     }
 }
 
@@ -165,6 +220,7 @@ fn binding_of(text: &[u8]) -> Option<Counter<'_>>
 }
 
 // A text without the blanks at its end.
+#[tactic(auto, using(crate::proofs::TrimLemmas::trims))]
 fn trimmed(text: &[u8]) -> &[u8]
     ensures { result.now ≡ trimmed text.now }
 {

@@ -1,6 +1,7 @@
 //! A line that is filled with what its names stand for.
-ghost use Rattle.std.specs.Prelude.{◌≡◌, ◌+◌, ◌-◌, ◌<◌, ◌≤◌, ◌^◌, ◌==◌, drop, length, map, position, slice_index, IfOk, IfSome};
+ghost use Rattle.std.specs.Prelude.{◌≡◌, ◌+◌, ◌-◌, ◌<◌, ◌≤◌, ◌^◌, ◌==◌, [], drop, false, length, map, position, slice_index, IfOk, IfSome};
 ghost use Rattle.std.specs.List.{position_or_len};
+ghost use Rattle.std.specs.Option.{unwrap_or};
 ghost use Rattle.scenario_names.specs.Filling.{body_of, filled, filled_from, filled_parts, front_length, is_directive, is_dollar, is_log, piece_at, source_column, source_from, stays, step_of, with_piece};
 ghost use Rattle.scenario_names.specs.Views.{done_seen, filled_seen, hole_view, made_seen, made_view, piece_view, step_seen, zone_view};
 
@@ -8,6 +9,7 @@ use crate::fault::{NameFault, NameReason};
 use crate::holes::{Hole, Holes, Zone, keep_hole, made_length};
 use crate::known::Known;
 use crate::pieces::{Piece, piece_of};
+use crate::texts::behind;
 use friendly_lines::{Line, arrow_of, end_of, signs_of};
 use text_codec::find_byte;
 
@@ -122,7 +124,7 @@ fn fill_parts<'a>(
     let start = made_length(room);
     let limit = count + quote_place(expected);
     fill_text(expected, known, Zone { limit, start }, count, room, &mut holes)?;
-    let line = room.text().unwrap_or(b"");
+    let line = text_of(room);
     Ok(Filled {
         line,
         expected: behind(line, start),
@@ -130,7 +132,18 @@ fn fill_parts<'a>(
     })
 }
 
+// The line that was made.
+fn text_of(room: &Line) -> &[u8]
+    ensures { result.now ≡ unwrap_or room.now [] }
+{
+    match room.text() {
+        Some(text) => text,
+        None => b"",
+    }
+}
+
 // Where a text has its first quote, or its end.
+#[tactic(auto, using(friendly_lines::proofs::WordLemmas::places))]
 fn quote_place(text: &[u8]) -> usize
     ensures value { result ≡ position_or_len (λ b. b == 34) text.now }
     ensures within { result ≤ length text.now }
@@ -141,18 +154,8 @@ fn quote_place(text: &[u8]) -> usize
     }
 }
 
-// What stands behind the first bytes of a text, so many.
-fn behind(text: &[u8], count: usize) -> &[u8]
-    ensures { result.now ≡ drop count text.now }
-{
-    if count < text.len() {
-        &text[count..]
-    } else {
-        b""
-    }
-}
-
 // Fills a text that stands at a place of a line.
+#[tactic(auto, using(crate::proofs::FillLemmas::fills))]
 fn fill_text<'a>(
     text: &'a [u8],
     known: &Known,
@@ -167,7 +170,8 @@ fn fill_text<'a>(
 {
     let mut at = 0;
     while at < text.len() {
-        match put_next(&text[at..], known, zone, place + at, room, holes) {
+        let rest = behind(text, at);
+        match put_next(rest, known, zone, place + at, room, holes) {
             Ok(size) => at += size,
             Err(reason) => {
                 return Err(NameFault {
@@ -221,6 +225,7 @@ fn put_piece<'a>(
 }
 
 // How many bytes of a text stand before those of which the byte at a place of the filled text comes.
+#[tactic(auto, using(crate::proofs::FillLemmas::sources))]
 fn source_place(text: &[u8], known: &Known, place: usize) -> usize
     ensures value { result ≡ source_from known.now 0 place text.now }
     ensures within { result ≤ length text.now }
@@ -228,7 +233,7 @@ fn source_place(text: &[u8], known: &Known, place: usize) -> usize
     let mut at = 0;
     let mut left = place;
     while at < text.len() {
-        let (length, size) = piece_lengths(&text[at..], known);
+        let (length, size) = piece_lengths(behind(text, at), known);
         if left < length {
             return if text[at] == b'$' { at } else { at + left };
         }
@@ -245,6 +250,7 @@ fn piece_lengths(text: &[u8], known: &Known) -> (usize, usize)
     ensures size { result.1 ≡ (piece_at known.now text.now).size }
     ensures some { 1 ≤ result.1 }
     ensures within { result.1 ≤ length text.now }
+    ensures kept { is_dollar (slice_index text.now 0) ≡ false → result.0 ≤ result.1 }
 {
     match piece_of(text, known) {
         Ok(piece) => (piece.text.bytes().len(), piece.size),

@@ -77,8 +77,14 @@ pub(crate) fn made_length(line: &Line) -> usize
 }
 
 // Whether a name is among those that are to be bound.
+#[tactic(auto, using(crate::proofs::KnownLemmas::among))]
 fn is_among(name: &[u8], holes: &[Hole<'_>]) -> bool
     ensures { result ≡ is_among name.now (map hole_view holes.now) }
 {
-    holes.iter().any(|hole| hole.name == name)
+    for hole in holes {
+        if hole.name == name {
+            return true;
+        }
+    }
+    false
 }

@@ -87,6 +87,7 @@ impl Known {
     }
 
     /// Ends the innermost round, and forgets what was bound in it. Outside of rounds it does nothing.
+    #[tactic(auto, using(crate::proofs::KnownLemmas::left_behind))]
     pub fn leave(&mut self)
         ensures { self.new ≡ left self.old }
     {
@@ -108,6 +109,7 @@ fn make_binding(alloc: Global, name: &[u8], value: &[u8]) -> Result<Binding, All
 }
 
 // What the newest binding of a name stands for.
+#[tactic(auto, using(crate::proofs::KnownLemmas::newests))]
 fn newest<'a>(bindings: &'a [Binding], name: &[u8]) -> Option<&'a [u8]>
     ensures { option_copied result ≡ newest name.now (map binding_of bindings.now) }
 {

@@ -11,17 +11,24 @@ use std::alloc::AllocError;
 
 impl Known {
     /// Binds the names that are to be bound to what stands for them in a reply, where it meets what is expected.
+    #[tactic(auto, using(crate::proofs::KnownLemmas::nothing_learnt))]
     pub fn learn(&mut self, filled: &Filled<'_>, reply: &[u8]) -> Result<(), AllocError>
         ensures { OnOk result (self.new ≡ learnt self.old (filled_view filled.now) reply.now) }
     {
         // Most lines bind nothing.
-        if filled.holes.is_empty() || !meets(reply, filled.expected) {
+        let holes = filled.holes.as_slice();
+        if holes.is_empty() {
             return Ok(());
         }
-        self.bind_all(reply, filled.expected, filled.holes.as_slice())
+        if meets(reply, filled.expected) {
+            self.bind_all(reply, filled.expected, holes)
+        } else {
+            Ok(())
+        }
     }
 
     // Binds each to what its star stands for.
+    #[tactic(auto, using(crate::proofs::KnownLemmas::learns))]
     fn bind_all(
         &mut self,
         reply: &[u8],

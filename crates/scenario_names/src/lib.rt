@@ -13,6 +13,7 @@ mod learning;
 mod names;
 mod pieces;
 mod sums;
+mod texts;
 
 pub use directives::{Counter, Directive, directive_of};
 pub use fault::{NameFault, NameReason};

@@ -73,6 +73,7 @@ fn begins_name(text: &[u8]) -> bool
 }
 
 // How many bytes at the front of a text may stand in a name.
+#[tactic(auto, using(friendly_lines::proofs::WordLemmas::places))]
 fn name_length(text: &[u8]) -> usize
     ensures count { result ≡ name_length text.now }
     ensures within { result ≤ length text.now }

@@ -1,5 +1,5 @@
 //! What stands at the front of a text: a name, or a text that stands for itself.
-ghost use Rattle.std.specs.Prelude.{◌≡◌, ◌+◌, ◌<◌, ◌≤◌, ◌^◌, drop, length, position, IfSome, IfOk, Result, Ok, Err};
+ghost use Rattle.std.specs.Prelude.{◌≡◌, ◌+◌, ◌<◌, ◌≤◌, ◌^◌, codes, drop, false, length, position, slice_index, IfSome, IfOk, Result, Ok, Err};
 ghost use Rattle.std.specs.Option.{option_copied};
 ghost use Rattle.scenario_names.specs.Filling.{is_dollar, kept_length, named_piece, piece_by, piece_of, plain};
 ghost use Rattle.scenario_names.specs.Known.{value_of};
@@ -52,6 +52,8 @@ pub(crate) fn piece_of<'a: 'k, 'k>(
     ensures value { piece_seen result ≡ piece_of known.now text.now }
     ensures some { IfOk result (λ piece. 1 ≤ piece.size) }
     ensures within { IfOk result (λ piece. piece.size ≤ length text.now) }
+    ensures kept { is_dollar (slice_index text.now 0) ≡ false →
+        IfOk result (λ piece. length (text_view piece.text) ≤ piece.size) }
 {
     if text[0] != b'$' {
         let size = kept_length(text);
@@ -72,21 +74,25 @@ fn piece_by<'a, 'k>(
     ensures some { IfOk result (λ piece. 1 ≤ piece.size) }
     ensures within { IfOk result (λ piece. piece.size ≤ length text.now) }
 {
-    match sign {
-        Sign::Alone => {
-            let dollar = b"$".as_slice();
-            Ok(plain(dollar, 1))
-        }
-        Sign::Doubled => {
-            let dollar = b"$".as_slice();
-            Ok(plain(dollar, 2))
-        }
-        Sign::Named { name, size } => {
-            let rest = &text[1 + size..];
-            named_piece(name, 1 + size, known, rest)
-        }
-        Sign::Broken => Err(NameReason::OpenBrace),
-    }
+    let size = match sign {
+        Sign::Alone => 1,
+        Sign::Doubled => 2,
+        Sign::Named { name, size } => return named_at(name, 1 + size, known, text),
+        Sign::Broken => return Err(NameReason::OpenBrace),
+    };
+    dollar(size)
+}
+
+// A `$` for so many bytes of the text, which is no fault.
+fn dollar<'a, 'k>(size: usize) -> Result<Piece<'a, 'k>, NameReason>
+    ensures value { piece_seen result ≡ Ok (plain (codes "$") size) }
+    ensures size { IfOk result (λ piece. piece.size ≡ size) }
+{
+    Ok(Piece {
+        text: Text::Slice(b"$"),
+        size,
+        hole: None,
+    })
 }
 
 // Bytes as they are, for so many of the text.
@@ -98,6 +104,24 @@ fn plain<'a, 'k>(bytes: &'k [u8], size: usize) -> Piece<'a, 'k>
         size,
         hole: None,
     }
+}
+
+// A name that a text begins with, which has so many bytes.
+fn named_at<'a, 'k>(
+    name: &'a [u8],
+    size: usize,
+    known: &'k Known,
+    text: &[u8],
+) -> Result<Piece<'a, 'k>, NameReason>
+    requires some { 1 ≤ size }
+    requires within { size ≤ length text.now }
+    ensures value { piece_seen result
+        ≡ named_piece name.now size (value_of known.now name.now) (drop size text.now) }
+    ensures some { IfOk result (λ piece. 1 ≤ piece.size) }
+    ensures within { IfOk result (λ piece. piece.size ≤ length text.now) }
+{
+    let rest = &text[size..];
+    named_piece(name, size, known, rest)
 }
 
 // A name of so many bytes, by what stands behind it.
@@ -135,6 +159,7 @@ fn named_piece<'a, 'k>(
 }
 
 // How many bytes stand before the first `$` of a text.
+#[tactic(auto, using(friendly_lines::proofs::WordLemmas::places))]
 fn kept_length(text: &[u8]) -> usize
     ensures count { result ≡ kept_length text.now }
     ensures within { result ≤ length text.now }

@@ -1,5 +1,6 @@
 //! Sums behind a name.
-ghost use Rattle.std.specs.Prelude.{◌≡◌, ◌+◌, ◌<◌, ◌≤◌, ◌&&◌, length, not, position, slice_index, true, IfSome, IfOk, Result, Ok, Err};
+ghost use Rattle.std.specs.Prelude.{◌≡◌, ◌+◌, ◌<◌, ◌≤◌, ◌&&◌, length, not, position, slice_index, take, true, IfSome, IfOk, Result, Ok, Err};
+ghost use Rattle.std.specs.Char.{is_ascii_alphanumeric};
 ghost use Rattle.std.specs.List.{position_or_len};
 ghost use Rattle.scenario_names.specs.Sums.{begins_sum, count_length, count_of, number_with, sum_of, sums_length, total_from, value_with};
 ghost use Rattle.scenario_names.specs.Views.{total_count, value_seen};
@@ -7,6 +8,7 @@ ghost use Rattle.scenario_names.specs.Views.{total_count, value_seen};
 use crate::digits::{address, decimal};
 use crate::fault::NameReason;
 use crate::pieces::Text;
+use crate::texts::behind;
 use text_codec::read_address;
 use trade_base::read_amount;
 
@@ -19,7 +21,8 @@ pub(crate) struct Total {
 
 /// Whether a sum stands at the front of a text: `+` and a digit.
 pub(crate) fn begins_sum(text: &[u8]) -> bool
-    ensures { result ≡ begins_sum text.now }
+    ensures value { result ≡ begins_sum text.now }
+    ensures some { result ≡ true → 2 ≤ length text.now }
 {
     match text {
         [b'+', digit, ..] => digit.is_ascii_digit(),
@@ -28,6 +31,7 @@ pub(crate) fn begins_sum(text: &[u8]) -> bool
 }
 
 /// What stands in a line for a value, by what stands behind its name, and how many bytes of that are sums.
+#[tactic(auto, using(crate::proofs::SumLemmas::sums))]
 pub(crate) fn value_with<'a>(value: &'a [u8], text: &[u8]) -> Result<(Text<'a>, usize), NameReason>
     ensures text { value_seen result ≡ value_with value.now text.now }
     ensures size { IfOk result (λ made. made.1 ≡ sums_length text.now) }
@@ -48,6 +52,7 @@ pub(crate) fn value_with<'a>(value: &'a [u8], text: &[u8]) -> Result<(Text<'a>, 
 }
 
 // A number with the sums at the front of a text.
+#[tactic(auto, using(crate::proofs::SumLemmas::sums))]
 fn total_of(count: u64, text: &[u8]) -> Result<Total, NameReason>
     ensures count { total_count result ≡ total_from 0 count text.now }
     ensures size { IfOk result (λ total. total.size ≡ sums_length text.now) }
@@ -55,16 +60,31 @@ fn total_of(count: u64, text: &[u8]) -> Result<Total, NameReason>
 {
     let mut total = count;
     let mut at = 0;
-    while begins_sum(&text[at..]) {
-        let behind = &text[at + 1..];
-        let length = count_length(behind);
-        total = sum_of(total, count_of(&behind[..length]))?;
-        at += 1 + length;
+    'sums: while begins_sum(behind(text, at)) {
+        let rest = behind(text, at + 1);
+        let next = next_count(rest);
+        match sum_of(total, next.0) {
+            Ok(sum) => {
+                total = sum;
+                at += 1 + next.1;
+            }
+            Err(reason) => return Err(reason),
+        }
     }
     Ok(Total {
         count: total,
         size: at,
     })
+}
+
+// The number that a `+` stands before, if it is one, and how many bytes it has.
+fn next_count(text: &[u8]) -> (Option<u64>, usize)
+    ensures count { result.0 ≡ count_of (take (count_length text.now) text.now) }
+    ensures size { result.1 ≡ count_length text.now }
+    ensures within { result.1 ≤ length text.now }
+{
+    let length = count_length(text);
+    (count_of(&text[..length]), length)
 }
 
 // With a number more.
@@ -91,6 +111,7 @@ fn count_of(word: &[u8]) -> Option<u64>
 }
 
 // How many letters and digits stand at the front of a text.
+#[tactic(auto, using(friendly_lines::proofs::WordLemmas::places))]
 fn count_length(text: &[u8]) -> usize
     ensures count { result ≡ count_length text.now }
     ensures within { result ≤ length text.now }
