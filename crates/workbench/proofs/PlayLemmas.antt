@@ -65,7 +65,7 @@ passes_same (Some text) = passes_none text
 -- there are lines that are too long
 long_line : (n : ℕ) (come : Option (List ℕ)) → longest_line < n → n ≤ longest_read →
     (line : List ℕ) × (longest_line < length line) × IfSome None (λ text. PassesLines text come (line ∷ [])) × (length line ≤ longest_read)
-long_line n come long short = (replicate n 0, omega (arith, long, length-replicate n 0), tt, omega (arith, short, length-replicate n 0))
+long_line n come long short = (replicate n 0, omega (arith, long, length-replicate {A = ℕ} n 0), tt, omega (arith, short, length-replicate {A = ℕ} n 0))
 
 -- a line that was too long is passed
 pub passes_long : (old come : Option (List ℕ)) → IfSome old (λ before. PassesLongLine before come) →

@@ -92,7 +92,7 @@ pub alone_played : (name : List ℕ) {first : Stand} {start last core : World} {
 alone_played name {first = first} {start = start} {core = core} {count = count} {difference = difference} {w' = w'} {w'' = w''} played ended few plays closes =
     played_from played ended plays refl (closes_as played ended w' w'' _ _ (same played.fault plays.counted plays.sees) closes)
   where
-    abbrev turns : List Turn
+    turns : List Turn
     turns = turns_of None start first plays.given
 
     same : (f : Option PlayFault) → IfNone f (played.lines ≡ length plays.given) → IfNone f (SeesAlone name core count difference start (calls_answered None turns)) →
@@ -127,7 +127,7 @@ pub accounts_played : (listed : Listed) {init : Amounts} {components : List Peak
 accounts_played listed {init = init} {components = components} {sessions = sessions} {first = first} {start = start} {last = last} {w' = w'} {w'' = w''} played ended entries plays closes =
     played_from played ended plays (silent_turns None [] turns) (closes_as played ended w' w'' _ _ (same played.fault plays.sees) closes)
   where
-    abbrev turns : List Turn
+    turns : List Turn
     turns = turns_of None start first plays.given
 
     same : (f : Option PlayFault) → IfNone f (SeesPeaks init components sessions listed start (calls_answered None turns)) →
