@@ -62,17 +62,15 @@ passes_same : (come : Option (List ℕ)) → IfSome come (λ text. PassesLines t
 passes_same None = tt
 passes_same (Some text) = passes_none text
 
--- a line that is too long
-too_long : List ℕ
-too_long = replicate 8193 0
-
-too_long_is : length too_long ≡ 8193
-too_long_is = length-replicate 8193 0
+-- there are lines that are too long
+long_line : (n : ℕ) (come : Option (List ℕ)) → longest_line < n → n ≤ longest_read →
+    (line : List ℕ) × (longest_line < length line) × IfSome None (λ text. PassesLines text come (line ∷ [])) × (length line ≤ longest_read)
+long_line n come long short = (replicate n 0, omega (arith, long, length-replicate {A = ℕ} n 0), tt, omega (arith, short, length-replicate {A = ℕ} n 0))
 
 -- a line that was too long is passed
 pub passes_long : (old come : Option (List ℕ)) → IfSome old (λ before. PassesLongLine before come) →
     (line : List ℕ) × (longest_line < length line) × IfSome old (λ text. PassesLines text come (line ∷ [])) × (length line ≤ longest_read)
-passes_long None come long = (too_long, omega (arith, too_long_is), tt, omega (arith, too_long_is))
+passes_long None come long = long_line 8193 come (omega arith) (omega arith)
 passes_long (Some text) come long = (
   line_of text,
   omega (arith, long.long, length-line_of text),

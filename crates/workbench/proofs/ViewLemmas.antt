@@ -18,7 +18,7 @@ use Rattle.workbench.specs.PeakList.{peaks_beside, peaks_text}
 use Rattle.workbench.specs.Played.{calls_answered, calls_said, engine_tells, told_of_calls, told_of_turns}
 use Rattle.workbench.specs.Plays.{PlaysAll}
 use Rattle.workbench.specs.Tracing.{trace_header, trace_tells}
-use Rattle.workbench.specs.Turns.{Deed, Turn, call_in, calls_in, turns_of}
+use Rattle.workbench.specs.Turns.{Deed, Turn, call_in, calls_in, left_behind, next_stand, turns_of}
 use Rattle.workbench.specs.Turns.Deed.{TooLong, Says}
 use Rattle.workbench.specs.Writes.{Closes, IsPlayedFrom, WritesAfter, list_behind, transcript_of}
 use Rattle.workbench.specs.declared.ending.Ending.{Ending}
@@ -69,7 +69,7 @@ few_calls (turn ∷ turns) = omega (arith, few_calls turns, one_in turn.deed, le
 
 few_turns : (only : Option (List ℕ)) (world : World) (stand : Stand) (lines : List (List ℕ)) → length (turns_of only world stand lines) ≡ length lines
 few_turns only world stand [] = refl
-few_turns only world stand (line ∷ lines) = omega (arith, few_turns only _ _ lines)
+few_turns only world stand (line ∷ lines) = omega (arith, few_turns only (left_behind only world stand line) (next_stand only world stand line) lines)
 
 pub few_of_name : (name : List ℕ) (world : World) (stand : Stand) (lines : List (List ℕ)) → length (calls_answered (Some name) (turns_of None world stand lines)) ≤ length lines
 few_of_name name world stand lines =
@@ -90,7 +90,7 @@ pub alone_played : (name : List ℕ) {first : Stand} {start last core : World} {
 alone_played name {first = first} {start = start} {core = core} {count = count} {difference = difference} {w' = w'} {w'' = w''} played ended few plays closes =
     played_from played ended plays refl (closes_as played ended w' w'' _ _ (same played.fault plays.counted plays.sees) closes)
   where
-    abbrev turns : List Turn
+    turns : List Turn
     turns = turns_of None start first plays.given
 
     same : (f : Option PlayFault) → IfNone f (played.lines ≡ length plays.given) → IfNone f (SeesAlone name core count difference start (calls_answered None turns)) →
@@ -125,7 +125,7 @@ pub accounts_played : (listed : Listed) {init : Amounts} {components : List Peak
 accounts_played listed {init = init} {components = components} {sessions = sessions} {first = first} {start = start} {last = last} {w' = w'} {w'' = w''} played ended entries plays closes =
     played_from played ended plays (silent_turns None [] turns) (closes_as played ended w' w'' _ _ (same played.fault plays.sees) closes)
   where
-    abbrev turns : List Turn
+    turns : List Turn
     turns = turns_of None start first plays.given
 
     same : (f : Option PlayFault) → IfNone f (SeesPeaks init components sessions listed start (calls_answered None turns)) →
