@@ -4,9 +4,9 @@ use crate::files::{STANDARD_INPUT, read_list};
 use crate::plays::tell_unbooted;
 use init_core::{Binary, MACHINE_A, StartList};
 use scenario::Output;
+use scenario_names::Known;
 use std::io::{Read, Write};
 use std::{fs, io};
-use scenario_names::Known;
 use workbench::{Play, alone};
 
 /// The exit status where something isn't as expected, or a script is told something else alone.

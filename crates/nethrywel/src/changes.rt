@@ -7,11 +7,11 @@ use json_documents::Listing;
 use list_diff::{Changed, Differences, Side, changed_replies, changes, leads};
 use reach::Table;
 use scenario::Output;
+use scenario_names::Known;
 use start_review::Review;
 use std::alloc::{AllocError, Global};
 use std::io::Write;
 use std::{fs, io};
-use scenario_names::Known;
 use workbench::{Play, trace};
 
 /// The exit status where something is changed.

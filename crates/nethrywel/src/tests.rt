@@ -6,6 +6,7 @@ use crate::policies::{Standing, hold_against};
 use crate::scenarios::{Unfound, scenarios_at};
 use init_core::{BootFault, MACHINE_A, StartList};
 use scenario::{Input, Output};
+use scenario_names::Known;
 use start_review::Review;
 use std::alloc::AllocError;
 use std::io::Write;
@@ -13,7 +14,6 @@ use std::{fs, io};
 use test_report::{
     Trial, failures, junit_document, machine_beside, policy_beside, tap_plan, tap_point,
 };
-use scenario_names::Known;
 use workbench::{Ending, Play, exit_status, run};
 
 /// The exit status where a scenario isn't answered as it expects.

@@ -260,9 +260,7 @@ struct Wish<'a> {
 
 // The column of a line at which the reply begins with which it ends.
 fn column_of(line: &[u8], reply: &[u8]) -> usize {
-    end_of(line)
-        .saturating_sub(reply.len())
-        .saturating_add(1)
+    end_of(line).saturating_sub(reply.len()).saturating_add(1)
 }
 
 // Log lines without the last newline.

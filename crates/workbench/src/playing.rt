@@ -21,8 +21,8 @@ ghost use Rattle.workbench.specs.Turns.{StaysLow, call_in, call_of, deed_of, fol
 ghost use Rattle.workbench.specs.Turns.Deed.{Says};
 ghost use Rattle.workbench.specs.Watching.{Watches};
 
-use crate::ending::{Ending, PlayFault};
 use crate::critic::Critic;
+use crate::ending::{Ending, PlayFault};
 use crate::given::Given;
 use crate::notes::{Desk, Notes, Tools};
 use crate::stand::{Stand, learn, misplaced};

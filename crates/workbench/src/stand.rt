@@ -51,9 +51,8 @@ fn line_told(directive: Directive<'_>) -> Option<u64>
     ensures low { IfSome result (λ line. line ≤ low) }
 {
     match directive {
-        Directive::Enter { line, .. } | Directive::Again { line, .. } | Directive::Leave { line } => {
-            Some((line as u64).min(LOW))
-        }
+        Directive::Enter { line, .. } | Directive::Again { line, .. } | Directive::Leave { line } =>
+            { Some((line as u64).min(LOW)) }
         _ => None,
     }
 }
