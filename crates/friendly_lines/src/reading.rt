@@ -64,7 +64,7 @@ fn said_of<'a>(line: &'a [u8], room: &'a mut Line) -> Result<Said<'a>, Fault>
     ensures value { says result ≡ said_of line.now }
     ensures read { HandsOn result }
 {
-    let signs = signs_of(line);
+    let signs = skip_blanks(without_mark(line));
     said_of_signs(line.len() - signs.len() + 1, signs, room)
 }
 

@@ -97,13 +97,13 @@ module _ (known : Known) (left : ℕ) (text : List ℕ) (at : ℕ) (within : at 
       at + source_from known 0 left (drop at text) ≡ (at + size) + source_from known 0 (left - count) (drop (at + size) text)
   source_step count size counts sizes long some fits =
       let here : source_from known 0 left (drop at text)
-          ≡ 1 + source_from known (size - 1) (left - count) (drop (at + 1) text) =
+      ≡ 1 + source_from known (size - 1) (left - count) (drop (at + 1) text) =
       source_at ∙ ap (λ (t : Bool). cond t (cond (is_dollar (get_or text at 0)) 0 left)
       (1 + source_from known ((piece_at known (drop at text)).size - 1) (left - length (piece_at known (drop at text)).text) (drop (at + 1) text))) long
       ∙ ap (λ k. 1 + source_from known (k - 1) (left - length (piece_at known (drop at text)).text) (drop (at + 1) text)) (sym sizes)
       ∙ ap (λ k. 1 + source_from known (size - 1) (left - k) (drop (at + 1) text)) (sym counts) in
       let rest : source_from known (size - 1) (left - count) (drop (at + 1) text)
-          ≡ (size - 1) + source_from known 0 (left - count) (drop (at + size) text) =
+      ≡ (size - 1) + source_from known 0 (left - count) (drop (at + size) text) =
       source_skip known (size - 1) (left - count) (drop (at + 1) text) (omega (arith, some, fits, length-drop (at + 1) text))
       ∙ ap (λ l. (size - 1) + source_from known 0 (left - count) l) (behind_piece text at size some) in
       omega (arith, here, rest, some)

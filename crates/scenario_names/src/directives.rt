@@ -44,7 +44,9 @@ pub enum Directive<'a> {
         counter: Option<Counter<'a>>,
     },
     /// The last round ends, and the next line has this number.
-    Leave { line: usize },
+    Leave {
+        line: usize,
+    },
     /// The lines up to `@end` are repeated: in a file alone.
     Repeat,
     /// They end.

@@ -26,11 +26,7 @@ pub struct Filled<'a> {
 
 /// Fills a line with what its names stand for, in `room` where it has any. A comment behind it goes, and a comment or a line
 /// for the engine stays as it is.
-pub fn fill<'a>(
-    line: &'a [u8],
-    known: &Known,
-    room: &'a mut Line,
-) -> Result<Filled<'a>, NameFault>
+pub fn fill<'a>(line: &'a [u8], known: &Known, room: &'a mut Line) -> Result<Filled<'a>, NameFault>
     ensures { filled_seen result ≡ filled known.now line.now }
 {
     if stays(line) {
@@ -120,10 +116,24 @@ fn fill_parts<'a>(
     let mut holes = Holes::new();
     let (front, expected) = body.split_at(count);
     room.clear();
-    fill_text(front, known, Zone { limit: 0, start: 0 }, 0, room, &mut holes)?;
+    fill_text(
+        front,
+        known,
+        Zone { limit: 0, start: 0 },
+        0,
+        room,
+        &mut holes,
+    )?;
     let start = made_length(room);
     let limit = count + quote_place(expected);
-    fill_text(expected, known, Zone { limit, start }, count, room, &mut holes)?;
+    fill_text(
+        expected,
+        known,
+        Zone { limit, start },
+        count,
+        room,
+        &mut holes,
+    )?;
     let line = text_of(room);
     Ok(Filled {
         line,

@@ -22,7 +22,10 @@ pub struct Hole<'a> {
 
 impl Default for Hole<'_> {
     fn default() -> Self {
-        Hole { name: b"", place: 0 }
+        Hole {
+            name: b"",
+            place: 0,
+        }
     }
 }
 
