@@ -1,6 +1,7 @@
 //! Readers and writers that fail, and the status of each ending.
 use init_core::{BootFault, MACHINE_A};
 use scenario::{DeviceFault, Output, Sink, Source};
+use scenario_names::Known;
 use std::alloc::Global;
 use std::test::Fail;
 use workbench::{Ending, Play, PlayFault, accounts, alone, exit_status, run, trace};
@@ -63,10 +64,11 @@ impl Sink for Refuser {
 }
 
 // What is played on a machine.
-fn on(machine: &str) -> Play<'_> {
+fn on(alloc: Global, machine: &str) -> Play<'_> {
     Play {
         machine: machine.as_bytes(),
         scenario: b"it",
+        given: Known::new(alloc),
     }
 }
 
@@ -96,7 +98,7 @@ fn played<S: Source, K: Sink, E: Sink>(
     writer: &mut K,
     complaints: &mut E,
 ) -> Option<Ending> {
-    let play = on(MACHINE_A);
+    let play = on(alloc, MACHINE_A);
     match kind {
         Kind::Run => run(alloc, play, None, true, reader, writer, complaints),
         Kind::Trace => trace(alloc, play, reader, writer, complaints),
@@ -197,7 +199,7 @@ fn endings_have_statuses(rt: HostRuntime) -> Result<(), Fail> {
     let mut complaints = Output::new(Vec::new(rt.alloc()));
     let unbooted: Result<Ending, BootFault> = run(
         rt.alloc(),
-        on("{"),
+        on(rt.alloc(), "{"),
         None,
         true,
         &mut reader,

@@ -72,16 +72,12 @@ fn all_on(rt: &HostRuntime, text: &[u8], scenario: &[u8], all: All<'_>) -> u8 {
             return REFUSED;
         }
     };
-    let play = Play {
-        machine: text,
-        scenario: all.scenario.as_bytes(),
-    };
     let mut status = 0;
     let mut complained = false;
     for entry in list.entries() {
         if entry.binary() == Binary::Script {
             let one = One {
-                play,
+                text,
                 name: entry.path(),
                 scenario,
                 silent: complained,
@@ -100,7 +96,7 @@ fn all_on(rt: &HostRuntime, text: &[u8], scenario: &[u8], all: All<'_>) -> u8 {
 // One script's play.
 #[derive(Clone, Copy)]
 struct One<'a> {
-    play: Play<'a>,
+    text: &'a [u8],
     name: &'a [u8],
     scenario: &'a [u8],
     // Whether complaints were told already.
@@ -113,11 +109,20 @@ impl<'a> One<'a> {
         let alloc = rt.alloc();
         let mut source = self.scenario;
         let mut writer = Output::new(Vec::new(alloc));
+        let given = match all.given.known_or_told(rt) {
+            Ok(given) => given,
+            Err(status) => return status,
+        };
+        let play = Play {
+            machine: self.text,
+            scenario: all.scenario.as_bytes(),
+            given,
+        };
         let ended = if self.silent {
             let mut complaints = Output::new(io::sink());
             alone(
                 alloc,
-                self.play,
+                play,
                 self.name,
                 &mut source,
                 &mut writer,
@@ -127,7 +132,7 @@ impl<'a> One<'a> {
             let mut complaints = Output::new(rt.stderr());
             alone(
                 alloc,
-                self.play,
+                play,
                 self.name,
                 &mut source,
                 &mut writer,
@@ -136,7 +141,7 @@ impl<'a> One<'a> {
         };
         if let Err(fault) = &ended {
             if !self.silent {
-                tell_unbooted(rt, self.play.machine, all.machine, fault);
+                tell_unbooted(rt, self.text, all.machine, fault);
             }
             return REFUSED;
         }

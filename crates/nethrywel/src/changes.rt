@@ -7,6 +7,7 @@ use json_documents::Listing;
 use list_diff::{Changed, Differences, Side, changed_replies, changes, leads};
 use reach::Table;
 use scenario::Output;
+use scenario_names::Known;
 use start_review::Review;
 use std::alloc::{AllocError, Global};
 use std::io::Write;
@@ -193,6 +194,7 @@ fn traced(
     let play = Play {
         machine: &policy.text,
         scenario: path.as_bytes(),
+        given: Known::new(alloc),
     };
     let mut source = scenario;
     let mut writer = Output::new(Vec::new(alloc));

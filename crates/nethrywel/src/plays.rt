@@ -87,9 +87,14 @@ fn play_on<'a>(
             return REFUSED;
         }
     }
+    let known = match given.known_or_told(rt) {
+        Ok(known) => known,
+        Err(status) => return status,
+    };
     let play = Play {
         machine: text,
         scenario: scenario.as_bytes(),
+        given: known,
     };
     let played = if scenario == STANDARD_INPUT {
         play_from(rt, play, viewing, &mut Input::new(rt.reader()))

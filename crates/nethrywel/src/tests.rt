@@ -220,7 +220,7 @@ fn run_on(
     let alloc = rt.alloc();
     if let Some(whole) = read_whole(rt, scenario) {
         return match unfold(alloc, &whole, given.known(alloc)?) {
-            Ok(lines) => run_from(rt, scenario, text, list, &mut lines.bytes()),
+            Ok(lines) => run_from(rt, scenario, text, list, given, &mut lines.bytes()),
             Err(Unfit::Fault(fault)) => {
                 failed(rt, scenario, format!(in alloc; "{scenario}:{fault}\n")?)
             }
@@ -228,7 +228,7 @@ fn run_on(
         };
     }
     match fs::open(rt, scenario) {
-        Ok(file) => run_from(rt, scenario, text, list, &mut Input::new(file)),
+        Ok(file) => run_from(rt, scenario, text, list, given, &mut Input::new(file)),
         Err(_) => failed(
             rt,
             scenario,
@@ -243,12 +243,14 @@ fn run_from<S: Source>(
     scenario: &str,
     text: &[u8],
     list: Option<&str>,
+    given: Given<'_>,
     source: &mut S,
 ) -> Result<Trial, AllocError> {
     let alloc = rt.alloc();
     let play = Play {
         machine: text,
         scenario: scenario.as_bytes(),
+        given: given.known(alloc)?,
     };
     let mut complaints = Output::new(Vec::new(alloc));
     let ended = run(

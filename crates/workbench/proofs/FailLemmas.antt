@@ -1,16 +1,17 @@
 -- Which faults come, and whether a write has failed then.
-use Rattle.std.proofs.Common.{◌≡◌, Bool, true, false, ◌||◌, List, ℕ, ◌≤◌, length, nat_le, cond, Option, Some, None, Result, Ok, Err, IfErr, IsErrAnd, arith, refl, sym, ◌∙◌, ap}
-use Rattle.std.proofs.lemmas.Bool.Decides.{nat_tests}
+use Rattle.std.proofs.Common.{◌≡◌, Bool, true, false, ◌||◌, List, ℕ, Option, Some, None, Result, Ok, Err, IfErr, IsErrAnd, refl, sym, ◌∙◌, ap}
 use Rattle.std.specs.Result.{result_err}
-use Rattle.own_model.specs.Transcript.{longest_line}
 use Rattle.friendly_lines.specs.Friendly.{Said, said_of}
 use Rattle.friendly_lines.specs.declared.fault.Fault.{Fault}
 use Rattle.scenario.specs.Next.{is_write_fault as is_unwritten}
 use Rattle.scenario.specs.declared.lines.LineFault.{LineFault}
 use Rattle.scenario.specs.declared.lines.LineFault.TheVariants.{Read, Write, Endless}
 use Rattle.workbench.specs.Devices.{AllWork}
-use Rattle.workbench.specs.Faults.{Fails, fault_before, is_write_fault, line_fault, line_takes_room, takes_room}
+use Rattle.workbench.specs.Faults.{Fails, fault_before, is_write_fault, line_fault, takes_in, takes_room}
 use Rattle.workbench.specs.Plays.{line_played}
+use Rattle.scenario_names.specs.Filling.{Filled}
+use Rattle.workbench.specs.Turns.{has_holes}
+use Rattle.workbench.specs.Turns.Deed.{Says}
 use Rattle.workbench.specs.declared.ending.PlayFault.{PlayFault}
 use Rattle.workbench.specs.declared.ending.PlayFault.TheVariants.{ReadFault, WriteFault, TooManyLines, NoMemory}
 
@@ -82,10 +83,16 @@ fault_writing T Write a b fails works = or_first a b works ∙ fails
 fault_writing T Endless a b fails works = or_first a b works ∙ fails
 
 -- what a line's reading takes
-pub line_takes : (calls : Bool) (line : List ℕ) (said : Result Said Fault) → length line ≤ longest_line → said ≡ said_of line → takes_room calls said ≡ true → line_takes_room calls line ≡ true
-line_takes calls line said short is takes =
-    let fits : nat_le (length line) longest_line ≡ true = grind (arith, nat_tests) in
-    ap (λ b. cond b (takes_room calls (said_of line)) false) fits ∙ ap (takes_room calls) (sym is) ∙ takes
+or_true : (b : Bool) → (b || true) ≡ true
+or_true true = refl
+or_true false = refl
+
+pub line_takes : (calls : Bool) (f : Filled) (line : List ℕ) (said : Result Said Fault) → said ≡ said_of line → takes_room calls said ≡ true → takes_in calls (Says f (said_of line)) ≡ true
+line_takes calls f line said is takes = ap (λ b. b || has_holes f) (ap (takes_room calls) (sym is) ∙ takes)
+
+-- and what its reply binds
+pub holes_take : (calls : Bool) (f : Filled) (said : Result Said Fault) → has_holes f ≡ true → takes_in calls (Says f said) ≡ true
+holes_take calls f said some = ap (λ b. takes_room calls said || b) some ∙ or_true (takes_room calls said)
 
 -- devices of which none had failed
 pub all_work : (read_failed write_failed complaint_failed : Bool) → fault_before read_failed (write_failed || complaint_failed) ≡ None → AllWork read_failed write_failed complaint_failed

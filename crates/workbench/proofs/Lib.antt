@@ -1,4 +1,5 @@
 pub mod PlayedLemmas
+pub mod TurnLemmas
 pub mod FailLemmas
 pub mod PlayLemmas
 pub mod LineLemmas

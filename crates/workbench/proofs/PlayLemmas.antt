@@ -1,12 +1,13 @@
 -- A play from line to line: what was played, and what it leaves at its end.
-use Rattle.std.proofs.Common.{◌≡◌, ℕ, ◌+◌, ◌<◌, nat_lt, ◌≤◌, slice_index_or, List, [], ◌∷◌, ◌++◌, length, Option, Some, None, IfSome, IfNone, Result, Ok, Err, OnOk, Bool, true, false, inl, inr, ⊎_elim, arith, refl, sym, ◌∙◌, ap, subst, append_assoc, append-nil, length-append}
+use Rattle.std.proofs.Common.{◌≡◌, ℕ, ◌+◌, ◌<◌, nat_lt, ◌≤◌, slice_index_or, List, [], ◌∷◌, ◌++◌, length, Option, Some, None, IfSome, IfNone, Result, Ok, Err, OnOk, Bool, true, false, inl, inr, ⊎_elim, arith, refl, sym, ◌∙◌, ap, subst, append_assoc, append-nil, length-append, replicate}
 use Rattle.std.proofs.lemmas.Bool.Decides.{nat_tests}
+use Rattle.std.proofs.lemmas.List.{length-replicate}
 use Rattle.std.proofs.lemmas.List.Elements.{All-append, All-cons}
 use Rattle.std.specs.Result.{result_err}
 use Rattle.std.specs.Io.KnownBytes.{Appends}
 use Rattle.own_model.specs.SaidBy.{said_by}
 use Rattle.own_model.specs.Text.{lines_of}
-use Rattle.own_model.specs.Transcript.{heard}
+use Rattle.own_model.specs.Transcript.{heard, longest_line}
 use Rattle.own_model.specs.World.{World, world_running}
 use Rattle.scenario.specs.Answer.{AnswersLine, IsAnswer}
 use Rattle.scenario.specs.Answered.{Ended, Point, ReadsOn, after_all}
@@ -22,13 +23,15 @@ use Rattle.scenario.proofs.GatheredLemmas.{Tells-more, Tells-none}
 use Rattle.scenario.proofs.LineLemmas.{length-line_of, line_length-le, lines_of-cons}
 use Rattle.scenario.proofs.PassedLines.{has_passed, has_read_more, passes_line, passes_more, passes_none, read_to}
 use Rattle.scenario.proofs.Serving.{left_none, none_readable, said_none, world_running-append}
-use Rattle.workbench.specs.Faults.{Fails, line_fault, line_takes_room}
-use Rattle.workbench.specs.Played.{call_of, calls_answered, told_of_calls, told_of_lines}
+use Rattle.workbench.specs.Faults.{Fails, line_fault, takes_in}
+use Rattle.workbench.specs.Played.{calls_answered, told_of_calls, told_of_turns}
 use Rattle.workbench.specs.Plays.{AreWhole, Breaks, BreaksFor, EndsFor, Plays, PlaysAll, PlaysNext, StopsAt, TakesRoom, TellsTo, WritesTold, line_played, most_lines}
+use Rattle.workbench.specs.Turns.{Turn, call_of, deed_of, left_behind, next_stand, turn_of, turns_of}
 use Rattle.workbench.specs.Watching.{IsToldOf, Watches}
 use Rattle.workbench.specs.declared.ending.PlayFault.{PlayFault}
 use Rattle.workbench.specs.declared.ending.PlayFault.TheVariants.{ReadFault, WriteFault, TooManyLines, NoMemory}
-use Rattle.workbench.proofs.PlayedLemmas.{answered-append, answered-one, call_of-long, calls_said-one, left_by_lines, told_of_lines-append, told_of_lines-one}
+use Rattle.workbench.specs.declared.stand.Stand.{Stand}
+use Rattle.workbench.proofs.PlayedLemmas.{answered_more, answered-one, calls_said-one, left_more, stand_more, told_more, told_of_turns-one, turns_more}
 
 -- ---- one call
 
@@ -59,13 +62,18 @@ passes_same : (come : Option (List ℕ)) → IfSome come (λ text. PassesLines t
 passes_same None = tt
 passes_same (Some text) = passes_none text
 
--- a line that was too long says nothing, and is passed
-pub passes_silent : (old come : Option (List ℕ)) → IfSome old (λ before. PassesLongLine before come) →
-    (line : List ℕ) × (call_of line ≡ []) × IfSome old (λ text. PassesLines text come (line ∷ [])) × (length line ≤ longest_read)
-passes_silent None come long = ([], refl, tt, omega arith)
-passes_silent (Some text) come long = (
+-- there are lines that are too long
+long_line : (n : ℕ) (come : Option (List ℕ)) → longest_line < n → n ≤ longest_read →
+    (line : List ℕ) × (longest_line < length line) × IfSome None (λ text. PassesLines text come (line ∷ [])) × (length line ≤ longest_read)
+long_line n come long short = (replicate n 0, omega (arith, long, length-replicate {A = ℕ} n 0), tt, omega (arith, short, length-replicate {A = ℕ} n 0))
+
+-- a line that was too long is passed
+pub passes_long : (old come : Option (List ℕ)) → IfSome old (λ before. PassesLongLine before come) →
+    (line : List ℕ) × (longest_line < length line) × IfSome old (λ text. PassesLines text come (line ∷ [])) × (length line ≤ longest_read)
+passes_long None come long = long_line 8193 come (omega arith) (omega arith)
+passes_long (Some text) come long = (
   line_of text,
-  call_of-long (line_of text) (omega (arith, long.long, length-line_of text)),
+  omega (arith, long.long, length-line_of text),
   passes_line text come (omega (arith, long.long, line_length-le text)) long.after,
   omega (arith, long.ends, length-line_of text),
 )
@@ -103,52 +111,58 @@ told_to TooManyLines w'' ys first then = Tells-more first then
 told_to NoMemory w'' ys first then = (then.0, Tells-more first then.1)
 
 -- a line is played, unless a fault comes
-module _ (tells : List (List ℕ) → ℕ → List ℕ → List ℕ) (calls : Bool) (seen : List (List ℕ) → Type 0) (only : Option (List ℕ)) (number : ℕ) (earlier : List (List ℕ)) (failed : Bool)
+module _ (tells : List (List ℕ) → ℕ → List ℕ → List ℕ) (calls : Bool) (seen : List (List ℕ) → Type 0) (only : Option (List ℕ)) (stand next : Stand) (earlier : List (List ℕ)) (failed : Bool)
     (p q : Point) (written : Option (List ℕ)) (gathered line : List ℕ) (before : Tells p.written p.gathered written gathered [])
-    (world : q.world ≡ after_all only p.world (call_of line)) (passes : IfSome (to_come p.ahead p.rest) (λ text. PassesLines text (to_come q.ahead q.rest) (line ∷ [])))
+    (world : q.world ≡ left_behind only p.world stand line) (passes : IfSome (to_come p.ahead p.rest) (λ text. PassesLines text (to_come q.ahead q.rest) (line ∷ [])))
     (short : length line ≤ longest_read) where
   abbrev told : List ℕ
-  told = told_of_calls tells earlier number (said_by only (call_of line))
+  told = told_of_calls tells earlier stand.number (said_by only (call_of stand line))
 
-  part_told : TellsPart written gathered q.written told → TellsPart p.written p.gathered q.written (told_of_lines tells only earlier number (line ∷ []))
-  part_told part = (part.0, Tells-more before (subst (Tells written gathered q.written part.0) (told_of_lines-one only tells earlier number line) part.1))
+  abbrev here : List Turn
+  here = turn_of stand line ∷ []
+
+  part_told : TellsPart written gathered q.written told → TellsPart p.written p.gathered q.written (told_of_turns tells only earlier here)
+  part_told part = (part.0, Tells-more before (subst (Tells written gathered q.written part.0) (told_of_turns-one only tells earlier (turn_of stand line)) part.1))
 
   -- it is played, but that isn't told whole
-  breaks_at : (fault : PlayFault) → TellsTo fault p.written p.gathered q.written (told_of_lines tells only earlier number (line ∷ [])) →
-      IfSome (to_come p.ahead p.rest) (λ text. BreaksFor fault (line ∷ []) text q.rest failed) → TakesRoom calls fault (line ∷ []) → Breaks tells calls only fault number earlier failed p q
+  breaks_at : (fault : PlayFault) → TellsTo fault p.written p.gathered q.written (told_of_turns tells only earlier here) →
+      IfSome (to_come p.ahead p.rest) (λ text. BreaksFor fault (line ∷ []) text q.rest failed) → TakesRoom calls fault here → Breaks tells calls only fault stand earlier failed p q
   breaks_at fault part whole takes = record {
-    lines = line ∷ [];
+    given = line ∷ [];
     one = omega arith;
     readable = one_readable line short;
-    world = world ∙ ap (after_all only p.world) (sym (calls_said-one line));
+    world = world ∙ ap (after_all only p.world) (sym (calls_said-one (turn_of stand line)));
     told = part;
     stops = whole;
     takes = takes;
   }
 
   pub played_line : (judged : Result Bool PlayFault) (write_failed : Bool) → TellsUnless judged written gathered q.written q.gathered told →
-      OnOk judged (seen (earlier ++ said_by only (call_of line))) → Fails judged write_failed (line_takes_room calls line) → PlaysNext tells calls seen only number earlier (line_played judged) failed p q
-  played_line (Ok complained) write_failed tells_on sees fails = (
+      OnOk judged (seen (earlier ++ said_by only (call_of stand line))) → OnOk judged (next ≡ next_stand only p.world stand line) → Fails judged write_failed (takes_in calls (deed_of stand line)) →
+      PlaysNext tells calls seen only stand next earlier (line_played judged) failed p q
+  played_line (Ok complained) write_failed tells_on sees stands fails = (
     line,
     record {
-      world = world ∙ ap (after_all only p.world) (sym (calls_said-one line));
-      told = Tells-more before (subst (Tells written gathered q.written q.gathered) (told_of_lines-one only tells earlier number line) tells_on);
+      world = world ∙ ap (after_all only p.world) (sym (calls_said-one (turn_of stand line)));
+      stands = stands;
+      told = Tells-more before (subst (Tells written gathered q.written q.gathered) (told_of_turns-one only tells earlier (turn_of stand line)) tells_on);
       passes = passes;
       readable = one_readable line short;
-      sees = subst (λ calls. seen (earlier ++ calls)) (sym (answered-one only line)) sees;
+      sees = subst (λ calls. seen (earlier ++ calls)) (sym (answered-one only (turn_of stand line))) sees;
     },
   )
-  played_line (Err ReadFault) write_failed part sees fails = absurd fails
-  played_line (Err WriteFault) write_failed part sees fails = breaks_at WriteFault (part_told part) (whole_behind (to_come p.ahead p.rest) q.rest q.ahead (line ∷ []) passes) tt
-  played_line (Err TooManyLines) write_failed part sees fails = absurd fails
-  played_line (Err NoMemory) write_failed part sees fails =
-      breaks_at NoMemory (part_told part) (whole_behind (to_come p.ahead p.rest) q.rest q.ahead (line ∷ []) passes) ([], line, refl, fails.1)
+  played_line (Err ReadFault) write_failed part sees stands fails = absurd fails
+  played_line (Err WriteFault) write_failed part sees stands fails = breaks_at WriteFault (part_told part) (whole_behind (to_come p.ahead p.rest) q.rest q.ahead (line ∷ []) passes) tt
+  played_line (Err TooManyLines) write_failed part sees stands fails = absurd fails
+  played_line (Err NoMemory) write_failed part sees stands fails =
+      breaks_at NoMemory (part_told part) (whole_behind (to_come p.ahead p.rest) q.rest q.ahead (line ∷ []) passes) ([], turn_of stand line, refl, fails.1)
 
 module _ {tells : List (List ℕ) → ℕ → List ℕ → List ℕ} {only : Option (List ℕ)} where
   -- no line is played at first
-  pub plays_none : {seen : List (List ℕ) → Type 0} (p : Point) → seen [] → Plays tells seen only 1 [] [] p p
-  plays_none {seen = seen} p sees = record {
+  pub plays_none : {seen : List (List ℕ) → Type 0} (first : Stand) (p : Point) → seen [] → Plays tells seen only first first [] [] p p
+  plays_none {seen = seen} first p sees = record {
     world = sym (left_none only p.world);
+    stands = refl;
     told = Tells-none p.written p.gathered;
     passes = passes_same (to_come p.ahead p.rest);
     readable = none_readable;
@@ -156,16 +170,16 @@ module _ {tells : List (List ℕ) → ℕ → List ℕ → List ℕ} {only : Opt
   }
 
   -- lines are played after lines
-  pub plays_more : {before seen : List (List ℕ) → Type 0} {p q r : Point} {number later : ℕ} {earlier xs ys : List (List ℕ)} → later ≡ number + length xs →
-      Plays tells before only number earlier xs p q → Plays tells seen only later (earlier ++ calls_answered only xs) ys q r → Plays tells seen only number earlier (xs ++ ys) p r
-  plays_more {seen = seen} {p = p} {q = q} {r = r} {number = number} {later = later} {earlier = earlier} {xs = xs} {ys = ys} is first then = record {
-    world = left_by_lines only p.world q.world r.world xs ys first.world then.world;
-    told = subst (Tells p.written p.gathered r.written r.gathered)
-        (ap (λ n. told_of_lines tells only earlier number xs ++ told_of_lines tells only (earlier ++ calls_answered only xs) n ys) is ∙ sym (told_of_lines-append only tells earlier number xs ys))
-        (Tells-more first.told then.told);
+  pub plays_more : {before seen : List (List ℕ) → Type 0} {p q r : Point} {stand mid next : Stand} {earlier xs ys : List (List ℕ)} →
+      Plays tells before only stand mid earlier xs p q → Plays tells seen only mid next (earlier ++ calls_answered only (turns_of only p.world stand xs)) ys q r →
+      Plays tells seen only stand next earlier (xs ++ ys) p r
+  plays_more {seen = seen} {p = p} {q = q} {r = r} {stand = stand} {mid = mid} {earlier = earlier} {xs = xs} {ys = ys} first then = record {
+    world = left_more only p.world q.world stand mid xs ys first.world first.stands r.world then.world;
+    stands = then.stands ∙ stand_more only p.world q.world stand mid xs ys first.world first.stands;
+    told = subst (Tells p.written p.gathered r.written r.gathered) (told_more only tells p.world q.world stand mid earlier xs ys first.world first.stands) (Tells-more first.told then.told);
     passes = passes_more (to_come p.ahead p.rest) (to_come q.ahead q.rest) (to_come r.ahead r.rest) xs ys first.passes then.passes;
     readable = All-append (λ line. length line ≤ longest_read) xs ys first.readable then.readable;
-    sees = subst seen (answered-append only earlier xs ys) then.sees;
+    sees = subst seen (answered_more only p.world q.world stand mid xs ys first.world first.stands earlier) then.sees;
   }
 
 -- ---- why it stops
@@ -183,17 +197,17 @@ told_before Read w g w' tells = tells
 told_before Write w g w' tells = tells
 told_before Endless w g w' tells = tells
 
-pub no_room : (calls : Bool) (fault : LineFault) (lines : List (List ℕ)) → TakesRoom calls (line_fault fault) lines
-no_room calls Read lines = tt
-no_room calls Write lines = tt
-no_room calls Endless lines = tt
+pub no_room : (calls : Bool) (fault : LineFault) (turns : List Turn) → TakesRoom calls (line_fault fault) turns
+no_room calls Read turns = tt
+no_room calls Write turns = tt
+no_room calls Endless turns = tt
 
 -- a fault comes before a line
-abbrev pub breaks_before : {tells : List (List ℕ) → ℕ → List ℕ → List ℕ} {calls : Bool} {only : Option (List ℕ)} (T : Type 0) (number : ℕ) (earlier : List (List ℕ)) (fault : LineFault) {failed : Bool} (p q : Point) →
+abbrev pub breaks_before : {tells : List (List ℕ) → ℕ → List ℕ → List ℕ} {calls : Bool} {only : Option (List ℕ)} (T : Type 0) (stand : Stand) (earlier : List (List ℕ)) (fault : LineFault) {failed : Bool} (p q : Point) →
     q.world ≡ p.world → TellsAt fault p.written p.gathered q.written [] → failed ≡ is_read_fault {T = T} (Err fault) → IfSome (to_come p.ahead p.rest) (λ before. StopsBefore fault before q.rest) →
-    Breaks tells calls only (line_fault fault) number earlier failed p q
-breaks_before {calls = calls} {only = only} T number earlier fault {failed = failed} p q world tells fails stops = record {
-  lines = [];
+    Breaks tells calls only (line_fault fault) stand earlier failed p q
+breaks_before {calls = calls} {only = only} T stand earlier fault {failed = failed} p q world tells fails stops = record {
+  given = [];
   one = omega arith;
   readable = none_readable;
   world = world ∙ sym (left_none only p.world);
@@ -233,12 +247,12 @@ stops_at TooManyLines text come rest xs ys failed p few breaks = absurd breaks
 stops_at NoMemory text come rest xs ys failed p few breaks = whole_more text come rest xs ys p few breaks
 
 -- the last line is the last behind others
-takes_more : (calls : Bool) (fault : PlayFault) (xs ys : List (List ℕ)) → TakesRoom calls fault ys → TakesRoom calls fault (xs ++ ys)
+takes_more : (calls : Bool) (fault : PlayFault) (xs ys : List Turn) → TakesRoom calls fault ys → TakesRoom calls fault (xs ++ ys)
 takes_more calls ReadFault xs ys takes = tt
 takes_more calls WriteFault xs ys takes = tt
 takes_more calls TooManyLines xs ys takes = tt
 takes_more calls NoMemory xs ys takes =
-    (xs ++ takes.0, takes.1, ap (λ lines. xs ++ lines) takes.2 ∙ sym (append_assoc xs takes.0 (takes.1 ∷ [])), takes.3)
+    (xs ++ takes.0, takes.1, ap (λ turns. xs ++ turns) takes.2 ∙ sym (append_assoc xs takes.0 (takes.1 ∷ [])), takes.3)
 
 -- with nothing ahead what comes is what the reader has left
 pub come_fresh : (ahead : List ℕ) (rest : Option (List ℕ)) → ahead ≡ [] → to_come ahead rest ≡ rest
@@ -261,15 +275,18 @@ cut_behind (Some text) rest lines failed few ends = (ends.0, ends.1, (few, ends.
 
 -- ---- the end
 
-module _ {tells : List (List ℕ) → ℕ → List ℕ → List ℕ} {only : Option (List ℕ)} {before : List (List ℕ) → Type 0} {p q : Point} {xs : List (List ℕ)}
-    (input : Option (List ℕ)) (is : to_come p.ahead p.rest ≡ input) (plays : Plays tells before only 1 [] xs p q) where
+module _ {tells : List (List ℕ) → ℕ → List ℕ → List ℕ} {only : Option (List ℕ)} {before : List (List ℕ) → Type 0} {first mid : Stand} {p q : Point} {xs : List (List ℕ)}
+    (input : Option (List ℕ)) (is : to_come p.ahead p.rest ≡ input) (plays : Plays tells before only first mid [] xs p q) where
+  abbrev turns : List Turn
+  turns = turns_of only p.world first xs
+
   -- what is known of the bytes to come behind the lines that were played is known of the scenario
   of_input : (P Q : List ℕ → Type 0) → IfSome (to_come q.ahead q.rest) P → ((text : List ℕ) → (passed : PassesLines text (to_come q.ahead q.rest) xs) → P passed.rest → Q text) → IfSome input Q
   of_input P Q holds then = subst (λ (o : Option (List ℕ)). IfSome o Q) is (behind (to_come p.ahead p.rest) (to_come q.ahead q.rest) xs P Q plays.passes holds then)
 
   -- all that was told, where what is still gathered is written
-  all_told : (r : Point) → Tells q.written q.gathered r.written [] [] → Tells p.written p.gathered r.written [] (told_of_lines tells only [] 1 xs)
-  all_told r tells_on = subst (Tells p.written p.gathered r.written []) (append-nil (told_of_lines tells only [] 1 xs)) (Tells-more plays.told tells_on)
+  all_told : (r : Point) → Tells q.written q.gathered r.written [] [] → Tells p.written p.gathered r.written [] (told_of_turns tells only [] turns)
+  all_told r tells_on = subst (Tells p.written p.gathered r.written []) (append-nil (told_of_turns tells only [] turns)) (Tells-more plays.told tells_on)
 
   -- no line is left
   all_ended : (r : Point) (failed : Bool) → Ended q r → ReadsOn q r → EndsFor None xs input r.rest failed
@@ -282,31 +299,31 @@ module _ {tells : List (List ℕ) → ℕ → List ℕ → List ℕ} {only : Opt
 
   module _ {calls : Bool} {seen : List (List ℕ) → Type 0} (r : Point) (count : ℕ) (failed : Bool) where
     -- a fault comes behind the lines that were played
-    pub plays_to_fault : {later : ℕ} (fault : PlayFault) → later ≡ 1 + length xs → (breaks : Breaks tells calls only fault later (calls_answered only xs) failed q r) → length xs + length breaks.lines ≤ most_lines →
-        PlaysAll tells calls seen only (Some fault) count p.world r.world p.gathered input r.rest failed p.written r.written
-    plays_to_fault {later = later} fault at breaks few =
-        let fit : length (xs ++ breaks.lines) ≤ most_lines = omega (arith, few, length-append xs breaks.lines) in
+    pub plays_to_fault : (fault : PlayFault) → (breaks : Breaks tells calls only fault mid (calls_answered only turns) failed q r) → length xs + length breaks.given ≤ most_lines →
+        PlaysAll tells calls seen only first (Some fault) count p.world r.world p.gathered input r.rest failed p.written r.written
+    plays_to_fault fault breaks few =
+        let fit : length (xs ++ breaks.given) ≤ most_lines = omega (arith, few, length-append xs breaks.given) in
+        let all = turns_more only p.world q.world first mid xs breaks.given plays.world plays.stands in
         record {
-          lines = xs ++ breaks.lines;
-          readable = All-append (λ line. length line ≤ longest_read) xs breaks.lines plays.readable breaks.readable;
-          world = left_by_lines only p.world q.world r.world xs breaks.lines plays.world breaks.world;
+          given = xs ++ breaks.given;
+          readable = All-append (λ line. length line ≤ longest_read) xs breaks.given plays.readable breaks.readable;
+          world = left_more only p.world q.world first mid xs breaks.given plays.world plays.stands r.world breaks.world;
           told =
               written_to fault p.written p.gathered r.written _
-              (subst (TellsTo fault p.written p.gathered r.written)
-              (ap (λ n. told_of_lines tells only [] 1 xs ++ told_of_lines tells only (calls_answered only xs) n breaks.lines) at ∙ sym (told_of_lines-append only tells [] 1 xs breaks.lines))
+              (subst (TellsTo fault p.written p.gathered r.written) (told_more only tells p.world q.world first mid [] xs breaks.given plays.world plays.stands)
               (told_to fault r.written _ plays.told breaks.told));
-          ends = of_input (λ text. BreaksFor fault breaks.lines text r.rest failed) _ breaks.stops (λ text passed for. stops_at fault text _ r.rest xs breaks.lines failed passed fit for);
-          takes = takes_more calls fault xs breaks.lines breaks.takes;
+          ends = of_input (λ text. BreaksFor fault breaks.given text r.rest failed) _ breaks.stops (λ text passed for. stops_at fault text _ r.rest xs breaks.given failed passed fit for);
+          takes = subst (TakesRoom calls fault) all (takes_more calls fault turns (turns_of only q.world mid breaks.given) breaks.takes);
           counted = tt;
           few = fit;
           sees = tt;
         }
 
     -- no line is left
-    pub plays_to_end : Ended q r → ReadsOn q r → length xs ≤ most_lines → count ≡ length xs → seen (calls_answered only xs) →
-        PlaysAll tells calls seen only None count p.world r.world p.gathered input r.rest failed p.written r.written
+    pub plays_to_end : Ended q r → ReadsOn q r → length xs ≤ most_lines → count ≡ length xs → seen (calls_answered only turns) →
+        PlaysAll tells calls seen only first None count p.world r.world p.gathered input r.rest failed p.written r.written
     plays_to_end ended on few counted sees = record {
-      lines = xs;
+      given = xs;
       readable = plays.readable;
       world = ended.world ∙ plays.world;
       told = written_all (all_told r ended.tells);
@@ -318,9 +335,9 @@ module _ {tells : List (List ℕ) → ℕ → List ℕ → List ℕ} {only : Opt
     }
 
     -- what is complained of then may not be told
-    plays_uncomplained : Ended q r → ReadsOn q r → length xs ≤ most_lines → PlaysAll tells calls seen only (Some WriteFault) count p.world r.world p.gathered input r.rest failed p.written r.written
+    plays_uncomplained : Ended q r → ReadsOn q r → length xs ≤ most_lines → PlaysAll tells calls seen only first (Some WriteFault) count p.world r.world p.gathered input r.rest failed p.written r.written
     plays_uncomplained ended on few = record {
-      lines = xs;
+      given = xs;
       readable = plays.readable;
       world = ended.world ∙ plays.world;
       told = written_part ([], all_told r ended.tells);
@@ -331,8 +348,8 @@ module _ {tells : List (List ℕ) → ℕ → List ℕ → List ℕ} {only : Opt
       sees = tt;
     }
 
-    pub plays_closed : {T : Type 0} (closed : Result T PlayFault) (write_failed : Bool) → Ended q r → ReadsOn q r → length xs ≤ most_lines → Fails closed write_failed false → count ≡ length xs → seen (calls_answered only xs) →
-        PlaysAll tells calls seen only (result_err closed) count p.world r.world p.gathered input r.rest failed p.written r.written
+    pub plays_closed : {T : Type 0} (closed : Result T PlayFault) (write_failed : Bool) → Ended q r → ReadsOn q r → length xs ≤ most_lines → Fails closed write_failed false → count ≡ length xs → seen (calls_answered only turns) →
+        PlaysAll tells calls seen only first (result_err closed) count p.world r.world p.gathered input r.rest failed p.written r.written
     plays_closed (Ok done) write_failed ended on few fails counted sees = plays_to_end ended on few counted sees
     plays_closed (Err ReadFault) write_failed ended on few fails counted sees = absurd fails
     plays_closed (Err WriteFault) write_failed ended on few fails counted sees = plays_uncomplained ended on few
@@ -341,9 +358,9 @@ module _ {tells : List (List ℕ) → ℕ → List ℕ → List ℕ} {only : Opt
 
     -- there are more lines than are allowed
     pub plays_too_many : length xs ≡ most_lines → r.world ≡ q.world → Tells q.written q.gathered r.written [] [] → IfSome (to_come q.ahead q.rest) (λ text. true ≡ nat_lt 0 (length text)) →
-        PlaysAll tells calls seen only (Some TooManyLines) count p.world r.world p.gathered input r.rest failed p.written r.written
+        PlaysAll tells calls seen only first (Some TooManyLines) count p.world r.world p.gathered input r.rest failed p.written r.written
     plays_too_many full same tells_on more = record {
-      lines = xs;
+      given = xs;
       readable = plays.readable;
       world = same ∙ plays.world;
       told = written_all (all_told r tells_on);

@@ -17,12 +17,14 @@ use Rattle.scenario.proofs.GatheredLemmas.{Appends-more, Tells-gathered}
 use Rattle.scenario.proofs.Serving.{left_none, none_readable}
 use Rattle.workbench.proofs.PlayLemmas.{cut_behind}
 use Rattle.workbench.specs.Faults.{fault_before, is_write_fault, unplayed}
-use Rattle.workbench.specs.Played.{told_of_lines}
+use Rattle.workbench.specs.Played.{told_of_turns}
 use Rattle.workbench.specs.Plays.{EndsFor, PlaysAll, StopsAt, TakesRoomFor, WritesTold, most_lines}
-use Rattle.workbench.specs.Writes.{AreAll, Closes, IsPlayed, IsPlayedFrom, IsUnplayed, IsWrittenBy, WritesAfter, WritesBoth}
+use Rattle.workbench.specs.Turns.{Turn, turns_of}
+use Rattle.workbench.specs.Writes.{AreAll, Closes, IsPlayed, IsPlayedFrom, IsUnplayed, IsWrittenBy, WritesAfter, WritesBoth, turns_on}
 use Rattle.workbench.specs.declared.ending.Ending.{Ending}
 use Rattle.workbench.specs.declared.ending.PlayFault.{PlayFault}
 use Rattle.workbench.specs.declared.ending.PlayFault.TheVariants.{ReadFault, WriteFault, TooManyLines, NoMemory}
+use Rattle.workbench.specs.declared.stand.Stand.{Stand}
 
 -- behind a text that is written a part of another is
 part_behind : (w w' w'' : Option (List ℕ)) (told more : List ℕ) → Appends w w' told → AppendsPart w' w'' more → AppendsPart w w'' (told ++ more)
@@ -53,14 +55,15 @@ module _ {w w' : Option (List ℕ)} {gathered front : List ℕ} (w'' : Option (L
   told_behind (Some NoMemory) then = some_behind then
 
 -- so a play behind a front is one that tells it
-pub plays_behind : {tells : List (List ℕ) → ℕ → List ℕ → List ℕ} {calls : Bool} {seen : List (List ℕ) → Type 0} {only : Option (List ℕ)} {fault : Option PlayFault} {count : ℕ} {old new : World}
+pub plays_behind : {tells : List (List ℕ) → ℕ → List ℕ → List ℕ} {calls : Bool} {seen : List (List ℕ) → Type 0} {only : Option (List ℕ)} {first : Stand} {fault : Option PlayFault} {count : ℕ} {old new : World}
     {gathered front : List ℕ} {input rest : Option (List ℕ)} {failed : Bool} {w w' w'' : Option (List ℕ)} →
-    Tells w [] w' gathered front → PlaysAll tells calls seen only fault count old new gathered input rest failed w' w'' → PlaysAll tells calls seen only fault count old new front input rest failed w w''
-plays_behind {fault = fault} {w'' = w''} first plays = record {
-  lines = plays.lines;
+    Tells w [] w' gathered front → PlaysAll tells calls seen only first fault count old new gathered input rest failed w' w'' →
+    PlaysAll tells calls seen only first fault count old new front input rest failed w w''
+plays_behind {fault = fault} {w'' = w''} begun plays = record {
+  given = plays.given;
   readable = plays.readable;
   world = plays.world;
-  told = told_behind w'' _ first fault plays.told;
+  told = told_behind w'' _ begun fault plays.told;
   ends = plays.ends;
   takes = plays.takes;
   counted = plays.counted;
@@ -74,11 +77,11 @@ unplayed_all None failed = tt
 unplayed_all (Some text) failed = (lines_of text, refl, (omega arith, record { read = []; left = text; is_left = refl; parts = refl; whole = inl (omega arith) }))
 
 -- a front that can't be told is a fault before any line
-pub front_cut : {tells : List (List ℕ) → ℕ → List ℕ → List ℕ} {calls : Bool} {seen : List (List ℕ) → Type 0} {only : Option (List ℕ)} (count : ℕ) (world : World) {gathered front : List ℕ}
+pub front_cut : {tells : List (List ℕ) → ℕ → List ℕ → List ℕ} {calls : Bool} {seen : List (List ℕ) → Type 0} {only : Option (List ℕ)} (first : Stand) (count : ℕ) (world : World) {gathered front : List ℕ}
     (input : Option (List ℕ)) (failed : Bool) {w w' : Option (List ℕ)} → gathered ≡ [] → TellsPart w gathered w' front →
-    PlaysAll tells calls seen only (Some WriteFault) count world world front input input failed w w'
-front_cut {only = only} count world {front = front} input failed none part = record {
-  lines = [];
+    PlaysAll tells calls seen only first (Some WriteFault) count world world front input input failed w w'
+front_cut {only = only} first count world {front = front} input failed none part = record {
+  given = [];
   readable = none_readable;
   world = sym (left_none only world);
   told = record {
@@ -134,10 +137,10 @@ ends_both None None input rest lines failed w w' behind few ends after = ends
 ends_both None (Some fault) input rest lines failed w w' behind few ends after = rw after.0 (cut_behind input rest lines failed few ends)
 ends_both (Some fault) f' input rest lines failed w w' behind few ends after = rw after.0 ends
 
-takes_both : (calls : Bool) (f f' : Option PlayFault) (lines : List (List ℕ)) (w w' : Option (List ℕ)) (behind : List ℕ) → TakesRoomFor calls f lines → WritesAfter f f' w w' behind → TakesRoomFor calls f' lines
-takes_both calls None None lines w w' behind takes after = tt
-takes_both calls None (Some fault) lines w w' behind takes after = rw after.0 tt
-takes_both calls (Some fault) f' lines w w' behind takes after = rw after.0 takes
+takes_both : (calls : Bool) (f f' : Option PlayFault) (turns : List Turn) (w w' : Option (List ℕ)) (behind : List ℕ) → TakesRoomFor calls f turns → WritesAfter f f' w w' behind → TakesRoomFor calls f' turns
+takes_both calls None None turns w w' behind takes after = tt
+takes_both calls None (Some fault) turns w w' behind takes after = rw after.0 tt
+takes_both calls (Some fault) f' turns w w' behind takes after = rw after.0 takes
 
 -- how many lines there were
 counted_still : (f f' : Option PlayFault) (count count' : ℕ) (w w' : Option (List ℕ)) (behind : List ℕ) (n : ℕ) →
@@ -147,29 +150,35 @@ counted_still None (Some fault) count count' w w' behind n is same after = tt
 counted_still (Some fault) f' count count' w w' behind n is same after = rw after.0 tt
 
 -- what a play wrote and what was written behind it
-pub played_from : {told behind : List (List ℕ) → List ℕ} {calls : Bool} {tells : List (List ℕ) → ℕ → List ℕ → List ℕ} {seen : List (List ℕ) → Type 0} {only : Option (List ℕ)} {start last : World} {front : List ℕ}
-    {input rest w w' w'' : Option (List ℕ)} {failed : Bool} (played ended : Ending) (plays : PlaysAll tells calls seen only played.fault played.lines start last front input rest failed w w') →
-    front ++ told_of_lines tells only [] 1 plays.lines ≡ told plays.lines → Closes played ended w' w'' (behind plays.lines) → IsPlayedFrom told behind calls ended input rest failed w w''
-played_from {told = told} {behind = behind} {calls = calls} {input = input} {rest = rest} {w = w} {w' = w'} {w'' = w''} {failed = failed} played ended plays same closes = record {
-  lines = plays.lines;
-  readable = plays.readable;
-  ends = ends_both played.fault ended.fault input rest plays.lines failed w' w'' (behind plays.lines) plays.few plays.ends closes.writes;
-  takes = takes_both calls played.fault ended.fault plays.lines w' w'' (behind plays.lines) plays.takes closes.writes;
-  counted = counted_still played.fault ended.fault played.lines ended.lines w' w'' (behind plays.lines) (length plays.lines) plays.counted closes.lines closes.writes;
-  writes =
-      writes_both played.fault ended.fault input rest plays.lines failed w w' w'' (told plays.lines) (behind plays.lines) plays.ends
-      (subst (WritesTold played.fault w w') same plays.told) closes.writes;
-}
+pub played_from : {told behind : List Turn → List ℕ} {calls : Bool} {tells : List (List ℕ) → ℕ → List ℕ → List ℕ} {seen : List (List ℕ) → Type 0} {only : Option (List ℕ)} {first : Stand} {start last : World}
+    {front : List ℕ} {input rest w w' w'' : Option (List ℕ)} {failed : Bool} (played ended : Ending)
+    (plays : PlaysAll tells calls seen only first played.fault played.lines start last front input rest failed w w') →
+    front ++ told_of_turns tells only [] (turns_of only start first plays.given) ≡ told (turns_of only start first plays.given) →
+    Closes played ended w' w'' (behind (turns_of only start first plays.given)) → IsPlayedFrom (turns_of only start first) told behind calls ended input rest failed w w''
+played_from {told = told} {behind = behind} {calls = calls} {only = only} {first = first} {start = start} {input = input} {rest = rest} {w = w} {w' = w'} {w'' = w''} {failed = failed} played ended plays same closes =
+    let turns = turns_of only start first plays.given in
+    record {
+      given = plays.given;
+      readable = plays.readable;
+      ends = ends_both played.fault ended.fault input rest plays.given failed w' w'' (behind turns) plays.few plays.ends closes.writes;
+      takes = takes_both calls played.fault ended.fault turns w' w'' (behind turns) plays.takes closes.writes;
+      counted = counted_still played.fault ended.fault played.lines ended.lines w' w'' (behind turns) (length plays.given) plays.counted closes.lines closes.writes;
+      writes =
+          writes_both played.fault ended.fault input rest plays.given failed w w' w'' (told turns) (behind turns) plays.ends
+          (subst (WritesTold played.fault w w') same plays.told) closes.writes;
+    }
 
 -- on the machine of a text
-pub is_played : {text : List ℕ} {listed : Listed} {calls : Bool} (told : World → List (List ℕ) → List ℕ) (behind : Listed → World → List (List ℕ) → List ℕ) (ending : Ending) {start : World}
+pub is_played : {text : List ℕ} {listed : Listed} {calls : Bool} (only : Option (List ℕ)) (first : Stand) (told : World → List Turn → List ℕ) (behind : Listed → World → List Turn → List ℕ) (ending : Ending) {start : World} {begun : Stand}
     (input rest : Option (List ℕ)) (failed : Bool) (w w' : Option (List ℕ)) →
-    list_in text ≡ Ok listed → Boots (start_list_of listed) → start ≡ world_of listed → IsPlayedFrom (told start) (behind listed start) calls ending input rest failed w w' →
-    IsPlayed text (λ l. told (world_of l)) (λ l. behind l (world_of l)) calls ending input rest failed w w'
-is_played {listed = listed} {calls = calls} told behind ending input rest failed w w' reads boots starts played = record {
+    list_in text ≡ Ok listed → Boots (start_list_of listed) → start ≡ world_of listed → begun ≡ first → IsPlayedFrom (turns_of only start begun) (told start) (behind listed start) calls ending input rest failed w w' →
+    IsPlayed text (turns_on only first) (λ l. told (world_of l)) (λ l. behind l (world_of l)) calls ending input rest failed w w'
+is_played {listed = listed} {calls = calls} only first told behind ending {start = start} input rest failed w w' reads boots starts begins played = record {
   listed = listed;
   machine = record { reads = reads; boots = boots };
-  played = subst (λ world. IsPlayedFrom (told world) (behind listed world) calls ending input rest failed w w') starts played;
+  played =
+      subst (λ world. IsPlayedFrom (turns_of only world first) (told world) (behind listed world) calls ending input rest failed w w') starts
+      (subst (λ stand. IsPlayedFrom (turns_of only start stand) (told start) (behind listed start) calls ending input rest failed w w') begins played);
 }
 
 -- it has booted, and nothing more
@@ -194,19 +203,19 @@ within_bounds TooManyLines lines left text rest failed write_failed parts cause 
     λ reads writes short few. omega (arith, cause.0, cause.1, ap length parts, length-append lines left)
 within_bounds NoMemory lines left text rest failed write_failed parts cause fails other = absurd (other refl)
 
-pub caused : {told behind : List (List ℕ) → List ℕ} {calls : Bool} {ending : Ending} {input rest : Option (List ℕ)} {failed : Bool} {w w' : Option (List ℕ)} (write_failed : Bool) →
-    IsPlayedFrom told behind calls ending input rest failed w w' → write_failed ≡ is_write_fault ending.fault →
+pub caused : {turns : List (List ℕ) → List Turn} {told behind : List Turn → List ℕ} {calls : Bool} {ending : Ending} {input rest : Option (List ℕ)} {failed : Bool} {w w' : Option (List ℕ)} (write_failed : Bool) →
+    IsPlayedFrom turns told behind calls ending input rest failed w w' → write_failed ≡ is_write_fault ending.fault →
     IfSome ending.fault (λ fault. fault ≢ NoMemory → IfSome input (λ text. HasCause text most_lines failed write_failed))
 caused {ending = ending} {input = input} {rest = rest} {failed = failed} write_failed played fails = of ending.fault input played.ends fails
   where
-    of : (f : Option PlayFault) (o : Option (List ℕ)) → EndsFor f played.lines o rest failed → write_failed ≡ is_write_fault f → IfSome f (λ fault. fault ≢ NoMemory → IfSome o (λ text. HasCause text most_lines failed write_failed))
+    of : (f : Option PlayFault) (o : Option (List ℕ)) → EndsFor f played.given o rest failed → write_failed ≡ is_write_fault f → IfSome f (λ fault. fault ≢ NoMemory → IfSome o (λ text. HasCause text most_lines failed write_failed))
     of None o ends is = tt
     of (Some fault) None ends is = λ other. tt
-    of (Some fault) (Some text) ends is = λ other. within_bounds fault played.lines ends.0 text rest failed write_failed ends.1 ends.2 is other
+    of (Some fault) (Some text) ends is = λ other. within_bounds fault played.given ends.0 text rest failed write_failed ends.1 ends.2 is other
 
 -- or a device had failed before
-pub ends_for_cause : {told behind : List (List ℕ) → List ℕ} {calls : Bool} {ending : Ending} {input rest : Option (List ℕ)} {failed : Bool} {w w' : Option (List ℕ)} (read_before write_before write_failed : Bool) →
-    (fault_before read_before write_before ≡ None → IsPlayedFrom told behind calls ending input rest failed w w') →
+pub ends_for_cause : {turns : List (List ℕ) → List Turn} {told behind : List Turn → List ℕ} {calls : Bool} {ending : Ending} {input rest : Option (List ℕ)} {failed : Bool} {w w' : Option (List ℕ)} (read_before write_before write_failed : Bool) →
+    (fault_before read_before write_before ≡ None → IsPlayedFrom turns told behind calls ending input rest failed w w') →
     IfSome (fault_before read_before write_before) (λ fault. (ending ≡ unplayed fault) × (failed ≡ read_before)) → write_failed ≡ is_write_fault ending.fault →
     IfSome ending.fault (λ fault. fault ≢ NoMemory → IfSome input (λ text. HasCause text most_lines failed write_failed))
 ends_for_cause false false write_failed played before fails = caused write_failed (played refl) fails

@@ -4,8 +4,9 @@ use Rattle.own_model.specs.Listed.{Listed}
 use Rattle.own_model.specs.SaidBy.{is_said_by, joined, pieces, pieces_for, said_by}
 use Rattle.own_model.specs.World.{World, world_running}
 use Rattle.scenario.specs.Answered.{after_all, told_of_all}
-use Rattle.workbench.specs.Played.{calls_answered, calls_said, told_of_lines}
+use Rattle.workbench.specs.Played.{calls_answered, calls_said, told_of_turns}
 use Rattle.scenario.specs.Program.{world_of}
+use Rattle.workbench.specs.Turns.{Turn}
 use Rattle.workbench.specs.Writes.{transcript_of}
 
 -- what a call is told in a world
@@ -35,22 +36,22 @@ pub record SeesAlone (name : List ℕ) (core : World) (lines : ℕ) (difference 
 abbrev pub alone_sum : List ℕ → ℕ → List ℕ
 alone_sum name lines = decimal lines ++ codes " lines of " ++ name ++ codes ": the same alone as in the whole run" ++ 10 ∷ []
 
-abbrev pub alone_behind : List ℕ → Listed → List (List ℕ) → List ℕ
-alone_behind name listed lines = alone_sum name (length (calls_answered (Some name) lines))
+abbrev pub alone_behind : List ℕ → Listed → List Turn → List ℕ
+alone_behind name listed turns = alone_sum name (length (calls_answered (Some name) turns))
 
-abbrev pub alone_told : List ℕ → Listed → List (List ℕ) → List ℕ
-alone_told name listed lines = told_of_lines (alone_tells name (world_of listed)) None [] 1 lines
+abbrev pub alone_told : List ℕ → Listed → List Turn → List ℕ
+alone_told name listed turns = told_of_turns (alone_tells name (world_of listed)) None [] turns
 
 -- what a name's calls are told in the whole run, put together
-abbrev pub whole_column : List ℕ → World → List (List ℕ) → List ℕ
-whole_column name start lines = joined (pieces_for name (pieces start.entries start.states [] (calls_said lines)))
+abbrev pub whole_column : List ℕ → World → List Turn → List ℕ
+whole_column name start turns = joined (pieces_for name (pieces start.entries start.states [] (calls_said turns)))
 
 -- and alone
-abbrev pub alone_column : List ℕ → World → List (List ℕ) → List ℕ
-alone_column name start lines = transcript_of (Some name) start lines
+abbrev pub alone_column : List ℕ → World → List Turn → List ℕ
+alone_column name start turns = transcript_of (Some name) start turns
 
 -- what a name is told in the whole run is what it is told alone, call by call and in all
 pub record AreAlike (name : List ℕ) : Type 0 where
   pub calls : (start : World) (earlier : List (List ℕ)) (call : List ℕ) → is_said_by name call ≡ true →
       told_in (world_running start earlier) call ≡ told_in (after_all (Some name) start earlier) call
-  pub columns : (start : World) (lines : List (List ℕ)) → whole_column name start lines ≡ alone_column name start lines
+  pub columns : (start : World) (turns : List Turn) → whole_column name start turns ≡ alone_column name start turns

@@ -1,13 +1,14 @@
 -- Why a play stops before the end of its scenario.
-use Rattle.std.specs.Prelude.{◌≡◌, ℕ, Bool, true, false, List, length, nat_le, if◌then◌else◌, Option, Some, None, Result, Ok, Err}
-use Rattle.own_model.specs.Transcript.{longest_line}
-use Rattle.friendly_lines.specs.Friendly.{Said, said_of}
+use Rattle.std.specs.Prelude.{◌≡◌, ◌||◌, Bool, true, false, if◌then◌else◌, Option, Some, None, Result, Ok, Err}
+use Rattle.friendly_lines.specs.Friendly.{Said}
 use Rattle.friendly_lines.specs.Friendly.Said.{Nothing, Log, Call}
 use Rattle.friendly_lines.specs.declared.fault.Fault.{Fault}
 use Rattle.scenario.specs.declared.lines.LineFault.{LineFault}
 use Rattle.scenario.specs.declared.lines.LineFault.TheVariants.{Read, Write, Endless}
 use Rattle.scenario.specs.declared.running.RunFault.{RunFault}
 use Rattle.scenario.specs.declared.running.RunFault.TheVariants.{ReadFault as Unread, WriteFault as Unwritten, TooManyLines as TooMany}
+use Rattle.workbench.specs.Turns.{Deed, has_holes}
+use Rattle.workbench.specs.Turns.Deed.{TooLong, Unnamed, Follows, Says}
 use Rattle.workbench.specs.declared.ending.Ending.{Ending}
 use Rattle.workbench.specs.declared.ending.PlayFault.{PlayFault}
 use Rattle.workbench.specs.declared.ending.PlayFault.TheVariants.{ReadFault, WriteFault, TooManyLines, NoMemory}
@@ -40,8 +41,12 @@ takes_room calls (Ok (Log text)) = true
 takes_room calls (Ok (Call line reply)) = calls
 takes_room calls (Err fault) = true
 
-abbrev pub line_takes_room : Bool → List ℕ → Bool
-line_takes_room calls line = if nat_le (length line) longest_line then takes_room calls (said_of line) else false
+-- and of a line by what it is when its turn comes: names are kept that a directive or a reply binds
+abbrev pub takes_in : Bool → Deed → Bool
+takes_in calls TooLong = false
+takes_in calls (Unnamed fault) = true
+takes_in calls (Follows directive) = true
+takes_in calls (Says filled said) = takes_room calls said || has_holes filled
 
 -- a fault comes where a write has failed, or where room is taken that the host has not, and of nothing else
 abbrev pub Fails : {T : Type 0} → Result T PlayFault → Bool → Bool → Type 0

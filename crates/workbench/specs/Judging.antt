@@ -8,6 +8,8 @@ use Rattle.friendly_lines.specs.Friendly.Said.{Nothing, Log, Call}
 use Rattle.friendly_lines.specs.declared.fault.Fault.{Fault}
 use Rattle.scenario.specs.Answer.{AnswersLine}
 use Rattle.scenario.specs.declared.answering.LineAnswer.{LineAnswer}
+use Rattle.workbench.specs.Turns.{Deed, is_misplaced}
+use Rattle.workbench.specs.Turns.Deed.{TooLong, Unnamed, Follows, Says}
 
 -- the log lines that the next call is expected to finish, each as it is printed, and the line of the scenario in which the first
 -- of them stands
@@ -39,19 +41,32 @@ is_other None (Some answer) awaited = is_some awaited.first
 is_other (Some reply) (Some answer) awaited =
     not (meets answer.reply.now reply) || not (bytes_eq answer.lines.now awaited.lines)
 
--- ---- of a line, by what is read of it
+-- ---- of a line, by what it is when its turn comes
 
 -- what is expected behind the line of this number
-abbrev pub awaited_after : ℕ → Result Said Fault → Awaited → Awaited
-awaited_after number (Ok Nothing) awaited = awaited
-awaited_after number (Ok (Log text)) awaited = awaited_more awaited number text
-awaited_after number (Ok (Call line reply)) awaited = nothing_awaited
-awaited_after number (Err fault) awaited = awaited
+abbrev pub awaited_said : ℕ → Result Said Fault → Awaited → Awaited
+awaited_said number (Ok Nothing) awaited = awaited
+awaited_said number (Ok (Log text)) awaited = awaited_more awaited number text
+awaited_said number (Ok (Call line reply)) awaited = nothing_awaited
+awaited_said number (Err fault) awaited = awaited
 
--- it is complained of where it isn't read, and of a call where its answer in this world is otherwise than expected
-abbrev pub IsJudged : Option (List ℕ) → World → Result Said Fault → Awaited → Bool → Type 0
-IsJudged only world (Ok Nothing) awaited complained = complained ≡ false
-IsJudged only world (Ok (Log text)) awaited complained = complained ≡ false
-IsJudged only world (Ok (Call line reply)) awaited complained =
+abbrev pub awaited_after : ℕ → Deed → Awaited → Awaited
+awaited_after number TooLong awaited = awaited
+awaited_after number (Unnamed fault) awaited = awaited
+awaited_after number (Follows directive) awaited = awaited
+awaited_after number (Says filled said) awaited = awaited_said number said awaited
+
+-- what is said is complained of where it isn't read, and of a call where its answer in this world is otherwise than expected
+abbrev pub IsJudgedSaid : Option (List ℕ) → World → Result Said Fault → Awaited → Bool → Type 0
+IsJudgedSaid only world (Ok Nothing) awaited complained = complained ≡ false
+IsJudgedSaid only world (Ok (Log text)) awaited complained = complained ≡ false
+IsJudgedSaid only world (Ok (Call line reply)) awaited complained =
     (answer : Option LineAnswer) × AnswersLine only world line answer × (complained ≡ is_other reply answer awaited)
-IsJudged only world (Err fault) awaited complained = complained ≡ true
+IsJudgedSaid only world (Err fault) awaited complained = complained ≡ true
+
+-- and so is a line that is too long or can't be filled, and a directive that can't be followed
+abbrev pub IsJudged : Option (List ℕ) → World → Deed → Awaited → Bool → Type 0
+IsJudged only world TooLong awaited complained = complained ≡ true
+IsJudged only world (Unnamed fault) awaited complained = complained ≡ true
+IsJudged only world (Follows directive) awaited complained = complained ≡ is_misplaced directive
+IsJudged only world (Says filled said) awaited complained = IsJudgedSaid only world said awaited complained

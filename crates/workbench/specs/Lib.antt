@@ -1,6 +1,7 @@
 pub mod Devices
 pub mod Said
 pub mod Ending
+pub mod Turns
 pub mod Faults
 pub mod Judging
 pub mod Played

@@ -11,6 +11,7 @@ use Rattle.scenario.specs.Program.{world_of}
 use Rattle.scenario.specs.declared.columns.Owner.TheVariants.{Init, Component, Session}
 use Rattle.workbench.specs.Peaks.{Noted, noted_of, peak_of, worlds}
 use Rattle.workbench.specs.Played.{calls_answered}
+use Rattle.workbench.specs.Turns.{Turn}
 
 -- a peak, as it stands beside an account
 abbrev pub peak_text : Amounts → List ℕ
@@ -49,5 +50,5 @@ beside_after listed start calls =
 abbrev pub peaks_text : Listed → World → List (List ℕ) → List ℕ
 peaks_text listed start calls = list_with listed (world_running start calls) (beside_after listed start calls)
 
-abbrev pub accounts_behind : Listed → List (List ℕ) → List ℕ
-accounts_behind listed lines = peaks_text listed (world_of listed) (calls_answered None lines)
+abbrev pub accounts_behind : Listed → List Turn → List ℕ
+accounts_behind listed turns = peaks_text listed (world_of listed) (calls_answered None turns)

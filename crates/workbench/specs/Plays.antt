@@ -8,23 +8,27 @@ use Rattle.scenario.specs.Gathered.{Tells, TellsPart}
 use Rattle.scenario.specs.Lines.{line_length, longest_read, to_come, AreReadable, HasRead, PassesLines, PassesSome}
 use Rattle.scenario.specs.Stops.{AppendsPart, StopsFor}
 use Rattle.scenario.specs.declared.running.RunFault.TheVariants.{ReadFault as Unread, TooManyLines as TooMany}
-use Rattle.workbench.specs.Faults.{line_takes_room}
-use Rattle.workbench.specs.Played.{calls_answered, calls_said, told_of_lines}
+use Rattle.workbench.specs.Faults.{takes_in}
+use Rattle.workbench.specs.Played.{calls_answered, calls_said, told_of_turns}
+use Rattle.workbench.specs.Turns.{Turn, stand_behind, turns_of}
 use Rattle.workbench.specs.declared.ending.PlayFault.{PlayFault}
 use Rattle.workbench.specs.declared.ending.PlayFault.TheVariants.{ReadFault, WriteFault, TooManyLines, NoMemory}
 use Rattle.workbench.specs.declared.playing.Played.{Played}
 use Rattle.workbench.specs.declared.playing.Played.TheVariants.{End, Line}
+use Rattle.workbench.specs.declared.stand.Stand.{Stand}
 
--- after earlier calls lines of a scenario are played, from one of this number on, and seen; where the bytes to come are
--- known, they are the first of them
+-- after earlier calls lines of a scenario are played, from one stand to the next, and seen; where the bytes to come are known,
+-- they are the first of them
 pub record Plays (tells : List (List ℕ) → ℕ → List ℕ → List ℕ) (seen : List (List ℕ) → Type 0) (only : Option (List ℕ))
-    (number : ℕ) (earlier lines : List (List ℕ)) (old new : Point) : Type 0 where
-  pub world : new.world ≡ after_all only old.world (calls_said lines)
-  pub told : Tells old.written old.gathered new.written new.gathered (told_of_lines tells only earlier number lines)
+    (stand next : Stand) (earlier given : List (List ℕ)) (old new : Point) : Type 0 where
+  pub world : new.world ≡ after_all only old.world (calls_said (turns_of only old.world stand given))
+  pub stands : next ≡ stand_behind only old.world stand given
+  pub told : Tells old.written old.gathered new.written new.gathered
+      (told_of_turns tells only earlier (turns_of only old.world stand given))
   pub passes : IfSome (to_come old.ahead old.rest) (λ text.
-      PassesLines text (to_come new.ahead new.rest) lines)
-  pub readable : AreReadable lines
-  pub sees : seen (earlier ++ calls_answered only lines)
+      PassesLines text (to_come new.ahead new.rest) given)
+  pub readable : AreReadable given
+  pub sees : seen (earlier ++ calls_answered only (turns_of only old.world stand given))
 
 -- ---- why it stops
 
@@ -52,32 +56,34 @@ BreaksFor TooManyLines lines text rest failed = ⊥
 BreaksFor NoMemory lines text rest failed = AreWhole lines text rest
 
 -- where the host had no room, the last of these lines took some
-abbrev pub TakesRoom : Bool → PlayFault → List (List ℕ) → Type 0
-TakesRoom calls ReadFault lines = ⊤
-TakesRoom calls WriteFault lines = ⊤
-TakesRoom calls TooManyLines lines = ⊤
-TakesRoom calls NoMemory lines =
-    (front : List (List ℕ)) × (line : List ℕ) × (lines ≡ front ++ line ∷ []) × (line_takes_room calls line ≡ true)
+abbrev pub TakesRoom : Bool → PlayFault → List Turn → Type 0
+TakesRoom calls ReadFault turns = ⊤
+TakesRoom calls WriteFault turns = ⊤
+TakesRoom calls TooManyLines turns = ⊤
+TakesRoom calls NoMemory turns =
+    (front : List Turn) × (last : Turn) × (turns ≡ front ++ last ∷ []) × (takes_in calls last.deed ≡ true)
 
 -- a fault comes before a line is played, or once it is
 pub record Breaks (tells : List (List ℕ) → ℕ → List ℕ → List ℕ) (calls : Bool) (only : Option (List ℕ)) (fault : PlayFault)
-    (number : ℕ) (earlier : List (List ℕ)) (failed : Bool) (old new : Point) : Type 0 where
-  pub lines : List (List ℕ)
-  pub one : length lines ≤ 1
-  pub readable : AreReadable lines
-  pub world : new.world ≡ after_all only old.world (calls_said lines)
-  pub told : TellsTo fault old.written old.gathered new.written (told_of_lines tells only earlier number lines)
-  pub stops : IfSome (to_come old.ahead old.rest) (λ text. BreaksFor fault lines text new.rest failed)
-  pub takes : TakesRoom calls fault lines
+    (stand : Stand) (earlier : List (List ℕ)) (failed : Bool) (old new : Point) : Type 0 where
+  pub given : List (List ℕ)
+  pub one : length given ≤ 1
+  pub readable : AreReadable given
+  pub world : new.world ≡ after_all only old.world (calls_said (turns_of only old.world stand given))
+  pub told : TellsTo fault old.written old.gathered new.written
+      (told_of_turns tells only earlier (turns_of only old.world stand given))
+  pub stops : IfSome (to_come old.ahead old.rest) (λ text. BreaksFor fault given text new.rest failed)
+  pub takes : TakesRoom calls fault (turns_of only old.world stand given)
 
 -- the next line is played, unless there is none or a fault comes
-abbrev pub PlaysNext : (List (List ℕ) → ℕ → List ℕ → List ℕ) → Bool → (List (List ℕ) → Type 0) → Option (List ℕ) → ℕ →
-    List (List ℕ) → Result Played PlayFault → Bool → Point → Point → Type 0
-PlaysNext tells calls seen only number earlier (Ok (Line complained)) failed old new =
-    (line : List ℕ) × Plays tells seen only number earlier (line ∷ []) old new
-PlaysNext tells calls seen only number earlier (Ok End) failed old new = Ended old new × ReadsOn old new × seen earlier
-PlaysNext tells calls seen only number earlier (Err fault) failed old new =
-    Breaks tells calls only fault number earlier failed old new
+abbrev pub PlaysNext : (List (List ℕ) → ℕ → List ℕ → List ℕ) → Bool → (List (List ℕ) → Type 0) → Option (List ℕ) → Stand →
+    Stand → List (List ℕ) → Result Played PlayFault → Bool → Point → Point → Type 0
+PlaysNext tells calls seen only stand next earlier (Ok (Line complained)) failed old new =
+    (line : List ℕ) × Plays tells seen only stand next earlier (line ∷ []) old new
+PlaysNext tells calls seen only stand next earlier (Ok End) failed old new =
+    Ended old new × ReadsOn old new × seen earlier
+PlaysNext tells calls seen only stand next earlier (Err fault) failed old new =
+    Breaks tells calls only fault stand earlier failed old new
 
 -- a line was played, unless a fault came
 abbrev pub line_played : Result Bool PlayFault → Result Played PlayFault
@@ -114,19 +120,19 @@ EndsFor fault lines input rest failed = IfSome input (λ text. (left : List (Lis
     × (lines_of text ≡ lines ++ left) × LeavesFor fault lines left text rest failed)
 
 -- where a fault came for want of room, the last line took some
-abbrev pub TakesRoomFor : Bool → Option PlayFault → List (List ℕ) → Type 0
-TakesRoomFor calls fault lines = IfSome fault (λ f. TakesRoom calls f lines)
+abbrev pub TakesRoomFor : Bool → Option PlayFault → List Turn → Type 0
+TakesRoomFor calls fault turns = IfSome fault (λ f. TakesRoom calls f turns)
 
--- a scenario is played to its end or to a fault, behind a front
+-- a scenario is played from its first stand to its end or to a fault, behind a front
 pub record PlaysAll (tells : List (List ℕ) → ℕ → List ℕ → List ℕ) (calls : Bool) (seen : List (List ℕ) → Type 0)
-    (only : Option (List ℕ)) (fault : Option PlayFault) (count : ℕ) (old new : World) (front : List ℕ)
+    (only : Option (List ℕ)) (first : Stand) (fault : Option PlayFault) (count : ℕ) (old new : World) (front : List ℕ)
     (input rest : Option (List ℕ)) (failed : Bool) (written now_written : Option (List ℕ)) : Type 0 where
-  pub lines : List (List ℕ)
-  pub readable : AreReadable lines
-  pub world : new ≡ after_all only old (calls_said lines)
-  pub told : WritesTold fault written now_written (front ++ told_of_lines tells only [] 1 lines)
-  pub ends : EndsFor fault lines input rest failed
-  pub takes : TakesRoomFor calls fault lines
-  pub counted : IfNone fault (count ≡ length lines)
-  pub few : length lines ≤ most_lines
-  pub sees : IfNone fault (seen (calls_answered only lines))
+  pub given : List (List ℕ)
+  pub readable : AreReadable given
+  pub world : new ≡ after_all only old (calls_said (turns_of only old first given))
+  pub told : WritesTold fault written now_written (front ++ told_of_turns tells only [] (turns_of only old first given))
+  pub ends : EndsFor fault given input rest failed
+  pub takes : TakesRoomFor calls fault (turns_of only old first given)
+  pub counted : IfNone fault (count ≡ length given)
+  pub few : length given ≤ most_lines
+  pub sees : IfNone fault (seen (calls_answered only (turns_of only old first given)))

@@ -13,8 +13,9 @@ use Rattle.own_model.specs.Transcript.{Heard, heard, state_at}
 use Rattle.own_model.specs.Transcript.Heard.{NoCall, Stranger, Caller}
 use Rattle.own_model.specs.World.{World, account_at, world_running}
 use Rattle.scenario.specs.Answer.{answered_name, answered_reply}
-use Rattle.workbench.specs.Played.{told_of_lines}
+use Rattle.workbench.specs.Played.{told_of_turns}
 use Rattle.workbench.specs.Said.{said_in}
+use Rattle.workbench.specs.Turns.{Turn}
 use Rattle.scenario.specs.Program.{world_of}
 
 -- the call as it stands behind the name and a space, or a line that is none
@@ -85,5 +86,5 @@ trace_header =
     ++ 10 ∷ []
 
 -- a trace: the names of the columns, and a row for each call
-abbrev pub trace_told : Listed → List (List ℕ) → List ℕ
-trace_told listed lines = trace_header ++ told_of_lines (trace_tells (world_of listed)) None [] 1 lines
+abbrev pub trace_told : Listed → List Turn → List ℕ
+trace_told listed turns = trace_header ++ told_of_turns (trace_tells (world_of listed)) None [] turns

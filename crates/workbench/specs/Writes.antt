@@ -12,9 +12,11 @@ use Rattle.scenario.specs.Stops.{AppendsPart}
 use Rattle.workbench.specs.Faults.{unplayed}
 use Rattle.workbench.specs.Played.{calls_answered, calls_said}
 use Rattle.workbench.specs.Plays.{EndsFor, TakesRoomFor}
+use Rattle.workbench.specs.Turns.{Turn, turns_of}
 use Rattle.workbench.specs.declared.ending.Ending.{Ending}
 use Rattle.workbench.specs.declared.ending.PlayFault.{PlayFault}
 use Rattle.workbench.specs.declared.ending.PlayFault.TheVariants.{ReadFault, WriteFault, TooManyLines, NoMemory}
+use Rattle.workbench.specs.declared.stand.Stand.{Stand}
 
 -- all lines of a text
 abbrev pub AreAll : List (List ℕ) → List ℕ → Type 0
@@ -32,22 +34,25 @@ WritesBoth (Some TooManyLines) input lines old new told behind = Appends old new
 WritesBoth (Some NoMemory) input lines old new told behind = AppendsPart old new told
 
 -- a scenario was played, from its first line on, to its end or to a fault that has a cause, and this was written: what is told
--- of its lines, and what stands behind them; whether what is told of calls takes memory of the host is given
-pub record IsPlayedFrom (told behind : List (List ℕ) → List ℕ) (calls : Bool) (ending : Ending) (input rest : Option (List ℕ))
-    (failed : Bool) (written now_written : Option (List ℕ)) : Type 0 where
-  pub lines : List (List ℕ)
-  pub readable : AreReadable lines
-  pub ends : EndsFor ending.fault lines input rest failed
-  pub takes : TakesRoomFor calls ending.fault lines
-  pub counted : IfNone ending.fault (ending.lines ≡ length lines)
-  pub writes : WritesBoth ending.fault input lines written now_written (told lines) (behind lines)
+-- of its lines, and what stands behind them, by the turns that lines have; whether what is told of calls takes memory of the
+-- host is given
+pub record IsPlayedFrom (turns : List (List ℕ) → List Turn) (told behind : List Turn → List ℕ) (calls : Bool) (ending : Ending)
+    (input rest : Option (List ℕ)) (failed : Bool) (written now_written : Option (List ℕ)) : Type 0 where
+  pub given : List (List ℕ)
+  pub readable : AreReadable given
+  pub ends : EndsFor ending.fault given input rest failed
+  pub takes : TakesRoomFor calls ending.fault (turns given)
+  pub counted : IfNone ending.fault (ending.lines ≡ length given)
+  pub writes : WritesBoth ending.fault input given written now_written (told (turns given)) (behind (turns given))
 
 -- the same on the machine of a text
-pub record IsPlayed (text : List ℕ) (told behind : Listed → List (List ℕ) → List ℕ) (calls : Bool) (ending : Ending)
-    (input rest : Option (List ℕ)) (failed : Bool) (written now_written : Option (List ℕ)) : Type 0 where
+pub record IsPlayed (text : List ℕ) (turns : Listed → List (List ℕ) → List Turn) (told behind : Listed → List Turn → List ℕ)
+    (calls : Bool) (ending : Ending) (input rest : Option (List ℕ)) (failed : Bool) (written now_written : Option (List ℕ))
+    : Type 0 where
   pub listed : Listed
   pub machine : IsMachine text listed
-  pub played : IsPlayedFrom (told listed) (behind listed) calls ending input rest failed written now_written
+  pub played :
+      IsPlayedFrom (turns listed) (told listed) (behind listed) calls ending input rest failed written now_written
 
 -- on the machine of a text nothing was played, since a device had failed before
 pub record IsUnplayed (text : List ℕ) (ended : Ending) (fault : PlayFault) : Type 0 where
@@ -70,22 +75,26 @@ abbrev pub IsWrittenBy : {T : Type 0} → Result T PlayFault → Option (List �
 IsWrittenBy (Ok done) old new text = Appends old new text
 IsWrittenBy (Err fault) old new text = (fault ≡ WriteFault) × AppendsPart old new text
 
+-- the turns of a scenario's lines on a machine, from its first stand on
+abbrev pub turns_on : Option (List ℕ) → Stand → Listed → List (List ℕ) → List Turn
+turns_on only first listed lines = turns_of only (world_of listed) first lines
+
 -- nothing stands there
-abbrev pub nothing_told : Listed → List (List ℕ) → List ℕ
-nothing_told listed lines = []
+abbrev pub nothing_told : Listed → List Turn → List ℕ
+nothing_told listed turns = []
 
 -- ---- the run
 
--- the transcript of the calls that lines say, of all or of those of a name alone
-abbrev pub transcript_of : Option (List ℕ) → World → List (List ℕ) → List ℕ
-transcript_of only world lines = told_after world.entries world.states [] (calls_answered only lines)
+-- the transcript of the calls that lines say when their turns come, of all or of those of a name alone
+abbrev pub transcript_of : Option (List ℕ) → World → List Turn → List ℕ
+transcript_of only world turns = told_after world.entries world.states [] (calls_answered only turns)
 
-abbrev pub run_told : Option (List ℕ) → Listed → List (List ℕ) → List ℕ
-run_told only listed lines = transcript_of only (world_of listed) lines
+abbrev pub run_told : Option (List ℕ) → Listed → List Turn → List ℕ
+run_told only listed turns = transcript_of only (world_of listed) turns
 
 -- the account list after them, where it is asked for
-abbrev pub list_behind : Bool → Option (List ℕ) → Listed → World → List (List ℕ) → List ℕ
-list_behind accounts only listed world lines = accounts_for accounts listed (after_all only world (calls_said lines))
+abbrev pub list_behind : Bool → Option (List ℕ) → Listed → World → List Turn → List ℕ
+list_behind accounts only listed world turns = accounts_for accounts listed (after_all only world (calls_said turns))
 
-abbrev pub run_behind : Bool → Option (List ℕ) → Listed → List (List ℕ) → List ℕ
-run_behind accounts only listed lines = list_behind accounts only listed (world_of listed) lines
+abbrev pub run_behind : Bool → Option (List ℕ) → Listed → List Turn → List ℕ
+run_behind accounts only listed turns = list_behind accounts only listed (world_of listed) turns

@@ -10,7 +10,8 @@ ghost use Rattle.workbench.specs.Faults.{fault_before, is_write_fault, unplayed}
 ghost use Rattle.workbench.specs.Kept.{SeesPeaks, found, peak_at, peaked};
 ghost use Rattle.workbench.specs.PeakList.{accounts_behind, peaks_beside, peaks_text};
 ghost use Rattle.workbench.specs.Played.{calls_answered};
-ghost use Rattle.workbench.specs.Writes.{Closes, IsPlayed, IsPlayedFrom, IsUnplayed, nothing_told};
+ghost use Rattle.workbench.specs.Turns.{first_with, turns_of};
+ghost use Rattle.workbench.specs.Writes.{Closes, IsPlayed, IsPlayedFrom, IsUnplayed, nothing_told, turns_on};
 ghost use Rattle.workbench.specs.declared.ending.PlayFault.TheVariants.{NoMemory as NoRoom};
 
 use crate::ending::{Ending, PlayFault};
@@ -40,7 +41,7 @@ pub fn accounts<S: Source, K: Sink, E: Sink>(
 ) -> Result<Ending, BootFault>
     ensures played { IfOk result (λ ending. fault_before (S.has_failed reader.old)
         (K.has_failed writer.old || E.has_failed complaints.old) ≡ None →
-        IsPlayed play.entry.machine.now nothing_told accounts_behind true ending
+        IsPlayed play.entry.machine.now (turns_on None (first_with play.entry.given)) nothing_told accounts_behind true ending
         (S.remaining reader.old) (S.remaining reader.new)
         (S.has_failed reader.new) (K.contents writer.old) (K.contents writer.new)) }
     ensures few { IfOk result (λ ending. ending.lines ≤ MAX_LINES) }
@@ -62,7 +63,7 @@ pub fn accounts<S: Source, K: Sink, E: Sink>(
 {
     let list = StartList::read(alloc, play.machine)?;
     let mut core = boot(alloc, &list)?;
-    let mut notes = Notes::new(alloc, play.scenario)?;
+    let mut notes = Notes::new(alloc, play.scenario, play.given)?;
     let run = Run {
         list: &list,
         only: None,
@@ -85,12 +86,15 @@ fn play_with_peaks<R: Router + Drop, S: Source, K: Sink, E: Sink>(
 ) -> Ending
     requires listed { core.old.entries ≡ entries_of (start_list_of run.now.list.now) }
     requires all { run.now.only ≡ None }
+    requires first { notes.old.stand.number ≡ 1 }
     requires ahead { notes.old.buffers.ahead ≡ [] }
     requires gathered { notes.old.buffers.gathered ≡ [] }
     requires sees { SeesPeaks (peaked peaks.old.init) peaks.old.components.items
         peaks.old.sessions.items run.now.list.now core.old [] }
     ensures played { fault_before (S.has_failed reader.old)
-        (K.has_failed writer.old || E.has_failed complaints.old) ≡ None → IsPlayedFrom (λ _. []) (λ lines. peaks_text run.now.list.now core.old (calls_answered None lines))
+        (K.has_failed writer.old || E.has_failed complaints.old) ≡ None →
+        IsPlayedFrom (turns_of None core.old notes.old.stand) (λ _. [])
+        (λ turns. peaks_text run.now.list.now core.old (calls_answered None turns))
         true result (S.remaining reader.old) (S.remaining reader.new)
         (S.has_failed reader.new) (K.contents writer.old) (K.contents writer.new) }
     ensures few { result.lines ≤ MAX_LINES }

@@ -10,8 +10,9 @@ ghost use Rattle.scenario.specs.Program.{boot_fault};
 ghost use Rattle.scenario.specs.Runs.{HasCause};
 ghost use Rattle.workbench.specs.Faults.{fault_before, is_write_fault, unplayed};
 ghost use Rattle.workbench.specs.Alone.{AreAlike, SeesAlone, alone_behind, alone_sum, alone_tells, alone_told};
-ghost use Rattle.workbench.specs.Played.{calls_answered, told_of_lines};
-ghost use Rattle.workbench.specs.Writes.{Closes, IsPlayed, IsPlayedFrom, IsUnplayed, IsWrittenBy};
+ghost use Rattle.workbench.specs.Played.{calls_answered, told_of_turns};
+ghost use Rattle.workbench.specs.Turns.{first_with, turns_of};
+ghost use Rattle.workbench.specs.Writes.{Closes, IsPlayed, IsPlayedFrom, IsUnplayed, IsWrittenBy, turns_on};
 ghost use Rattle.workbench.specs.declared.ending.PlayFault.TheVariants.{NoMemory as NoRoom};
 
 use crate::ending::{Ending, PlayFault};
@@ -166,7 +167,7 @@ pub fn alone<S: Source, K: Sink, E: Sink>(
 ) -> Result<Ending, BootFault>
     ensures played { IfOk result (λ ending. fault_before (S.has_failed reader.old)
         (K.has_failed writer.old || E.has_failed complaints.old) ≡ None →
-        IsPlayed play.entry.machine.now
+        IsPlayed play.entry.machine.now (turns_on None (first_with play.entry.given))
         (alone_told name.now) (alone_behind name.now) false ending
         (S.remaining reader.old) (S.remaining reader.new)
         (S.has_failed reader.new) (K.contents writer.old) (K.contents writer.new)) }
@@ -190,7 +191,7 @@ pub fn alone<S: Source, K: Sink, E: Sink>(
 {
     let list = StartList::read(alloc, play.machine)?;
     let mut core = boot(alloc, &list)?;
-    let mut notes = Notes::new(alloc, play.scenario)?;
+    let mut notes = Notes::new(alloc, play.scenario, play.given)?;
     let run = Run {
         list: &list,
         only: None,
@@ -216,13 +217,15 @@ fn play_beside<R: Router + Drop, Q: Router + Drop, S: Source, K: Sink, E: Sink>(
 ) -> Ending
     requires listed { core.old.entries ≡ entries_of (start_list_of run.now.list.now) }
     requires all { run.now.only ≡ None }
+    requires first { notes.old.stand.number ≡ 1 }
     requires ahead { notes.old.buffers.ahead ≡ [] }
     requires gathered { notes.old.buffers.gathered ≡ [] }
     requires same { second ≡ core.old }
     ensures played { fault_before (S.has_failed reader.old)
-        (K.has_failed writer.old || E.has_failed complaints.old) ≡ None → IsPlayedFrom
-        (λ lines. told_of_lines (alone_tells name.now core.old) None [] 1 lines)
-        (λ lines. alone_sum name.now (length (calls_answered (Some name.now) lines)))
+        (K.has_failed writer.old || E.has_failed complaints.old) ≡ None →
+        IsPlayedFrom (turns_of None core.old notes.old.stand)
+        (λ turns. told_of_turns (alone_tells name.now core.old) None [] turns)
+        (λ turns. alone_sum name.now (length (calls_answered (Some name.now) turns)))
         false result (S.remaining reader.old) (S.remaining reader.new)
         (S.has_failed reader.new) (K.contents writer.old) (K.contents writer.new) }
     ensures few { result.lines ≤ MAX_LINES }

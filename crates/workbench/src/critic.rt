@@ -10,8 +10,10 @@ ghost use Rattle.workbench.specs.declared.ending.PlayFault.TheVariants.{NoMemory
 use crate::complaint::{Complaints, Place};
 use crate::ending::PlayFault;
 use crate::expected::Expected;
-use friendly_lines::{Fault, end_of, meets};
+use crate::given::Given;
+use friendly_lines::{Fault, end_of, meets, signs_of};
 use scenario::{LineAnswer, Sink};
+use scenario_names::{Known, NameFault};
 use std::alloc::Global;
 
 /// Holds answers against what is expected, and complains. Each of its calls tells whether there was a complaint.
@@ -46,10 +48,11 @@ impl<'a> Critic<'a> {
     }
 
     /// Judges the answer of a line's call by the reply that is expected, if one is, and by the log lines. A call that was
-    /// skipped is answered as it may be.
+    /// skipped is answered as it may be. The line comes as it was filled with what is known.
     pub(crate) fn judge<E: Sink>(
         &mut self,
-        number: u64,
+        given: Given<'_>,
+        known: &Known,
         line: &[u8],
         reply: Option<&[u8]>,
         answer: Option<LineAnswer<'_>>,
@@ -64,11 +67,10 @@ impl<'a> Critic<'a> {
     {
         let judged = match (reply, answer) {
             (_, None) => Ok(false),
-            (None, Some(_)) => self.judge_silent(number, sink),
+            (None, Some(_)) => self.judge_silent(given.number, sink),
             (Some(reply), Some(answer)) => {
                 let wish = Wish {
-                    number,
-                    line,
+                    place: given.place(known, column_of(line, reply)),
                     reply,
                 };
                 self.judge_answer(wish, answer.reply, answer.lines, sink)
@@ -114,7 +116,7 @@ impl<'a> Critic<'a> {
     {
         if !meets(reply, wish.reply) {
             self.complaints
-                .tell_other(sink, wish.place(), b"the reply is", reply, wish.reply)?;
+                .tell_other(sink, wish.place, b"the reply is", reply, wish.reply)?;
             return Ok(true);
         }
         let expected = self.expected.lines();
@@ -122,17 +124,36 @@ impl<'a> Critic<'a> {
             let lines = without_last(lines);
             let expected = without_last(expected);
             self.complaints
-                .tell_other(sink, wish.place(), b"the log lines are", lines, expected)?;
+                .tell_other(sink, wish.place, b"the log lines are", lines, expected)?;
             return Ok(true);
         }
         Ok(false)
     }
 
-    /// Tells why a line isn't read.
+    /// Tells why a line isn't read, which comes as it was filled with what is known.
     pub(crate) fn tell_unread<E: Sink>(
         &mut self,
-        number: u64,
+        given: Given<'_>,
+        known: &Known,
         fault: Fault,
+        sink: &mut E,
+    ) -> Result<bool, PlayFault>
+        requires { E.has_failed sink.old ≡ false }
+        ensures told { IfOk result (λ complained. complained ≡ true) }
+        ensures keeps { self.new.expected ≡ self.old.expected }
+        ensures works { OnOk result (E.has_failed sink.new ≡ false) }
+        ensures failing { Fails result (E.has_failed sink.new) true }
+    {
+        let reason = fault.reason.to_string(self.alloc)?;
+        let place = given.place(known, fault.column);
+        self.complain(place, reason.as_bytes(), sink)
+    }
+
+    /// Tells what is wrong with a name in a line.
+    pub(crate) fn tell_unnamed<E: Sink>(
+        &mut self,
+        number: u64,
+        fault: NameFault,
         sink: &mut E,
     ) -> Result<bool, PlayFault>
         requires { E.has_failed sink.old ≡ false }
@@ -147,6 +168,30 @@ impl<'a> Critic<'a> {
             column: fault.column,
         };
         self.complain(place, reason.as_bytes(), sink)
+    }
+
+    /// Tells why a directive can't be followed.
+    pub(crate) fn tell_misplaced<E: Sink>(
+        &mut self,
+        given: Given<'_>,
+        words: &[u8],
+        sink: &mut E,
+    ) -> Result<bool, PlayFault>
+        requires { E.has_failed sink.old ≡ false }
+        ensures told { IfOk result (λ complained. complained ≡ true) }
+        ensures keeps { self.new.expected ≡ self.old.expected }
+        ensures works { OnOk result (E.has_failed sink.new ≡ false) }
+        ensures failing { Fails result (E.has_failed sink.new) false }
+    {
+        let place = Place {
+            line: given.number,
+            column: given
+                .line
+                .len()
+                .saturating_sub(signs_of(given.line).len())
+                .saturating_add(1),
+        };
+        self.complain(place, words, sink)
     }
 
     /// Tells that a line is too long to be read.
@@ -206,25 +251,16 @@ impl<'a> Critic<'a> {
     }
 }
 
-// A reply that is expected, with the line of the scenario where it stands.
+// A reply that is expected, and where it begins.
 #[derive(Clone, Copy)]
 struct Wish<'a> {
-    number: u64,
-    line: &'a [u8],
+    place: Place,
     reply: &'a [u8],
 }
 
-impl Wish<'_> {
-    // Where the reply begins.
-    fn place(self) -> Place {
-        let column = end_of(self.line)
-            .saturating_sub(self.reply.len())
-            .saturating_add(1);
-        Place {
-            line: self.number,
-            column,
-        }
-    }
+// The column of a line at which the reply begins with which it ends.
+fn column_of(line: &[u8], reply: &[u8]) -> usize {
+    end_of(line).saturating_sub(reply.len()).saturating_add(1)
 }
 
 // Log lines without the last newline.

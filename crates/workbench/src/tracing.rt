@@ -12,9 +12,10 @@ ghost use Rattle.scenario.specs.Program.{boot_fault};
 ghost use Rattle.scenario.specs.Read.{IsReadAs};
 ghost use Rattle.scenario.specs.Runs.{HasCause};
 ghost use Rattle.workbench.specs.Faults.{fault_before, is_write_fault, unplayed};
-ghost use Rattle.workbench.specs.Played.{told_of_lines};
+ghost use Rattle.workbench.specs.Played.{told_of_turns};
 ghost use Rattle.workbench.specs.Tracing.{call_text, caller_cells, cell_text, figures, session_cells, session_of, stranger_cells, trace_header, trace_tells, trace_told};
-ghost use Rattle.workbench.specs.Writes.{IsPlayed, IsPlayedFrom, IsUnplayed, nothing_told};
+ghost use Rattle.workbench.specs.Turns.{first_with, turns_of};
+ghost use Rattle.workbench.specs.Writes.{IsPlayed, IsPlayedFrom, IsUnplayed, nothing_told, turns_on};
 ghost use Rattle.workbench.specs.declared.ending.PlayFault.TheVariants.{NoMemory as NoRoom};
 
 use crate::ending::{Ending, PlayFault};
@@ -216,7 +217,7 @@ pub fn trace<S: Source, K: Sink, E: Sink>(
 ) -> Result<Ending, BootFault>
     ensures played { IfOk result (λ ending. fault_before (S.has_failed reader.old)
         (K.has_failed writer.old || E.has_failed complaints.old) ≡ None →
-        IsPlayed play.entry.machine.now trace_told nothing_told false ending
+        IsPlayed play.entry.machine.now (turns_on None (first_with play.entry.given)) trace_told nothing_told false ending
         (S.remaining reader.old) (S.remaining reader.new)
         (S.has_failed reader.new) (K.contents writer.old) (K.contents writer.new)) }
     ensures few { IfOk result (λ ending. ending.lines ≤ MAX_LINES) }
@@ -238,7 +239,7 @@ pub fn trace<S: Source, K: Sink, E: Sink>(
 {
     let list = StartList::read(alloc, play.machine)?;
     let mut core = boot(alloc, &list)?;
-    let mut notes = Notes::new(alloc, play.scenario)?;
+    let mut notes = Notes::new(alloc, play.scenario, play.given)?;
     let run = Run {
         list: &list,
         only: None,
@@ -261,10 +262,13 @@ fn trace_on<R: Router + Drop, S: Source, K: Sink, E: Sink>(
 ) -> Ending
     requires listed { core.old.entries ≡ entries_of (start_list_of run.now.list.now) }
     requires all { run.now.only ≡ None }
+    requires first { notes.old.stand.number ≡ 1 }
     requires ahead { notes.old.buffers.ahead ≡ [] }
     requires gathered { notes.old.buffers.gathered ≡ [] }
     ensures played { fault_before (S.has_failed reader.old)
-        (K.has_failed writer.old || E.has_failed complaints.old) ≡ None → IsPlayedFrom (λ lines. trace_header ++ told_of_lines (trace_tells core.old) None [] 1 lines) (λ _. [])
+        (K.has_failed writer.old || E.has_failed complaints.old) ≡ None →
+        IsPlayedFrom (turns_of None core.old notes.old.stand)
+        (λ turns. trace_header ++ told_of_turns (trace_tells core.old) None [] turns) (λ _. [])
         false result (S.remaining reader.old) (S.remaining reader.new)
         (S.has_failed reader.new) (K.contents writer.old) (K.contents writer.new) }
     ensures few { result.lines ≤ MAX_LINES }

@@ -9,7 +9,8 @@ ghost use Rattle.scenario.specs.Program.{boot_fault};
 ghost use Rattle.scenario.specs.Runs.{HasCause};
 ghost use Rattle.workbench.specs.Faults.{fault_before, is_write_fault, unplayed};
 ghost use Rattle.workbench.specs.Played.{engine_tells};
-ghost use Rattle.workbench.specs.Writes.{Closes, IsPlayed, IsPlayedFrom, IsUnplayed, list_behind, run_behind, run_told, transcript_of};
+ghost use Rattle.workbench.specs.Turns.{first_with, turns_of};
+ghost use Rattle.workbench.specs.Writes.{Closes, IsPlayed, IsPlayedFrom, IsUnplayed, list_behind, run_behind, run_told, transcript_of, turns_on};
 ghost use Rattle.workbench.specs.declared.ending.PlayFault.TheVariants.{NoMemory as NoRoom};
 
 use crate::ending::{Ending, PlayFault};
@@ -64,7 +65,7 @@ pub fn run<S: Source, K: Sink, E: Sink>(
 ) -> Result<Ending, BootFault>
     ensures played { IfOk result (λ ending. fault_before (S.has_failed reader.old)
         (K.has_failed writer.old || E.has_failed complaints.old) ≡ None →
-        IsPlayed play.entry.machine.now
+        IsPlayed play.entry.machine.now (turns_on (option_copied only.entry) (first_with play.entry.given))
         (run_told (option_copied only.entry)) (run_behind accounts (option_copied only.entry)) false ending
         (S.remaining reader.old) (S.remaining reader.new)
         (S.has_failed reader.new) (K.contents writer.old) (K.contents writer.new)) }
@@ -87,7 +88,7 @@ pub fn run<S: Source, K: Sink, E: Sink>(
 {
     let list = StartList::read(alloc, play.machine)?;
     let mut core = boot(alloc, &list)?;
-    let mut notes = Notes::new(alloc, play.scenario)?;
+    let mut notes = Notes::new(alloc, play.scenario, play.given)?;
     let run = Run { list: &list, only };
     Ok(run_on(
         &run, &mut core, &mut notes, accounts, reader, writer, complaints,
@@ -105,10 +106,13 @@ fn run_on<R: Router + Drop, S: Source, K: Sink, E: Sink>(
     complaints: &mut E,
 ) -> Ending
     requires listed { core.old.entries ≡ entries_of (start_list_of run.now.list.now) }
+    requires first { notes.old.stand.number ≡ 1 }
     requires ahead { notes.old.buffers.ahead ≡ [] }
     requires gathered { notes.old.buffers.gathered ≡ [] }
     ensures played { fault_before (S.has_failed reader.old)
-        (K.has_failed writer.old || E.has_failed complaints.old) ≡ None → IsPlayedFrom (transcript_of (option_copied run.now.only) core.old)
+        (K.has_failed writer.old || E.has_failed complaints.old) ≡ None →
+        IsPlayedFrom (turns_of (option_copied run.now.only) core.old notes.old.stand)
+        (transcript_of (option_copied run.now.only) core.old)
         (list_behind accounts (option_copied run.now.only) run.now.list.now core.old) false result
         (S.remaining reader.old) (S.remaining reader.new)
         (S.has_failed reader.new) (K.contents writer.old) (K.contents writer.new) }

@@ -2,14 +2,15 @@
 use Rattle.std.proofs.Common.{ap, [], None}
 use Rattle.workbench.specs.PeakList.{peaks_text}
 use Rattle.workbench.specs.Played.{calls_answered}
+use Rattle.workbench.specs.Turns.{first_with}
 use Rattle.workbench.proofs.KeptLemmas.{sees_first}
 use Rattle.workbench.proofs.WriteLemmas.{ends_for_cause, is_played, unplayed_on, unplayed_with}
 use Rattle.workbench.proofs.account_list.accounts.Goals as goal
 
 pub returns-clause-played : goal.returns-clause-played
 returns-clause-played g c = λ works.
-    is_played (λ _ _. []) (λ listed start lines. peaks_text listed start (calls_answered None lines)) c.play_with_peaks.result _ _ _ _ _
-    c.in_ok-list.ensures.ok c.in_ok-core.ensures.covered c.in_ok-core.ensures.started (c.play_with_peaks.ensures.played works)
+    is_played None (first_with c.args.play.given) (λ _ _. []) (λ listed start turns. peaks_text listed start (calls_answered None turns)) c.play_with_peaks.result _ _ _ _ _
+    c.in_ok-list.ensures.ok c.in_ok-core.ensures.covered c.in_ok-core.ensures.started c.in_ok-notes.ensures.stand (c.play_with_peaks.ensures.played works)
 
 pub play_with_peaks-requires-clause-sees : goal.play_with_peaks-requires-clause-sees
 play_with_peaks-requires-clause-sees g c =

@@ -1,15 +1,16 @@
 -- On the machine of the text; and what a name is told hangs on its own lines alone.
 use Rattle.std.proofs.Common.{ap, [], length, None, Some}
 use Rattle.workbench.specs.Alone.{alone_sum, alone_tells}
-use Rattle.workbench.specs.Played.{calls_answered, told_of_lines}
+use Rattle.workbench.specs.Played.{calls_answered, told_of_turns}
+use Rattle.workbench.specs.Turns.{first_with}
 use Rattle.workbench.proofs.AloneLemmas.{are_alike}
 use Rattle.workbench.proofs.WriteLemmas.{ends_for_cause, is_played, unplayed_on, unplayed_with}
 use Rattle.workbench.proofs.beside.alone.Goals as goal
 
 pub returns-clause-played : goal.returns-clause-played
 returns-clause-played g c = λ works.
-    is_played (λ start lines. told_of_lines (alone_tells c.args.name.now start) None [] 1 lines) (λ _ _ lines. alone_sum c.args.name.now (length (calls_answered (Some c.args.name.now) lines))) c.play_beside.result _ _ _ _ _
-    c.in_ok-list.ensures.ok c.in_ok-core.ensures.covered c.in_ok-core.ensures.started (c.play_beside.ensures.played works)
+    is_played None (first_with c.args.play.given) (λ start turns. told_of_turns (alone_tells c.args.name.now start) None [] turns) (λ _ _ turns. alone_sum c.args.name.now (length (calls_answered (Some c.args.name.now) turns))) c.play_beside.result _ _ _ _ _
+    c.in_ok-list.ensures.ok c.in_ok-core.ensures.covered c.in_ok-core.ensures.started c.in_ok-notes.ensures.stand (c.play_beside.ensures.played works)
 
 pub returns-clause-alike : goal.returns-clause-alike
 returns-clause-alike g c = are_alike c.args.name.now

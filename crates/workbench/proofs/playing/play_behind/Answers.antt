@@ -12,4 +12,4 @@ returns-in-Ok-clause-plays g c = λ sees.
 
 pub returns-in-Err-clause-plays : goal.returns-in-Err-clause-plays
 returns-in-Err-clause-plays g c = λ sees.
-    front_cut c.args.tally.now.lines c.args.core.now (g.S.Source.remaining c.args.reader.now) (g.S.Source.has_failed c.args.reader.now) c.requires.empty c.in-Err.ensures.told
+    front_cut c.args.notes.now.stand c.args.tally.now.lines c.args.core.now (g.S.Source.remaining c.args.reader.now) (g.S.Source.has_failed c.args.reader.now) c.requires.empty c.in-Err.ensures.told

@@ -1,0 +1,91 @@
+//! Where a play is in its scenario, and what names stand for there.
+ghost use Rattle.std.specs.Prelude.{◌≡◌, ◌≤◌, ℕ, IfErr, IfNone, IfSome, OnErr, OnOk, true, false};
+ghost use Rattle.scenario_names.specs.Views.{directive_view, filled_view};
+ghost use Rattle.workbench.specs.Turns.{first_with, followed_by, has_holes, is_misplaced, learnt_by, low, line_told};
+ghost use Rattle.workbench.specs.declared.ending.PlayFault.TheVariants.{NoMemory as NoRoom};
+
+use crate::ending::PlayFault;
+use scenario::LineAnswer;
+use scenario_names::{Directive, Filled, Known};
+
+/// The number of a line is at most this, as it is told; each line behind has one more.
+const LOW: u64 = 4294967296;
+
+/// Where a play is in its scenario, and what names stand for there.
+#[derive(Drop)]
+pub(crate) struct Stand {
+    /// The number of the next line, from 1 on.
+    pub number: u64,
+    /// What names stand for.
+    pub known: Known,
+}
+
+impl Stand {
+    /// Before the first line, with what was given.
+    pub(crate) fn new(given: Known) -> Stand
+        ensures { result ≡ first_with given }
+    {
+        Stand {
+            number: 1,
+            known: given,
+        }
+    }
+
+    /// Goes where a directive leads.
+    pub(crate) fn follow(&mut self, directive: Directive<'_>) -> Result<(), PlayFault>
+        ensures fault { IfErr result (λ fault. fault ≡ NoRoom) }
+        ensures stands { OnOk result (self.new ≡ followed_by self.old (directive_view directive.entry)) }
+        ensures low { (n : ℕ) → low ≤ n → self.old.number ≤ n → self.new.number ≤ n }
+    {
+        if let Some(line) = line_told(directive) {
+            self.number = line;
+        }
+        self.known.follow(directive)?;
+        Ok(())
+    }
+}
+
+// The number of the next line, where a directive tells it.
+fn line_told(directive: Directive<'_>) -> Option<u64>
+    ensures told { result ≡ line_told (directive_view directive.entry) }
+    ensures low { IfSome result (λ line. line ≤ low) }
+{
+    match directive {
+        Directive::Enter { line, .. } | Directive::Again { line, .. } | Directive::Leave { line } =>
+            { Some((line as u64).min(LOW)) }
+        _ => None,
+    }
+}
+
+/// Why a directive can't be followed, if it can't.
+pub(crate) fn misplaced(directive: Directive<'_>) -> Option<&'static [u8]>
+    ensures none { IfNone result (is_misplaced (directive_view directive.entry) ≡ false) }
+    ensures some { IfSome result (λ _. is_misplaced (directive_view directive.entry) ≡ true) }
+{
+    match directive {
+        Directive::Repeat => Some(b"@repeat stands in a scenario of a file alone"),
+        Directive::End => Some(b"@end stands in a scenario of a file alone"),
+        Directive::Unknown => Some(b"none of @set NAME VALUE, @repeat N [as NAME] and @end"),
+        _ => None,
+    }
+}
+
+/// Binds the names of a line that its reply binds, unless its call was skipped.
+pub(crate) fn learn(
+    known: &mut Known,
+    filled: &Filled<'_>,
+    answer: Option<LineAnswer<'_>>,
+) -> Result<(), PlayFault>
+    ensures fault { IfErr result (λ fault. fault ≡ NoRoom) }
+    ensures takes { OnErr result (has_holes (filled_view filled.now) ≡ true) }
+    ensures learns { OnOk result (known.new
+        ≡ learnt_by known.old (filled_view filled.now) answer.entry) }
+{
+    match answer {
+        Some(answer) if !filled.holes.is_empty() => {
+            known.learn(filled, answer.reply)?;
+            Ok(())
+        }
+        _ => Ok(()),
+    }
+}
