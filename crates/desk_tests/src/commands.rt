@@ -193,8 +193,6 @@ fn each_command_is_read(rt: HostRuntime) -> Result<(), Fail> {
             Command::Test {
                 machine: Some("d"),
                 junit: Some("b"),
-                coverage: false,
-                json: false,
                 color: Color::Auto,
                 paths: vec![in alloc; "a", "c", "e"]?,
             },

@@ -4,7 +4,6 @@
 mod apart;
 mod changes;
 mod coloring;
-mod coverings;
 mod documents;
 mod ends;
 mod files;
@@ -244,8 +243,6 @@ fn answer(rt: &HostRuntime, command: Command<'_>, given: Given<'_>) -> u8 {
         Command::Test {
             machine,
             junit,
-            coverage,
-            json,
             color,
             paths,
         } => match Coloring::asked(rt, color) {
@@ -255,8 +252,6 @@ fn answer(rt: &HostRuntime, command: Command<'_>, given: Given<'_>) -> u8 {
                     machine,
                     junit,
                     given,
-                    coverage,
-                    json,
                     colored: coloring.out,
                 };
                 test(rt, &wanted)

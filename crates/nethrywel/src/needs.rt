@@ -220,7 +220,7 @@ pub(crate) fn tell_unbooted(
 }
 
 // Reads a source to its end. One that has failed isn't read again.
-pub(crate) fn read_all<S: Source>(alloc: Global, source: &mut S) -> Result<Vec<u8>, ConfigFault> {
+fn read_all<S: Source>(alloc: Global, source: &mut S) -> Result<Vec<u8>, ConfigFault> {
     let mut text = Vec::new(alloc);
     let mut block = [0; BLOCK];
     for _ in 0..u64::MAX {

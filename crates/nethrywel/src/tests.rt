@@ -1,5 +1,4 @@
 //! Scenarios that are run as tests, and what is told of them.
-use crate::coverings::{BUILT_IN, Coverings};
 use crate::ends::{Stopped, UNWRITTEN, status_of};
 use crate::files::{read_start_list, read_whole};
 use crate::given::Given;
@@ -33,10 +32,6 @@ pub(crate) struct Wanted<'a> {
     pub(crate) junit: Option<&'a str>,
     /// What names stand for.
     pub(crate) given: Given<'a>,
-    /// Whether it is told what the scenarios show of their machines.
-    pub(crate) coverage: bool,
-    /// Whether that is told as a document, in place of all lines.
-    pub(crate) json: bool,
     /// Whether lines are coloured.
     pub(crate) colored: bool,
 }
@@ -70,21 +65,19 @@ fn write_document(rt: &HostRuntime, path: &str, trials: &[Trial]) -> io::Result<
     fs::write(rt, path, document)
 }
 
-// Runs all, and tells a line each, and behind them what they show, where that is asked for.
+// Runs all, and tells a line each.
 fn run_all(rt: &HostRuntime, scenarios: &[String], wanted: &Wanted<'_>) -> io::Result<Vec<Trial>> {
     let alloc = rt.alloc();
-    let mut coverings = Coverings::new(rt, wanted.coverage, wanted.json);
-    let mut teller = Teller::new(rt, wanted.colored, coverings.is_document(), scenarios.len());
+    let teller = Teller::new(rt, wanted.colored, scenarios.len());
     teller.tell(rt, tap_plan(alloc, scenarios.len())?.as_bytes())?;
     let mut trials = Vec::new(alloc);
     for scenario in scenarios {
-        let trial = run_one(rt, scenario.as_str(), wanted, &mut coverings)?;
+        let trial = run_one(rt, scenario.as_str(), wanted)?;
         let point = tap_point(alloc, trials.len().saturating_add(1), &trial)?;
         teller.tell(rt, point.as_slice())?;
         trials.push(trial)?;
         teller.progress(rt, trials.len());
     }
-    coverings.tell(rt)?;
     Ok(trials)
 }
 
@@ -92,27 +85,22 @@ fn run_all(rt: &HostRuntime, scenarios: &[String], wanted: &Wanted<'_>) -> io::R
 #[derive(Clone, Copy)]
 struct Teller {
     colored: bool,
-    silent: bool,
     // Whether it is told on standard error how far the run is: where that is a terminal, and the lines go elsewhere.
     progress: bool,
     all: usize,
 }
 
 impl Teller {
-    fn new(rt: &HostRuntime, colored: bool, silent: bool, all: usize) -> Teller {
+    fn new(rt: &HostRuntime, colored: bool, all: usize) -> Teller {
         Teller {
             colored,
-            silent,
             progress: rt.stderr().is_terminal() && !rt.stdout().is_terminal(),
             all,
         }
     }
 
-    // Tells lines, unless a document is told in their place.
+    // Tells lines.
     fn tell(self, rt: &HostRuntime, lines: &[u8]) -> io::Result<()> {
-        if self.silent {
-            return Ok(());
-        }
         let mut writer = io::writer(rt);
         if self.colored {
             return writer.write_all(paint(rt.alloc(), Lines::Tests, lines)?.as_slice());
@@ -134,27 +122,18 @@ impl Teller {
     }
 }
 
-// Runs a scenario on its machine, and adds what it shows of that.
-fn run_one(
-    rt: &HostRuntime,
-    scenario: &str,
-    wanted: &Wanted<'_>,
-    coverings: &mut Coverings,
-) -> Result<Trial, AllocError> {
+// Runs a scenario on its machine.
+fn run_one(rt: &HostRuntime, scenario: &str, wanted: &Wanted<'_>) -> Result<Trial, AllocError> {
     let beside = machine_beside(rt.alloc(), scenario)?;
     let list = match fs::exists(rt, beside.as_str()) {
         Ok(false) => wanted.machine,
         _ => Some(beside.as_str()),
     };
     let Some(path) = list else {
-        coverings.add(rt, MACHINE_A.as_bytes(), BUILT_IN, scenario, wanted.given)?;
         return run_whole(rt, scenario, MACHINE_A.as_bytes(), None, wanted.given);
     };
     match read_start_list(rt, path, wanted.given) {
-        Ok(text) => {
-            coverings.add(rt, &text, path, scenario, wanted.given)?;
-            run_whole(rt, scenario, &text, list, wanted.given)
-        }
+        Ok(text) => run_whole(rt, scenario, &text, list, wanted.given),
         Err(fault) => failed(rt, scenario, format!(in rt.alloc(); "{fault}\n")?),
     }
 }

@@ -100,7 +100,6 @@ pub(crate) const SET: &str =
 pub(crate) const COLOR: &str =
     "When refusals and complaints are coloured: auto (on a terminal), always or never";
 
-pub(crate) const COVERAGE: &str = "Tell which refusals and rules the scenarios meet, and which not";
 
 pub(crate) const STRICT: &str = "End with status 2 where there is a finding";
 
