@@ -1,5 +1,5 @@
 -- The account list with peaks: what is kept is what it tells of the accounts so far.
-use Rattle.std.proofs.Common.{◌≡◌, ℕ, ◌<◌, cond, List, [], is_some, Option, Some, None, ◌∙◌, ap, subst, sym, length}
+use Rattle.std.proofs.Common.{◌≡◌, ℕ, ◌<◌, cond, List, is_some, Some, None, ◌∙◌, ap, subst, sym, length}
 use Rattle.own_model.specs.Amounts.{Amounts}
 use Rattle.own_model.specs.Listed.{Listed, start_list_of}
 use Rattle.own_model.specs.OwnState.{session_named}

@@ -1,5 +1,5 @@
 //! The play: lines of the friendly form are read, answered, told and judged.
-ghost use Rattle.std.specs.Prelude.{◌≡◌, ◌+◌, ◌<◌, ◌≤◌, ◌^◌, ◌∷◌, ◌++◌, ◌||◌, ℕ, List, [], length, take, drop, IfSome, IfNone, IfOk, OnOk, None, false};
+ghost use Rattle.std.specs.Prelude.{◌≡◌, ◌+◌, ◌<◌, ◌≤◌, ◌^◌, ◌∷◌, ◌++◌, ◌||◌, ℕ, List, [], length, take, drop, IfSome, IfNone, IfOk, OnOk, None, false, true};
 ghost use Rattle.std.specs.Option.{option_copied};
 ghost use Rattle.std.specs.Result.{result_err};
 ghost use Rattle.own_model.specs.Listed.{start_list_of};

@@ -2,5 +2,5 @@
 use Rattle.workbench.proofs.TurnLemmas.{bare_turns}
 use Rattle.workbench.proofs.laws.bare_lines_stand.Goals as goal
 
-pub returns-clause-0 : goal.returns-clause-0
-returns-clause-0 g c = bare_turns
+pub returns : goal.returns
+returns g = bare_turns

@@ -1,5 +1,5 @@
 -- A line that was filled says a call, which is answered and told, or nothing is told.
-use Rattle.std.proofs.Common.{Bool, false, refl, Result, Ok, Err, ap, subst, sym, ◌∙◌}
+use Rattle.std.proofs.Common.{Bool, false, refl, Result, Ok, Err, ap, sym, ◌∙◌}
 use Rattle.std.specs.Option.{option_copied}
 use Rattle.friendly_lines.specs.Says.{says}
 use Rattle.workbench.specs.declared.ending.PlayFault.{PlayFault}

@@ -1,5 +1,5 @@
 -- A line is filled, and then it says something, or it is a directive, or it can't be filled.
-use Rattle.std.proofs.Common.{OnOk, Result, Ok, Err, arith, refl, sym, ◌∙◌, ap, true}
+use Rattle.std.proofs.Common.{◌+◌, arith, refl, ap, true}
 use Rattle.std.specs.Option.{option_copied}
 use Rattle.friendly_lines.specs.Friendly.{said_of}
 use Rattle.scenario_names.specs.Views.{directive_view, filled_view}

@@ -1,5 +1,5 @@
 -- The account's cells, and then those of the session that the call names.
-use Rattle.std.proofs.Common.{◌≡◌, [], ◌++◌, codes, None, Some, refl, sym, ap, ◌∙◌}
+use Rattle.std.proofs.Common.{◌++◌, codes, None, Some, refl, sym, ap, ◌∙◌}
 use Rattle.csv.specs.Writing.{default_writer, fields_text}
 use Rattle.own_model.specs.Transcript.{state_at}
 use Rattle.pd_core.specs.Answer.{quotas_account}
