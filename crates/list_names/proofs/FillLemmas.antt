@@ -1,10 +1,9 @@
 -- A text that is filled, byte by byte and name by name.
-use Rattle.std.proofs.Common.{◌≡◌, ◌+◌, ◌-◌, ◌<◌, ◌≤◌, ◌∷◌, ◌++◌, ◌∙◌, ℕ, zero, suc, List, [], length, take, drop, Option, Some, None, Result, Ok, Err, refl, sym, ap, subst, arith, append_assoc, append-nil}
+use Rattle.std.proofs.Common.{◌≡◌, ◌+◌, ◌-◌, ◌≤◌, ◌∷◌, ◌++◌, ◌∙◌, ℕ, zero, suc, List, [], length, take, drop, Some, None, Err, refl, sym, ap, subst, arith, append_assoc, append-nil}
 use Rattle.std.proofs.lemmas.List.{drop-drop, take_rest}
 use Rattle.std.proofs.Math.Seq.{take-add}
 use Rattle.scenario_names.specs.Known.{Known, value_of}
 use Rattle.list_names.specs.Lists.{filled_from, name_at, place_of}
-use Rattle.list_names.specs.declared.fill.UnknownName.{UnknownName}
 
 -- of a text whose first bytes belong to a name before
 pub passed : (known : Known) (before : List ℕ) (skip : ℕ) (made text : List ℕ) → skip ≤ length text

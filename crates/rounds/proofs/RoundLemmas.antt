@@ -1,6 +1,6 @@
 -- Lines one after another, and what is made of them.
-use Rattle.std.proofs.Common.{◌≡◌, ◌≢◌, ◌+◌, ◌-◌, ◌<◌, ◌≤◌, ◌∷◌, ◌++◌, ◌∙◌, ℕ, zero, suc, List, [], length, take, drop, get_or, map, Result, Ok, Err, refl, sym, ap, subst, arith}
-use Rattle.std.proofs.lemmas.List.{append_assoc, drop-drop, drop-map, drop_all, length-drop, length-map, map-append, take_all}
+use Rattle.std.proofs.Common.{◌≡◌, ◌≢◌, ◌+◌, ◌-◌, ◌<◌, ◌≤◌, ◌∷◌, ◌++◌, ◌∙◌, ℕ, zero, suc, List, [], length, take, drop, get_or, Result, Ok, Err, refl, sym, ap, arith}
+use Rattle.std.proofs.lemmas.List.{append_assoc, drop-drop, drop-map, drop_all, length-drop, length-map, map-append, take_rest}
 use Rattle.std.proofs.Math.Seq.{drop-cons}
 use Rattle.std.specs.Borrow.{Bor}
 use Rattle.own_model.specs.Text.{lines_of}
@@ -29,7 +29,7 @@ line_at lines at d within =
     let next : suc at ≡ at + 1 = omega arith in
     drop-cons lines at d within
     ∙ ap (λ n. get_or lines at d ∷ drop n lines) next
-    ∙ ap (λ rest. get_or lines at d ∷ rest) (sym (take_all (length lines - (at + 1)) (drop (at + 1) lines) (omega (arith, length-drop (at + 1) lines))))
+    ∙ ap (λ rest. get_or lines at d ∷ rest) (sym (take_rest lines (at + 1)))
 
 -- the lines of a body end where a line ends its rounds
 pub body_ends : (i within : ℕ) (lines : List (Bor (List ℕ))) (d : Bor (List ℕ)) → i < length lines → within ≡ 0

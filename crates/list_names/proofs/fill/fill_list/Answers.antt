@@ -1,5 +1,5 @@
 -- The text goes on behind a name with its value.
-use Rattle.std.proofs.Common.{◌≡◌, ◌∙◌, ◌+◌, ◌≤◌, drop, length, arith, subst, sym, ap, take}
+use Rattle.std.proofs.Common.{◌∙◌, ◌+◌, ◌≤◌, drop, length, arith, subst, sym, ap, take}
 use Rattle.std.proofs.lemmas.List.{length-drop, take_rest}
 use Rattle.list_names.specs.Lists.{filled_from}
 use Rattle.list_names.proofs.FillLemmas.{name_next}
