@@ -1,9 +1,9 @@
 -- A text that is filled, byte by byte and name by name.
-use Rattle.std.proofs.Common.{◌≡◌, ◌+◌, ◌-◌, ◌<◌, ◌≤◌, ◌∷◌, ◌++◌, ◌∙◌, ℕ, zero, suc, List, [], length, take, drop, get_or, Option, Some, None, Result, Ok, Err, refl, sym, ap, ap₂, subst, arith, append_assoc, append-nil}
-use Rattle.std.proofs.Math.Seq.{drop-cons}
+use Rattle.std.proofs.Common.{◌≡◌, ◌+◌, ◌-◌, ◌≤◌, ◌∷◌, ◌++◌, ◌∙◌, ℕ, zero, suc, List, [], length, take, drop, Some, None, Err, refl, sym, ap, subst, arith, append_assoc, append-nil}
+use Rattle.std.proofs.lemmas.List.{drop-drop, take_rest}
+use Rattle.std.proofs.Math.Seq.{take-add}
 use Rattle.scenario_names.specs.Known.{Known, value_of}
 use Rattle.list_names.specs.Lists.{filled_from, name_at, place_of}
-use Rattle.list_names.specs.declared.fill.UnknownName.{UnknownName}
 
 -- of a text whose first bytes belong to a name before
 pub passed : (known : Known) (before : List ℕ) (skip : ℕ) (made text : List ℕ) → skip ≤ length text
@@ -30,8 +30,29 @@ pub name_stops : (known : Known) (before made : List ℕ) (b : ℕ) (bs name : L
     → value_of known name ≡ None → filled_from known before 0 made (b ∷ bs) ≡ Err (place_of before)
 name_stops known before made b bs name named none = rw (named, none) refl
 
--- the first bytes, and one more
-pub take_more : (text : List ℕ) (at : ℕ) → at < length text → take at text ++ get_or text at 0 ∷ [] ≡ take (at + 1) text
-take_more [] at within = absurd (omega arith)
-take_more (b ∷ bs) zero within = refl
-take_more (b ∷ bs) (suc at) within = ap (λ front. b ∷ front) (take_more bs at (omega arith))
+-- a name with its braces and its value
+pub name_whole : (known : Known) (before made rest name value : List ℕ) → name_at rest ≡ Some name → value_of known name ≡ Some value
+    → length name + 3 ≤ length rest
+    → filled_from known before 0 made rest
+    ≡ filled_from known (before ++ take (length name + 3) rest) 0 (made ++ value) (drop (length name + 3) rest)
+name_whole known before made [] name value named is long = absurd (omega (arith, long))
+name_whole known before made (b ∷ bs) name value named is long =
+    let n = length name + 2 in
+    let size : suc n ≡ length name + 3 = omega arith in
+    name_step known before made b bs name value named is
+    ∙ passed known (before ++ b ∷ []) n (made ++ value) bs (omega (arith, long))
+    ∙ ap (λ front. filled_from known front 0 (made ++ value) (drop n bs)) (append_assoc before (b ∷ []) (take n bs))
+    ∙ ap (λ k. filled_from known (before ++ take k (b ∷ bs)) 0 (made ++ value) (drop k (b ∷ bs))) size
+
+-- the text goes on behind them
+pub name_next : (known : Known) (text made name value : List ℕ) (at : ℕ) → name_at (take (length text - at) (drop at text)) ≡ Some name
+    → value_of known name ≡ Some value → length name + 3 ≤ length (take (length text - at) (drop at text))
+    → filled_from known (take (at + (length name + 3)) text) 0 (made ++ value) (drop (at + (length name + 3)) text)
+    ≡ filled_from known (take at text) 0 made (drop at text)
+name_next known text made name value at named is long =
+    let all = take_rest text at in
+    let n = length name + 3 in
+    sym (name_whole known (take at text) made (drop at text) name value (subst (λ rest. name_at rest ≡ Some name) all named) is
+    (subst (λ rest. n ≤ length rest) all long)
+    ∙ ap (λ front. filled_from known front 0 (made ++ value) (drop n (drop at text))) (sym (take-add at n text))
+    ∙ ap (λ rest. filled_from known (take (at + n) text) 0 (made ++ value) rest) (drop-drop n at text))

@@ -1,5 +1,5 @@
 -- A start list with what its names stand for.
-use Rattle.std.specs.Prelude.{ℕ, ◌+◌, ◌-◌, ◌==◌, zero, suc, List, [], ◌∷◌, ◌++◌, length, take, drop, codes, nat_eq, nat_lt, if◌then◌else◌, Option, Some, None, Result, Ok, Err}
+use Rattle.std.specs.Prelude.{ℕ, ◌+◌, ◌==◌, zero, suc, List, [], ◌∷◌, ◌++◌, length, take, drop, codes, nat_eq, nat_lt, if◌then◌else◌, Option, Some, None, Result, Ok, Err}
 use Rattle.std.specs.List.{position_or_len, starts_with}
 use Rattle.std.specs.Option.{option_map_or}
 use Rattle.scenario_names.specs.Known.{Known, value_of}

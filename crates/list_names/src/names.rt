@@ -1,8 +1,7 @@
 //! Names in braces.
 ghost use Rattle.std.specs.Prelude.{◌≡◌, ◌+◌, ◌≤◌, IfSome, drop, length};
-ghost use Rattle.std.specs.List.{position_or_len};
 ghost use Rattle.std.specs.Option.{option_copied};
-ghost use Rattle.list_names.specs.Lists.{name_at};
+ghost use Rattle.list_names.specs.Lists.{name_at, name_behind};
 
 use scenario_names::is_name;
 use text_codec::find_byte;
@@ -12,11 +11,27 @@ pub(crate) fn name_at(text: &[u8]) -> Option<&[u8]>
     ensures value { option_copied result ≡ name_at text.now }
     ensures within { IfSome result (λ name. length name.now + 3 ≤ length text.now) }
 {
-    if !text.starts_with(b"${") {
-        return None;
+    if text.starts_with(b"${") {
+        name_behind(behind_brace(text))
+    } else {
+        None
     }
-    let behind = &text[2..];
-    let end = find_byte(b'}', behind)?;
-    let name = &behind[..end];
+}
+
+// What stands behind the first two bytes of a text.
+fn behind_brace(text: &[u8]) -> &[u8]
+    requires { 2 ≤ length text.now }
+    ensures { result.now ≡ drop 2 text.now }
+{
+    &text[2..]
+}
+
+// The name that stands before the first closing brace of a text.
+fn name_behind(text: &[u8]) -> Option<&[u8]>
+    ensures value { option_copied result ≡ name_behind text.now }
+    ensures within { IfSome result (λ name. length name.now + 1 ≤ length text.now) }
+{
+    let end = find_byte(b'}', text)?;
+    let name = &text[..end];
     if is_name(name) { Some(name) } else { None }
 }

@@ -1,5 +1,5 @@
 -- A text in which no line begins with `@` is itself.
-use Rattle.std.proofs.Common.{◌≡◌, ◌≢◌, ◌+◌, ◌<◌, ◌∷◌, ℕ, Bool, true, false, zero, suc, List, [], length, get_or, slice_index, nat_eq, Ok, refl, ap, arith}
+use Rattle.std.proofs.Common.{◌≡◌, ◌≢◌, ◌∷◌, ℕ, false, suc, List, [], slice_index, refl, arith}
 use Rattle.std.proofs.lemmas.Bool.Decides.{nat_tests}
 use Rattle.std.specs.List.{All}
 use Rattle.own_model.specs.Text.{lines_of}

@@ -1,18 +1,44 @@
 -- Lines one after another, and what is made of them.
-use Rattle.std.proofs.Common.{◌≡◌, ◌+◌, ◌-◌, ◌<◌, ◌≤◌, ◌∷◌, ◌++◌, ◌∙◌, ℕ, zero, suc, List, [], length, take, drop, map, Result, Ok, Err, refl, sym, ap, subst, arith, tt}
-use Rattle.std.proofs.lemmas.List.{map-append, append_assoc}
+use Rattle.std.proofs.Common.{◌≡◌, ◌≢◌, ◌+◌, ◌-◌, ◌<◌, ◌≤◌, ◌∷◌, ◌++◌, ◌∙◌, ℕ, zero, suc, List, [], length, take, drop, get_or, Result, Ok, Err, refl, sym, ap, arith}
+use Rattle.std.proofs.lemmas.List.{append_assoc, drop-drop, drop-map, drop_all, length-drop, length-map, map-append, take_rest}
+use Rattle.std.proofs.Math.Seq.{drop-cons}
 use Rattle.std.specs.Borrow.{Bor}
 use Rattle.own_model.specs.Text.{lines_of}
 use Rattle.scenario.specs.Lines.{after_line, line_of}
 use Rattle.scenario.proofs.LineLemmas.{lines_of-cons}
 use Rattle.scenario_names.specs.Sums.{and_then}
-use Rattle.rounds.specs.Structure.{kind_of}
-use Rattle.rounds.specs.Unfolding.{Head, Inner, Made, lines_from, mark_of, owned, rounds_from, step_of, with_mark}
+use Rattle.rounds.specs.Structure.{body_length, kind_of}
+use Rattle.rounds.specs.Unfolding.{Head, Inner, Made, lines_from, mark_of, owned, rounds_from, step_of, with_mark, within}
 use Rattle.rounds.specs.Views.{Makes, texts}
 use Rattle.rounds.specs.declared.fault.Place.{Place}
 use Rattle.rounds.specs.declared.fault.RoundsFault.{RoundsFault}
 use Rattle.rounds.specs.declared.fault.Unfit.{Unfit}
 use Rattle.rounds.specs.declared.fault.Unfit.TheVariants.{Fault, NoMemory}
+use Rattle.rounds.specs.declared.lines.Kind.TheVariants.{Ends}
+
+-- the bytes of the first lines
+pub texts_of_first : (n : ℕ) (lines : List (Bor (List ℕ))) → texts (take n lines) ≡ take n (texts lines)
+texts_of_first zero lines = refl
+texts_of_first (suc n) [] = refl
+texts_of_first (suc n) (line ∷ lines) = ap (λ rest. line.now ∷ rest) (texts_of_first n lines)
+
+-- the line at a place, and those behind it
+pub line_at : (lines : List (Bor (List ℕ))) (at : ℕ) (d : Bor (List ℕ)) → at < length lines
+    → drop at lines ≡ get_or lines at d ∷ take (length lines - (at + 1)) (drop (at + 1) lines)
+line_at lines at d within =
+    let next : suc at ≡ at + 1 = omega arith in
+    drop-cons lines at d within
+    ∙ ap (λ n. get_or lines at d ∷ drop n lines) next
+    ∙ ap (λ rest. get_or lines at d ∷ rest) (sym (take_rest lines (at + 1)))
+
+-- the lines of a body end where a line ends its rounds
+pub body_ends : (i within : ℕ) (lines : List (Bor (List ℕ))) (d : Bor (List ℕ)) → i < length lines → within ≡ 0
+    → kind_of (get_or lines i d).now ≡ Ends → i + body_length within (texts (drop i lines)) ≡ body_length 0 (texts lines)
+    → i ≡ body_length 0 (texts lines)
+body_ends i within lines d inside none ends is =
+    let here : texts (drop i lines) ≡ (get_or lines i d).now ∷ texts (take (length lines - (i + 1)) (drop (i + 1) lines)) = ap texts (line_at lines i d inside) in
+    let stops : body_length within (texts (drop i lines)) ≡ 0 = rw (here, none, ends) refl in
+    omega (arith, is, stops)
 
 -- a line more was found
 pub line_more : (items : List (Bor (List ℕ))) (line : Bor (List ℕ)) (rest : List ℕ) (all : List (List ℕ)) → 0 < length rest
@@ -25,15 +51,10 @@ line_more items line rest all some was is =
     ∙ was
 
 -- a fault is passed on
-pub fails : {A B C D : Type 0} (why : Unfit) (told : Result B RoundsFault) (f : B → Result C RoundsFault) (made : B) (now : C)
+pub fails : (A D : Type 0) {B C : Type 0} (why : Unfit) (told : Result B RoundsFault) (f : B → Result C RoundsFault) (made : B) (now : C)
     → Makes {A = A} (Err why) told made → Makes {A = D} (Err why) (and_then told f) now
-fails (Fault fault) told f made now is = ap (λ t. and_then t f) is
-fails NoMemory told f made now is = tt
-
--- what was made goes on
-pub goes_on : {A B C : Type 0} (r : Result A Unfit) (told : Result B RoundsFault) (f : B → Result C RoundsFault) (made : B) (now : C)
-    → told ≡ Ok made → Makes r (f made) now → Makes r (and_then told f) now
-goes_on r told f made now is then = subst (λ t. Makes r (and_then t f) now) (sym is) then
+fails A D (Fault fault) told f made now is = ap (λ t. and_then t f) is
+fails A D NoMemory told f made now is = tt
 
 -- the first lines belong to one before
 pub passed_lines : (inner : Inner) (skip number : ℕ) (made : Made) (lines : List (List ℕ)) → skip ≤ length lines
@@ -57,6 +78,50 @@ one_more inner number made more line lines is within =
     ∙ passed_lines inner n (number + 1) more lines within
     ∙ ap (λ k. lines_from inner 0 k more (drop n lines)) same
 
+-- a line is unfolded, and those behind what belongs to it are left
+pub lines_next : (inner : Inner) (number at size : ℕ) (made more : Made) (lines behind : List (Bor (List ℕ))) (line : Bor (List ℕ))
+    → drop at lines ≡ line ∷ behind
+    → step_of inner (number + at) made line.now (texts behind) (kind_of line.now) ≡ Ok more
+    → size ≡ 1 + owned (kind_of line.now) (texts behind) → size ≤ 1 + length behind
+    → lines_from inner 0 (number + (at + size)) more (texts (drop (at + size) lines))
+    ≡ lines_from inner 0 (number + at) made (texts (drop at lines))
+lines_next inner number at size made more lines behind line here step is le =
+    let n = owned (kind_of line.now) (texts behind) in
+    let long : n ≤ length (texts behind) = omega (arith, is, le, length-map behind (λ (l : Bor (List ℕ)). l.now)) in
+    let more_than : size ≡ suc n = omega (arith, is) in
+    let left : drop (at + size) lines ≡ drop n behind =
+    sym (drop-drop size at lines) ∙ ap (λ rest. drop size rest) here ∙ ap (λ k. drop k (line ∷ behind)) more_than in
+    let place : number + (at + size) ≡ number + at + (1 + n) = omega (arith, is) in
+    ap (λ rest. lines_from inner 0 (number + (at + size)) more (texts rest)) left
+    ∙ ap (λ k. lines_from inner 0 k more (texts (drop n behind))) place
+    ∙ ap (λ rest. lines_from inner 0 (number + at + (1 + n)) more rest) (sym (drop-map (λ (l : Bor (List ℕ)). l.now) n behind))
+    ∙ sym (one_more inner (number + at) made more line.now (texts behind) step long)
+    ∙ ap (λ rest. lines_from inner 0 (number + at) made (texts rest)) (sym here)
+
+-- no more belong to it than there are
+pub next_inside : (at size : ℕ) (lines behind : List (Bor (List ℕ))) (line : Bor (List ℕ)) → at < length lines
+    → drop at lines ≡ line ∷ behind → size ≤ 1 + length behind → at + size ≤ length lines
+next_inside at size lines behind line within here le =
+    let all : length (drop at lines) ≡ suc (length behind) = ap length here in omega (arith, within, le, all, length-drop at lines)
+
+-- rounds so deep are unfolded by those that stand one less deep
+pub lines_within : (deep : ℕ) → (deep ≢ 0) → (number : ℕ) (made : Made) (lines : List (List ℕ))
+    → within deep number made lines ≡ lines_from (within (deep - 1)) 0 number made lines
+lines_within zero some number made lines = absurd (some refl)
+lines_within (suc deep) some number made lines = let less : suc deep - 1 ≡ deep = omega arith in rw less refl
+
+-- none are left
+pub lines_end : (inner : Inner) (number at : ℕ) (made : Made) (lines : List (Bor (List ℕ))) → length lines ≤ at
+    → lines_from inner 0 (number + at) made (texts (drop at lines)) ≡ Ok made
+lines_end inner number at made lines past = ap (λ rest. lines_from inner 0 (number + at) made (texts rest)) (drop_all at lines past)
+
+-- a line that isn't unfolded is the fault of all
+pub line_fails : (A D : Type 0) (why : Unfit) (inner : Inner) (number : ℕ) (made then now : Made) (line : List ℕ) (lines : List (List ℕ))
+    → Makes {A = A} (Err why) (step_of inner number made line lines (kind_of line)) then
+    → Makes {A = D} (Err why) (lines_from inner 0 number made (line ∷ lines)) now
+line_fails A D why inner number made then now line lines is =
+    fails A D why (step_of inner number made line lines (kind_of line)) (λ more. lines_from inner (owned (kind_of line) lines) (number + 1) more lines) then now is
+
 -- a round is unfolded, and then the others
 pub round_more : (inner : Inner) (place : Place) (head : Head) (k left : ℕ) (made marked more : Made) (body : List (List ℕ))
     → with_mark place made (mark_of head place.line k) ≡ Ok marked → inner (place.line + 1) marked body ≡ Ok more
@@ -64,3 +129,12 @@ pub round_more : (inner : Inner) (place : Place) (head : Head) (k left : ℕ) (m
 round_more inner place head k left made marked more body marks goes =
     ap (λ told. and_then told (λ m. and_then (inner (place.line + 1) m body) (λ m'. rounds_from inner place head (k + 1) left m' body))) marks
     ∙ ap (λ told. and_then told (λ m'. rounds_from inner place head (k + 1) left m' body)) goes
+
+-- a round less is left
+pub round_next : (inner : Inner) (place : Place) (head : Head) (k : ℕ) (made marked more : Made) (body : List (List ℕ)) → k < head.count
+    → with_mark place made (mark_of head place.line k) ≡ Ok marked → inner (place.line + 1) marked body ≡ Ok more
+    → rounds_from inner place head (k + 1) (head.count - (k + 1)) more body ≡ rounds_from inner place head k (head.count - k) made body
+round_next inner place head k made marked more body within marks goes =
+    let left : head.count - k ≡ suc (head.count - (k + 1)) = omega (arith, within) in
+    sym (ap (λ n. rounds_from inner place head k n made body) left
+    ∙ round_more inner place head k (head.count - (k + 1)) made marked more body marks goes)

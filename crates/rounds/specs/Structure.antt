@@ -1,5 +1,5 @@
 -- Where rounds begin and end.
-use Rattle.std.specs.Prelude.{ℕ, ◌+◌, ◌-◌, Bool, false, List, [], ◌∷◌, ◌++◌, length, take, codes, nat_eq, nat_lt, slice_index, if◌then◌else◌, Result, Ok, Err}
+use Rattle.std.specs.Prelude.{ℕ, ◌+◌, ◌-◌, Bool, false, List, [], ◌∷◌, ◌++◌, length, take, codes, nat_eq, nat_lt, if◌then◌else◌, Result, Ok, Err}
 use Rattle.std.specs.Str.{bytes_eq}
 use Rattle.friendly_lines.specs.Friendly.{end_of, signs_of}
 use Rattle.friendly_lines.specs.Words.{next_word, skip_blanks}

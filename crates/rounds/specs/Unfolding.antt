@@ -13,7 +13,7 @@ use Rattle.scenario_names.specs.Known.{Binding, Known, with_bound}
 use Rattle.scenario_names.specs.Names.{is_name}
 use Rattle.scenario_names.specs.Sums.{and_then, map_ok}
 use Rattle.scenario_names.specs.declared.fault.NameFault.{NameFault}
-use Rattle.rounds.specs.Structure.{body_length, fault_at, kind_of, opens_from, place_of, words_of}
+use Rattle.rounds.specs.Structure.{body_length, kind_of, opens_from, place_of, words_of}
 use Rattle.rounds.specs.declared.fault.Place.{Place}
 use Rattle.rounds.specs.declared.fault.Reason.TheVariants.{Name, NoCount, TooDeep, TooMany}
 use Rattle.rounds.specs.declared.fault.RoundsFault.{RoundsFault}

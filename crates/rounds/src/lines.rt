@@ -1,5 +1,5 @@
 //! The lines of a scenario, as its rounds see them.
-ghost use Rattle.std.specs.Prelude.{◌≡◌, ◌≤◌, IfOk, drop, length, take};
+ghost use Rattle.std.specs.Prelude.{◌≡◌, ◌+◌, ◌≤◌, IfOk, drop, length, take};
 ghost use Rattle.own_model.specs.Text.{lines_of};
 ghost use Rattle.scenario.specs.Lines.{line_length};
 ghost use Rattle.rounds.specs.Structure.{column_of, kind_of, words_of};
@@ -30,7 +30,7 @@ pub(crate) fn lines_of(alloc: Global, text: &[u8]) -> Result<Vec<&[u8]>, AllocEr
     while !rest.is_empty() {
         let length = line_length(rest);
         lines.push(&rest[..length])?;
-        rest = behind(rest, length + 1);
+        rest = behind_line(rest, length);
     }
     Ok(lines)
 }
@@ -57,12 +57,12 @@ fn front(text: &[u8], count: usize) -> &[u8]
     }
 }
 
-// What stands behind the first bytes of a text, so many.
-fn behind(text: &[u8], count: usize) -> &[u8]
-    ensures { result.now ≡ drop count text.now }
+// What stands behind the first line of a text, which has so many bytes.
+fn behind_line(text: &[u8], size: usize) -> &[u8]
+    ensures { result.now ≡ drop (size + 1) text.now }
 {
-    if count < text.len() {
-        &text[count..]
+    if size < text.len() {
+        &text[size + 1..]
     } else {
         b""
     }

@@ -54,8 +54,10 @@ fn keep_open(opens: &mut Vec<RoundsFault>, number: usize, line: &[u8]) -> Result
 }
 
 /// The lines before the `@end` of the rounds that began before them.
+#[tactic(auto, using(crate::proofs::RoundLemmas::texts_of_first))]
 pub(crate) fn body_of<'a, 'l>(lines: &'l [&'a [u8]]) -> &'l [&'a [u8]]
-    ensures value { result.now ≡ take (body_length 0 (texts lines.now)) lines.now }
+    ensures value { texts result.now ≡ take (body_length 0 (texts lines.now)) (texts lines.now) }
+    ensures count { length result.now ≡ body_length 0 (texts lines.now) }
     ensures within { length result.now ≤ length lines.now }
 {
     let mut within = 0usize;

@@ -1,10 +1,10 @@
 //! Lines that are unfolded one after another.
-ghost use Rattle.std.specs.Prelude.{◌≡◌, ◌+◌, ◌≤◌, ◌++◌, length, nat_eq, if◌then◌else◌, IfOk, OnOk};
+ghost use Rattle.std.specs.Prelude.{◌≡◌, ◌+◌, ◌≤◌, ◌++◌, length, decimal, nat_eq, if◌then◌else◌, IfOk, OnOk};
 ghost use Rattle.std.specs.Option.{option_map};
 ghost use Rattle.scenario_names.specs.Directives.Directive.{Enter, Again};
 ghost use Rattle.scenario_names.specs.Views.{counter_view, directive_view};
 ghost use Rattle.rounds.specs.Structure.{kind_of};
-ghost use Rattle.rounds.specs.Unfolding.{begun, counted, known_after, mark_of as mark_before, mark_text, most_lines, owned, rounds_from, rounds_of, step_of, with_line, with_mark, within};
+ghost use Rattle.rounds.specs.Unfolding.{begun, counted, counter_text, known_after, mark_of as mark_before, mark_text, most_lines, owned, rounds_from, rounds_of, step_of, with_line, with_mark, within};
 ghost use Rattle.rounds.specs.Views.{Makes, head_view, made_of, texts};
 
 use crate::fault::{Place, Reason, RoundsFault, Unfit};
@@ -247,21 +247,39 @@ fn set_names(known: &mut Known, line: &[u8]) -> Result<(), AllocError>
 fn put_mark_text(text: &mut Vec<u8>, mark: Directive<'_>) -> Result<(), AllocError>
     ensures { OnOk result (text.new.items ≡ text.old.items ++ mark_text (directive_view mark.entry)) }
 {
-    let (word, line, counter): (&[u8], usize, Option<Counter<'_>>) = match mark {
-        Directive::Enter { line, counter } => (b"@enter ", line, counter),
-        Directive::Again { line, counter } => (b"@again ", line, counter),
-        Directive::Leave { line } => (b"@leave ", line, None),
-        Directive::Set(_) | Directive::Repeat | Directive::End | Directive::Unknown => return Ok(
-            (),
-        ),
-    };
-    text.extend_from_slice(word)?;
-    text.extend_from_slice(Buffer::new().format(line).as_bytes())?;
-    if let Some(counter) = counter {
-        text.push(b' ')?;
-        text.extend_from_slice(counter.name)?;
-        text.push(b' ')?;
-        text.extend_from_slice(counter.value)?;
+    match mark {
+        Directive::Enter { line, counter } => put_round(text, b"@enter ", line, counter),
+        Directive::Again { line, counter } => put_round(text, b"@again ", line, counter),
+        Directive::Leave { line } => put_round(text, b"@leave ", line, None),
+        Directive::Set(_) | Directive::Repeat | Directive::End | Directive::Unknown => Ok(()),
     }
-    Ok(())
+}
+
+// Writes a mark's word, the number of the next line, and a counter, if there is one.
+fn put_round(
+    text: &mut Vec<u8>,
+    word: &[u8],
+    line: usize,
+    counter: Option<Counter<'_>>,
+) -> Result<(), AllocError>
+    ensures { OnOk result (text.new.items
+        ≡ text.old.items ++ word.now ++ decimal line ++ counter_text (counter_view counter.entry)) }
+{
+    let mut digits = Buffer::new();
+    text.extend_from_slice(word)?;
+    text.extend_from_slice(digits.format(line).as_bytes())?;
+    put_counter(text, counter)
+}
+
+// Writes a counter, if there is one.
+fn put_counter(text: &mut Vec<u8>, counter: Option<Counter<'_>>) -> Result<(), AllocError>
+    ensures { OnOk result (text.new.items ≡ text.old.items ++ counter_text (counter_view counter.entry)) }
+{
+    let Some(counter) = counter else {
+        return Ok(());
+    };
+    text.push(b' ')?;
+    text.extend_from_slice(counter.name)?;
+    text.push(b' ')?;
+    text.extend_from_slice(counter.value)
 }

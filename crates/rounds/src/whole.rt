@@ -64,7 +64,10 @@ pub fn unfold<'a>(alloc: Global, text: &'a [u8], given: Known) -> Result<Unfolde
 fn has_rounds(lines: &[&[u8]]) -> bool
     ensures { result ≡ has_rounds (texts lines.now) }
 {
-    lines
-        .iter()
-        .any(|line| matches!(kind_of(line), Kind::Repeats | Kind::Ends))
+    for line in lines {
+        if kind_of(line) != Kind::Plain {
+            return true;
+        }
+    }
+    false
 }

@@ -1,0 +1,45 @@
+-- What was unfolded goes on with what is left.
+use Rattle.std.proofs.Common.{rules, ◌≡◌, ◌∙◌, ◌+◌, ◌-◌, ℕ, List, [], Err, sym, ap, drop, get_or, take, length}
+use Rattle.std.specs.Borrow.{Bor}
+use Rattle.rounds.specs.Unfolding.{lines_from, within}
+use Rattle.rounds.specs.Views.{head_view, made_of, texts}
+use Rattle.rounds.proofs.RoundLemmas.{line_at, line_fails, lines_end, lines_next, lines_within, next_inside, round_next}
+use Rattle.rounds.proofs.unfolding.Unfolding.+rounds.Goals as goal
+
+pub put_each-loop-k-preserved : goal.put_each-loop-k-preserved
+put_each-loop-k-preserved t c =
+    round_next (within c.args.deep) c.args.place (head_view c.args.head) c.loop-k.k _ _ _ (texts c.args.body.now) c.loop-k-test.true
+    c.in_ok-put_begin.ensures c.in_ok-put_lines.ensures
+    ∙ c.loop-k.invariant
+
+pub put_lines-returns-in_err-at : goal.put_lines-returns-in_err-at
+put_lines-returns-in_err-at t c =
+    let lines = c.args.lines.now in
+    let empty : Bor (List ℕ) = record { ref_ptr = (0, 0); now = [] } in
+    let tells : c.from_residual.result ≡ Err c.in_err-at.field-0.0 = search rules in
+    let inner = within (c.args.deep - 1) in
+    let here = line_at lines c.loop-at.at empty c.loop-at-test.true in
+    let whole =
+    lines_within c.args.deep c.if-deep-eq0.false c.args.number (made_of c.args.self.now) (texts c.args.lines.now)
+    ∙ sym c.loop-at.invariant.0
+    ∙ ap (λ left. lines_from inner 0 (c.args.number + c.loop-at.at) (made_of c.loop-at.self) (texts left)) here in
+    rw (tells, whole)
+    (line_fails ℕ Unit c.in_err-at.field-0.0 inner (c.args.number + c.loop-at.at) (made_of c.loop-at.self) (made_of c.put_next.new.self)
+    (made_of c.put_next.new.self) (get_or lines c.loop-at.at empty).now (texts (take (length lines - (c.loop-at.at + 1)) (drop (c.loop-at.at + 1) lines)))
+    c.in_err-at.ensures.made)
+
+pub put_lines-loop-at-preserved : goal.put_lines-loop-at-preserved
+put_lines-loop-at-preserved t c =
+    let inner = within (c.args.deep - 1) in
+    let here = line_at c.args.lines.now c.loop-at.at (record { ref_ptr = (0, 0); now = [] }) c.loop-at-test.true in (
+      lines_next inner c.args.number c.loop-at.at c.in_ok-at.field-0 _ _ c.args.lines.now _ _ here c.in_ok-at.ensures.made c.in_ok-at.ensures.size
+          c.in_ok-at.ensures.inside
+          ∙ c.loop-at.invariant.0,
+      next_inside c.loop-at.at c.in_ok-at.field-0 c.args.lines.now _ _ c.loop-at-test.true here c.in_ok-at.ensures.inside,
+    )
+
+pub put_lines-returns : goal.put_lines-returns
+put_lines-returns t c =
+    lines_within c.args.deep c.if-deep-eq0.false c.args.number (made_of c.args.self.now) (texts c.args.lines.now)
+    ∙ sym c.loop-at.invariant.0
+    ∙ lines_end (within (c.args.deep - 1)) c.args.number c.loop-at.at (made_of c.loop-at.self) c.args.lines.now c.loop-at-test.false
