@@ -98,7 +98,6 @@ pub(crate) const SET: &str =
 pub(crate) const COLOR: &str =
     "When refusals and complaints are coloured: auto (on a terminal), always or never";
 
-
 pub(crate) const STRICT: &str = "End with status 2 where there is a finding";
 
 pub(crate) const POLICY: &str = "A policy: lines that say which scripts may reach which servers";
