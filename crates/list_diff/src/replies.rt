@@ -11,7 +11,8 @@ pub struct Changed {
     now: ByteRecord,
 }
 
-/// Compares two traces of one scenario, row by row: the rows whose reply is another one.
+/// Compares two traces of one scenario, row by row: the rows whose reply is another one, up to the first line that only one of
+/// them answers, as one with a name that no reply bound on the other machine.
 pub fn changed_replies(
     alloc: Global,
     before: &[u8],
@@ -26,6 +27,9 @@ pub fn changed_replies(
         else {
             break;
         };
+        if cell(&was, 0) != cell(&now, 0) {
+            break;
+        }
         if cell(&was, 3) != cell(&now, 3) {
             found.push(Changed { was, now })?;
         }

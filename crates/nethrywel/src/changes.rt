@@ -1,7 +1,9 @@
 //! What a change of a start list changes.
 use crate::ends::{Played, REFUSED, UNWRITTEN, status_of};
 use crate::files::read_list;
+use crate::given::Given;
 use crate::lists::tell_fault;
+use crate::unfolding::unfolded;
 use init_core::StartList;
 use json_documents::Listing;
 use list_diff::{Changed, Differences, Side, changed_replies, changes, leads};
@@ -172,8 +174,9 @@ fn replies(
         let _ = eprintln!(rt; "{path}: Unreadable_scenario");
         return Err(REFUSED);
     };
-    let was = traced(rt, path, &scenario, before)?;
-    let now = traced(rt, path, &scenario, after)?;
+    let lines = unfolded(rt, path, &scenario, Given::nothing())?;
+    let was = traced(rt, path, lines.bytes(), before)?;
+    let now = traced(rt, path, lines.bytes(), after)?;
     match changed_replies(rt.alloc(), was.as_slice(), now.as_slice()) {
         Ok(replies) => Ok(replies),
         Err(AllocError) => {

@@ -31,6 +31,11 @@ impl<'a> Given<'a> {
         Ok(Given { words })
     }
 
+    /// No values.
+    pub(crate) fn nothing() -> Given<'a> {
+        Given { words: &[] }
+    }
+
     /// What they stand for.
     pub(crate) fn known(self, alloc: Global) -> Result<Known, AllocError> {
         let mut known = Known::new(alloc);

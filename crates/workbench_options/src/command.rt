@@ -42,8 +42,6 @@ pub enum Command<'a> {
         only: Option<&'a str>,
         /// Whether the account list is told after the last reply.
         accounts: bool,
-        /// Whether each line is told with its number in the scenario.
-        numbers: bool,
         /// When lines are coloured.
         color: Color,
         /// The path of the scenario.
@@ -259,7 +257,6 @@ impl<'a> Command<'a> {
                 machine: found.get_str("machine"),
                 only: found.get_str("only"),
                 accounts: is_set(found, "accounts"),
-                numbers: is_set(found, "numbers"),
                 color: colored(found),
                 scenario: path(found, "scenario"),
             }),

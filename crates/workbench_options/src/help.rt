@@ -92,14 +92,11 @@ pub(crate) const ONLY: &str = "Answer the lines of this component alone";
 
 pub(crate) const WITH_ACCOUNTS: &str = "Print all accounts after the last reply";
 
-pub(crate) const NUMBERS: &str = "Tell the number of each line before what it is told";
-
 pub(crate) const SET: &str =
     "NAME stands for VALUE: $NAME in a scenario, ${NAME} in a start list; may be given again";
 
 pub(crate) const COLOR: &str =
     "When refusals and complaints are coloured: auto (on a terminal), always or never";
-
 
 pub(crate) const STRICT: &str = "End with status 2 where there is a finding";
 
