@@ -29,7 +29,7 @@ none_hold : (a b : Bool) → (a || b) ≡ false → (a ≡ false) × (b ≡ fals
 none_hold true b is = cc
 none_hold false b is = (refl, is)
 
-as_is : (a b : Bool) → same_as a b ≡ true → a ≡ b
+pub as_is : (a b : Bool) → same_as a b ≡ true → a ≡ b
 as_is true true same = refl
 as_is true false same = cc
 as_is false true same = cc
@@ -370,11 +370,11 @@ way_alike entries init service opened seen other end (rule ∷ rules) one two =
     ap (λ t. if t then way_to entries init rule.target service else way_by entries init rules service seen) same
     ∙ ap (λ w. if asks_for rule service other then way_to entries init rule.target service else w) others
 
-behind_is : (name label : List ℕ) → 0 < length label → label_with name label ≡ behind name label
+pub behind_is : (name label : List ℕ) → 0 < length label → label_with name label ≡ behind name label
 behind_is name [] some = absurd (omega arith)
 behind_is name (b ∷ label) some = refl
 
-behind_long : (name label : List ℕ) → 0 < length label → 0 < length (behind name label)
+pub behind_long : (name label : List ℕ) → 0 < length label → 0 < length (behind name label)
 behind_long name label some = omega (arith, length-append (name ++ codes " -> ") label)
 
 outward_alike : (lists : ℕ) (list : Listed) (name service opened seen other end : List ℕ) (outer : Option ListedEntry)

@@ -12,13 +12,12 @@ use Rattle.std.proofs.Math.ListN.{get_or-append}
 use Rattle.std.proofs.lemmas.List.Quantifiers.{Any-push}
 use Rattle.own_model.specs.Listed.{Listed}
 use Rattle.own_model.specs.SessionArgs.{is_quotable}
-use Rattle.reach.specs.Closure.{AreKept, IsKept, KeptLabel, StandsFor}
+use Rattle.reach.specs.Closure.{KeptLabel}
 use Rattle.reach.specs.Deciding.{AreTrails, IsOnTrail, IsTrail, KeepsTrail, TrailAt, for_some_label, is_same, same_child, some_byte, some_label, trail_of}
 use Rattle.reach.specs.Reach.{IsGiven, leads_to}
-use Rattle.reach.specs.Ways.{IsTold}
+use Rattle.reach.specs.Ways.{GoesAlike, IsTold, StandForAll}
 use Rattle.reach.proofs.ClosureLemmas.{below_or_at, both_true, quotable_within, same_at, two_true}
 use Rattle.reach.proofs.KeyLemmas.{same_tests}
-use Rattle.reach.proofs.WaysLemmas.{told_kept}
 
 -- ---- one trail
 
@@ -75,18 +74,15 @@ keeps_new list client service one trail trails told are is decides leads =
 -- ---- all trails
 
 on_trail : (list : Listed) (client : ℕ) (service label : List ℕ) (one : KeptLabel) (trail : TrailAt)
-    → StandsFor list client service label one → IsOnTrail list client service one.label trail → IsOnTrail list client service label trail
-on_trail list client service label one trail stands on =
+    → IsTold list client service one → GoesAlike list client service label one → IsOnTrail list client service one.label trail
+    → IsOnTrail list client service label trail
+on_trail list client service label one trail told goes on =
     let shorter : length trail.label ≤ length one.label = on.short in
-    let short : length one.label ≤ length label = stands.short in
+    let short : length one.label ≤ length label = goes.short in
     record {
       short = omega arith;
-      decides = on.decides
-          ∙ (ap (λ t. trail_of list client service t) (sym (append-nil one.label))
-          ∙ (stands.decided [] ∙ ap (λ t. trail_of list client service t) (append-nil label)));
-      leads = on.leads
-          ∙ (ap (λ t. leads_to list client service t) (sym (append-nil one.label))
-          ∙ (stands.alike [] ∙ ap (λ t. leads_to list client service t) (append-nil label)));
+      decides = on.decides ∙ goes.decided;
+      leads = on.leads ∙ (sym told.leads ∙ goes.alike);
     }
 
 -- the trails of the kept labels before a place are there
@@ -119,23 +115,24 @@ seen_more list client service kept place one old new within is seen keeps =
     }
 
 pub told_at : (list : Listed) (client : ℕ) (service : List ℕ) (kept : List KeptLabel) (place : ℕ) (one : KeptLabel)
-    → AreKept list client service 64 kept → place < length kept → get_or kept place one ≡ one → IsTold list client service one
-told_at list client service kept place one are within is =
-    told_kept list client service one (All-contains (IsKept list client service 64) kept one are.sound (place, within, is))
+    → StandForAll list client service kept → place < length kept → get_or kept place one ≡ one → IsTold list client service one
+told_at list client service kept place one stand within is =
+    All-contains (IsTold list client service) kept one stand.told (place, within, is)
 
 pub trails_of : (list : Listed) (client : ℕ) (service : List ℕ) (kept : List KeptLabel) (trails : List TrailAt)
-    → AreKept list client service 64 kept → AreSeen list client service kept (length kept) trails → AreTrails list client service trails
-trails_of list client service kept trails are seen =
+    → StandForAll list client service kept → AreSeen list client service kept (length kept) trails → AreTrails list client service trails
+trails_of list client service kept trails stand seen =
     record {
       told = seen.told;
-      covers = λ label given. let any = are.covers label given given.short in
+      covers = λ label given. let any = stand.covers label given in
           let on = seen.covers any.0 any.1 any.2 in
           let is : (get_or kept any.0 any.1).label ≡ any.1.label = ap (λ (o : KeptLabel). o.label) any.3 in (
             on.0,
             on.1,
             on.2,
             on.3,
-            on_trail list client service label any.1 on.1 any.4
+            on_trail list client service label any.1 on.1
+                (All-contains (IsTold list client service) kept any.1 stand.told (any.0, any.2, any.3)) any.4
                 (subst (λ l. IsOnTrail list client service l on.1) is on.4),
           );
     }

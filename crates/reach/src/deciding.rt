@@ -1,12 +1,13 @@
 //! Which rules decide a client's wishes for a service, list by list outward, for every label that can be given.
 ghost use Rattle.std.specs.Prelude.{◌≡◌, ◌<◌, length, All, IfOk, OnOk};
 ghost use Rattle.std.specs.List.{list_any};
-ghost use Rattle.reach.specs.Deciding.{AreTrails, IsTrail, KeepsTrail, is_same, same_child, trail_of};
+ghost use Rattle.reach.specs.Deciding.{AreTrails, IsTrail, KeepsTrail, is_same};
 ghost use Rattle.reach.specs.Ways.{IsTold};
 
-use crate::closure::{Kept, labels};
-use crate::course::Course;
+use crate::closure::Kept;
 use crate::label::Label;
+use crate::rules::{rules_for, same_child};
+use crate::standing::by_keys;
 use crate::wishes::Wishes;
 use std::alloc::{AllocError, Global};
 use std::marker::Model;
@@ -78,7 +79,7 @@ impl Trails {
         ensures { IfOk result (λ trails.
             AreTrails wishes.entry.list.now wishes.entry.client wishes.entry.service.now trails) }
     {
-        let kept = labels(alloc, wishes)?;
+        let kept = by_keys(alloc, wishes)?;
         let mut trails = Vec::new(alloc);
         for place in 0..kept.len() {
             let one = &kept[place];
@@ -121,29 +122,6 @@ fn keep(
     Ok(())
 }
 
-// The places of the rules that decide a label's wish.
-#[tactic(auto, unfolding(crate::specs::Deciding::trail_of))]
-fn rules_for(alloc: Global, wishes: Wishes<'_>, label: &Label) -> Result<Vec<usize>, AllocError>
-    requires client { wishes.client < length wishes.list.now.entries }
-    ensures { IfOk result (λ rules. rules.items
-        ≡ trail_of wishes.entry.list.now wishes.entry.client wishes.entry.service.now label.now) }
-{
-    let course = Course::of(
-        alloc,
-        wishes.list,
-        wishes.client,
-        wishes.service,
-        label.as_bytes(),
-    )?;
-    let mut rules = Vec::new(alloc);
-    for hop in course.hops() {
-        if let Some(place) = hop.rule() {
-            rules.push(place)?;
-        }
-    }
-    Ok(rules)
-}
-
 // Whether a trail of these rules is there, with a label that is no longer.
 fn is_known(trails: &[Trail], label: &Label, rules: &[usize], child: Option<usize>) -> bool
     ensures { result ≡ list_any (is_same label.now rules.now child) trails.now }
@@ -160,15 +138,4 @@ fn is_same(label: &Label, rules: &[usize], child: Option<usize>, trail: &Trail) 
     trail.rules.as_slice() == rules
         && same_child(trail.child, child)
         && trail.label.as_bytes().len() <= label.as_bytes().len()
-}
-
-// Whether two ends are the same.
-fn same_child(child: Option<usize>, other: Option<usize>) -> bool
-    ensures { result ≡ same_child child other }
-{
-    match (child, other) {
-        (None, None) => true,
-        (Some(child), Some(other)) => child == other,
-        _ => false,
-    }
 }
