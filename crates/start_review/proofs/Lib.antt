@@ -7,3 +7,4 @@ mod RuleLemmas
 mod StartsLemmas
 mod UnreadLemmas
 mod ValueLemmas
+mod ViewLemmas

@@ -1,0 +1,68 @@
+//! Rules that decide nothing.
+ghost use Rattle.std.specs.Prelude.{◌≡◌};
+ghost use Rattle.std.specs.List.{list_any};
+ghost use Rattle.reach.specs.Deciding.{TrailAt};
+ghost use Rattle.start_review.specs.Idle.{is_among, is_idle, is_of};
+ghost use Rattle.start_review.specs.Views.{ShowAll};
+
+use crate::part::Owner;
+use crate::views::View;
+use init_core::{Entry, StartList};
+
+/// Whether the rule at a place of an owner's list decides nothing: for no script, no service that a rule asks for nor any other,
+/// and no label.
+#[tactic(auto, using(crate::proofs::ViewLemmas::idle_by_views))]
+pub(crate) fn is_idle(list: &StartList, views: &[View], owner: Owner, place: usize) -> bool
+    requires views { ShowAll list.now views.now }
+    ensures { result ≡ is_idle list.now owner place }
+{
+    !views.iter().any(|view| decides(list, owner, place, view))
+}
+
+// Whether it decides some wishes of a view.
+fn decides(list: &StartList, owner: Owner, place: usize, view: &View) -> bool
+    ensures { result
+        ≡ list_any (λ (trail : TrailAt). is_among list.now owner place view.now.client trail.rules) view.now.trails }
+{
+    view.trails.as_slice().iter().any(|trail| is_among(
+        list,
+        owner,
+        place,
+        view.client,
+        trail.rules(),
+    ))
+}
+
+// Whether one of the rules that decide a wish of a client, list by list outward, is at a place of an owner's list.
+fn is_among(list: &StartList, owner: Owner, place: usize, client: usize, rules: &[usize]) -> bool
+    ensures { result ≡ is_among list.now owner place client rules.now }
+{
+    let entries = list.entries();
+    let mut number = client;
+    for rule in rules {
+        let Some(entry) = entries.get(number) else {
+            return false;
+        };
+        if is_of(owner, number, entry) && *rule == place {
+            return true;
+        }
+        if entry.home() == 0 {
+            return false;
+        }
+        number = entry.home() - 1;
+    }
+    false
+}
+
+/// Whether an owner's rules are those for an entry, by its number.
+pub(crate) fn is_of(owner: Owner, number: usize, entry: &Entry) -> bool
+    ensures { result ≡ is_of owner number entry.now }
+{
+    match owner {
+        Owner::Default => entry.route().is_none() && entry.home() == 0,
+        Owner::Entry(own) => entry.route().is_some() && number == own,
+        Owner::Inner(init) => {
+            entry.route().is_none() && entry.home() > init && entry.home() - 1 == init
+        }
+    }
+}
