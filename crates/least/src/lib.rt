@@ -2,11 +2,8 @@
 #![tactic(auto)]
 
 mod account;
-mod asked;
-mod budget;
 mod donation;
 mod draft;
-mod meter;
 mod opened;
 mod report;
 mod rows;
@@ -17,7 +14,7 @@ mod shown;
 mod trial;
 
 pub use account::{Account, Given, Session};
-pub use budget::Budget;
+pub use budget_meter::Budget;
 pub use report::{Question, Report};
 pub use rows::{Hole, Likeness, Row};
 pub use scene::Misread;

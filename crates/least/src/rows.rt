@@ -1,7 +1,7 @@
 //! All budgets under which an account is in no want, from a few runs.
 
-use crate::budget::Budget;
 use crate::trial::{LeftOut, Refused, Trial};
+use budget_meter::Budget;
 use init_core::BootFault;
 use std::alloc::Global;
 

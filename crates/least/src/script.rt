@@ -1,7 +1,6 @@
 //! The accounts of a script: its sessions', and its own.
 
 use crate::account::{Account, Given, Session};
-use crate::budget::Budget;
 use crate::donation::args_with;
 use crate::draft::{Draft, LARGEST, reserve_of};
 use crate::opened::{Opened, Sessions};
@@ -9,6 +8,7 @@ use crate::rows::{Rows, Trials};
 use crate::scene::Step;
 use crate::session_trial::{Client, Reached};
 use crate::trial::Trial;
+use budget_meter::Budget;
 use init_core::{BootFault, StartList, boot};
 use pd_core::{Call, Router};
 use std::alloc::Global;

@@ -1,15 +1,12 @@
 //! A run of a component's calls from a budget.
 ghost use Rattle.std.specs.Prelude.{◌<◌, length};
 
-use crate::asked::{asked_by_call, is_choice, named_by};
-use crate::budget::Budget;
-use crate::meter::Meter;
 use crate::scene::Step;
+use budget_meter::{Budget, Meter, asked_by_call, charged, is_choice, is_insufficient, named_by};
 use init_core::{BootFault, StartList, boot};
 use pd_core::{Call, Core, Quotas, Reply, Router};
 use session_proto::FileRequest;
 use std::alloc::Global;
-use trade_base::Refusal;
 
 /// Why an account doesn't cover a call or a request.
 #[derive(Clone, Copy, Debug, PartialEq, Eq)]
@@ -176,11 +173,6 @@ impl Trial {
     }
 }
 
-/// What a call charged.
-pub(crate) fn charged(before: Quotas, after: Quotas) -> u64 {
-    after.ram_used.0.saturating_sub(before.ram_used.0)
-}
-
 // The refusal by the caller's account, if a call is refused so: a request is refused by the reserve, and of a session its account
 // replies.
 fn refused_of(line: u64, call: Call<'_>, reply: &[u8]) -> Option<Refused> {
@@ -198,12 +190,6 @@ pub(crate) fn short_of(line: u64, reply: &[u8], reasons: [Shortage; 2]) -> Optio
         }
     }
     None
-}
-
-// Whether a session isn't opened since its donation is too small.
-fn is_insufficient(reply: &[u8]) -> bool {
-    reply == Refusal::InsufficientRamQuota.name().as_bytes()
-        || reply == Refusal::InsufficientCapQuota.name().as_bytes()
 }
 
 /// Whether what a call is answered tells limits.
