@@ -15,7 +15,8 @@ use Rattle.scenario.specs.Accounts.{list_with}
 use Rattle.scenario.specs.Program.{accounts_for}
 use Rattle.workbench.specs.Alone.{SeesAlone, alone_sum, alone_tells}
 use Rattle.workbench.specs.Kept.{SeesPeaks, found, peak_at}
-use Rattle.workbench.specs.PeakList.{peaks_beside, peaks_text}
+use Rattle.workbench.specs.Needs.{Needs}
+use Rattle.workbench.specs.PeakList.{peaks_beside, peaks_text, with_needs}
 use Rattle.workbench.specs.Played.{call_in, call_of, calls_answered, calls_said, engine_tells, told_of_calls, told_of_lines}
 use Rattle.workbench.specs.Plays.{PlaysAll}
 use Rattle.workbench.specs.Tracing.{trace_header, trace_tells}
@@ -113,15 +114,15 @@ silent_lines only earlier number (line ∷ lines) =
     ap (λ text. text ++ told_of_lines (λ _ _ _. []) only (earlier ++ said_by only (call_of line)) (number + 1) lines) (silent_calls earlier number (said_by only (call_of line)))
     ∙ silent_lines only (earlier ++ said_by only (call_of line)) (number + 1) lines
 
-pub accounts_played : (listed : Listed) {init : Amounts} {components : List Peak} {sessions : List Session} {start last : World} {input rest w w' w'' : Option (List ℕ)} {failed : Bool} (played ended : Ending) →
+pub accounts_played : (needs : Needs) (listed : Listed) {init : Amounts} {components : List Peak} {sessions : List Session} {start last : World} {input rest w w' w'' : Option (List ℕ)} {failed : Bool} (played ended : Ending) →
     start.entries ≡ entries_of (start_list_of listed) →
     PlaysAll (λ _ _ _. []) true (SeesPeaks init components sessions listed start) None played.fault played.lines start last [] input rest failed w w' →
-    Closes played ended w' w'' (list_with listed last (peaks_beside (entries_of (start_list_of listed)) init (peak_at components) (found sessions))) →
-    IsPlayedFrom (λ _. []) (λ lines. peaks_text listed start (calls_answered None lines)) true ended input rest failed w w''
-accounts_played listed {init = init} {components = components} {sessions = sessions} {start = start} {last = last} {w' = w'} {w'' = w''} played ended entries plays closes =
+    Closes played ended w' w'' (list_with listed last (with_needs needs (peaks_beside (entries_of (start_list_of listed)) init (peak_at components) (found sessions)))) →
+    IsPlayedFrom (λ _. []) (λ lines. peaks_text needs listed start (calls_answered None lines)) true ended input rest failed w w''
+accounts_played needs listed {init = init} {components = components} {sessions = sessions} {start = start} {last = last} {w' = w'} {w'' = w''} played ended entries plays closes =
     played_from played ended plays (silent_lines None [] 1 plays.lines) (closes_as played ended w' w'' _ _ (same played.fault plays.sees) closes)
   where
     same : (f : Option PlayFault) → IfNone f (SeesPeaks init components sessions listed start (calls_answered None plays.lines)) →
-        IfNone f (list_with listed last (peaks_beside (entries_of (start_list_of listed)) init (peak_at components) (found sessions)) ≡ peaks_text listed start (calls_answered None plays.lines))
-    same None sees = list_is sees plays.world entries
+        IfNone f (list_with listed last (with_needs needs (peaks_beside (entries_of (start_list_of listed)) init (peak_at components) (found sessions))) ≡ peaks_text needs listed start (calls_answered None plays.lines))
+    same None sees = list_is sees needs plays.world entries
     same (Some fault) sees = tt

@@ -11,4 +11,5 @@ pub mod Tracing
 pub mod Alone
 pub mod Peaks
 pub mod Kept
+pub mod Needs
 pub mod PeakList

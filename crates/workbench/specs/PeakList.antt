@@ -1,4 +1,4 @@
--- The account list with peaks, servers and labels.
+-- The account list with needs, peaks, servers and labels.
 use Rattle.std.specs.Prelude.{ℕ, ◌++◌, List, [], length, nat_lt, codes, if◌then◌else◌, Option, Some, None}
 use Rattle.own_model.specs.Amounts.{Amounts}
 use Rattle.own_model.specs.Listed.{Listed, start_list_of}
@@ -9,6 +9,7 @@ use Rattle.own_model.specs.World.{World, account_at, machine_init, world_running
 use Rattle.scenario.specs.Accounts.{Beside, list_with}
 use Rattle.scenario.specs.Program.{world_of}
 use Rattle.scenario.specs.declared.columns.Owner.TheVariants.{Init, Component, Session}
+use Rattle.workbench.specs.Needs.{Needs, needed_text}
 use Rattle.workbench.specs.Peaks.{Noted, noted_of, peak_of, worlds}
 use Rattle.workbench.specs.Played.{calls_answered}
 
@@ -45,9 +46,13 @@ beside_after listed start calls =
     (λ place. peak_of (λ w. account_at w place) (worlds start calls))
     (λ place selector. Some (noted_of listed start calls place selector))
 
--- the account list with all that
-abbrev pub peaks_text : Listed → World → List (List ℕ) → List ℕ
-peaks_text listed start calls = list_with listed (world_running start calls) (beside_after listed start calls)
+-- and before that what is needed
+abbrev pub with_needs : Needs → Beside → Beside
+with_needs needs beside owner = needed_text (needs owner) ++ beside owner
 
-abbrev pub accounts_behind : Listed → List (List ℕ) → List ℕ
-accounts_behind listed lines = peaks_text listed (world_of listed) (calls_answered None lines)
+-- the account list with all that
+abbrev pub peaks_text : Needs → Listed → World → List (List ℕ) → List ℕ
+peaks_text needs listed start calls = list_with listed (world_running start calls) (with_needs needs (beside_after listed start calls))
+
+abbrev pub accounts_behind : Needs → Listed → List (List ℕ) → List ℕ
+accounts_behind needs listed lines = peaks_text needs listed (world_of listed) (calls_answered None lines)

@@ -1,4 +1,4 @@
-//! The account list with peaks, servers and labels, behind a play.
+//! The account list with needs, peaks, servers and labels, behind a play.
 ghost use Rattle.std.specs.Prelude.{◌≡◌, ◌≢◌, ◌≤◌, ◌||◌, [], false, true, IfNone, IfOk, IfErr, IfSome, OnErr, None, Some};
 ghost use Rattle.own_model.specs.Listed.{start_list_of};
 ghost use Rattle.own_model.specs.StartList.{entries_of};
@@ -8,24 +8,27 @@ ghost use Rattle.scenario.specs.Program.{boot_fault};
 ghost use Rattle.scenario.specs.Runs.{HasCause};
 ghost use Rattle.workbench.specs.Faults.{fault_before, is_write_fault, unplayed};
 ghost use Rattle.workbench.specs.Kept.{SeesPeaks, found, peak_at, peaked};
-ghost use Rattle.workbench.specs.PeakList.{accounts_behind, peaks_beside, peaks_text};
+ghost use Rattle.workbench.specs.Needs.{Needs, needs_kept};
+ghost use Rattle.workbench.specs.PeakList.{accounts_behind, peaks_beside, peaks_text, with_needs};
 ghost use Rattle.workbench.specs.Played.{calls_answered};
 ghost use Rattle.workbench.specs.Writes.{Closes, IsPlayed, IsPlayedFrom, IsUnplayed, nothing_told};
 ghost use Rattle.workbench.specs.declared.ending.PlayFault.TheVariants.{NoMemory as NoRoom};
 
+use crate::accounting::{Accounting, write_closed};
 use crate::ending::{Ending, PlayFault};
 use crate::machine::Play;
+use crate::needs::Needs;
 use crate::notes::Notes;
 use crate::peaks::Peaks;
 use crate::playing::play as play_lines;
 use init_core::{BootFault, StartList, boot};
 use pd_core::{Core, Router};
-use scenario::{MAX_LINES, Run, Sink, Source, write_columns};
+use scenario::{MAX_LINES, Run, RunFault, Sink, Source, write_columns};
 use std::alloc::Global;
 
 /// Plays a scenario, and then writes the account list: the account of the machine's init, those of the components with their
-/// reserves, and those of the open sessions, each account with its peak, a session also with its server and its label; and the
-/// sums of all limits. A peak is the most that was in use at the start or after any line, of a session since it is open.
+/// reserves, and those of the open sessions, each account with what it needs of what it started with and with its peak, a session
+/// also with its server and its label; and the sums of all limits. A peak is the most that was in use at the start or after any line, of a session since it is open.
 /// Complaints are written as they come.
 ///
 /// At a fault of the play no list is written, and at one of the list's a part of it, from the front. It stops as `run` does, and for
@@ -39,8 +42,8 @@ pub fn accounts<S: Source, K: Sink, E: Sink>(
     complaints: &mut E,
 ) -> Result<Ending, BootFault>
     ensures played { IfOk result (λ ending. fault_before (S.has_failed reader.old)
-        (K.has_failed writer.old || E.has_failed complaints.old) ≡ None →
-        IsPlayed play.entry.machine.now nothing_told accounts_behind true ending
+        (K.has_failed writer.old || E.has_failed complaints.old) ≡ None → (needs : Needs)
+        × IsPlayed play.entry.machine.now nothing_told (accounts_behind needs) true ending
         (S.remaining reader.old) (S.remaining reader.new)
         (S.has_failed reader.new) (K.contents writer.old) (K.contents writer.new)) }
     ensures few { IfOk result (λ ending. ending.lines ≤ MAX_LINES) }
@@ -67,18 +70,21 @@ pub fn accounts<S: Source, K: Sink, E: Sink>(
         list: &list,
         only: None,
     };
-    let mut peaks = Peaks::new(alloc, &core)?;
+    let mut watch = Accounting {
+        peaks: Peaks::new(alloc, &core)?,
+        needs: Needs::new(alloc, &core, &list)?,
+    };
     Ok(play_with_peaks(
-        &run, &mut core, &mut notes, &mut peaks, reader, writer, complaints,
+        &run, &mut core, &mut notes, &mut watch, reader, writer, complaints,
     ))
 }
 
-// The same on a machine that has booted, with the peaks of its accounts.
+// The same on a machine that has booted, with the peaks and needs of its accounts.
 fn play_with_peaks<R: Router + Drop, S: Source, K: Sink, E: Sink>(
     run: &Run<'_>,
     core: &mut Core<R>,
     notes: &mut Notes<'_>,
-    peaks: &mut Peaks,
+    watch: &mut Accounting,
     reader: &mut S,
     writer: &mut K,
     complaints: &mut E,
@@ -87,10 +93,11 @@ fn play_with_peaks<R: Router + Drop, S: Source, K: Sink, E: Sink>(
     requires all { run.now.only ≡ None }
     requires ahead { notes.old.buffers.ahead ≡ [] }
     requires gathered { notes.old.buffers.gathered ≡ [] }
-    requires sees { SeesPeaks (peaked peaks.old.init) peaks.old.components.items
-        peaks.old.sessions.items run.now.list.now core.old [] }
+    requires sees { SeesPeaks (peaked watch.old.peaks.init) watch.old.peaks.components.items
+        watch.old.peaks.sessions.items run.now.list.now core.old [] }
     ensures played { fault_before (S.has_failed reader.old)
-        (K.has_failed writer.old || E.has_failed complaints.old) ≡ None → IsPlayedFrom (λ _. []) (λ lines. peaks_text run.now.list.now core.old (calls_answered None lines))
+        (K.has_failed writer.old || E.has_failed complaints.old) ≡ None → (needs : Needs)
+        × IsPlayedFrom (λ _. []) (λ lines. peaks_text needs run.now.list.now core.old (calls_answered None lines))
         true result (S.remaining reader.old) (S.remaining reader.new)
         (S.has_failed reader.new) (K.contents writer.old) (K.contents writer.new) }
     ensures few { result.lines ≤ MAX_LINES }
@@ -101,8 +108,8 @@ fn play_with_peaks<R: Router + Drop, S: Source, K: Sink, E: Sink>(
         (K.has_failed writer.old || E.has_failed complaints.old)) (λ fault. (result ≡ unplayed fault)
         × (reader.new ≡ reader.old) × (writer.new ≡ writer.old) × (complaints.new ≡ complaints.old)) }
 {
-    let ending = play_lines(run, core, notes, peaks, b"", reader, writer, complaints);
-    close_with_peaks(ending, core, run.list, peaks, writer)
+    let ending = play_lines(run, core, notes, watch, b"", reader, writer, complaints);
+    close_with_peaks(ending, core, run.list, watch, writer)
 }
 
 // Writes the list behind a play that came to its end.
@@ -110,21 +117,36 @@ fn close_with_peaks<R: Router + Drop, K: Sink>(
     ending: Ending,
     core: &Core<R>,
     list: &StartList,
-    peaks: &Peaks,
+    watch: &Accounting,
     writer: &mut K,
 ) -> Ending
     requires listed { core.now.entries ≡ entries_of (start_list_of list.now) }
     ensures closes { Closes ending result (K.contents writer.old) (K.contents writer.new)
-        (list_with list.now core.now (peaks_beside (entries_of (start_list_of list.now))
-        (peaked peaks.now.init) (peak_at peaks.now.components.items) (found peaks.now.sessions.items))) }
+        (list_with list.now core.now (with_needs
+        (needs_kept watch.now.needs.init watch.now.needs.components.items watch.now.needs.sessions.items)
+        (peaks_beside (entries_of (start_list_of list.now)) (peaked watch.now.peaks.init)
+        (peak_at watch.now.peaks.components.items) (found watch.now.peaks.sessions.items)))) }
     ensures failing { IfNone ending.fault (K.has_failed writer.new ≡ is_write_fault result.fault) }
     ensures stopped { IfSome ending.fault (λ _. (result ≡ ending) × (writer.new ≡ writer.old)) }
 {
     if ending.fault.is_some() {
         return ending;
     }
-    match write_columns(core, list, peaks, writer) {
+    match write_accounts(core, list, watch, writer) {
         Ok(()) => ending,
         Err(fault) => ending.stopped_by(PlayFault::from(fault)),
     }
+}
+
+// Writes the list, and behind it the sessions that were closed.
+fn write_accounts<R: Router + Drop, K: Sink>(
+    core: &Core<R>,
+    list: &StartList,
+    watch: &Accounting,
+    writer: &mut K,
+) -> Result<(), RunFault>
+    requires listed { core.now.entries ≡ entries_of (start_list_of list.now) }
+{
+    write_columns(core, list, watch, writer)?;
+    write_closed(watch, list, writer)
 }

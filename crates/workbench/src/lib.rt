@@ -3,12 +3,15 @@
 #![tactic(auto)]
 
 mod account_list;
+mod accounting;
 mod beside;
 mod complaint;
 mod critic;
 mod ending;
 mod expected;
 mod machine;
+mod metered;
+mod needs;
 mod notes;
 mod peak_columns;
 mod peaks;

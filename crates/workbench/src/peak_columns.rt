@@ -45,8 +45,8 @@ impl Columns for Peaks {
     }
 }
 
-// Gathers a peak.
-fn put_peak<K: Sink>(peak: Peak, gathered: &mut Gather, sink: &mut K) -> Result<(), DeviceFault>
+/// Gathers a peak.
+pub(crate) fn put_peak<K: Sink>(peak: Peak, gathered: &mut Gather, sink: &mut K) -> Result<(), DeviceFault>
     requires { K.has_failed sink.old ≡ false }
     ensures told { TellsUnless result (K.contents sink.old) gathered.old
         (K.contents sink.new) gathered.new (peak_text (peaked peak)) }
@@ -76,8 +76,8 @@ fn put_session<K: Sink>(
     gathered.put(sink, session.label.as_slice())
 }
 
-// Gathers the name of a session's server, and the word before its label.
-fn put_server<K: Sink>(
+/// Gathers the name of a session's server, and the word before its label.
+pub(crate) fn put_server<K: Sink>(
     list: &StartList,
     server: Option<usize>,
     gathered: &mut Gather,

@@ -8,8 +8,11 @@ use Rattle.workbench.proofs.account_list.accounts.Goals as goal
 
 pub returns-clause-played : goal.returns-clause-played
 returns-clause-played g c = λ works.
-    is_played (λ _ _. []) (λ listed start lines. peaks_text listed start (calls_answered None lines)) c.play_with_peaks.result _ _ _ _ _
-    c.in_ok-list.ensures.ok c.in_ok-core.ensures.covered c.in_ok-core.ensures.started (c.play_with_peaks.ensures.played works)
+    let played = c.play_with_peaks.ensures.played works in (
+      played.0,
+      is_played (λ _ _. []) (λ listed start lines. peaks_text played.0 listed start (calls_answered None lines)) c.play_with_peaks.result _ _ _ _ _
+          c.in_ok-list.ensures.ok c.in_ok-core.ensures.covered c.in_ok-core.ensures.started played.1,
+    )
 
 pub play_with_peaks-requires-clause-sees : goal.play_with_peaks-requires-clause-sees
 play_with_peaks-requires-clause-sees g c =
@@ -17,7 +20,7 @@ play_with_peaks-requires-clause-sees g c =
 
 pub returns-clause-ok : goal.returns-clause-ok
 returns-clause-ok g c =
-    ends_for_cause _ _ _ c.play_with_peaks.ensures.played (unplayed_with c.play_with_peaks.result _ _ _ _ _ (ap g.S.Source.has_failed) c.play_with_peaks.ensures.before) c.play_with_peaks.ensures.writing
+    ends_for_cause _ _ _ (λ works. (c.play_with_peaks.ensures.played works).1) (unplayed_with c.play_with_peaks.result _ _ _ _ _ (ap g.S.Source.has_failed) c.play_with_peaks.ensures.before) c.play_with_peaks.ensures.writing
 
 pub returns-clause-before : goal.returns-clause-before
 returns-clause-before g c = unplayed_on _ c.play_with_peaks.result _ _ _ _ c.in_ok-list.ensures.ok c.in_ok-core.ensures.covered c.play_with_peaks.ensures.before
