@@ -1,9 +1,11 @@
 -- What rows are once answers are noted in them, one after another.
-use Rattle.std.proofs.Common.{◌≡◌, ◌||◌, ℕ, Bool, true, false, List, [], ◌∷◌, ◌++◌, map, refl, ap, sym, ◌∙◌}
+use Rattle.std.proofs.Common.{◌≡◌, ◌||◌, ℕ, Bool, true, false, List, [], ◌∷◌, ◌++◌, Option, Some, None, map, refl, ap, sym, ◌∙◌}
 use Rattle.std.specs.List.{list_any}
-use Rattle.own_model.specs.Listed.{Listed}
-use Rattle.own_model.specs.World.{World}
-use Rattle.coverage.specs.Covered.{Answer, answers_from, answers_to, call_of, is_shown, row_by, row_with, rows_after, world_after}
+use Rattle.own_model.specs.Listed.{Listed, start_list_of}
+use Rattle.own_model.specs.StartList.{Boots}
+use Rattle.own_model.specs.World.{World, start_world}
+use Rattle.recording.specs.Recorded.{pieces_of}
+use Rattle.coverage.specs.Covered.{Answer, IsCovered, answers_from, answers_to, call_of, is_shown, row_by, row_with, rows_after, rows_of, world_after}
 use Rattle.coverage.specs.Rules.{decided_by}
 use Rattle.coverage.specs.declared.row.Row.{Row}
 
@@ -55,3 +57,18 @@ by_all list [] rows = by_none list rows
 by_all list (answer ∷ answers) rows =
     by_all list answers (map (row_with answer.line answer.reply (decided_by list answer.line answer.reply)) rows)
     ∙ by_more list answer answers rows
+
+-- ---- the whole scenario
+
+-- no line changes who is there
+pub entries_after : (world : World) (call : Option (List ℕ)) → (world_after world call).entries ≡ world.entries
+entries_after world None = refl
+entries_after world (Some call) = refl
+
+pub covered_whole : (list : Listed) (scenario : List ℕ) (world : World) (made rows : List Row) →
+    Boots (start_list_of list) → world ≡ start_world (start_list_of list) → made ≡ rows_of list →
+    rows ≡ rows_after list (answers_from world (pieces_of scenario)) made → IsCovered list scenario rows
+covered_whole list scenario world made rows boots starts made_is rows_are = record {
+  boots = boots;
+  is = rows_are ∙ rw (starts, made_is) (by_all list (answers_from (start_world (start_list_of list)) (pieces_of scenario)) (rows_of list));
+}

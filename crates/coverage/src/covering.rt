@@ -28,11 +28,7 @@ pub struct Coverage {
 
 /// Plays a scenario on the machine of a start list: of each row of the tables and of each rule tells whether some answer to a call
 /// of it shows that. A line that isn't read makes no call. An error is that of a list that doesn't boot, or want of memory.
-pub fn cover(
-    alloc: Global,
-    list: &StartList,
-    scenario: &[u8],
-) -> Result<Coverage, BootFault>
+pub fn cover(alloc: Global, list: &StartList, scenario: &[u8]) -> Result<Coverage, BootFault>
     ensures covered { IfOk result (λ coverage.
         IsCovered list.now scenario.now coverage.rows.items) }
     ensures unbooted { IfErr result (λ fault. fault ≢ NoMemory → quota_fault list.now ≡ Some fault) }

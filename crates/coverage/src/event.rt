@@ -68,7 +68,5 @@ impl RuleAt {
 pub(crate) fn is_error(error: FileError, reply: &[u8]) -> bool
     ensures { result ≡ is_error error reply.now }
 {
-    reply.len() >= 4
-        && &reply[..4] == b"ERR ".as_slice()
-        && &reply[4..] == error.name().as_bytes()
+    reply.len() >= 4 && &reply[..4] == b"ERR ".as_slice() && &reply[4..] == error.name().as_bytes()
 }

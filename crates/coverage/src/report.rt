@@ -206,7 +206,10 @@ impl Report {
             }
         }
         let all = rules.names.len();
-        writeln!(f, "# coverage: {path}: {decided} of {all} rules decide a wish")?;
+        writeln!(
+            f,
+            "# coverage: {path}: {decided} of {all} rules decide a wish"
+        )?;
         for (place, name) in rules.names.as_slice().iter().enumerate() {
             write!(f, "# coverage: {path}: {name}: ")?;
             show_times(f, self.times_decided(list, place))?;

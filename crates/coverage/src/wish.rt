@@ -49,11 +49,7 @@ fn is_turned_away(reply: &[u8]) -> bool
 }
 
 // The rules that decide the wish of a line, if it is one.
-fn rules_of_line(
-    alloc: Global,
-    list: &StartList,
-    line: &[u8],
-) -> Result<Vec<RuleAt>, AllocError>
+fn rules_of_line(alloc: Global, list: &StartList, line: &[u8]) -> Result<Vec<RuleAt>, AllocError>
     ensures { IfOk result (λ rules. rules.items
         ≡ rules_of_wish list.now (wish_in list.now (spoken line.now))) }
 {

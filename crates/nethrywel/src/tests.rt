@@ -67,11 +67,7 @@ fn write_document(rt: &HostRuntime, path: &str, trials: &[Trial]) -> io::Result<
 }
 
 // Runs all, and tells a line each, and behind them what they show, where that is asked for.
-fn run_all(
-    rt: &HostRuntime,
-    scenarios: &[String],
-    wanted: &Wanted<'_>,
-) -> io::Result<Vec<Trial>> {
+fn run_all(rt: &HostRuntime, scenarios: &[String], wanted: &Wanted<'_>) -> io::Result<Vec<Trial>> {
     let alloc = rt.alloc();
     let mut coverings = Coverings::new(rt, wanted.coverage, wanted.json);
     let mut teller = Teller::new(rt, wanted.colored, coverings.is_document(), scenarios.len());
