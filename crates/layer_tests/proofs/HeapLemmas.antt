@@ -1,10 +1,8 @@
 -- Two heaps on one map: both stay sound over each other's calls, and a write into a payload of the one.
 use Rattle.std.proofs.lemmas.Bool.Decides.{nat_tests}
-use Rattle.std.proofs.Common.{rules, ◌≡◌, ◌+◌, ◌*◌, ◌≤◌, ℕ, length, is_some, refl, sym, ap, subst, ◌∙◌, arith}
+use Rattle.std.proofs.Common.{◌≡◌, ◌+◌, ◌*◌, ◌<◌, ◌≤◌, ℕ, List, length, get_or, is_some, refl, sym, ap, subst, ◌∙◌, arith}
 use Rattle.std.specs.Prelude.{None}
 use Rattle.std.specs.FinMap.{get}
-use Rattle.trade_base.specs.Word.{word_bytes}
-use Rattle.trade_base.proofs.WordLemmas.{word_bytes-lt, length-word_bytes}
 use Rattle.own_model.proofs.NatMapLemmas.{apart_from_free}
 use Rattle.own_model.specs.HeapWindow.{largest_machine}
 use Rattle.region_map.specs.Regions.{Regions, fresh_regions}
@@ -13,7 +11,7 @@ use Rattle.dataspace_core.specs.Share.{share_in, IsWindowOf, KeepsShares}
 use Rattle.dataspace_core.proofs.LimitLaws.{fresh_limits}
 use Rattle.dataspace_core.proofs.PartLaws.{IsPaidBy, paid_in_part, becomes_paid, open_in_part}
 use Rattle.heap_core.specs.declared.heap.Heap.{Heap}
-use Rattle.layer_tests.specs.Heaps.{AreBeside}
+use Rattle.layer_tests.specs.Machine.{AreBlocks}
 use Rattle.heap_core.specs.Calls.{HoldsRange}
 use Rattle.heap_core.specs.Heap.{payer_of, share_at, IsSound, HasNoBlocks}
 use Rattle.heap_core.proofs.RangeLemmas.{payload_poked}
@@ -21,35 +19,35 @@ use Rattle.heap_core.proofs.StayLemmas.{empty_map, heap_stays_beside}
 use Rattle.heap_core.proofs.WordsLemmas.{below_bytes}
 
 -- a call on the one heap
-pub beside_after : (heap other next : Heap) (old new : Store) (regions after : Regions) → AreBeside heap other old regions → IsSound next new after →
-    KeepsShares (payer_of heap) old new regions.heap regions.tags after.heap after.tags → payer_of next ≡ payer_of heap → AreBeside next other new after
+pub beside_after : (heap other next : Heap) (old new : Store) (regions after : Regions) → AreBlocks heap other old regions → IsSound next new after →
+    KeepsShares (payer_of heap) old new regions.heap regions.tags after.heap after.tags → payer_of next ≡ payer_of heap → AreBlocks next other new after
 beside_after heap other next old new regions after both sound keeps payer = record {
   sound = sound;
   other_sound = (heap_stays_beside other (payer_of heap) old new regions after both.other_sound (λ e. both.apart (sym e)) keeps sound.window).sound;
   apart = λ e. both.apart (e ∙ payer);
 }
 
-module _ (heap other : Heap) (store now : Store) (regions : Regions) (same : now ≡ store) (both : AreBeside heap other store regions) (ds offset address count : ℕ) (held : HoldsRange heap store regions ds offset address count) where
+module _ (heap other : Heap) (store : Store) (regions : Regions) (both : AreBlocks heap other store regions) (ds offset address count : ℕ) (held : HoldsRange heap store regions ds offset address count) where
   -- a range that is found in a payload is one of its dataspace
   held_paid : IsPaidBy (payer_of heap) ds held.bytes store
   held_paid = paid_in_part (payer_of heap) ds held.bytes store held.there
 
-  pub held_exists : Exists now ds
-  held_exists = subst (λ (s : Store). Exists s ds) (sym same) held_paid.exists
+  pub held_exists : Exists store ds
+  held_exists = held_paid.exists
 
-  pub held_fits : offset + count ≤ length (space_at now ds).bytes
+  pub held_fits : offset + count ≤ length (space_at store ds).bytes
   held_fits = grind (arith, nat_tests, held_paid)
 
-  -- and a word that is written there leaves both heaps sound
-  module _ (new : Store) (word : ℕ) (count_is : count ≡ 8)
-      (wrote : PartBecomes (space_at now ds).payer (part_with_bytes (part (space_at now ds).payer now) ds offset (word_bytes word)) now new) where
-    becomes : PartBecomes (payer_of heap) (part_with_bytes (part (payer_of heap) store) ds offset (word_bytes word)) store new
-    becomes = search (rules, becomes_paid, held_paid)
+  -- and a write there leaves both heaps sound
+  module _ (new : Store) (bytes : List ℕ) (small : (i : ℕ) → get_or bytes i 0 < 256) (count_is : count ≡ length bytes)
+      (wrote : PartBecomes (space_at store ds).payer (part_with_bytes (part (space_at store ds).payer store) ds offset bytes) store new) where
+    becomes : PartBecomes (payer_of heap) (part_with_bytes (part (payer_of heap) store) ds offset bytes) store new
+    becomes = becomes_paid (λ p. part_with_bytes p ds offset bytes) held_paid wrote
 
-    pub beside_poked : AreBeside heap other new regions
+    pub beside_poked : AreBlocks heap other new regions
     beside_poked = beside_after heap other heap store new regions regions both
-        (payload_poked heap ds offset address (word_bytes word) store new regions both.sound (below_bytes (word_bytes word) (word_bytes-lt word))
-        (subst (HoldsRange heap store regions ds offset address) (count_is ∙ sym (length-word_bytes word)) held) becomes).sound
+        (payload_poked heap ds offset address bytes store new regions both.sound (below_bytes bytes small)
+        (subst (HoldsRange heap store regions ds offset address) count_is held) becomes).sound
         (record { shares = λ k apart. ap (λ p. share_in p regions.heap regions.tags) (becomes.others k apart); root = becomes.root; parents = becomes.parents; room = becomes.room })
         refl
 
@@ -57,7 +55,7 @@ module _ (heap other : Heap) (store now : Store) (regions : Regions) (same : now
 pub beside_booted : (heap other : Heap) (old new : Store) (regions : Regions) (key root child pages caps accounts places ram few user : ℕ) → old ≡ fresh_store key pages caps accounts places → pages ≤ largest_machine → IsOpenIn old root → get (accounts_in old) child ≡ None →
     OpensPart root child ram few old new → ram_limits_in new ≡ ram_limits_in old → regions ≡ fresh_regions user pages pages →
     (IsOpenIn new root → IsWindowOf new regions.pages regions.heap_most regions.heap → HasNoBlocks (share_at root new regions) → IsSound heap new regions) → payer_of heap ≡ root →
-    (IsOpenIn new child → IsWindowOf new regions.pages regions.heap_most regions.heap → HasNoBlocks (share_at child new regions) → IsSound other new regions) → payer_of other ≡ child → AreBeside heap other new regions
+    (IsOpenIn new child → IsWindowOf new regions.pages regions.heap_most regions.heap → HasNoBlocks (share_at child new regions) → IsSound other new regions) → payer_of other ≡ child → AreBlocks heap other new regions
 beside_booted heap other old new regions key root child pages caps accounts places ram few user is small opens free part_is limits fresh first first_payer second second_payer =
     let none = empty_map new regions (ap (λ (m : Regions). m.heap) fresh)
     (ap (λ (m : Regions). m.pages * 4096) fresh ∙ sym (limits ∙ ap ram_limits_in is ∙ fresh_limits key pages caps accounts places))

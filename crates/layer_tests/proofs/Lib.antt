@@ -1,4 +1,5 @@
 mod HeapLemmas
 mod SlicedLemmas
+mod MachineLemmas
 mod CellLemmas
 mod MemoryLemmas

@@ -1,166 +1,18 @@
 //! Heaps: worked addresses, over two heaps on one map.
 ghost use Rattle.std.specs.Prelude.{◌≤◌};
-ghost use Rattle.layer_tests.specs.Heaps.{AreBeside};
 
+use super::machine::{Kind, Machine};
 use super::steps::Step;
-use dataspace_core::Memory;
-use heap_core::Heap;
-use region_map::RegionMap;
 use std::alloc::Global;
-use std::mem;
 use std::process::Abort;
 use trade_base::{Caps, PAGE, Ram, Refusal};
-
-/// A machine with two heaps on one map: `heap`, of the root, and `other`, of an account below it.
-#[derive(Drop)]
-struct Machine {
-    memory: Memory,
-    map: RegionMap,
-    heap: Heap,
-    other: Heap,
-}
-
-impl Machine {
-    /// A machine of so many pages and capabilities. The other heap's account has so much of them.
-    fn boot(rt: &impl Abort, alloc: Global, pages: usize, ram: Ram, caps: Caps) -> Machine
-        requires { pages ≤ 4096 }
-        ensures { AreBeside result.heap result.other result.memory result.map }
-    {
-        let all = Caps(pages as u32);
-        let mut memory = Memory::boot(alloc, pages, all, 2).expect(rt, "memory for the pages");
-        let map = RegionMap::boot(alloc, 0, pages, pages).expect(rt, "memory for the regions");
-        let root = memory.root();
-        let account = memory
-            .open(root, ram, caps)
-            .expect(rt, "the machine has as much");
-        Machine {
-            memory,
-            map,
-            heap: Heap::new(root),
-            other: Heap::new(account),
-        }
-    }
-
-    /// Exchanges the two heaps.
-    fn swap(&mut self)
-        requires { AreBeside self.old.heap self.old.other self.old.memory self.old.map }
-        ensures { AreBeside self.new.heap self.new.other self.new.memory self.new.map }
-    {
-        mem::swap(&mut self.heap, &mut self.other);
-    }
-
-    /// Takes a block, or tells why not.
-    fn take(&mut self, bytes: u64) -> Result<u64, Refusal>
-        requires { AreBeside self.old.heap self.old.other self.old.memory self.old.map }
-        ensures { AreBeside self.new.heap self.new.other self.new.memory self.new.map }
-    {
-        self.heap.alloc(&mut self.memory, &mut self.map, bytes)
-    }
-
-    /// Gives a block back, or tells why not.
-    fn give(&mut self, address: u64) -> Result<(), Refusal>
-        requires { AreBeside self.old.heap self.old.other self.old.memory self.old.map }
-        ensures { AreBeside self.new.heap self.new.other self.new.memory self.new.map }
-    {
-        self.heap.free(&mut self.memory, &mut self.map, address)
-    }
-
-    /// Gives back all blocks.
-    fn end(&mut self)
-        requires { AreBeside self.old.heap self.old.other self.old.memory self.old.map }
-        ensures { AreBeside self.new.heap self.new.other self.new.memory self.new.map }
-    {
-        self.heap.end(&mut self.memory, &mut self.map);
-    }
-
-    /// Puts a word over eight bytes of a payload.
-    fn poke(&mut self, rt: &impl Abort, address: u64, word: u64)
-        requires { AreBeside self.old.heap self.old.other self.old.memory self.old.map }
-        ensures { AreBeside self.new.heap self.new.other self.new.memory self.new.map }
-    {
-        let (ds, offset) = self
-            .heap
-            .block_of(&mut self.memory, &self.map, address, 8)
-            .expect(rt, "the payload has them");
-        assert!(rt; offset % 8 == 0);
-        self.memory.store_word(ds, offset, word);
-    }
-
-    /// Eight bytes of a payload, as a word.
-    fn peek(&mut self, rt: &impl Abort, address: u64) -> u64
-        requires { AreBeside self.old.heap self.old.other self.old.memory self.old.map }
-        ensures { AreBeside self.new.heap self.new.other self.new.memory self.new.map }
-    {
-        let mut buffer = [0; 8];
-        let (ds, offset) = self
-            .heap
-            .block_of(&mut self.memory, &self.map, address, 8)
-            .expect(rt, "the payload has them");
-        self.memory.read(ds, offset, &mut buffer);
-        u64::from_le_bytes(buffer)
-    }
-
-    /// Whether so many bytes from an address on lie in one payload.
-    fn holds(&mut self, address: u64, count: u64) -> bool
-        requires sound { AreBeside self.old.heap self.old.other self.old.memory self.old.map }
-        requires some { 1 ≤ count }
-        ensures { AreBeside self.new.heap self.new.other self.new.memory self.new.map }
-    {
-        self.heap
-            .block_of(&mut self.memory, &self.map, address, count)
-            .is_some()
-    }
-
-    /// What the root uses.
-    fn used(&self) -> (Ram, Caps) {
-        self.memory.used(self.memory.root())
-    }
-
-    /// Makes a call, and tells whether it is answered as told.
-    fn carry_out(&mut self, rt: &impl Abort, step: &Step) -> bool
-        requires { AreBeside self.old.heap self.old.other self.old.memory self.old.map }
-        ensures { AreBeside self.new.heap self.new.other self.new.memory self.new.map }
-    {
-        match *step {
-            Step::Take(bytes, address) => self.take(bytes) == Ok(address),
-            Step::Refused(bytes, refusal) => self.take(bytes) == Err(refusal),
-            Step::Give(address) => self.give(address).is_ok(),
-            Step::Stays(address) => self.give(address) == Err(Refusal::PageFault),
-            Step::End => {
-                self.end();
-                true
-            }
-            Step::Swap => {
-                self.swap();
-                true
-            }
-            Step::Holds(address, count) => count > 0 && self.holds(address, count),
-            Step::Lacks(address, count) => count > 0 && !self.holds(address, count),
-            Step::Store(address, word) => {
-                self.poke(rt, address, word);
-                true
-            }
-            Step::Shows(address, word) => self.peek(rt, address) == word,
-            Step::Uses(ram, caps) => self.used() == (Ram(ram), Caps(caps)),
-        }
-    }
-
-    /// Each call is answered as told.
-    fn run(&mut self, rt: &impl Abort, steps: &[Step])
-        requires { AreBeside self.old.heap self.old.other self.old.memory self.old.map }
-        ensures { AreBeside self.new.heap self.new.other self.new.memory self.new.map }
-    {
-        for (place, step) in steps.iter().enumerate() {
-            assert!(rt; self.carry_out(rt, step), "at step {place}");
-        }
-    }
-}
 
 /// The root has so many pages, and the other heap's account so much of them.
 fn check(rt: &impl Abort, alloc: Global, pages: usize, other: (u64, u32), steps: &[Step])
     requires { pages ≤ 4096 }
 {
-    let mut machine = Machine::boot(rt, alloc, pages, Ram(other.0), Caps(other.1));
+    let (ram, caps) = (Ram(other.0), Caps(other.1));
+    let mut machine = Machine::boot(rt, alloc, Kind::BestFit, pages, ram, caps);
     machine.run(rt, steps);
 }
 
@@ -267,7 +119,7 @@ fn growth_takes_the_larger_chunk_first(rt: HostRuntime) {
 
 #[test]
 fn sixty_four_chunks_and_no_more(rt: HostRuntime) {
-    let mut machine = Machine::boot(&rt, rt.alloc(), 4096, Ram(PAGE), Caps(1));
+    let mut machine = Machine::boot(&rt, rt.alloc(), Kind::BestFit, 4096, Ram(PAGE), Caps(1));
     // One in each chunk of 17, 17, 17 and 32 pages, and three in each of 64.
     for _ in 0..184 {
         assert!(rt; machine.take(65535).is_ok());

@@ -8,8 +8,11 @@ mod best_fit;
 #[cfg(test)]
 #[tactic(auto, using(crate::proofs::MemoryLemmas::store_laws))]
 mod dataspaces;
+mod heap_pair;
 #[cfg(test)]
 mod heaps;
+#[cfg(test)]
+mod machine;
 #[cfg(test)]
 mod pages;
 #[cfg(test)]

@@ -1,161 +1,19 @@
 //! Sliced heaps: worked addresses, over two heaps on one map.
-ghost use Rattle.std.specs.Prelude.{◌<◌, ◌≤◌, length};
-ghost use Rattle.layer_tests.specs.Sliced.{AreBeside};
+ghost use Rattle.std.specs.Prelude.{◌<◌, ◌≤◌};
+ghost use Rattle.layer_tests.specs.Machine.{AreBeside};
 
+use super::machine::{Kind, Machine};
 use super::steps::Step;
-use dataspace_core::Memory;
-use region_map::RegionMap;
-use sliced_heap::SlicedHeap;
 use std::alloc::Global;
-use std::mem;
 use std::process::Abort;
 use trade_base::{Caps, PAGE, Ram, Refusal};
 
-/// A machine with two heaps on one map: `heap`, of the root, and `other`, of an account below it.
-#[derive(Drop)]
-struct Machine {
-    memory: Memory,
-    map: RegionMap,
-    heap: SlicedHeap,
-    other: SlicedHeap,
-}
-
 impl Machine {
-    /// A machine of so many pages and capabilities. The other heap's account has two of the pages, and one capability.
-    fn boot(rt: &impl Abort, alloc: Global, pages: usize) -> Machine
-        requires { pages ≤ 4096 }
-        ensures { AreBeside result.heap result.other result.memory result.map }
-    {
-        let all = Caps(pages as u32);
-        let mut memory = Memory::boot(alloc, pages, all, 2).expect(rt, "memory for the pages");
-        let map = RegionMap::boot(alloc, 0, pages, pages).expect(rt, "memory for the regions");
-        let root = memory.root();
-        let account = memory
-            .open(root, Ram(2 * PAGE), Caps(1))
-            .expect(rt, "two pages are free");
-        Machine {
-            memory,
-            map,
-            heap: SlicedHeap::new(root),
-            other: SlicedHeap::new(account),
-        }
-    }
-
-    /// Exchanges the two heaps.
-    fn swap(&mut self)
-        requires { AreBeside self.old.heap self.old.other self.old.memory self.old.map }
-        ensures { AreBeside self.new.heap self.new.other self.new.memory self.new.map }
-    {
-        mem::swap(&mut self.heap, &mut self.other);
-    }
-
-    /// Takes a block, or tells why not.
-    fn take(&mut self, bytes: u64) -> Result<u64, Refusal>
-        requires { AreBeside self.old.heap self.old.other self.old.memory self.old.map }
-        ensures { AreBeside self.new.heap self.new.other self.new.memory self.new.map }
-    {
-        self.heap.alloc(&mut self.memory, &mut self.map, bytes)
-    }
-
-    /// Gives a block back, or tells why not.
-    fn give(&mut self, address: u64) -> Result<(), Refusal>
-        requires { AreBeside self.old.heap self.old.other self.old.memory self.old.map }
-        ensures { AreBeside self.new.heap self.new.other self.new.memory self.new.map }
-    {
-        self.heap.free(&mut self.memory, &mut self.map, address)
-    }
-
-    /// Gives back all blocks.
-    fn end(&mut self)
-        requires { AreBeside self.old.heap self.old.other self.old.memory self.old.map }
-        ensures { AreBeside self.new.heap self.new.other self.new.memory self.new.map }
-    {
-        self.heap.end(&mut self.memory, &mut self.map);
-    }
-
-    /// Puts a word over eight bytes of a payload.
-    fn poke(&mut self, rt: &impl Abort, address: u64, word: u64)
-        requires { AreBeside self.old.heap self.old.other self.old.memory self.old.map }
-        ensures { AreBeside self.new.heap self.new.other self.new.memory self.new.map }
-    {
-        self.put(rt, address, &word.to_le_bytes());
-    }
-
-    /// Puts bytes over those of a payload.
-    fn put(&mut self, rt: &impl Abort, address: u64, bytes: &[u8])
-        requires sound { AreBeside self.old.heap self.old.other self.old.memory self.old.map }
-        requires some { 1 ≤ length bytes.now }
-        ensures { AreBeside self.new.heap self.new.other self.new.memory self.new.map }
-    {
-        let (ds, offset) = self
-            .heap
-            .block_of(&self.memory, &self.map, address, bytes.len() as u64)
-            .expect(rt, "the payload has them");
-        self.memory.write(ds, offset, bytes);
-    }
-
-    /// Eight bytes of a payload, as a word.
-    fn peek(&self, rt: &impl Abort, address: u64) -> u64
-        requires { AreBeside self.now.heap self.now.other self.now.memory self.now.map }
-    {
-        let mut buffer = [0; 8];
-        let (ds, offset) = self
-            .heap
-            .block_of(&self.memory, &self.map, address, 8)
-            .expect(rt, "the payload has them");
-        self.memory.read(ds, offset, &mut buffer);
-        u64::from_le_bytes(buffer)
-    }
-
-    /// Whether so many bytes from an address on lie in one payload.
-    fn holds(&self, address: u64, count: u64) -> bool
-        requires sound { AreBeside self.now.heap self.now.other self.now.memory self.now.map }
-        requires some { 1 ≤ count }
-    {
-        self.heap
-            .block_of(&self.memory, &self.map, address, count)
-            .is_some()
-    }
-
-    /// What the root uses.
-    fn used(&self) -> (Ram, Caps) {
-        self.memory.used(self.memory.root())
-    }
-
-    /// Makes a call, and tells whether it is answered as told.
-    fn carry_out(&mut self, rt: &impl Abort, step: &Step) -> bool
-        requires { AreBeside self.old.heap self.old.other self.old.memory self.old.map }
-        ensures { AreBeside self.new.heap self.new.other self.new.memory self.new.map }
-    {
-        match *step {
-            Step::Take(bytes, address) => self.take(bytes) == Ok(address),
-            Step::Refused(bytes, refusal) => self.take(bytes) == Err(refusal),
-            Step::Give(address) => self.give(address).is_ok(),
-            Step::Stays(address) => self.give(address) == Err(Refusal::PageFault),
-            Step::End => {
-                self.end();
-                true
-            }
-            Step::Swap => {
-                self.swap();
-                true
-            }
-            Step::Holds(address, count) => count > 0 && self.holds(address, count),
-            Step::Lacks(address, count) => count > 0 && !self.holds(address, count),
-            Step::Store(address, word) => {
-                self.poke(rt, address, word);
-                true
-            }
-            Step::Shows(address, word) => self.peek(rt, address) == word,
-            Step::Uses(ram, caps) => self.used() == (Ram(ram), Caps(caps)),
-        }
-    }
-
     /// The block of a page is given back, unless it is the fourth of ten.
     fn give_page(&mut self, rt: &impl Abort, page: u64)
-        requires sound { AreBeside self.old.heap self.old.other self.old.memory self.old.map }
+        requires sound { AreBeside self.old.heaps self.old.memory self.old.map }
         requires page { page < 4096 }
-        ensures { AreBeside self.new.heap self.new.other self.new.memory self.new.map }
+        ensures { AreBeside self.new.heaps self.new.memory self.new.map }
     {
         if page % 10 != 3 {
             assert!(rt; self.give(payload(page)).is_ok());
@@ -164,31 +22,29 @@ impl Machine {
 
     /// The next block is taken at a page, unless it is the fourth of ten.
     fn take_page(&mut self, rt: &impl Abort, page: u64)
-        requires sound { AreBeside self.old.heap self.old.other self.old.memory self.old.map }
+        requires sound { AreBeside self.old.heaps self.old.memory self.old.map }
         requires page { page < 4096 }
-        ensures { AreBeside self.new.heap self.new.other self.new.memory self.new.map }
+        ensures { AreBeside self.new.heaps self.new.memory self.new.map }
     {
         if page % 10 != 3 {
             assert!(rt; self.take(1) == Ok(payload(page)));
         }
     }
-
-    /// Each call is answered as told.
-    fn run(&mut self, rt: &impl Abort, steps: &[Step])
-        requires { AreBeside self.old.heap self.old.other self.old.memory self.old.map }
-        ensures { AreBeside self.new.heap self.new.other self.new.memory self.new.map }
-    {
-        for (place, step) in steps.iter().enumerate() {
-            assert!(rt; self.carry_out(rt, step), "at step {place}");
-        }
-    }
 }
 
-/// The root has so many pages, and the other heap's account two more.
+/// A machine of so many pages. The other heap's account has two of them, and one capability.
+fn booted(rt: &impl Abort, alloc: Global, pages: usize) -> Machine
+    requires { pages ≤ 4096 }
+    ensures { AreBeside result.heaps result.memory result.map }
+{
+    Machine::boot(rt, alloc, Kind::Sliced, pages, Ram(2 * PAGE), Caps(1))
+}
+
+/// Each call is answered as told, on a machine of so many pages.
 fn check(rt: &impl Abort, alloc: Global, pages: usize, steps: &[Step])
     requires { pages ≤ 4096 }
 {
-    let mut machine = Machine::boot(rt, alloc, pages);
+    let mut machine = booted(rt, alloc, pages);
     machine.run(rt, steps);
 }
 
@@ -201,7 +57,7 @@ fn payload(page: u64) -> u64
 
 #[test]
 fn thousand_blocks_come_and_go(rt: HostRuntime) {
-    let mut machine = Machine::boot(&rt, rt.alloc(), 1002);
+    let mut machine = booted(&rt, rt.alloc(), 1002);
     let unused = machine.used();
     for page in 0..1000 {
         assert!(rt; machine.take(4064) == Ok(payload(page)));

@@ -1,6 +1,6 @@
 -- The map has no region yet, so both heaps are sound.
 use Rattle.layer_tests.proofs.HeapLemmas.{beside_booted}
-use Rattle.layer_tests.proofs.heaps.Machine.boot.Goals as goal
+use Rattle.layer_tests.proofs.machine.Machine.boot.Goals as goal
 
 pub returns : goal.returns
 returns g c =
