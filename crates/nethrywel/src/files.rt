@@ -86,7 +86,10 @@ pub(crate) fn read_whole(rt: &HostRuntime, path: &str) -> Option<Vec<u8>> {
 fn read_up_to<S: Source>(alloc: Global, source: &mut S, most: usize) -> Option<Vec<u8>> {
     let mut text = Vec::new(alloc);
     let mut block = [0; BLOCK];
-    while text.len() <= most && !source.failed() {
+    for _ in 0..u64::MAX {
+        if text.len() > most || source.failed() {
+            return None;
+        }
         let Ok(count) = source.read(&mut block) else {
             return None;
         };

@@ -72,8 +72,9 @@ fn refuse_alone(rt: &HostRuntime) -> u8 {
 
 // Does what is asked for with what names stand for, and answers the exit status.
 fn answer_request(rt: &HostRuntime, request: Request<'_>) -> u8 {
-    match Given::read(rt, request.given.as_slice()) {
-        Ok(given) => answer(rt, request.command, given),
+    let Request { command, given } = request;
+    match Given::read(rt, given.as_slice()) {
+        Ok(given) => answer(rt, command, given),
         Err(status) => status,
     }
 }
