@@ -15,7 +15,7 @@ ghost use Rattle.scenario.specs.declared.columns.Owner.TheVariants.{Init as OfIn
 ghost use Rattle.scenario.specs.declared.running.RunFault.TheVariants.{WriteFault};
 
 use crate::account_sums::sum_all;
-use crate::account_text::{add, add_amounts, add_number, add_quotas};
+use crate::account_text::{add_amounts, add_quotas};
 use crate::columns::{Columns, NoColumns, Owner};
 use crate::device::{DeviceFault, Sink};
 use crate::gather::Gather;

@@ -1,8 +1,8 @@
 -- Four digits are counted at a step, and the last ones by how large they are.
 use Rattle.std.proofs.Common.{arith, sym}
 use Rattle.std.proofs.lemmas.Fmt.{length-decimal-le}
-use Rattle.server_frame.proofs.DigitLemmas.{one_digit, two_digits, three_digits, four_digits, five_digits, four_digits_more}
-use Rattle.server_frame.proofs.digits.digit_count.Goals as goal
+use Rattle.text_codec.proofs.DigitLemmas.{one_digit, two_digits, three_digits, four_digits, five_digits, four_digits_more}
+use Rattle.text_codec.proofs.digits.digit_count.Goals as goal
 
 pub overflow_add-count : goal.overflow_add-count
 overflow_add-count c =

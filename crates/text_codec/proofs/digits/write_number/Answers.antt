@@ -1,10 +1,10 @@
 -- The digits find room, and end where they are counted to.
 use Rattle.std.proofs.Common.{◌+◌, arith}
 use Rattle.std.specs.Fmt.{decimal}
-use Rattle.server_frame.proofs.DigitLemmas.{one_digit, written_from}
+use Rattle.text_codec.proofs.DigitLemmas.{one_digit, written_from}
 use Rattle.std.proofs.lemmas.Fmt.{decimal_digit}
 use Rattle.std.proofs.lemmas.List.{take_more_set}
-use Rattle.server_frame.proofs.digits.write_number.Goals as goal
+use Rattle.text_codec.proofs.digits.write_number.Goals as goal
 
 pub write_digits-requires : goal.write_digits-requires
 write_digits-requires c = (omega (arith, c.digit_count.ensures), omega (arith, c.digit_count.ensures, c.requires))

@@ -1,7 +1,7 @@
 -- The digits that are left, before those that are written, are those of the number.
 use Rattle.std.proofs.Common.{◌≡◌, ℕ, ◌+◌, ◌^◌, ◌<◌, ◌≤◌, false, length, drop}
 use Rattle.std.specs.Fmt.{digits_onto, digits}
-use Rattle.pd_core.proofs.hex_digits.write_hex.Given as goal
+use Rattle.text_codec.proofs.digits.write_hex.Given as goal
 
 abbrev pub invariant-loop-rest : goal.invariant-loop-rest
 invariant-loop-rest l =
