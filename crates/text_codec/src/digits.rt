@@ -1,7 +1,8 @@
 //! The digits of a number, written where they stand.
-ghost use Rattle.std.specs.Prelude.{◌≡◌, ◌+◌, ◌<◌, ◌≤◌, ◌++◌, length, take, drop, decimal, false};
-ghost use Rattle.std.specs.Fmt.{digits, digit_glyph};
+ghost use Rattle.std.specs.Prelude.{◌≡◌, ◌+◌, ◌≤◌, ◌++◌, length, take, drop, decimal, false};
+ghost use Rattle.std.specs.Fmt.{digits};
 
+use crate::hex_pairs::encode_each;
 use itoa::write_digits;
 
 /// The most hexadecimal digits of a number.
@@ -49,31 +50,14 @@ fn digit_count(number: u64) -> usize
     }
 }
 
-/// Writes the hexadecimal digits of a number at the end of a text, and tells where they start.
+/// Writes the hexadecimal digits of a number at the end of a text, and tells where they start. All digits of its eight bytes are
+/// written, and those in front that are zeros are passed by the number's bits.
 pub fn write_hex(number: u64, text: &mut [u8; MOST_HEX_DIGITS]) -> usize
     ensures start { result ≤ MOST_HEX_DIGITS }
     ensures written { drop result text.new ≡ digits 16 false number }
 {
-    let mut start = MOST_HEX_DIGITS;
-    let mut rest = number;
-    loop {
-        start -= 1;
-        text[start] = small_digit(rest % 16);
-        rest /= 16;
-        if rest == 0 {
-            return start;
-        }
-    }
-}
-
-/// The small hexadecimal digit of a value.
-fn small_digit(value: u64) -> u8
-    requires { value < 16 }
-    ensures { result ≡ digit_glyph false value }
-{
-    if value < 10 {
-        b'0' + value as u8
-    } else {
-        b'a' + (value as u8 - 10)
-    }
+    let bytes = number.to_be_bytes();
+    encode_each(&bytes, text);
+    let zeros = number.leading_zeros() as usize / 4;
+    zeros.min(MOST_HEX_DIGITS - 1)
 }

@@ -1,7 +1,7 @@
 -- Two digits more at a time.
 use Rattle.std.proofs.Common.{◌<◌, ◌+◌, ◌*◌, length, arith, rules}
 use Rattle.text_codec.proofs.PairLemmas.{encode_next, encode_end}
-use Rattle.text_codec.proofs.hex_pairs.encode_hex.Goals as goal
+use Rattle.text_codec.proofs.hex_pairs.encode_each.Goals as goal
 
 pub loop-i-preserved : goal.loop-i-preserved
 loop-i-preserved c =
