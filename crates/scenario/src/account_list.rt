@@ -23,6 +23,7 @@ use crate::running::RunFault;
 use arrayvec::ArrayVec;
 use init_core::StartList;
 use pd_core::{Core, Quotas, Reserve, Router};
+use text_codec::{add, add_number};
 
 /// Room for what follows the name in a line.
 const LONGEST_REST: usize = 160;
