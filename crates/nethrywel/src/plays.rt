@@ -11,7 +11,7 @@ use init_core::{BootFault, MACHINE_A};
 use scenario::{Input, Output, Sink, Source};
 use start_review::{Fault, Review};
 use std::{fs, io};
-use workbench::{Ending, Play, accounts, alone, run, trace};
+use workbench::{Ending, Play, Showing, accounts, alone, run, trace};
 
 /// What is told of a scenario.
 #[derive(Clone, Copy, Debug)]
@@ -22,6 +22,8 @@ pub(crate) enum Viewing<'a> {
         only: Option<&'a str>,
         /// Whether the account list is told after the last reply.
         accounts: bool,
+        /// Whether the number of its line is told before what each line is told.
+        numbers: bool,
         /// Where lines are coloured.
         coloring: Coloring,
     },
@@ -154,14 +156,15 @@ fn play_from<S: Source>(
         Viewing::Run {
             only,
             accounts: listed,
+            numbers,
             coloring,
         } => {
-            let running = Running {
-                only,
-                listed,
-                coloring,
+            let showing = Showing {
+                only: name_bytes(only),
+                accounts: listed,
+                numbers,
             };
-            return run_colored(rt, play, running, reader);
+            return run_colored(rt, play, showing, coloring, reader);
         }
         Viewing::Trace { json: true } => return trace_documents(rt, play, reader),
         Viewing::Accounts { json: true } => return accounts_document(rt, play, reader),
@@ -182,21 +185,11 @@ fn play_from<S: Source>(
     }
 }
 
-// What is asked of a run.
-#[derive(Clone, Copy)]
-struct Running<'a> {
-    only: Option<&'a str>,
-    listed: bool,
-    coloring: Coloring,
-}
-
-impl<'a> Running<'a> {
-    // The name whose lines alone are answered.
-    fn name(self) -> Option<&'a [u8]> {
-        match self.only {
-            Some(name) => Some(name.as_bytes()),
-            None => None,
-        }
+// The bytes of a name, if there is one.
+fn name_bytes(name: Option<&str>) -> Option<&[u8]> {
+    match name {
+        Some(name) => Some(name.as_bytes()),
+        None => None,
     }
 }
 
@@ -204,56 +197,42 @@ impl<'a> Running<'a> {
 fn run_colored<S: Source>(
     rt: &HostRuntime,
     play: Play<'_>,
-    running: Running<'_>,
+    showing: Showing<'_>,
+    coloring: Coloring,
     reader: &mut S,
 ) -> Played {
     let mut writer = Output::new(io::writer(rt));
-    if running.coloring.out {
+    if coloring.out {
         let mut painted = Painted::new(rt.alloc(), writer, Lines::Replies);
-        let ended = run_told(rt, play, running, reader, &mut painted);
+        let ended = run_told(rt, play, showing, coloring.err, reader, &mut painted);
         return Played {
             ended,
             unread: painted.sink().is_unread(),
         };
     }
-    let ended = run_told(rt, play, running, reader, &mut writer);
+    let ended = run_told(rt, play, showing, coloring.err, reader, &mut writer);
     Played {
         ended,
         unread: writer.is_unread(),
     }
 }
 
-// The same with the transcript on a sink.
+// The same with the transcript on a sink, and complaints in colour or without.
 fn run_told<S: Source, K: Sink>(
     rt: &HostRuntime,
     play: Play<'_>,
-    running: Running<'_>,
+    showing: Showing<'_>,
+    colored: bool,
     reader: &mut S,
     writer: &mut K,
 ) -> Result<Ending, BootFault> {
     let alloc = rt.alloc();
     let mut complaints = Output::new(rt.stderr());
-    if running.coloring.err {
+    if colored {
         let mut painted = Painted::new(alloc, complaints, Lines::Complaints);
-        return run(
-            alloc,
-            play,
-            running.name(),
-            running.listed,
-            reader,
-            writer,
-            &mut painted,
-        );
+        return run(alloc, play, showing, reader, writer, &mut painted);
     }
-    run(
-        alloc,
-        play,
-        running.name(),
-        running.listed,
-        reader,
-        writer,
-        &mut complaints,
-    )
+    run(alloc, play, showing, reader, writer, &mut complaints)
 }
 
 /// Tells why no machine was booted, with the place in its start list where that is a file's.

@@ -20,6 +20,7 @@ mod stand;
 mod text;
 mod tracing;
 mod transcript;
+mod turn;
 mod watch;
 
 pub use account_list::accounts;
@@ -28,4 +29,4 @@ pub use ending::{Ending, PlayFault, exit_status};
 pub use laws::bare_lines_stand;
 pub use machine::Play;
 pub use tracing::trace;
-pub use transcript::run;
+pub use transcript::{Showing, run};

@@ -42,6 +42,8 @@ pub enum Command<'a> {
         only: Option<&'a str>,
         /// Whether the account list is told after the last reply.
         accounts: bool,
+        /// Whether the number of its line is told before what each line is told.
+        numbers: bool,
         /// When lines are coloured.
         color: Color,
         /// The path of the scenario.
@@ -257,6 +259,7 @@ impl<'a> Command<'a> {
                 machine: found.get_str("machine"),
                 only: found.get_str("only"),
                 accounts: is_set(found, "accounts"),
+                numbers: is_set(found, "numbers"),
                 color: colored(found),
                 scenario: path(found, "scenario"),
             }),
