@@ -13,7 +13,7 @@ use Rattle.trade_base.specs.Amount.{amount_of, number_of}
 use Rattle.own_model.specs.Call.{Call, Form, Spoken, call_in, form_of, forms, name_of, of_none, of_one, of_rest, of_text, of_two, some_bytes_of_hex, spoken}
 use Rattle.own_model.specs.Text.{FirstWord, address_of, bytes_of_hex, first_word, hex_digit_of, hex_number_after, is_name, is_name_byte, is_path}
 use Rattle.own_model.specs.Transcript.{longest_line}
-use Rattle.friendly_lines.specs.Friendly.{Said, fault_in, said_of_both, said_of_call, said_of_signs, said_of_text, signs_of, without_comment, without_mark, without_return}
+use Rattle.friendly_lines.specs.Friendly.{Said, fault_in, is_passed, said_of_both, said_of_call, said_of_signs, said_of_text, signs_of, without_comment, without_mark, without_return}
 use Rattle.friendly_lines.specs.Laws.{IsPlain, LaterFormsAreMarked, PlainLinesPass, has_suffix, is_suffixed, is_translated}
 use Rattle.friendly_lines.specs.Parts.{Tail, parts_of, quoted_or, request_tail, request_text, size_text, sizes_behind, sizes_in, spelled, tail_of, tail_text, takes_text, text_written, word_behind, word_text}
 use Rattle.friendly_lines.specs.Parts.Tail.{Words, Kept, Sized, Request, Quoted}
@@ -671,6 +671,11 @@ pub no_directive : (line : List ℕ) → is_some (spoken line) ≡ true → nat_
 no_directive line is =
     let front : BeginsCall line = begins_call line (says_call line is) in
     ap (λ (signs : List ℕ). nat_eq (slice_index signs 0) 64) front.skipped ∙ front.undirected
+
+pub not_passed : (line : List ℕ) → is_some (spoken line) ≡ true → is_passed line ≡ false
+not_passed line is =
+    let front : BeginsCall line = begins_call line (says_call line is) in
+    ap (λ (signs : List ℕ). nat_eq (slice_index signs 0) 33) front.skipped ∙ front.unmarked
 
 pub plain_lines_pass : PlainLinesPass
 plain_lines_pass line plain =

@@ -7,11 +7,14 @@ use crate::given::Given;
 use crate::lists::tell_fault;
 use crate::unfolding::unfolded;
 use colors::{Lines, Painted};
-use init_core::{BootFault, MACHINE_A};
+use init_core::{BootFault, MACHINE_A, StartList};
 use scenario::{Input, Output, Sink, Source};
-use start_review::{Fault, Review};
+use start_review::Review;
 use std::{fs, io};
-use workbench::{Ending, Play, Showing, accounts, alone, run, trace};
+use workbench::{Ending, Play, Showing, accounts, alone, near_component, run, trace};
+
+/// The exit status where nobody has the name that is asked for.
+const NOBODY: u8 = 3;
 
 /// What is told of a scenario.
 #[derive(Clone, Copy, Debug)]
@@ -84,11 +87,13 @@ fn play_on<'a>(
     given: Given<'_>,
     viewing: Viewing<'_>,
 ) -> u8 {
-    if let Some(name) = viewing.name() {
-        if warn_of_stranger(rt, text, machine, name) {
-            return REFUSED;
-        }
-    }
+    let is_known = match viewing.name() {
+        Some(name) => match is_component(rt, text, machine, name) {
+            Ok(found) => found,
+            Err(status) => return status,
+        },
+        None => true,
+    };
     let known = match given.known_or_told(rt) {
         Ok(known) => known,
         Err(status) => return status,
@@ -117,29 +122,48 @@ fn play_on<'a>(
     if let Err(fault) = &played.ended {
         tell_unbooted(rt, text, machine, fault);
     }
-    played.tell(rt, scenario)
+    match played.tell(rt, scenario) {
+        0 if !is_known => NOBODY,
+        status => status,
+    }
 }
 
-// Warns of a name that no component has. Where the list of a file is none it tells that, and answers that it did.
-fn warn_of_stranger(rt: &HostRuntime, text: &[u8], machine: Option<&str>, name: &str) -> bool {
+// Whether a component has a name; one that none has is told. Where the list of a file is none that is told, and the exit status
+// is answered.
+fn is_component(
+    rt: &HostRuntime,
+    text: &[u8],
+    machine: Option<&str>,
+    name: &str,
+) -> Result<bool, u8> {
     match Review::read(rt.alloc(), text) {
         Ok(review) => {
-            if review.list().find(name.as_bytes()).is_none() {
-                let _ = eprintln!(rt; "{name}: no component of the machine has this name");
+            let found = review.list().find(name.as_bytes()).is_some();
+            if !found {
+                tell_stranger(rt, review.list(), name);
             }
-            false
+            Ok(found)
         }
-        Err(fault) => tell_no_list(rt, machine, &fault),
+        Err(fault) => match machine {
+            Some(path) => {
+                tell_fault(rt, path, &fault);
+                Err(REFUSED)
+            }
+            None => Ok(true),
+        },
     }
 }
 
-// Tells why a list of a path is none, and whether there is a path.
-fn tell_no_list(rt: &HostRuntime, machine: Option<&str>, fault: &Fault) -> bool {
-    if let Some(path) = machine {
-        tell_fault(rt, path, fault);
-        return true;
-    }
-    false
+// Tells a name that no component has, and the one that may be meant.
+fn tell_stranger(rt: &HostRuntime, list: &StartList, name: &str) {
+    let near = match near_component(list, name.as_bytes()) {
+        Some(near) => str::from_utf8(near).ok(),
+        None => None,
+    };
+    let _ = match near {
+        Some(near) => eprintln!(rt; "{name}: no component; did you mean {near}?"),
+        None => eprintln!(rt; "{name}: no component"),
+    };
 }
 
 // Plays the scenario of a source over the standard streams.

@@ -152,7 +152,8 @@ fn put_side<K: Sink>(
 
 /// Plays a scenario on a machine, and the lines of one name alone on a second machine beside it. It writes of each of those
 /// lines its number, the line, and its answer in the whole run and the one alone; and last how many these are, and that they
-/// are the same. They always are: each component's answers are those of its own run. Complaints are written as they come.
+/// are the same; or that there are none, which counts as a complaint. They always are the same: each component's answers are
+/// those of its own run. Complaints are written as they come.
 ///
 /// At a fault what was told by then is written, or where a write failed or the host has no room a part of it, from the front. It
 /// stops as `run` does.
@@ -267,8 +268,20 @@ fn close_with_sum<K: Sink>(
         return ending;
     }
     match write_sum(name, lines, difference, writer) {
-        Ok(()) => ending,
+        Ok(()) => with_none(ending, lines),
         Err(fault) => ending.stopped_by(fault),
+    }
+}
+
+// A play, of which is complained once more where there was no line.
+fn with_none(ending: Ending, lines: u64) -> Ending
+    ensures lines { result.lines ≡ ending.lines }
+    ensures fault { result.fault ≡ ending.fault }
+{
+    if lines == 0 {
+        ending.complained()
+    } else {
+        ending
     }
 }
 
@@ -306,6 +319,9 @@ fn put_sum<K: Sink>(
         (K.contents writer.new) gathered.new (alone_sum name.now lines) }
     ensures failing { K.has_failed writer.new ≡ is_err result }
 {
+    if lines == 0 {
+        return put_three(name, b": no line of the scenario", b"\n", gathered, writer);
+    }
     let mut count: ArrayVec<u8, LONGEST_NUMBER> = ArrayVec::new();
     add_number(&mut count, lines);
     add(&mut count, b" lines of ");

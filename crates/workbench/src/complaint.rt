@@ -65,6 +65,29 @@ impl<'a> Complaints<'a> {
         self.gathered.flush(sink)
     }
 
+    /// The same of a name that nobody has, with the one that may be meant.
+    pub(crate) fn tell_stranger<E: Sink>(
+        &mut self,
+        sink: &mut E,
+        place: Place,
+        name: &[u8],
+        near: Option<&[u8]>,
+    ) -> Result<(), DeviceFault>
+        requires { E.has_failed sink.old ≡ false }
+        ensures failing { E.has_failed sink.new ≡ is_err result }
+    {
+        self.put_place(sink, place)?;
+        self.gathered.put(sink, name)?;
+        self.gathered.put(sink, b": no component")?;
+        if let Some(near) = near {
+            self.gathered.put(sink, b"; did you mean ")?;
+            self.gathered.put(sink, near)?;
+            self.gathered.put(sink, b"?")?;
+        }
+        self.gathered.put(sink, b"\n")?;
+        self.gathered.flush(sink)
+    }
+
     // Gathers `SCENARIO:LINE:COLUMN: `.
     fn put_place<E: Sink>(&mut self, sink: &mut E, place: Place) -> Result<(), DeviceFault>
         requires { E.has_failed sink.old ≡ false }

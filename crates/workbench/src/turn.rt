@@ -5,7 +5,7 @@ ghost use Rattle.own_model.specs.Listed.{start_list_of};
 ghost use Rattle.own_model.specs.SaidBy.{said_by};
 ghost use Rattle.own_model.specs.StartList.{entries_of};
 ghost use Rattle.own_model.specs.World.{World};
-ghost use Rattle.friendly_lines.specs.Friendly.{said_of};
+ghost use Rattle.friendly_lines.specs.Friendly.{is_passed, said_of};
 ghost use Rattle.friendly_lines.specs.Friendly.Said.{Call};
 ghost use Rattle.scenario.specs.Answer.{AnswersLine};
 ghost use Rattle.scenario.specs.Answered.{after_all};
@@ -22,11 +22,12 @@ ghost use Rattle.workbench.specs.Watching.{Watches};
 
 use crate::critic::Critic;
 use crate::ending::PlayFault;
-use crate::given::Given;
+use crate::given::{Asked, Given};
 use crate::notes::{Desk, Tools};
 use crate::stand::{Stand, learn, misplaced};
 use crate::watch::{Heard, Watch};
 use friendly_lines::{Said, plain_call, read_friendly};
+use init_core::StartList;
 use pd_core::{Core, Reply, Router};
 use scenario::{Gather, LONGEST_LINE, LineAnswer, NamedCall, Run, Sink};
 use scenario_names::{Directive, Filled, Known, directive_of, fill};
@@ -113,6 +114,7 @@ fn play_plain<R: Router + Drop, W: Watch, K: Sink, E: Sink>(
     complaints: &mut E,
 ) -> Result<bool, PlayFault>
     requires read { Reads given.line.now call }
+    requires unmarked { is_passed given.line.now ≡ false }
     requires listed { core.old.entries ≡ entries_of (start_list_of run.now.list.now) }
     requires works { OutputsWork (K.has_failed writer.old) (E.has_failed complaints.old) }
     ensures world { core.new ≡ after_all (option_copied run.now.only) core.old
@@ -131,7 +133,7 @@ fn play_plain<R: Router + Drop, W: Watch, K: Sink, E: Sink>(
     ensures works { OnOk result (OutputsWork (K.has_failed writer.new)
         (E.has_failed complaints.new)) }
     ensures failing { Fails result (K.has_failed writer.new || E.has_failed complaints.new) W.takes }
-    ensures judged { IfOk result (IsJudgedSaid (option_copied run.now.only) core.old
+    ensures judged { IfOk result (IsJudgedSaid false (option_copied run.now.only) core.old
         (Ok (Call given.entry.line.now None)) tools.old.critic.expected) }
     ensures expects { OnOk result (tools.new.critic.expected ≡ nothing_awaited) }
 {
@@ -146,9 +148,16 @@ fn play_plain<R: Router + Drop, W: Watch, K: Sink, E: Sink>(
         gathered,
         writer,
     ) {
-        Ok(answer) => tools
-            .critic
-            .judge(given, known, given.line, None, answer, complaints),
+        Ok(answer) => {
+            let asked = Asked {
+                given,
+                line: given.line,
+                reply: None,
+            };
+            tools
+                .critic
+                .judge(run.list, asked, known, answer, complaints)
+        }
         Err(fault) => Err(fault),
     }
 }
@@ -313,11 +322,16 @@ fn play_filled<R: Router + Drop, W: Watch, K: Sink, E: Sink>(
                 writer,
             ) {
                 Ok(answer) => {
-                    take_in(
+                    let asked = Asked {
                         given,
+                        line: filled.line,
+                        reply,
+                    };
+                    take_in(
+                        run.list,
+                        asked,
                         filled,
                         known,
-                        reply,
                         answer,
                         &mut tools.critic,
                         complaints,
@@ -332,24 +346,25 @@ fn play_filled<R: Router + Drop, W: Watch, K: Sink, E: Sink>(
 
 // Judges the answer of a line's call, and binds what it binds.
 fn take_in<E: Sink>(
-    given: Given<'_>,
+    list: &StartList,
+    asked: Asked<'_>,
     filled: &Filled<'_>,
     known: &mut Known,
-    reply: Option<&[u8]>,
     answer: Option<LineAnswer<'_>>,
     critic: &mut Critic<'_>,
     complaints: &mut E,
 ) -> Result<bool, PlayFault>
     requires works { E.has_failed complaints.old ≡ false }
     ensures judged { IfOk result (λ complained. complained
-        ≡ is_other (option_copied reply.entry) answer.entry critic.old.expected) }
+        ≡ is_other (is_passed asked.entry.line.now) (option_copied asked.entry.reply)
+        answer.entry critic.old.expected) }
     ensures forgets { critic.new.expected ≡ nothing_awaited }
     ensures learns { OnOk result (known.new
         ≡ learnt_by known.old (filled_view filled.now) answer.entry) }
     ensures works { OnOk result (E.has_failed complaints.new ≡ false) }
     ensures failing { Fails result (E.has_failed complaints.new) (has_holes (filled_view filled.now)) }
 {
-    match critic.judge(given, known, filled.line, reply, answer, complaints) {
+    match critic.judge(list, asked, known, answer, complaints) {
         Ok(complained) => match learn(known, filled, answer) {
             Ok(()) => Ok(complained),
             Err(fault) => Err(fault),

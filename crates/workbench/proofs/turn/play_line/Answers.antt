@@ -1,9 +1,11 @@
 -- A call that stands as it is says itself.
-use Rattle.std.proofs.Common.{◌∷◌, [], None, Ok, ap, false, refl, subst, sym}
+use Rattle.std.proofs.Common.{◌∷◌, [], IfOk, None, Ok, ap, false, refl, subst, sym}
 use Rattle.std.specs.Option.{option_copied}
 use Rattle.friendly_lines.specs.Friendly.Said.{Call}
 use Rattle.scenario_names.specs.Filling.{whole}
+use Rattle.friendly_lines.proofs.PlainLemmas.{not_passed}
 use Rattle.workbench.specs.Faults.{Fails}
+use Rattle.workbench.specs.Judging.{IsJudgedSaid}
 use Rattle.workbench.specs.Turns.{call_of, calls_in}
 use Rattle.workbench.specs.Turns.Deed.{Says}
 use Rattle.workbench.proofs.FailLemmas.{or_first}
@@ -30,7 +32,12 @@ pub returns-in-Some-clause-failing : goal.returns-in-Some-clause-failing
 returns-in-Some-clause-failing g c = fails_by c.args.stand.now c.args.line.now (Says (whole c.args.line.now) (Ok (Call c.args.line.now None))) (deed_plain c.args.stand.now c.args.line.now c.requires.short c.in-Some.ensures.bare c.in-Some.ensures.plain) c.play_plain.result _ g.W.Watch.takes (subst (Fails c.play_plain.result _) (sym (or_first g.W.Watch.takes false refl)) c.play_plain.ensures.failing)
 
 pub returns-in-Some-clause-judged : goal.returns-in-Some-clause-judged
-returns-in-Some-clause-judged g c = judged_by c.args.stand.now c.args.line.now (Says (whole c.args.line.now) (Ok (Call c.args.line.now None))) (deed_plain c.args.stand.now c.args.line.now c.requires.short c.in-Some.ensures.bare c.in-Some.ensures.plain) c.play_plain.result (option_copied c.args.run.now.only) c.args.core.now _ c.play_plain.ensures.judged
+returns-in-Some-clause-judged g c = judged_by c.args.stand.now c.args.line.now (Says (whole c.args.line.now) (Ok (Call c.args.line.now None))) (deed_plain c.args.stand.now c.args.line.now c.requires.short c.in-Some.ensures.bare c.in-Some.ensures.plain) c.play_plain.result (option_copied c.args.run.now.only) c.args.core.now _
+    (subst (λ passed. IfOk c.play_plain.result (IsJudgedSaid passed (option_copied c.args.run.now.only) c.args.core.now (Ok (Call c.args.line.now None)) c.args.desk.now.tools.critic.expected))
+    (sym (not_passed c.args.line.now c.in-Some.ensures.plain.call)) c.play_plain.ensures.judged)
 
 pub returns-in-Some-clause-expects : goal.returns-in-Some-clause-expects
 returns-in-Some-clause-expects g c = expects_by c.args.stand.now c.args.line.now (Says (whole c.args.line.now) (Ok (Call c.args.line.now None))) (deed_plain c.args.stand.now c.args.line.now c.requires.short c.in-Some.ensures.bare c.in-Some.ensures.plain) c.play_plain.result c.args.stand.now.number _ _ c.play_plain.ensures.expects
+
+pub calls-play_plain-requires-unmarked : goal.calls-play_plain-requires-unmarked
+calls-play_plain-requires-unmarked g c = not_passed c.args.line.now c.in-Some.ensures.plain.call
