@@ -134,7 +134,7 @@ impl<'a> Critic<'a> {
     {
         if !meets(reply, wish.reply) {
             self.complaints
-                .tell_other(sink, wish.place, b"the reply is", reply, wish.reply)?;
+                .tell_reply(sink, wish.place, reply, wish.reply)?;
             return Ok(true);
         }
         let expected = self.expected.lines();
@@ -142,7 +142,7 @@ impl<'a> Critic<'a> {
             let lines = without_last(lines);
             let expected = without_last(expected);
             self.complaints
-                .tell_other(sink, wish.place, b"the log lines are", lines, expected)?;
+                .tell_lines(sink, wish.place, lines, expected)?;
             return Ok(true);
         }
         Ok(false)

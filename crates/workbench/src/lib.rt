@@ -17,6 +17,7 @@ mod peak_columns;
 mod peaks;
 mod playing;
 mod row;
+mod shown;
 mod stand;
 mod text;
 mod tracing;
