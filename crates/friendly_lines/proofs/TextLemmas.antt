@@ -47,13 +47,13 @@ other_form word form arguments call is none texts =
 no_text : (form rest : List ℕ) → bytes_eq form (codes "call") ≡ false → bytes_eq form (codes "poke") ≡ false → is_translated (tail_of form rest) ≡ false
 no_text form rest no_call no_poke =
     rw (no_call, no_poke) (
-      elim (takes_text form || (bytes_eq form (codes "open") || bytes_eq form (codes "upgrade"))) as (λ t. is_translated (cond t (Kept rest) (cond (bytes_eq form (codes "peek")) (Sized rest) (Words rest))) ≡ false) [
+    elim (takes_text form || (bytes_eq form (codes "open") || bytes_eq form (codes "upgrade"))) as (λ t. is_translated (cond t (Kept rest) (cond (bytes_eq form (codes "peek")) (Sized rest) (Words rest))) ≡ false) [
+      | true ↦ refl
+      | false ↦ elim (bytes_eq form (codes "peek")) as (λ t. is_translated (cond t (Sized rest) (Words rest)) ≡ false) [
         | true ↦ refl
-        | false ↦ elim (bytes_eq form (codes "peek")) as (λ t. is_translated (cond t (Sized rest) (Words rest)) ≡ false) [
-          | true ↦ refl
-          | false ↦ refl
-        ]
+        | false ↦ refl
       ]
+    ]
     )
 
 in_words : (name form : List ℕ) (arguments : Option (List ℕ)) → is_word name ≡ true → is_word form ≡ true → bytes_eq form (codes "call") ≡ false → bytes_eq form (codes "poke") ≡ false

@@ -49,7 +49,8 @@ impl<Q: Router + Drop> Watch for SecondMachine<'_, Q> {
 
     ghost holds = { λ second. second.name.now };
 
-    ghost sees = { λ second _. SeesAlone second.name.now second.core second.lines second.difference };
+    ghost sees = { λ second _. SeesAlone second.name.now second.core second.lines
+        second.difference };
 
     fn tell<R: Router + Drop, K: Sink>(
         &mut self,
@@ -184,11 +185,13 @@ pub fn alone<S: Source, K: Sink, E: Sink>(
     ensures before { IfOk result (λ ending. IfSome (fault_before (S.has_failed reader.old)
         (K.has_failed writer.old || E.has_failed complaints.old)) (λ fault.
         IsUnplayed play.entry.machine.now ending fault
-        × (reader.new ≡ reader.old) × (writer.new ≡ writer.old) × (complaints.new ≡ complaints.old))) }
+        × (reader.new ≡ reader.old) × (writer.new ≡ writer.old)
+        × (complaints.new ≡ complaints.old))) }
     ensures unbooted { IfErr result (λ fault. fault ≢ NoMemory →
         boot_fault play.entry.machine.now ≡ Some fault) }
     ensures untouched { OnErr result
-        ((reader.new ≡ reader.old) × (writer.new ≡ writer.old) × (complaints.new ≡ complaints.old)) }
+        ((reader.new ≡ reader.old) × (writer.new ≡ writer.old)
+        × (complaints.new ≡ complaints.old)) }
 {
     let list = StartList::read(alloc, play.machine)?;
     let mut core = boot(alloc, &list)?;
@@ -234,8 +237,10 @@ fn play_beside<R: Router + Drop, Q: Router + Drop, S: Source, K: Sink, E: Sink>(
         ≡ is_write_fault result.fault }
     ensures reading { IfNone result.fault (S.has_failed reader.new ≡ false) }
     ensures before { IfSome (fault_before (S.has_failed reader.old)
-        (K.has_failed writer.old || E.has_failed complaints.old)) (λ fault. (result ≡ unplayed fault)
-        × (reader.new ≡ reader.old) × (writer.new ≡ writer.old) × (complaints.new ≡ complaints.old)) }
+        (K.has_failed writer.old || E.has_failed complaints.old))
+        (λ fault. (result ≡ unplayed fault)
+        × (reader.new ≡ reader.old) × (writer.new ≡ writer.old)
+        × (complaints.new ≡ complaints.old)) }
 {
     let mut watch = SecondMachine {
         list: run.list,
@@ -260,7 +265,8 @@ fn close_with_sum<K: Sink>(
     writer: &mut K,
 ) -> Ending
     ensures closes { IfNone ending.fault (difference ≡ None) →
-        Closes ending result (K.contents writer.old) (K.contents writer.new) (alone_sum name.now lines) }
+        Closes ending result (K.contents writer.old) (K.contents writer.new)
+        (alone_sum name.now lines) }
     ensures failing { IfNone ending.fault (K.has_failed writer.new ≡ is_write_fault result.fault) }
     ensures stopped { IfSome ending.fault (λ _. (result ≡ ending) × (writer.new ≡ writer.old)) }
 {
@@ -294,7 +300,8 @@ fn write_sum<K: Sink>(
     writer: &mut K,
 ) -> Result<(), PlayFault>
     ensures written { difference ≡ None →
-        IsWrittenBy result (K.contents writer.old) (K.contents writer.new) (alone_sum name.now lines) }
+        IsWrittenBy result (K.contents writer.old) (K.contents writer.new)
+        (alone_sum name.now lines) }
     ensures failing { K.has_failed writer.new ≡ is_write_fault (result_err result) }
 {
     if writer.failed() {

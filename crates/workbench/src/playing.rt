@@ -59,7 +59,8 @@ pub(crate) fn play<R: Router + Drop, W: Watch, S: Source, K: Sink, E: Sink>(
         (K.has_failed writer.old || E.has_failed complaints.old) ≡ None →
         W.sees watch.old run.now.list.now core.old [] →
         PlaysAll (W.tells watch.old core.old) W.takes (W.sees watch.new run.now.list.now core.old)
-        (option_copied run.now.only) notes.old.stand result.fault result.lines core.old core.new front.now
+        (option_copied run.now.only) notes.old.stand result.fault result.lines core.old core.new
+        front.now
         (S.remaining reader.old) (S.remaining reader.new) (S.has_failed reader.new)
         (K.contents writer.old) (K.contents writer.new) }
     ensures same { W.tells watch.new ≡ W.tells watch.old }
@@ -70,8 +71,10 @@ pub(crate) fn play<R: Router + Drop, W: Watch, S: Source, K: Sink, E: Sink>(
         ≡ is_write_fault result.fault }
     ensures reading { IfNone result.fault (S.has_failed reader.new ≡ false) }
     ensures before { IfSome (fault_before (S.has_failed reader.old)
-        (K.has_failed writer.old || E.has_failed complaints.old)) (λ fault. (result ≡ unplayed fault)
-        × (reader.new ≡ reader.old) × (writer.new ≡ writer.old) × (complaints.new ≡ complaints.old)) }
+        (K.has_failed writer.old || E.has_failed complaints.old))
+        (λ fault. (result ≡ unplayed fault)
+        × (reader.new ≡ reader.old) × (writer.new ≡ writer.old)
+        × (complaints.new ≡ complaints.old)) }
 {
     if let Some(fault) = failed_before(reader, writer, complaints) {
         return Ending::before_all(fault);
@@ -129,7 +132,8 @@ fn play_behind<R: Router + Drop, W: Watch, S: Source, K: Sink, E: Sink>(
         (E.has_failed complaints.old) }
     ensures plays { W.sees watch.old run.now.list.now core.old [] →
         PlaysAll (W.tells watch.old core.old) W.takes (W.sees watch.new run.now.list.now core.old)
-        (option_copied run.now.only) notes.old.stand (result_err result) tally.new.lines core.old core.new front.now
+        (option_copied run.now.only) notes.old.stand (result_err result) tally.new.lines core.old
+        core.new front.now
         (S.remaining reader.old) (S.remaining reader.new) (S.has_failed reader.new)
         (K.contents writer.old) (K.contents writer.new) }
     ensures same { W.tells watch.new ≡ W.tells watch.old }
@@ -164,7 +168,8 @@ fn play_all<R: Router + Drop, W: Watch, S: Source, K: Sink, E: Sink>(
         (E.has_failed complaints.old) }
     ensures plays { W.sees watch.old run.now.list.now core.old [] →
         PlaysAll (W.tells watch.old core.old) W.takes (W.sees watch.new run.now.list.now core.old)
-        (option_copied run.now.only) notes.old.stand (result_err result) tally.new.lines core.old core.new
+        (option_copied run.now.only) notes.old.stand (result_err result) tally.new.lines core.old
+        core.new
         notes.old.buffers.gathered (S.remaining reader.old) (S.remaining reader.new)
         (S.has_failed reader.new) (K.contents writer.old) (K.contents writer.new) }
     ensures same { W.tells watch.new ≡ W.tells watch.old }
@@ -227,7 +232,8 @@ fn play_next<R: Router + Drop, W: Watch, S: Source, K: Sink, E: Sink>(
     ensures next { (start : World) (earlier : List (List ℕ)) →
         Watches (W.sees watch.old run.now.list.now) start earlier core.old →
         PlaysNext (W.tells watch.old start) W.takes (W.sees watch.new run.now.list.now start)
-        (option_copied run.now.only) notes.old.stand notes.new.stand earlier result (S.has_failed reader.new)
+        (option_copied run.now.only) notes.old.stand notes.new.stand earlier result
+        (S.has_failed reader.new)
         (point core.old notes.old.buffers (S.remaining reader.old) (K.contents writer.old))
         (point core.new notes.new.buffers (S.remaining reader.new) (K.contents writer.new)) }
     ensures low { OnOk result (StaysLow notes.old.stand notes.new.stand) }
@@ -235,7 +241,8 @@ fn play_next<R: Router + Drop, W: Watch, S: Source, K: Sink, E: Sink>(
     ensures held { W.holds watch.new ≡ W.holds watch.old }
     ensures listed { core.new.entries ≡ core.old.entries }
     ensures works { OnOk result
-        (AllWork (S.has_failed reader.new) (K.has_failed writer.new) (E.has_failed complaints.new)) }
+        (AllWork (S.has_failed reader.new) (K.has_failed writer.new)
+        (E.has_failed complaints.new)) }
     ensures writing { (K.has_failed writer.new || E.has_failed complaints.new)
         ≡ is_write_fault (result_err result) }
 {
@@ -287,11 +294,13 @@ fn play_ahead<R: Router + Drop, W: Watch, K: Sink, E: Sink>(
         TellsUnless result (K.contents writer.old) notes.old.buffers.gathered
         (K.contents writer.new) notes.new.buffers.gathered
         (told_of_calls (W.tells watch.old start) earlier notes.old.stand.number
-        (said_by (option_copied run.now.only) (call_of notes.old.stand (take count notes.old.buffers.ahead)))) }
+        (said_by (option_copied run.now.only)
+        (call_of notes.old.stand (take count notes.old.buffers.ahead)))) }
     ensures seen { (start : World) (earlier : List (List ℕ)) →
         Watches (W.sees watch.old run.now.list.now) start earlier core.old →
         OnOk result (Watches (W.sees watch.new run.now.list.now) start
-        (earlier ++ said_by (option_copied run.now.only) (call_of notes.old.stand (take count notes.old.buffers.ahead))) core.new) }
+        (earlier ++ said_by (option_copied run.now.only)
+        (call_of notes.old.stand (take count notes.old.buffers.ahead))) core.new) }
     ensures stands { OnOk result (notes.new.stand ≡ next_stand (option_copied run.now.only) core.old
         notes.old.stand (take count notes.old.buffers.ahead)) }
     ensures low { OnOk result (StaysLow notes.old.stand notes.new.stand) }

@@ -48,7 +48,8 @@ pub(crate) fn play_line<R: Router + Drop, W: Watch, K: Sink, E: Sink>(
     requires listed { core.old.entries ≡ entries_of (start_list_of run.now.list.now) }
     requires low { stand.old.number < 2 ^ 63 }
     requires works { OutputsWork (K.has_failed writer.old) (E.has_failed complaints.old) }
-    ensures world { core.new ≡ left_behind (option_copied run.now.only) core.old stand.old line.now }
+    ensures world { core.new
+        ≡ left_behind (option_copied run.now.only) core.old stand.old line.now }
     ensures told { (start : World) (earlier : List (List ℕ)) →
         Watches (W.sees watch.old run.now.list.now) start earlier core.old →
         TellsUnless result (K.contents writer.old) gathered.old (K.contents writer.new) gathered.new
@@ -70,7 +71,8 @@ pub(crate) fn play_line<R: Router + Drop, W: Watch, K: Sink, E: Sink>(
     ensures judged { IfOk result (IsJudged (option_copied run.now.only) core.old
         (deed_of stand.old line.now) desk.old.tools.critic.expected) }
     ensures expects { OnOk result (desk.new.tools.critic.expected
-        ≡ awaited_after stand.old.number (deed_of stand.old line.now) desk.old.tools.critic.expected) }
+        ≡ awaited_after stand.old.number (deed_of stand.old line.now)
+        desk.old.tools.critic.expected) }
 {
     match plain_call(line) {
         Some(call) => {
@@ -132,7 +134,8 @@ fn play_plain<R: Router + Drop, W: Watch, K: Sink, E: Sink>(
     ensures held { W.holds watch.new ≡ W.holds watch.old }
     ensures works { OnOk result (OutputsWork (K.has_failed writer.new)
         (E.has_failed complaints.new)) }
-    ensures failing { Fails result (K.has_failed writer.new || E.has_failed complaints.new) W.takes }
+    ensures failing { Fails result (K.has_failed writer.new || E.has_failed complaints.new)
+        W.takes }
     ensures judged { IfOk result (IsJudgedSaid false (option_copied run.now.only) core.old
         (Ok (Call given.entry.line.now None)) tools.old.critic.expected) }
     ensures expects { OnOk result (tools.new.critic.expected ≡ nothing_awaited) }
@@ -178,7 +181,8 @@ fn play_named<R: Router + Drop, W: Watch, K: Sink, E: Sink>(
     requires listed { core.old.entries ≡ entries_of (start_list_of run.now.list.now) }
     requires low { stand.old.number < 2 ^ 63 }
     requires works { OutputsWork (K.has_failed writer.old) (E.has_failed complaints.old) }
-    ensures world { core.new ≡ left_behind (option_copied run.now.only) core.old stand.old line.now }
+    ensures world { core.new
+        ≡ left_behind (option_copied run.now.only) core.old stand.old line.now }
     ensures told { (start : World) (earlier : List (List ℕ)) →
         Watches (W.sees watch.old run.now.list.now) start earlier core.old →
         TellsUnless result (K.contents writer.old) gathered.old (K.contents writer.new) gathered.new
@@ -200,7 +204,8 @@ fn play_named<R: Router + Drop, W: Watch, K: Sink, E: Sink>(
     ensures judged { IfOk result (IsJudged (option_copied run.now.only) core.old
         (deed_of stand.old line.now) desk.old.tools.critic.expected) }
     ensures expects { OnOk result (desk.new.tools.critic.expected
-        ≡ awaited_after stand.old.number (deed_of stand.old line.now) desk.old.tools.critic.expected) }
+        ≡ awaited_after stand.old.number (deed_of stand.old line.now)
+        desk.old.tools.critic.expected) }
 {
     let given = Given {
         number: stand.number,
@@ -242,7 +247,8 @@ fn follow<E: Sink>(
     complaints: &mut E,
 ) -> Result<bool, PlayFault>
     requires works { E.has_failed complaints.old ≡ false }
-    ensures stands { OnOk result (stand.new ≡ followed_by stand.old (directive_view directive.entry)) }
+    ensures stands { OnOk result
+        (stand.new ≡ followed_by stand.old (directive_view directive.entry)) }
     ensures low { (n : ℕ) → low ≤ n → stand.old.number ≤ n → stand.new.number ≤ n }
     ensures works { OnOk result (E.has_failed complaints.new ≡ false) }
     ensures failing { Fails result (E.has_failed complaints.new) true }
@@ -286,7 +292,8 @@ fn play_filled<R: Router + Drop, W: Watch, K: Sink, E: Sink>(
         OnOk result (Watches (W.sees watch.new run.now.list.now) start
         (earlier ++ said_by (option_copied run.now.only) (call_in (said_of filled.now.line.now)))
         core.new) }
-    ensures learns { OnOk result (known.new ≡ learnt_from core.old known.old (filled_view filled.now)
+    ensures learns { OnOk result (known.new ≡ learnt_from core.old known.old
+        (filled_view filled.now)
         (said_by (option_copied run.now.only) (call_in (said_of filled.now.line.now)))) }
     ensures same { W.tells watch.new ≡ W.tells watch.old }
     ensures held { W.holds watch.new ≡ W.holds watch.old }
@@ -297,7 +304,8 @@ fn play_filled<R: Router + Drop, W: Watch, K: Sink, E: Sink>(
     ensures judged { IfOk result (IsJudged (option_copied run.now.only) core.old
         (Says (filled_view filled.now) (said_of filled.now.line.now)) tools.old.critic.expected) }
     ensures expects { OnOk result (tools.new.critic.expected
-        ≡ awaited_after given.entry.number (Says (filled_view filled.now) (said_of filled.now.line.now))
+        ≡ awaited_after given.entry.number
+        (Says (filled_view filled.now) (said_of filled.now.line.now))
         tools.old.critic.expected) }
 {
     match read_friendly(filled.line, &mut tools.room) {
@@ -362,7 +370,8 @@ fn take_in<E: Sink>(
     ensures learns { OnOk result (known.new
         ≡ learnt_by known.old (filled_view filled.now) answer.entry) }
     ensures works { OnOk result (E.has_failed complaints.new ≡ false) }
-    ensures failing { Fails result (E.has_failed complaints.new) (has_holes (filled_view filled.now)) }
+    ensures failing { Fails result (E.has_failed complaints.new)
+        (has_holes (filled_view filled.now)) }
 {
     match critic.judge(list, asked, known, answer, complaints) {
         Ok(complained) => match learn(known, filled, answer) {
