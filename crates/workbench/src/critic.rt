@@ -180,12 +180,12 @@ impl<'a> Critic<'a> {
         ensures works { OnOk result (E.has_failed sink.new ≡ false) }
         ensures failing { Fails result (E.has_failed sink.new) true }
     {
-        let reason = fault.reason.to_string(self.alloc)?;
+        let words = fault.reason.to_string(self.alloc)?;
         let place = Place {
             line: number,
             column: fault.column,
         };
-        self.complain(place, reason.as_bytes(), sink)
+        self.complain(place, words.as_bytes(), sink)
     }
 
     /// Tells why a directive can't be followed.
