@@ -335,7 +335,7 @@ text_passes form text sized None = record { whole = rw text (λ untranslated. rw
 text_passes form text sized (Some arguments) = record { whole = rw text (λ untranslated. rw sized refl) }
 
 -- a form lets through what it reads
-record Lets (form : Form) : Type 0 where
+pub record Lets (form : Form) : Type 0 where
   word : is_word form.word ≡ true
   passes : (arguments : Option (List ℕ)) (call : Call) → form.call arguments ≡ Some call → PassesAll form.word arguments
 
