@@ -174,8 +174,9 @@ impl<'a> One<'a> {
 fn without_none(ended: Result<Ending, BootFault>, unused: bool) -> Result<Ending, BootFault> {
     match ended {
         Ok(ending) if unused => Ok(Ending {
+            lines: ending.lines,
             complaints: ending.complaints.saturating_sub(1),
-            ..ending
+            fault: ending.fault,
         }),
         other => other,
     }

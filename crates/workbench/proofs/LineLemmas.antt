@@ -1,5 +1,5 @@
 -- A line that is played: it says a call, which is answered and told, or nothing changes.
-use Rattle.std.proofs.Common.{◌≡◌, ℕ, Bool, true, false, List, [], ◌++◌, Option, Result, Ok, Err, IfOk, OnOk, refl, sym, ◌∙◌, ap, subst}
+use Rattle.std.proofs.Common.{◌≡◌, ℕ, Bool, true, false, List, [], ◌++◌, Option, None, Result, Ok, Err, IfOk, OnOk, refl, sym, ◌∙◌, ap, subst}
 use Rattle.own_model.specs.SaidBy.{said_by}
 use Rattle.own_model.specs.World.{World}
 use Rattle.friendly_lines.specs.Friendly.{Said, is_passed, said_of}
@@ -87,6 +87,12 @@ module _ (only : Option (List ℕ)) (world : World) (f : Filled) (line : List �
 
   pub judged_unread : (r : Result Bool PlayFault) (fault : Fault) → Err fault ≡ said_of line → IfOk r (λ complained. complained ≡ true) → IfOk r (IsJudged only world (Says f (said_of line)) awaited)
   judged_unread r fault is judged = judged_by r (Err fault) is judged
+
+-- of a call that stands as it is, by its answer
+pub judged_plain : (only : Option (List ℕ)) (world : World) (line : List ℕ) (awaited : Awaited) (r : Result Bool PlayFault) (answer : Option LineAnswer) → is_passed line ≡ false → AnswersLine only world line answer →
+    IfOk r (λ complained. complained ≡ is_other (is_passed line) None answer awaited) → IfOk r (IsJudgedSaid false only world (Ok (Call line None)) awaited)
+judged_plain only world line awaited (Ok complained) answer unmarked answers judged = (answer, answers, judged ∙ ap (λ passed. is_other passed None answer awaited) unmarked)
+judged_plain only world line awaited (Err fault) answer unmarked answers judged = tt
 
 -- ---- what is expected then
 

@@ -172,8 +172,8 @@ fn run_on<R: Router + Drop, S: Source, K: Sink, E: Sink>(
     ensures played { fault_before (S.has_failed reader.old)
         (K.has_failed writer.old || E.has_failed complaints.old) ≡ None →
         IsPlayedFrom (turns_of (option_copied run.now.only) core.old notes.old.stand)
-        (shown_of showing.numbers (option_copied run.now.only) core.old)
-        (list_behind showing.accounts (option_copied run.now.only) run.now.list.now core.old)
+        (shown_of showing.entry.numbers (option_copied run.now.only) core.old)
+        (list_behind showing.entry.accounts (option_copied run.now.only) run.now.list.now core.old)
         false result
         (S.remaining reader.old) (S.remaining reader.new)
         (S.has_failed reader.new) (K.contents writer.old) (K.contents writer.new) }

@@ -39,5 +39,5 @@ returns-in-Some-clause-judged g c = judged_by c.args.stand.now c.args.line.now (
 pub returns-in-Some-clause-expects : goal.returns-in-Some-clause-expects
 returns-in-Some-clause-expects g c = expects_by c.args.stand.now c.args.line.now (Says (whole c.args.line.now) (Ok (Call c.args.line.now None))) (deed_plain c.args.stand.now c.args.line.now c.requires.short c.in-Some.ensures.bare c.in-Some.ensures.plain) c.play_plain.result c.args.stand.now.number _ _ c.play_plain.ensures.expects
 
-pub calls-play_plain-requires-unmarked : goal.calls-play_plain-requires-unmarked
-calls-play_plain-requires-unmarked g c = not_passed c.args.line.now c.in-Some.ensures.plain.call
+pub play_plain-requires-clause-unmarked : goal.play_plain-requires-clause-unmarked
+play_plain-requires-clause-unmarked g c = not_passed c.args.line.now c.in-Some.ensures.plain.call
