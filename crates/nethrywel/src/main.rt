@@ -152,6 +152,7 @@ fn answer(rt: &HostRuntime, command: Command<'_>, given: Given<'_>) -> u8 {
             machine,
             only,
             accounts,
+            numbers,
             color,
             scenario,
             ..
@@ -160,6 +161,7 @@ fn answer(rt: &HostRuntime, command: Command<'_>, given: Given<'_>) -> u8 {
                 let viewing = Viewing::Run {
                     only,
                     accounts,
+                    numbers,
                     coloring,
                 };
                 play(rt, machine, scenario, given, viewing)

@@ -16,7 +16,14 @@ use std::{fs, io};
 use test_report::{
     Trial, failures, junit_document, machine_beside, policy_beside, tap_plan, tap_point,
 };
-use workbench::{Ending, Play, exit_status, run};
+use workbench::{Ending, Play, Showing, exit_status, run};
+
+/// What is told of a test: its replies.
+const REPLIES: Showing<'static> = Showing {
+    only: None,
+    accounts: false,
+    numbers: false,
+};
 
 /// The exit status where a scenario isn't answered as it expects.
 const FAILED: u8 = 3;
@@ -235,8 +242,7 @@ fn run_from<S: Source>(
     let ended = run(
         alloc,
         play,
-        None,
-        false,
+        REPLIES,
         source,
         &mut Output::new(io::sink()),
         &mut complaints,

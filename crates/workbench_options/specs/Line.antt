@@ -95,7 +95,7 @@ IsTold form made = (app_of made ≡ command_told form) × ((out-Command made).ha
 abbrev pub run : Shape
 run =
     of_scenario (codes "run")
-    (option_rule (codes "only") ∷ flag_rule (codes "accounts") ∷ option_rule (codes "color") ∷ [])
+    (option_rule (codes "only") ∷ flag_rule (codes "accounts") ∷ flag_rule (codes "numbers") ∷ option_rule (codes "color") ∷ [])
 
 -- the command that records a scenario
 abbrev pub record_shape : Shape
@@ -182,10 +182,11 @@ IsColor Unknown word = (word ≢ codes "auto") × (word ≢ codes "always") × (
 
 -- a command is what these rows ask for behind this name
 abbrev pub Asks : Command → Text → List Row → Type 0
-Asks (command.Run machine only accounts color scenario) name rows = (name ≡ codes "run")
+Asks (command.Run machine only accounts numbers color scenario) name rows = (name ≡ codes "run")
     × (option_map (λ t. t.now) machine ≡ first_of (codes "machine") rows)
     × (option_map (λ t. t.now) only ≡ first_of (codes "only") rows)
     × (accounts ≡ is_set (codes "accounts") rows)
+    × (numbers ≡ is_set (codes "numbers") rows)
     × IsColor color (first_or (codes "auto") (codes "color") rows)
     × (scenario.now ≡ first_or (codes "-") (codes "scenario") rows)
 Asks (command.Record machine all write scenario) name rows = (name ≡ codes "record")

@@ -92,6 +92,8 @@ pub(crate) const ONLY: &str = "Answer the lines of this component alone";
 
 pub(crate) const WITH_ACCOUNTS: &str = "Print all accounts after the last reply";
 
+pub(crate) const NUMBERS: &str = "Print the number of its line before what each line is told";
+
 pub(crate) const SET: &str =
     "NAME stands for VALUE: $NAME in a scenario, ${NAME} in a start list; may be given again";
 

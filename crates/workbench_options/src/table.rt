@@ -52,6 +52,7 @@ pub(crate) const COMMANDS: &[Form<'static>] = &[
             MACHINE,
             Word::Value("only", "NAME", help::ONLY),
             Word::Flag("accounts", help::WITH_ACCOUNTS),
+            Word::Flag("numbers", help::NUMBERS),
             COLOR,
             SET,
             SCENARIO,

@@ -4,7 +4,7 @@ use Rattle.std.specs.Option.{option_copied}
 use Rattle.scenario.specs.Gathered.{Tells}
 use Rattle.workbench.proofs.PlayLemmas.{told_of, watches_more}
 use Rattle.workbench.proofs.PlayedLemmas.{told_of_one}
-use Rattle.workbench.proofs.playing.answer_call.Goals as goal
+use Rattle.workbench.proofs.turn.answer_call.Goals as goal
 
 pub returns-in-Ok-clause-told : goal.returns-in-Ok-clause-told
 returns-in-Ok-clause-told g c = λ start earlier watches.

@@ -9,7 +9,7 @@ use Rattle.workbench.specs.Turns.{call_in}
 use Rattle.workbench.proofs.LineLemmas.{call_in-said, expects_by, judged_call, judged_log, judged_nothing, judged_told, judged_unread, on_ok, seen_said, seen_silent, told_said, told_silent}
 use Rattle.workbench.proofs.TurnLemmas.{learns_said, learns_silent}
 use Rattle.workbench.proofs.FailLemmas.{fails_before, fails_beside, fails_for_room, holes_take, line_takes, or_none}
-use Rattle.workbench.proofs.playing.play_filled.Goals as goal
+use Rattle.workbench.proofs.turn.play_filled.Goals as goal
 
 abbrev silent_ok : Result Bool PlayFault
 silent_ok = Ok false

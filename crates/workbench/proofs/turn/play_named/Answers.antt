@@ -8,7 +8,7 @@ use Rattle.workbench.specs.Turns.Deed.{Unnamed, Follows, Says}
 use Rattle.workbench.proofs.FailLemmas.{fails_beside}
 use Rattle.workbench.proofs.LineLemmas.{left_said, left_silent, on_ok, seen_said, seen_silent, told_said, told_silent}
 use Rattle.workbench.proofs.TurnLemmas.{deed_follows, deed_says, deed_unnamed, expects_by, fails_by, judged_by, stands_by, stands_said}
-use Rattle.workbench.proofs.playing.play_line.Goals as goal
+use Rattle.workbench.proofs.turn.play_named.Goals as goal
 
 pub returns-in-Some-clause-world : goal.returns-in-Some-clause-world
 returns-in-Some-clause-world g c = left_silent (option_copied c.args.run.now.only) (call_of c.args.stand.now c.args.line.now) (ap calls_in (deed_follows c.args.stand.now c.args.line.now c.requires.short (filled_view c.in-Ok.filled) (directive_view c.in-Some.directive) c.in-Ok.ensures c.in-Some.ensures)) c.args.core.now
