@@ -190,8 +190,21 @@ fn each_command_is_read(rt: HostRuntime) -> Result<(), Fail> {
             Command::Test {
                 machine: Some("d"),
                 junit: Some("b"),
+                coverage: false,
+                json: false,
                 color: Color::Auto,
                 paths: vec![in alloc; "a", "c", "e"]?,
+            },
+        ),
+        (
+            &["nethrywel", "test", "--json", "a", "--coverage"],
+            Command::Test {
+                machine: None,
+                junit: None,
+                coverage: true,
+                json: true,
+                color: Color::Auto,
+                paths: vec![in alloc; "a"]?,
             },
         ),
     ];
