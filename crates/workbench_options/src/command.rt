@@ -328,8 +328,8 @@ impl<'a> Command<'a> {
 
 // When lines are coloured: on a terminal where it isn't told.
 fn colored(found: &ArgMatches<'_>) -> Color
-    ensures { IsColor result
-        (first_or (codes "auto") (codes "color") (rows_of (found_of found.now))) }
+    ensures { IsColor result (first_or (codes "auto") (codes "color")
+        (rows_of (found_of found.now))) }
 {
     color_named(found.get_str("color").unwrap_or("auto"))
 }
