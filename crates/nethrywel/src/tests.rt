@@ -135,12 +135,11 @@ impl Teller {
     }
 }
 
-// A scenario, on the machine of a text, with the path of that where it is a file's.
+// A scenario, on the machine of a text.
 #[derive(Clone, Copy)]
 struct Case<'a> {
     scenario: &'a str,
     machine: &'a [u8],
-    list: Option<&'a str>,
     given: Given<'a>,
 }
 
@@ -156,35 +155,38 @@ fn run_one(
         Ok(false) => wanted.machine,
         _ => Some(beside.as_str()),
     };
-    let case = Case {
-        scenario,
-        machine: MACHINE_A.as_bytes(),
-        list,
-        given: wanted.given,
-    };
     let Some(path) = list else {
-        return run_whole(rt, case, coverings);
+        let case = Case {
+            scenario,
+            machine: MACHINE_A.as_bytes(),
+            given: wanted.given,
+        };
+        return run_whole(rt, case, None, coverings);
     };
     match read_start_list(rt, path, wanted.given) {
         Ok(text) => run_whole(
             rt,
             Case {
+                scenario,
                 machine: &text,
-                ..case
+                given: wanted.given,
             },
+            list,
             coverings,
         ),
         Err(fault) => failed(rt, scenario, format!(in rt.alloc(); "{fault}\n")?),
     }
 }
 
-// Runs a scenario, and holds the policy that stands beside it against the machine.
+// Runs a scenario on a machine, by the path of its start list where that is a file's, and holds the policy that stands beside the
+// scenario against the machine.
 fn run_whole(
     rt: &HostRuntime,
     case: Case<'_>,
+    list: Option<&str>,
     coverings: &mut Coverings,
 ) -> Result<Trial, AllocError> {
-    let mut trial = run_on(rt, case, coverings)?;
+    let mut trial = run_on(rt, case, list, coverings)?;
     let policy = policy_beside(rt.alloc(), case.scenario)?;
     if let Ok(false) = fs::exists(rt, policy.as_str()) {
         return Ok(trial);
@@ -230,13 +232,14 @@ fn fail(trial: &mut Trial, line: String) -> Result<(), AllocError> {
 fn run_on(
     rt: &HostRuntime,
     case: Case<'_>,
+    list: Option<&str>,
     coverings: &mut Coverings,
 ) -> Result<Trial, AllocError> {
     let alloc = rt.alloc();
     let scenario = case.scenario;
     if let Some(whole) = read_whole(rt, scenario) {
         return match unfold(alloc, &whole, case.given.known(alloc)?) {
-            Ok(lines) => run_from(rt, case, &mut lines.bytes(), coverings),
+            Ok(lines) => run_from(rt, case, list, &mut lines.bytes(), coverings),
             Err(Unfit::Fault(fault)) => {
                 failed(rt, scenario, format!(in alloc; "{scenario}:{fault}\n")?)
             }
@@ -244,7 +247,7 @@ fn run_on(
         };
     }
     match fs::open(rt, scenario) {
-        Ok(file) => run_from(rt, case, &mut Input::new(file), coverings),
+        Ok(file) => run_from(rt, case, list, &mut Input::new(file), coverings),
         Err(_) => failed(
             rt,
             scenario,
@@ -257,6 +260,7 @@ fn run_on(
 fn run_from<S: Source>(
     rt: &HostRuntime,
     case: Case<'_>,
+    list: Option<&str>,
     source: &mut S,
     coverings: &mut Coverings,
 ) -> Result<Trial, AllocError> {
@@ -270,13 +274,7 @@ fn run_from<S: Source>(
     let ended = if coverings.are_wanted() {
         let mut traced = Output::new(Vec::new(alloc));
         let ended = trace(alloc, play, source, &mut traced, &mut complaints);
-        coverings.add(
-            rt,
-            case.machine,
-            case.list,
-            case.scenario,
-            &traced.into_inner(),
-        )?;
+        coverings.add(rt, case.machine, list, case.scenario, &traced.into_inner())?;
         ended
     } else {
         let mut nowhere = Output::new(io::sink());
@@ -291,7 +289,7 @@ fn run_from<S: Source>(
         )
     };
     let mut told = complaints.into_inner();
-    if let Some(line) = last_line(rt, case, &ended)? {
+    if let Some(line) = last_line(rt, case, list, &ended)? {
         told.extend_from_slice(line.as_bytes())?;
     }
     Ok(Trial {
@@ -305,6 +303,7 @@ fn run_from<S: Source>(
 fn last_line(
     rt: &HostRuntime,
     case: Case<'_>,
+    list: Option<&str>,
     ended: &Result<Ending, BootFault>,
 ) -> Result<Option<String>, AllocError> {
     let alloc = rt.alloc();
@@ -321,7 +320,7 @@ fn last_line(
             None => Ok(None),
         },
         Err(fault) => {
-            if let Some(path) = case.list {
+            if let Some(path) = list {
                 if let Err(fault) = Review::read(alloc, case.machine) {
                     let told = Told {
                         path,
