@@ -274,7 +274,8 @@ fn run_from<S: Source>(
     let ended = if coverings.are_wanted() {
         let mut traced = Output::new(Vec::new(alloc));
         let ended = trace(alloc, play, source, &mut traced, &mut complaints);
-        coverings.add(rt, case.machine, list, case.scenario, &traced.into_inner())?;
+        let shown = traced.into_inner();
+        coverings.add(rt, case.machine, list, case.scenario, shown.as_slice())?;
         ended
     } else {
         let mut nowhere = Output::new(io::sink());
