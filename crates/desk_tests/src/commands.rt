@@ -5,7 +5,7 @@ use workbench_options::{Color, Command, Request};
 #[test]
 fn each_command_is_read(rt: HostRuntime) -> Result<(), Fail> {
     let alloc = rt.alloc();
-    let lines: [(&[&str], Command<'_>); 18] = [
+    let lines: [(&[&str], Command<'_>); 19] = [
         (
             &["nethrywel", "run", "a.txt"],
             Command::Run {
