@@ -5,7 +5,7 @@ use workbench_options::{Color, Command, Request};
 #[test]
 fn each_command_is_read(rt: HostRuntime) -> Result<(), Fail> {
     let alloc = rt.alloc();
-    let lines: [(&[&str], Command<'_>); 18] = [
+    let lines: [(&[&str], Command<'_>); 19] = [
         (
             &["nethrywel", "run", "a.txt"],
             Command::Run {
@@ -193,8 +193,21 @@ fn each_command_is_read(rt: HostRuntime) -> Result<(), Fail> {
             Command::Test {
                 machine: Some("d"),
                 junit: Some("b"),
+                coverage: false,
+                json: false,
                 color: Color::Auto,
                 paths: vec![in alloc; "a", "c", "e"]?,
+            },
+        ),
+        (
+            &["nethrywel", "test", "--json", "a", "--coverage"],
+            Command::Test {
+                machine: None,
+                junit: None,
+                coverage: true,
+                json: true,
+                color: Color::Auto,
+                paths: vec![in alloc; "a"]?,
             },
         ),
     ];

@@ -4,6 +4,7 @@
 mod apart;
 mod changes;
 mod coloring;
+mod coverings;
 mod documents;
 mod ends;
 mod files;
@@ -246,6 +247,8 @@ fn answer(rt: &HostRuntime, command: Command<'_>, given: Given<'_>) -> u8 {
         Command::Test {
             machine,
             junit,
+            coverage,
+            json,
             color,
             paths,
         } => match Coloring::asked(rt, color) {
@@ -254,6 +257,8 @@ fn answer(rt: &HostRuntime, command: Command<'_>, given: Given<'_>) -> u8 {
                     paths: paths.as_slice(),
                     machine,
                     junit,
+                    coverage,
+                    json,
                     given,
                     colored: coloring.out,
                 };

@@ -134,7 +134,7 @@ route =
 abbrev pub test : Shape
 test =
     with_rules (codes "test")
-    (option_rule (codes "machine") ∷ option_rule (codes "junit")
+    (option_rule (codes "machine") ∷ option_rule (codes "junit") ∷ flag_rule (codes "coverage") ∷ flag_rule (codes "json")
     ∷ set ∷ option_rule (codes "color") ∷ words_rule (codes "path") ∷ [])
 
 -- the command that compares two start lists
@@ -241,9 +241,11 @@ Asks (command.Diff json before after scenario) name rows = (name ≡ codes "diff
     × (before.now ≡ first_or [] (codes "before") rows)
     × (after.now ≡ first_or [] (codes "after") rows)
     × (option_map (λ t. t.now) scenario ≡ first_of (codes "scenario") rows)
-Asks (command.Test machine junit color paths) name rows = (name ≡ codes "test")
+Asks (command.Test machine junit coverage json color paths) name rows = (name ≡ codes "test")
     × (option_map (λ t. t.now) machine ≡ first_of (codes "machine") rows)
     × (option_map (λ t. t.now) junit ≡ first_of (codes "junit") rows)
+    × (coverage ≡ is_set (codes "coverage") rows)
+    × (json ≡ is_set (codes "json") rows)
     × IsColor color (first_or (codes "auto") (codes "color") rows)
     × (map (λ t. t.now) paths.items ≡ unwrap_or (all_of (codes "path") rows) [])
 

@@ -169,6 +169,10 @@ pub enum Command<'a> {
         machine: Option<&'a str>,
         /// The path of the document of all results, or none.
         junit: Option<&'a str>,
+        /// Whether it is told what the scenarios show of their machines.
+        coverage: bool,
+        /// Whether that is told as a document of JSON, in place of all lines.
+        json: bool,
         /// When lines are coloured.
         color: Color,
         /// The paths of scenarios, and of folders with scenarios.
@@ -234,6 +238,8 @@ impl<'a> Command<'a> {
             "test" => Ok(Some(Command::Test {
                 machine: found.get_str("machine"),
                 junit: found.get_str("junit"),
+                coverage: is_set(found, "coverage"),
+                json: is_set(found, "json"),
                 color: colored(found),
                 paths: words(alloc, found, "path")?,
             })),

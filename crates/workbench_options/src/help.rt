@@ -139,4 +139,7 @@ pub(crate) const PATHS: &str =
 pub(crate) const OTHER_MACHINE: &str =
     "A start list in JSON for scenarios without one beside them, in place of the built-in machine";
 
+pub(crate) const COVERAGE: &str =
+    "Tell which rules decide a wish, and which refusals and errors are met, and which not";
+
 pub(crate) const JUNIT: &str = "Write all results to FILE, as JUnit's XML";

@@ -150,6 +150,8 @@ pub(crate) const COMMANDS: &[Form<'static>] = &[
         words: &[
             Word::Value("machine", "FILE", help::OTHER_MACHINE),
             Word::Value("junit", "FILE", help::JUNIT),
+            Word::Flag("coverage", help::COVERAGE),
+            JSON,
             SET,
             COLOR,
             Word::Several("path", "PATH", help::PATHS),
