@@ -1,6 +1,6 @@
 //! The readers of texts: each on texts that it takes and on others.
 
-use session_proto::{FileRequest, LogRequest, SessionArgs};
+use session_proto::{FileRequest, SessionArgs};
 use std::process::Abort;
 use text_codec::{
     decode_hex, encode_hex, find_byte, has_name_bytes, is_name, is_path, read_address, read_hex,
@@ -187,11 +187,8 @@ fn session_arguments_are_read(rt: HostRuntime) {
 
 #[test]
 fn requests_have_8192_bytes_at_most(rt: HostRuntime) {
-    let mut text = [b'0'; 8194];
+    let mut text = [b'0'; 8193];
     text[..5].copy_from_slice(b"SIZE ");
     assert!(rt; FileRequest::read(&text[..8192]).is_some());
-    assert!(rt; FileRequest::read(&text[..8193]).is_none());
-    text[..6].copy_from_slice(b"WRITE ");
-    assert!(rt; LogRequest::read(&text[..8192]).is_some());
-    assert!(rt; LogRequest::read(&text).is_none());
+    assert!(rt; FileRequest::read(&text).is_none());
 }
