@@ -11,3 +11,4 @@ mod SelectorLemmas
 mod CarryLemmas
 mod ClientLemmas
 pub mod StretchLemmas
+pub mod ToldLemmas
