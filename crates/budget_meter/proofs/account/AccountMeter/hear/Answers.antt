@@ -1,6 +1,6 @@
 -- Who is answered, and who isn't.
 use Rattle.std.proofs.lemmas.Bool.Decides.{nat_tests}
-use Rattle.std.proofs.Common.{arith, ◌≡◌, ◌∷◌, ◌++◌, [], true, false, sym, ◌∙◌, subst, true≢false}
+use Rattle.std.proofs.Common.{arith, ◌≡◌, ◌∷◌, ◌++◌, [], false, sym, ◌∙◌, subst, true≢false}
 use Rattle.own_model.specs.OwnStep.{own_run}
 use Rattle.pd_core.specs.Call.{model_call}
 use Rattle.budget_laws.specs.Need.{budgeted}
