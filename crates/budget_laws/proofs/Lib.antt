@@ -1,5 +1,5 @@
 mod EachLemmas
-mod CellLemmas
+pub mod CellLemmas
 mod WantLemmas
 mod TestLemmas
 mod StepLemmas
@@ -10,4 +10,5 @@ mod SessionRunLemmas
 mod SelectorLemmas
 mod CarryLemmas
 mod ClientLemmas
-mod StretchLemmas
+pub mod StretchLemmas
+pub mod ToldLemmas

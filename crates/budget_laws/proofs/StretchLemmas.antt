@@ -4,14 +4,18 @@ use Rattle.std.proofs.Common.{arith, ◌≡◌, ℕ, zero, suc, ◌-◌, ◌<◌
 use Rattle.std.proofs.lemmas.Bool.{cases_lt}
 use Rattle.std.specs.Prelude.{if◌then◌else◌, Option, Some, None, max, not}
 use Rattle.own_model.specs.Amounts.{Amounts}
+use Rattle.own_model.specs.Call.{Call}
+use Rattle.own_model.specs.OwnState.{OwnState}
+use Rattle.own_model.specs.OwnStep.{own_step}
+use Rattle.own_model.specs.StartList.{Entry}
 use Rattle.budget_laws.proofs.CellLemmas.{in_own_cell}
 use Rattle.budget_laws.proofs.RunLemmas.{want_within, want_below}
 use Rattle.budget_laws.proofs.SessionRunLemmas.{session_within, session_below}
 use Rattle.budget_laws.specs.Need.{Need, Cell, IsBelow, HasRam, cell_by, covers_ram, greatest_choice, budgeted, needs}
 use Rattle.budget_laws.specs.Request.{donating}
 use Rattle.budget_laws.specs.RequestLaws.{session_needs, session_in_want}
-use Rattle.budget_laws.specs.Stretches.{Stretch, covers, is_covered, stretch_of, stretches, AccountStretchesAreExact, SessionStretchesAreExact}
-use Rattle.budget_laws.specs.Want.{in_want}
+use Rattle.budget_laws.specs.Stretches.{Stretch, covers, is_covered, stretch_of, stretches, up_to_want, needs_to_want, AccountStretchesAreExact, EndingStretchesAreExact, SessionStretchesAreExact}
+use Rattle.budget_laws.specs.Want.{wants, in_want}
 
 -- what is below a number is below what it is below
 below_through : (x y : ℕ) (end : Option ℕ) → x ≤ y → IsBelow y end → IsBelow x end
@@ -149,3 +153,77 @@ pub session_exact : SessionStretchesAreExact
 session_exact all session caps top donation few up =
     exact (λ one. session_needs one all (donating one session)) (λ one. session_in_want all (donating one session))
     (λ one other. session_within all session one other) (λ one other. session_below all session one other) caps donation few (suc top) top (omega arith) up
+
+-- ---- runs that end with the first want
+
+-- a part that is in want
+wanting_part : (w : Bool) (entry : Entry) (call : Call) (calls part : List Call) (s : OwnState) →
+    (in_want entry part (own_step entry call s).next ≡ true → in_want entry calls (own_step entry call s).next ≡ true) →
+    (w || in_want entry part (own_step entry call s).next) ≡ true → (w || in_want entry calls (own_step entry call s).next) ≡ true
+wanting_part true entry call calls part s rest is = refl
+wanting_part false entry call calls part s rest is = rest is
+
+-- a budget that is in want with the calls up to another's first want is in want with all of them
+prefix_wants : (entry : Entry) (calls : List Call) (t s : OwnState) → in_want entry (up_to_want entry calls t) s ≡ true → in_want entry calls s ≡ true
+prefix_wants entry [] t s is = is
+prefix_wants entry (call ∷ calls) t s is =
+    elim (wants call (own_step entry call t).reply) as
+    (λ b. in_want entry (call ∷ (if b then [] else up_to_want entry calls (own_step entry call t).next)) s ≡ true → in_want entry (call ∷ calls) s ≡ true) [
+      | true ↦ wanting_part (wants call (own_step entry call s).reply) entry call calls [] s (λ no. absurd (true≢false (sym no)))
+      | false ↦ wanting_part (wants call (own_step entry call s).reply) entry call calls (up_to_want entry calls (own_step entry call t).next) s
+          (prefix_wants entry calls (own_step entry call t).next (own_step entry call s).next)
+    ] is
+
+-- and a run is in want with its own part exactly where it is with all
+prefix_same : (entry : Entry) (calls : List Call) (s : OwnState) → in_want entry (up_to_want entry calls s) s ≡ in_want entry calls s
+prefix_same entry [] s = refl
+prefix_same entry (call ∷ calls) s =
+    elim (wants call (own_step entry call s).reply) as
+    (λ b. (b || in_want entry (if b then [] else up_to_want entry calls (own_step entry call s).next) (own_step entry call s).next)
+    ≡ (b || in_want entry calls (own_step entry call s).next)) [
+      | true ↦ refl
+      | false ↦ prefix_same entry calls (own_step entry call s).next
+    ]
+
+-- where a run is in no want its part is all of it
+prefix_all : (entry : Entry) (calls : List Call) (s : OwnState) → in_want entry calls s ≡ false → up_to_want entry calls s ≡ calls
+prefix_all entry [] s is = refl
+prefix_all entry (call ∷ calls) s is =
+    elim (wants call (own_step entry call s).reply) as
+    (λ b. (b || in_want entry calls (own_step entry call s).next) ≡ false →
+    call ∷ (if b then [] else up_to_want entry calls (own_step entry call s).next) ≡ call ∷ calls) [
+      | true ↦ λ no. absurd (true≢false no)
+      | false ↦ λ no. ap (λ rest. call ∷ rest) (prefix_all entry calls (own_step entry call s).next no)
+    ] is
+
+module _ (entry : Entry) (calls : List Call) (s : OwnState) (one other : Amounts) where
+  abbrev part : List Call
+  part = up_to_want entry calls (budgeted one s)
+
+  abbrev needed : List Need
+  needed = needs_to_want entry calls s one
+
+  abbrev here : Bool
+  here = in_want entry calls (budgeted one s)
+
+  abbrev there : Bool
+  there = in_want entry calls (budgeted other s)
+
+  ending_wants : in_want entry part (budgeted other s) ≡ true → there ≡ true
+  ending_wants = prefix_wants entry calls (budgeted one s) (budgeted other s)
+
+  within_by : (b few : Bool) → here ≡ b → in_want entry part (budgeted other s) ≡ (here || few) → there ≡ (here || few)
+  within_by true few is part_is = ending_wants (part_is ∙ ap (λ x. x || few) is) ∙ sym (ap (λ x. x || few) is)
+  within_by false few is part_is = ap (λ each. in_want entry each (budgeted other s)) (sym (prefix_all entry calls (budgeted one s) is)) ∙ part_is
+
+  ending_within : IsBelow other.caps (cell_by one needed).caps_below → HasRam (cell_by one needed) other.ram → there ≡ (here || nat_lt other.caps (cell_by one needed).caps_from)
+  ending_within few has =
+      within_by here (nat_lt other.caps (cell_by one needed).caps_from) refl
+      (want_within entry part s one other few has ∙ ap (λ x. x || nat_lt other.caps (cell_by one needed).caps_from) (prefix_same entry calls (budgeted one s)))
+
+  ending_below : IsBelow other.caps (cell_by one needed).caps_below → other.ram < (cell_by one needed).ram_from → greatest_choice one needed ≤ other.ram → there ≡ true
+  ending_below few less chosen = ending_wants (want_below entry part s one other few less chosen)
+
+pub ending_exact : EndingStretchesAreExact
+ending_exact entry calls s caps top budget few up =
+    exact (needs_to_want entry calls s) (λ one. in_want entry calls (budgeted one s)) (ending_within entry calls s) (ending_below entry calls s) caps budget few (suc top) top (omega arith) up

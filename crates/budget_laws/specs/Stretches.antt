@@ -4,12 +4,13 @@ use Rattle.std.specs.List.{list_any}
 use Rattle.own_model.specs.Amounts.{Amounts}
 use Rattle.own_model.specs.Call.{Call}
 use Rattle.own_model.specs.OwnState.{OwnState}
+use Rattle.own_model.specs.OwnStep.{own_step}
 use Rattle.own_model.specs.Session.{Session}
 use Rattle.own_model.specs.StartList.{Entry}
 use Rattle.budget_laws.specs.Need.{Need, cell_by, greatest_choice, budgeted, needs}
 use Rattle.budget_laws.specs.Request.{donating}
 use Rattle.budget_laws.specs.RequestLaws.{Reaches, session_needs, session_in_want}
-use Rattle.budget_laws.specs.Want.{in_want}
+use Rattle.budget_laws.specs.Want.{wants, in_want}
 
 -- a stretch of budgets: RAM from a number of bytes up to another, and capabilities from a number on
 pub record Stretch : Type 0 where
@@ -60,3 +61,26 @@ abbrev pub SessionStretchesAreExact : Type 0
 SessionStretchesAreExact =
     (all : List Reaches) (session : Session) (caps top : ℕ) (donation : Amounts) → donation.caps ≤ caps → donation.ram ≤ top →
     is_covered (session_stretches all session caps top) donation ≡ not (session_in_want all (donating donation session))
+
+-- ---- runs that end with the first want
+
+-- calls up to the first in want
+abbrev pub up_to_want : Entry → List Call → OwnState → List Call
+up_to_want entry [] s = []
+up_to_want entry (call ∷ calls) s =
+    call ∷ (if wants call (own_step entry call s).reply then [] else up_to_want entry calls (own_step entry call s).next)
+
+-- the needs of a run from a budget up to its first want
+abbrev pub needs_to_want : Entry → List Call → OwnState → Amounts → List Need
+needs_to_want entry calls s budget = needs entry budget (up_to_want entry calls (budgeted budget s)) (budgeted budget s)
+
+-- the stretches of such runs
+abbrev pub ending_stretches : Entry → List Call → OwnState → ℕ → ℕ → List Stretch
+ending_stretches entry calls s caps top =
+    stretches (needs_to_want entry calls s) (λ budget. in_want entry calls (budgeted budget s)) caps (suc top) top
+
+-- cover the same budgets
+abbrev pub EndingStretchesAreExact : Type 0
+EndingStretchesAreExact =
+    (entry : Entry) (calls : List Call) (s : OwnState) (caps top : ℕ) (budget : Amounts) → budget.caps ≤ caps → budget.ram ≤ top →
+    is_covered (ending_stretches entry calls s caps top) budget ≡ not (in_want entry calls (budgeted budget s))

@@ -1,11 +1,13 @@
 -- What a run answers, and whether it is in want.
-use Rattle.std.specs.Prelude.{◌||◌, Bool, true, false, List, [], ◌∷◌}
+use Rattle.std.specs.Prelude.{◌≡◌, ℕ, ◌||◌, Bool, true, false, List, [], ◌∷◌}
+use Rattle.std.specs.Str.{bytes_eq}
+use Rattle.trade_base.specs.Refusal.{refusal_name}
 use Rattle.trade_base.specs.declared.refusal.Refusal.TheVariants.{OutOfRam, OutOfCaps}
 use Rattle.own_model.specs.Call.{Call}
-use Rattle.own_model.specs.Call.Call.{Request}
+use Rattle.own_model.specs.Call.Call.{Request, CallSession}
 use Rattle.own_model.specs.OwnState.{OwnState}
 use Rattle.own_model.specs.OwnStep.{own_step}
-use Rattle.own_model.specs.Reply.{Reply, LogLine}
+use Rattle.own_model.specs.Reply.{Reply, LogLine, reply_text}
 use Rattle.own_model.specs.Reply.Reply.{Quotas, Refused}
 use Rattle.own_model.specs.StartList.{Entry}
 use Rattle.own_model.specs.Amounts.{no_amounts}
@@ -43,3 +45,19 @@ wants call reply = is_short reply
 abbrev pub in_want : Entry → List Call → OwnState → Bool
 in_want entry [] s = false
 in_want entry (call ∷ calls) s = wants call (own_step entry call s).reply || in_want entry calls (own_step entry call s).next
+
+-- ---- by the texts of replies
+
+abbrev pub tells_shortage : List ℕ → Bool
+tells_shortage text = bytes_eq text (refusal_name OutOfRam) || bytes_eq text (refusal_name OutOfCaps)
+
+-- a call is in want by what it is answered: a request is refused by the reserve, and of a session its server replies
+abbrev pub told_wants : Call → List ℕ → Bool
+told_wants (Request text) told = false
+told_wants (CallSession selector request) told = false
+told_wants call told = tells_shortage told
+
+abbrev pub WantsAreTold : Type 0
+WantsAreTold =
+    (entry : Entry) (call : Call) (s : OwnState) →
+    wants call (own_step entry call s).reply ≡ told_wants call (reply_text (own_step entry call s).reply)

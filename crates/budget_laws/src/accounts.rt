@@ -1,4 +1,5 @@
 //! The budget of a component's own account.
+ghost use Rattle.budget_laws.specs.Want.{WantsAreTold};
 ghost use Rattle.budget_laws.specs.Laws.{CellsAreExact, IsInItsOwn, SameAnswersInACell, WantInACell, WantBelowACell};
 
 /// The cell of a budget is the rectangle of all budgets under which each test along its run comes out alike.
@@ -17,4 +18,9 @@ pub fn same_answers_in_a_cell()
 pub fn want_by_cells()
     ensures within { WantInACell }
     ensures below { WantBelowACell }
+{}
+
+/// Whether a call is in want is told by the text of its reply.
+pub fn wants_are_told()
+    ensures { WantsAreTold }
 {}

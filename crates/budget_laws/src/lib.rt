@@ -7,7 +7,7 @@ mod rows;
 mod sessions;
 mod stretches;
 
-pub use accounts::{cells_are_exact, same_answers_in_a_cell, want_by_cells};
+pub use accounts::{cells_are_exact, same_answers_in_a_cell, want_by_cells, wants_are_told};
 pub use clients::{client_want_by_cells, same_answers_of_a_client};
 pub use rows::budgets_are_worked;
 pub use sessions::{same_answers_of_a_session, session_want_by_cells};

@@ -1,5 +1,5 @@
 -- Stretches are the budgets in no want.
-use Rattle.budget_laws.proofs.StretchLemmas.{account_exact, session_exact}
+use Rattle.budget_laws.proofs.StretchLemmas.{account_exact, ending_exact, session_exact}
 use Rattle.budget_laws.proofs.stretches.stretches_are_exact.Goals as goal
 
 pub returns-clause-account : goal.returns-clause-account
@@ -7,3 +7,6 @@ returns-clause-account c = account_exact
 
 pub returns-clause-session : goal.returns-clause-session
 returns-clause-session c = session_exact
+
+pub returns-clause-ending : goal.returns-clause-ending
+returns-clause-ending c = ending_exact

@@ -1,0 +1,4 @@
+pub mod ShownLemmas
+pub mod GrowthLemmas
+pub mod HeardLemmas
+pub mod RunLemmas

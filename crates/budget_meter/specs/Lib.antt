@@ -1,0 +1,4 @@
+pub mod Needs
+pub mod Asked
+pub mod Metered
+pub mod Run

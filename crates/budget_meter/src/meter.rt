@@ -1,0 +1,126 @@
+//! The least start budget that the tests of an account need.
+ghost use Rattle.std.specs.Prelude.{◌≡◌, ◌+◌, ◌^◌, ◌<◌, ◌∷◌, [], max, IfSome, IfNone};
+ghost use Rattle.pd_core.specs.Answer.{quotas_account};
+ghost use Rattle.budget_meter.specs.Needs.{amounts_of, need_in, shown_in, shown_of, together};
+
+use crate::budget::Budget;
+use pd_core::Quotas;
+
+/// What the tests that passed so far need of the budget that an account started with.
+#[derive(Clone, Copy, Debug)]
+pub struct Meter {
+    /// What the account started with.
+    pub start: Budget,
+    /// The greatest needs, of each column by itself.
+    pub least: Budget,
+    /// The greatest need of bytes of a choice, or 0.
+    pub choice: u64,
+}
+
+impl Meter {
+    /// No test was made.
+    pub fn new(start: Budget) -> Meter
+        ensures start { result.start ≡ start }
+        ensures shown { shown_in result ≡ record { ram = 0; caps = 0; choice = 0 } }
+    {
+        Meter {
+            start,
+            least: Budget { ram: 0, caps: 0 },
+            choice: 0,
+        }
+    }
+
+    /// The need of a test that asks for so much beside what an account uses: that, and what is asked, less what the limit is above
+    /// the start budget.
+    pub fn need(&self, account: Quotas, asked: Budget) -> Budget
+        ensures ram { account.ram_used.0 + asked.ram + self.now.start.ram < 2 ^ 64
+            → result.ram ≡ (need_in self.now.start (quotas_account account) asked).ram }
+        ensures caps { account.caps_used.0 + asked.caps + self.now.start.caps < 2 ^ 64
+            → result.caps ≡ (need_in self.now.start (quotas_account account) asked).caps }
+    {
+        let ram = account.ram_used.0.saturating_add(asked.ram);
+        let caps = u64::from(account.caps_used.0).saturating_add(asked.caps);
+        Budget {
+            ram: ram
+                .saturating_add(self.start.ram)
+                .saturating_sub(account.ram_limit.0),
+            caps: caps
+                .saturating_add(self.start.caps)
+                .saturating_sub(u64::from(account.caps_limit.0)),
+        }
+    }
+
+    /// Takes a test in that asks an account for so much: where its bytes pass, and where its capabilities do then.
+    pub fn take(&mut self, account: Quotas, asked: Budget, is_choice: bool)
+        ensures shown { shown_in self.new ≡ together (shown_in self.old)
+            (shown_of (amounts_of self.old.start) (quotas_account account)
+            (record { ram = asked.ram; caps = asked.caps; choice = is_choice } ∷ [])) }
+        ensures start { self.new.start ≡ self.old.start }
+    {
+        let Some(ram) = covered(account.ram_used.0, asked.ram, account.ram_limit.0) else {
+            return;
+        };
+        let need = self.start.ram.saturating_sub(ram);
+        self.least.ram = self.least.ram.max(need);
+        if is_choice {
+            self.choice = self.choice.max(need);
+        }
+        let (used, limit) = (
+            u64::from(account.caps_used.0),
+            u64::from(account.caps_limit.0),
+        );
+        if let Some(caps) = covered(used, asked.caps, limit) {
+            self.least.caps = self.least.caps.max(self.start.caps.saturating_sub(caps));
+        }
+    }
+
+    /// Takes a test in that passed.
+    pub fn pass(&mut self, account: Quotas, asked: Budget)
+        ensures ram { account.ram_used.0 + asked.ram + self.old.start.ram < 2 ^ 64
+            → self.new.least.ram
+            ≡ max self.old.least.ram (need_in self.old.start (quotas_account account) asked).ram }
+        ensures caps { account.caps_used.0 + asked.caps + self.old.start.caps < 2 ^ 64
+            → self.new.least.caps
+            ≡ max self.old.least.caps (need_in self.old.start (quotas_account account) asked).caps }
+        ensures start { self.new.start ≡ self.old.start }
+        ensures choice { self.new.choice ≡ self.old.choice }
+    {
+        let need = self.need(account, asked);
+        self.least.ram = self.least.ram.max(need.ram);
+        self.least.caps = self.least.caps.max(need.caps);
+    }
+
+    /// Takes the test in that passed last, by what the account uses since.
+    pub fn pass_last(&mut self, account: Quotas) {
+        self.pass(account, Budget { ram: 0, caps: 0 });
+    }
+
+    /// Takes in that the test that passed last was a choice.
+    pub fn choose(&mut self, account: Quotas) {
+        let need = self.need(account, Budget { ram: 0, caps: 0 });
+        self.choice = self.choice.max(need.ram);
+    }
+}
+
+// How much is left of a limit behind what is used and what is asked, if that is covered.
+fn covered(used: u64, asked: u64, limit: u64) -> Option<u64>
+    ensures some { IfSome result (λ left. used + asked + left ≡ limit) }
+    ensures none { IfNone result (limit < used + asked) }
+{
+    limit.checked_sub(used.checked_add(asked)?)
+}
+
+/// What a call charged.
+pub fn charged(before: Quotas, after: Quotas) -> u64 {
+    after.ram_used.0.saturating_sub(before.ram_used.0)
+}
+
+/// The limits of an account.
+pub fn limits_of(account: Quotas) -> Budget
+    ensures { amounts_of result ≡ record { ram = account.ram_limit.0; caps = account.caps_limit.0 } }
+{
+    Budget {
+        ram: account.ram_limit.0,
+        caps: u64::from(account.caps_limit.0),
+    }
+}
