@@ -22,8 +22,9 @@ def every_byte(draw, at):
 
 
 def full(draw, at):
-    """Fronts of one byte, all 93 of them, and long texts behind each."""
-    return [GIVEN[at % len(GIVEN)] + "".join(draw.choice(GIVEN) for _ in range(40 * (at >= len(GIVEN)))), "".join(draw.choice(GIVEN) for _ in range(40))]
+    """Fronts of one byte, all 93 of them, with no end, and then long fronts and ends."""
+    long = 40 * (at >= len(GIVEN))
+    return [GIVEN[at % len(GIVEN)] + "".join(draw.choice(GIVEN) for _ in range(long)), "".join(draw.choice(GIVEN) for _ in range(long))]
 
 
 KINDS = {"apart": apart, "chain": chain, "bytes": every_byte, "full": full}

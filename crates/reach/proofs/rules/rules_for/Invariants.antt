@@ -2,7 +2,7 @@ use Rattle.std.proofs.Common.{◌≡◌, ◌++◌, drop}
 use Rattle.std.specs.List.{flat_map}
 use Rattle.reach.specs.Deciding.{decided, trail_of}
 use Rattle.reach.specs.Hops.{HopAt}
-use Rattle.reach.proofs.deciding.rules_for.Given as goal
+use Rattle.reach.proofs.rules.rules_for.Given as goal
 
 -- what is told so far and what is to be told of the lists outward
 abbrev pub invariant-loop-hop : goal.invariant-loop-hop
