@@ -1,11 +1,11 @@
 //! What a start list says that its writer can hardly have meant, in the order of its parts: the rules of the machine's default
 //! route, and each entry with its own route and the default route of what it starts.
-ghost use Rattle.std.specs.Prelude.{◌≡◌, ◌<◌, ◌++◌, take, IfOk, OnOk, None, Some};
+ghost use Rattle.std.specs.Prelude.{◌≡◌, ◌<◌, ◌++◌, is_some, take, IfOk, OnOk, None, Some};
 ghost use Rattle.std.specs.Option.{option_copied};
 ghost use Rattle.trade_base.specs.Service.{service_name};
 ghost use Rattle.init_core.specs.View.{model_target};
 ghost use Rattle.start_review.specs.Findings.{case_of, entry_findings, findings_of, has_name, hidden, label_findings, low_caps, low_ram, misled, missed, no_child, other_case, pages_findings, part_pages, part_reserve, route_findings, rule_findings, rules_findings, stray_findings, strays, strays_if_provided, told, unreached, use_findings, useless};
-ghost use Rattle.start_review.specs.Outer.{outer_init};
+ghost use Rattle.start_review.specs.Outer.{chosen_end, outer_init, wide_front};
 ghost use Rattle.start_review.specs.Steps.{part_of};
 ghost use Rattle.start_review.specs.Views.{ShowAll};
 ghost use Rattle.start_review.specs.declared.part.About.TheVariants as about;
@@ -287,12 +287,37 @@ fn tell_labels(
 {
     let about = About::Rule(owner, place);
     let init = outer_init(list, owner);
-    let outer = init.is_some();
-    let remark = useless(list, views, owner, outer, before(rules, place), place, rule);
+    let remark = useless(
+        list,
+        views,
+        owner,
+        init.is_some(),
+        before(rules, place),
+        place,
+        rule,
+    );
     tell(found, alloc, list, about, remark)?;
+    tell_outer(found, alloc, list, about, init, rule)
+}
+
+// Tells what a rule's texts let in, to which some init is the first that asks it, if one does.
+fn tell_outer(
+    found: &mut Vec<Finding>,
+    alloc: Global,
+    list: &StartList,
+    about: About,
+    init: Option<&Entry>,
+    rule: &Rule,
+) -> Result<(), AllocError>
+    ensures { OnOk result (found.new.items ≡ found.old.items
+        ++ (told (part_of list.now.entries about)
+        (wide_front list.now.entries (option_copied init.entry) rule.now.label_prefix)
+        ++ told (part_of list.now.entries about)
+        (chosen_end (is_some (option_copied init.entry)) rule.now))) }
+{
     let remark = wide_front(alloc, list.entries(), init, rule.label_prefix())?;
     tell(found, alloc, list, about, remark)?;
-    tell(found, alloc, list, about, chosen_end(outer, rule))
+    tell(found, alloc, list, about, chosen_end(init.is_some(), rule))
 }
 
 // Why a rule decides nothing, if it does.

@@ -1,5 +1,5 @@
 -- One rule after another, each of the next list outward.
-use Rattle.std.proofs.Common.{◌≡◌, ◌∙◌, ◌+◌, ◌-◌, ◌<◌, ◌==◌, ◌&&◌, ◌∷◌, false, true, suc, length, drop, get_or, Some, None, add-one, drop-cons, arith, refl, rules, sym}
+use Rattle.std.proofs.Common.{◌≡◌, ◌∙◌, ◌+◌, ◌-◌, ◌<◌, ◌==◌, ◌&&◌, ◌∷◌, false, true, suc, length, drop, get_or, Some, None, add-one, drop-cons, arith, refl, sym}
 use Rattle.std.specs.List.{slice_get}
 use Rattle.std.proofs.lemmas.Bool.Decides.{nat_tests}
 use Rattle.start_review.specs.Idle.{is_of}
