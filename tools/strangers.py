@@ -56,6 +56,12 @@ edit = json.loads(ask("POST", "/run", {**SMALL, "scenario": "alice alloc 4K\n"})
 expect(200, "ram from 4K, caps from 1", ask("POST", "/rest", {"edit": edit, "what": "least"}))
 expect(200, "1 lines of alice: the same alone", ask("POST", "/rest", {"edit": edit, "what": "alone"}))
 expect(409, "a later edit", ask("POST", "/rest", {"edit": edit - 1, "what": "least"}))
+# The way of a wish is told also of a name that begins as an option does.
+LOG = {"name": "log", "quantum": "16K", "caps": 8, "provides": ["LOG"]}
+DASHED = {"name": "-v", "binary": "script", "quantum": "64K", "caps": 16, "route": [{"service": "LOG", "child": "log"}]}
+LIST = json.dumps({"machine": {"pages": 64, "caps": 64}, "start": [LOG, DASHED]})
+edit = json.loads(ask("POST", "/run", {"list": LIST, "scenario": "-v quota => ram 0/65536 caps 0/16\n"})[1])["edit"]
+expect(200, "leads to log", ask("POST", "/rest", {"edit": edit, "what": "route", "from": "-v", "service": "LOG", "label": ""}))
 expect(400, "no request", ask("POST", "/rest", {"edit": edit, "what": "run"}))
 expect(400, "no request", ask("POST", "/rest", {"edit": edit, "what": "diff", "before": 1}))
 expect(400, "no request", ask("POST", "/run", {"list": 1, "scenario": ""}))

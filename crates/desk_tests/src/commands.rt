@@ -5,13 +5,14 @@ use workbench_options::{Color, Command, Request};
 #[test]
 fn each_command_is_read(rt: HostRuntime) -> Result<(), Fail> {
     let alloc = rt.alloc();
-    let lines: [(&[&str], Command<'_>); 18] = [
+    let lines: [(&[&str], Command<'_>); 19] = [
         (
             &["nethrywel", "run", "a.txt"],
             Command::Run {
                 machine: None,
                 only: None,
                 accounts: false,
+                numbers: false,
                 color: Color::Auto,
                 scenario: "a.txt",
             },
@@ -30,6 +31,7 @@ fn each_command_is_read(rt: HostRuntime) -> Result<(), Fail> {
                 machine: Some("m.json"),
                 only: Some("bob"),
                 accounts: true,
+                numbers: false,
                 color: Color::Auto,
                 scenario: "-",
             },
@@ -40,6 +42,7 @@ fn each_command_is_read(rt: HostRuntime) -> Result<(), Fail> {
                 machine: None,
                 only: None,
                 accounts: false,
+                numbers: false,
                 color: Color::Auto,
                 scenario: "--accounts",
             },
@@ -190,8 +193,21 @@ fn each_command_is_read(rt: HostRuntime) -> Result<(), Fail> {
             Command::Test {
                 machine: Some("d"),
                 junit: Some("b"),
+                coverage: false,
+                json: false,
                 color: Color::Auto,
                 paths: vec![in alloc; "a", "c", "e"]?,
+            },
+        ),
+        (
+            &["nethrywel", "test", "--json", "a", "--coverage"],
+            Command::Test {
+                machine: None,
+                junit: None,
+                coverage: true,
+                json: true,
+                color: Color::Auto,
+                paths: vec![in alloc; "a"]?,
             },
         ),
     ];
@@ -224,6 +240,7 @@ fn values_are_read_in_order(rt: HostRuntime) -> Result<(), Fail> {
         machine: None,
         only: None,
         accounts: true,
+        numbers: false,
         color: Color::Never,
         scenario: "x",
     };

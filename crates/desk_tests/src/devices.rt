@@ -4,7 +4,14 @@ use scenario::{DeviceFault, Output, Sink, Source};
 use scenario_names::Known;
 use std::alloc::Global;
 use std::test::Fail;
-use workbench::{Ending, Play, PlayFault, accounts, alone, exit_status, run, trace};
+use workbench::{Ending, Play, PlayFault, Showing, accounts, alone, exit_status, run, trace};
+
+/// All lines, with the account list behind the transcript.
+const LISTED: Showing<'static> = Showing {
+    only: None,
+    accounts: true,
+    numbers: false,
+};
 
 /// Gives bytes once, and then fails.
 #[derive(Drop)]
@@ -100,7 +107,7 @@ fn played<S: Source, K: Sink, E: Sink>(
 ) -> Option<Ending> {
     let play = on(alloc, MACHINE_A);
     match kind {
-        Kind::Run => run(alloc, play, None, true, reader, writer, complaints),
+        Kind::Run => run(alloc, play, LISTED, reader, writer, complaints),
         Kind::Trace => trace(alloc, play, reader, writer, complaints),
         Kind::Accounts => accounts(alloc, play, reader, writer, complaints),
         Kind::Alone => alone(alloc, play, b"alice", reader, writer, complaints),
@@ -200,8 +207,7 @@ fn endings_have_statuses(rt: HostRuntime) -> Result<(), Fail> {
     let unbooted: Result<Ending, BootFault> = run(
         rt.alloc(),
         on(rt.alloc(), "{"),
-        None,
-        true,
+        LISTED,
         &mut reader,
         &mut writer,
         &mut complaints,

@@ -1,5 +1,5 @@
 //! What requests read of files.
-ghost use Rattle.std.specs.Prelude.{◌≡◌, ◌≤◌, IfOk, slice_get};
+ghost use Rattle.std.specs.Prelude.{◌≡◌, ◌≤◌, length, IfOk, slice_get};
 ghost use Rattle.std.specs.Option.{option_map};
 ghost use Rattle.own_model.specs.FileService.{File};
 ghost use Rattle.own_model.specs.FileText.FileRequest.{Read, Size};
@@ -44,13 +44,15 @@ impl FileSession {
         name: &[u8],
         offset: u64,
         len: u64,
-        buffer: &mut [u8; 1024],
+        buffer: &mut [u8],
     ) -> Result<usize, FileError>
+        requires room { len ≤ MOST_READ → len ≤ length buffer.old }
         requires furnished { AreFurnished self.now.rooms memory.old map.now }
         requires files { HasFiles self.now (stock_of self.now.rooms memory.old map.now) }
         ensures told { IsTold (Read name.now offset len) (bytes_reply buffer.new result) self.now
             (stock_of self.now.rooms memory.old map.now) }
-        ensures count { IfOk result (λ count. count ≤ 1024) }
+        ensures count { IfOk result (λ count. count ≤ length buffer.new) }
+        ensures same_length { length buffer.new ≡ length buffer.old }
         ensures memory { memory.new ≡ memory.old }
     {
         let found = self.find(memory, map, name).ok_or(FileError::NotFound)?;

@@ -37,6 +37,9 @@ const FEW_WRITTEN: usize = 128;
 /// The most bytes that a request reads.
 const MOST_READ: usize = 1024;
 
+/// So many bytes are read by way of a small buffer, for the same reason.
+const FEW_READ: usize = 128;
+
 /// The file service. It keeps nothing but its sessions.
 #[derive(Clone, Copy, Drop)]
 pub struct FileService;
@@ -155,9 +158,7 @@ fn answer(
     Effect::Nothing
 }
 
-/// Tells at most so many bytes of a file from an offset on, or why not, behind what the reply was. It stands alone, since who takes
-/// it in would clear its buffer at each request.
-#[inline(never)]
+/// Tells at most so many bytes of a file from an offset on, or why not, behind what the reply was.
 fn tell_read(
     session: &FileSession,
     memory: &mut Memory,
@@ -176,7 +177,36 @@ fn tell_read(
         × (reply.new ≡ record reply.old { text = reply.old.text ++ file_reply answer })) }
     ensures memory { memory.new ≡ memory.old }
 {
-    let mut buffer = [0; MOST_READ];
+    if len <= FEW_READ as u64 {
+        tell_read_by::<FEW_READ>(session, memory, map, file, offset, len, reply);
+    } else {
+        tell_read_by::<MOST_READ>(session, memory, map, file, offset, len, reply);
+    }
+}
+
+/// The same by way of a buffer of so many bytes. It stands alone, since who takes it in would clear its buffer at each request.
+#[inline(never)]
+fn tell_read_by<const N: usize>(
+    session: &FileSession,
+    memory: &mut Memory,
+    map: &RegionMap,
+    file: &[u8],
+    offset: u64,
+    len: u64,
+    reply: &mut Reply,
+)
+    requires few { len ≤ MOST_READ → len ≤ N }
+    requires small { N ≤ MOST_READ }
+    requires furnished { AreFurnished session.now.rooms memory.old map.now }
+    requires files { HasFiles session.now (stock_of session.now.rooms memory.old map.now) }
+    requires room { length reply.old.text ≤ 49 }
+    ensures told { (answer : Answered)
+        × ((IsTold (Read file.now offset len) answer session.now
+        (stock_of session.now.rooms memory.old map.now))
+        × (reply.new ≡ record reply.old { text = reply.old.text ++ file_reply answer })) }
+    ensures memory { memory.new ≡ memory.old }
+{
+    let mut buffer = [0; N];
     match session.read(memory, map, file, offset, len, &mut buffer) {
         Ok(count) => FileReply::Bytes(&buffer[..count]).write(reply),
         Err(error) => FileReply::Refused(error).write(reply),

@@ -2,6 +2,7 @@ pub mod WordLemmas
 pub mod WrittenLemmas
 pub mod QuoteLemmas
 pub mod SightLemmas
+pub mod TextLemmas
 pub mod SignLemmas
 pub mod TailLemmas
 pub mod ReadingLemmas

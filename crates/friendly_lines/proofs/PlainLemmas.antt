@@ -13,7 +13,7 @@ use Rattle.trade_base.specs.Amount.{amount_of, number_of}
 use Rattle.own_model.specs.Call.{Call, Form, Spoken, call_in, form_of, forms, name_of, of_none, of_one, of_rest, of_text, of_two, some_bytes_of_hex, spoken}
 use Rattle.own_model.specs.Text.{FirstWord, address_of, bytes_of_hex, first_word, hex_digit_of, hex_number_after, is_name, is_name_byte, is_path}
 use Rattle.own_model.specs.Transcript.{longest_line}
-use Rattle.friendly_lines.specs.Friendly.{Said, fault_in, said_of_both, said_of_call, said_of_signs, said_of_text, signs_of, without_comment, without_mark, without_return}
+use Rattle.friendly_lines.specs.Friendly.{Said, fault_in, is_passed, said_of_both, said_of_call, said_of_signs, said_of_text, signs_of, without_comment, without_mark, without_return}
 use Rattle.friendly_lines.specs.Laws.{IsPlain, LaterFormsAreMarked, PlainLinesPass, has_suffix, is_suffixed, is_translated}
 use Rattle.friendly_lines.specs.Parts.{Tail, parts_of, quoted_or, request_tail, request_text, size_text, sizes_behind, sizes_in, spelled, tail_of, tail_text, takes_text, text_written, word_behind, word_text}
 use Rattle.friendly_lines.specs.Parts.Tail.{Words, Kept, Sized, Request, Quoted}
@@ -25,15 +25,15 @@ use Rattle.friendly_lines.proofs.ExpectedLemmas.{exact_meets}
 use Rattle.friendly_lines.proofs.WordLemmas.{words_next}
 
 -- a text without a blank, and a word: one that isn't empty
-abbrev is_unbroken : List ℕ → Bool
+abbrev pub is_unbroken : List ℕ → Bool
 is_unbroken text = list_all (λ b. not (is_blank b)) text
 
-abbrev is_word : List ℕ → Bool
+abbrev pub is_word : List ℕ → Bool
 is_word [] = false
 is_word (b ∷ bs) = is_unbroken (b ∷ bs)
 
 -- what follows a word: nothing, or a space and more
-abbrev behind_word : Option (List ℕ) → List ℕ
+abbrev pub behind_word : Option (List ℕ) → List ℕ
 behind_word None = []
 behind_word (Some rest) = 32 ∷ rest
 
@@ -80,7 +80,7 @@ more_signs : (b : ℕ) (bs : List ℕ) → is_unbroken (b ∷ bs) ≡ true → i
 more_signs b bs whole = and_right (not (is_blank b)) (is_unbroken bs) whole
 
 -- a text is its first word, and what follows it
-word_and_behind : (text : List ℕ) → text ≡ (first_word text).word ++ behind_word (first_word text).rest
+pub word_and_behind : (text : List ℕ) → text ≡ (first_word text).word ++ behind_word (first_word text).rest
 word_and_behind [] = refl
 word_and_behind (b ∷ bs) =
     let here : FirstWord = record { word = []; rest = Some bs } in
@@ -117,7 +117,7 @@ unbroken_word : (word : List ℕ) → is_word word ≡ true → is_unbroken word
 unbroken_word [] is = refl
 unbroken_word (b ∷ bs) is = is
 
-next_is : (word : List ℕ) (rest : Option (List ℕ)) → is_word word ≡ true → next_word (word ++ behind_word rest) ≡ record { word = word; rest = behind_word rest }
+pub next_is : (word : List ℕ) (rest : Option (List ℕ)) → is_word word ≡ true → next_word (word ++ behind_word rest) ≡ record { word = word; rest = behind_word rest }
 next_is word rest is = ap up_to_blank (at_word word rest is) ∙ parted_word word rest (unbroken_word word is)
 
 -- words of one word
@@ -281,7 +281,7 @@ path_begins : (b : ℕ) (bs : List ℕ) → is_path (b ∷ bs) ≡ true → is_n
 path_begins b bs is =
     first_of_path b (slice_split (λ b. nat_eq b 47) bs) (nat_eq b 47) (λ none. omega (arith, none, length-slice_split (λ b. nat_eq b 47) bs)) (parts_of_path (b ∷ bs) is)
 
-is_path_word : (text : List ℕ) → is_path text ≡ true → is_word text ≡ true
+pub is_path_word : (text : List ℕ) → is_path text ≡ true → is_word text ≡ true
 is_path_word [] is = absurd (true≢false (sym is))
 is_path_word (b ∷ bs) is =
     all_unbroken is_path_byte path_sign (b ∷ bs) (bytes_of_parts (b ∷ bs) (bytes_of_names (slice_split (λ b. nat_eq b 47) (b ∷ bs)) (parts_of_path (b ∷ bs) is)))
@@ -335,7 +335,7 @@ text_passes form text sized None = record { whole = rw text (λ untranslated. rw
 text_passes form text sized (Some arguments) = record { whole = rw text (λ untranslated. rw sized refl) }
 
 -- a form lets through what it reads
-record Lets (form : Form) : Type 0 where
+pub record Lets (form : Form) : Type 0 where
   word : is_word form.word ≡ true
   passes : (arguments : Option (List ℕ)) (call : Call) → form.call arguments ≡ Some call → PassesAll form.word arguments
 
@@ -496,11 +496,11 @@ keeps_request rest =
     passes None plain = refl
     passes (Some request) plain = ap (λ l. 32 ∷ l) (request_passes request plain)
 
-abbrev AllLet : List Form → Type 0
+abbrev pub AllLet : List Form → Type 0
 AllLet [] = Unit {0}
 AllLet (form ∷ rest) = Lets form × AllLet rest
 
-forms_let : AllLet forms
+pub forms_let : AllLet forms
 forms_let = (
   one_lets (codes "alloc") _ number_of refl refl number_is_word size_is refl,
   (
@@ -564,11 +564,11 @@ forms_let = (
 )
 
 -- the form of a call, and what stands behind it
-record IsForm (word : List ℕ) (arguments : Option (List ℕ)) : Type 0 where
-  word_is : is_word word ≡ true
+pub record IsForm (word : List ℕ) (arguments : Option (List ℕ)) : Type 0 where
+  pub word_is : is_word word ≡ true
   passes : PassesAll word arguments
 
-form_in : (list : List Form) → AllLet list → (word : List ℕ) (arguments : Option (List ℕ)) (call : Call) → call_in list word arguments ≡ Some call → IsForm word arguments
+pub form_in : (list : List Form) → AllLet list → (word : List ℕ) (arguments : Option (List ℕ)) (call : Call) → call_in list word arguments ≡ Some call → IsForm word arguments
 form_in [] all word arguments call is = absurd (none-some call is)
 form_in (form ∷ rest) all word arguments call is =
     elim (bytes_eq word form.word) as (λ t. bytes_eq word form.word ≡ t → cond t (form.call arguments) (call_in rest word arguments) ≡ Some call → IsForm word arguments) [
@@ -589,14 +589,14 @@ spells name form arguments is call =
     (λ untranslated. rw (call.passes.whole untranslated, spaced_word form call.word_is) refl)
 
 -- what a call of the grammar says
-record SaysCall (line : List ℕ) : Type 0 where
-  named : is_path (first_word line).word ≡ true
-  text : List ℕ
-  behind : (first_word line).rest ≡ Some text
-  call : Call
-  says : form_of text ≡ Some call
+pub record SaysCall (line : List ℕ) : Type 0 where
+  pub named : is_path (first_word line).word ≡ true
+  pub text : List ℕ
+  pub behind : (first_word line).rest ≡ Some text
+  pub call : Call
+  pub says : form_of text ≡ Some call
 
-says_call : (line : List ℕ) → is_some (spoken line) ≡ true → SaysCall line
+pub says_call : (line : List ℕ) → is_some (spoken line) ≡ true → SaysCall line
 says_call line is =
     let tells : Call → Spoken = λ (call : Call). record { name = (first_word line).word; call = call } in
     elim (is_path (first_word line).word) as (λ t. is_path (first_word line).word ≡ t → is_some (cond t (option_map tells (option_and_then form_of (first_word line).rest)) None) ≡ true → SaysCall line) [
@@ -615,6 +615,7 @@ says_call line is =
 -- how a line begins that begins with a path
 record BeginsCall (line : List ℕ) : Type 0 where
   unmarked : nat_eq (slice_index line 0) 33 ≡ false
+  undirected : nat_eq (slice_index line 0) 64 ≡ false
   text : (nat_eq (length line) 0 || nat_eq (slice_index line 0) 35) ≡ false
   no_log : starts_with nat_eq line (codes "=> ") ≡ false
   skipped : signs_of line ≡ line
@@ -628,10 +629,11 @@ begins (b ∷ bs) more is =
     let sign : is_name_byte b ≡ true = path_begins b bs is in
     let one : nat_eq b 33 ≡ false = grind (arith, nat_tests) in
     let two : nat_eq b 35 ≡ false = grind (arith, nat_tests) in
+    let four : nat_eq b 64 ≡ false = grind (arith, nat_tests) in
     let three : nat_eq 61 b ≡ false = grind (arith, nat_tests) in
     let some : nat_eq (length ((b ∷ bs) ++ more)) 0 ≡ false = grind (arith, nat_tests) in
     let blank : is_blank b ≡ false = not_true (is_blank b) (name_sign b sign) in
-    record { unmarked = one; text = rw (some, two) refl; no_log = rw three refl; skipped = ap skip_blanks (no_mark b (bs ++ more) sign) ∙ rw blank refl }
+    record { unmarked = one; undirected = four; text = rw (some, two) refl; no_log = rw three refl; skipped = ap skip_blanks (no_mark b (bs ++ more) sign) ∙ rw blank refl }
 
 -- a call that isn't quoted has no escape
 no_fault : (count : ℕ) (tail : Tail) → is_translated tail ≡ false → fault_in count tail ≡ None
@@ -659,6 +661,22 @@ text_said column line plain front = rw (front.text, front.no_log, plain.comment)
 signs_said : (column : ℕ) (line : List ℕ) → BeginsCall line → without_return line ≡ line → said_of_signs column line ≡ said_of_text column line
 signs_said column line front ending = rw front.unmarked (ap (said_of_text column) ending)
 
+-- a call begins with its name
+begins_call : (line : List ℕ) → SaysCall line → BeginsCall line
+begins_call line says =
+    subst BeginsCall (sym (word_and_behind line)) (begins (first_word line).word (behind_word (first_word line).rest) says.named)
+
+-- and so is no directive
+pub no_directive : (line : List ℕ) → is_some (spoken line) ≡ true → nat_eq (slice_index (signs_of line) 0) 64 ≡ false
+no_directive line is =
+    let front : BeginsCall line = begins_call line (says_call line is) in
+    ap (λ (signs : List ℕ). nat_eq (slice_index signs 0) 64) front.skipped ∙ front.undirected
+
+pub not_passed : (line : List ℕ) → is_some (spoken line) ≡ true → is_passed line ≡ false
+not_passed line is =
+    let front : BeginsCall line = begins_call line (says_call line is) in
+    ap (λ (signs : List ℕ). nat_eq (slice_index signs 0) 33) front.skipped ∙ front.unmarked
+
 pub plain_lines_pass : PlainLinesPass
 plain_lines_pass line plain =
     let says : SaysCall line = says_call line plain.call in
@@ -670,7 +688,7 @@ plain_lines_pass line plain =
     let spelt : spelled (parts_of line) ≡ line =
     subst (λ l. is_translated (parts_of l).tail ≡ false → spelled (parts_of l) ≡ l) (sym whole)
     (spells name form arguments (is_path_word name says.named) (form_in forms forms_let form arguments says.call says.says)) plain.untranslated in
-    let front : BeginsCall line = subst BeginsCall (sym whole) (begins name (behind_word (Some (form ++ behind_word arguments))) says.named) in
+    let front : BeginsCall line = begins_call line says in
     let column : ℕ = length line - length line + 1 in
     ap (λ s. said_of_signs (length line - length s + 1) s) front.skipped
     ∙ signs_said column line front plain.ending ∙ text_said column line plain front ∙ both_said column line plain ∙ call_said column line plain spelt

@@ -1,6 +1,6 @@
 -- A line in which no byte is a sign of the friendly form has none of its forms.
-use Rattle.std.proofs.Common.{◌≡◌, ℕ, ◌+◌, ◌-◌, ◌<◌, ◌&&◌, Bool, true, false, true≢false, cond, not, nat_eq, is_some, List, [], ◌∷◌, length, get_or, codes, Option, Some, None, refl, sym, ap, ◌∙◌, arith}
-use Rattle.std.specs.List.{list_all, starts_with}
+use Rattle.std.proofs.Common.{◌≡◌, ℕ, ◌+◌, ◌-◌, ◌<◌, ◌&&◌, ◌==◌, Bool, true, false, true≢false, cond, not, nat_eq, nat_lt, is_some, List, [], ◌∷◌, length, get_or, position, codes, Option, Some, None, refl, sym, ap, ◌∙◌, arith}
+use Rattle.std.specs.List.{list_all, position_or_len, starts_with}
 use Rattle.std.specs.Option.{option_map, option_or}
 use Rattle.std.proofs.lemmas.Bool.Decides.{nat_tests}
 use Rattle.std.proofs.lemmas.List.Folds.{list_all_at}
@@ -8,12 +8,12 @@ use Rattle.scenario.specs.Read.{Reads}
 use Rattle.scenario.specs.declared.line.NamedCall.{NamedCall}
 use Rattle.friendly_lines.specs.Friendly.{without_return}
 use Rattle.friendly_lines.specs.Handed.{has_no_sign, is_sign}
-use Rattle.friendly_lines.specs.Laws.{IsPlain, is_translated}
+use Rattle.friendly_lines.specs.Laws.{IsBare, IsPlain, is_translated}
 use Rattle.friendly_lines.specs.Parts.{parts_of}
 use Rattle.friendly_lines.specs.Quotes.{after_byte, after_text, is_arrow, is_outside, last_outside}
 use Rattle.friendly_lines.specs.Words.{is_blank}
 use Rattle.friendly_lines.specs.declared.quotes.Quoting.TheVariants.{Outside}
-use Rattle.friendly_lines.proofs.PlainLemmas.{and_both, and_left, and_right, not_true}
+use Rattle.friendly_lines.proofs.PlainLemmas.{and_both, and_left, and_right, no_directive, not_true}
 use Rattle.friendly_lines.proofs.QuoteLemmas.{is_free, no_first}
 
 -- the first byte is no sign, and none of the others is
@@ -31,6 +31,9 @@ no_comment_sign b other = grind (arith, nat_tests)
 
 no_tip : (b : ℕ) → is_sign b ≡ false → nat_eq 62 b ≡ false
 no_tip b other = grind (arith, nat_tests)
+
+no_dollar : (b : ℕ) → is_sign b ≡ false → nat_eq b 36 ≡ false
+no_dollar b other = grind (arith, nat_tests)
 
 a_return : (b : ℕ) → nat_eq b 13 ≡ true → not (is_sign b) ≡ false
 a_return b is = grind (arith, nat_tests)
@@ -96,3 +99,21 @@ plain_at_sight line said none reads untranslated = record {
   comment = no_first Outside line (free_of line none);
   untranslated = untranslated;
 }
+
+-- and it is bare
+all_before : (line : List ℕ) → has_no_sign line ≡ true → position_or_len (λ b. b == 36) line ≡ length line
+all_before [] none = refl
+all_before (b ∷ bs) none =
+    let rest : position_or_len (λ b. b == 36) bs ≡ length bs = all_before bs (more_others b bs none) in
+    let one : 1 + position_or_len (λ b. b == 36) bs ≡ length (b ∷ bs) = omega (arith, rest) in
+    ap (λ t. cond (not t) (1 + position_or_len (λ b. b == 36) bs) 0) (no_dollar b (first_other b bs none)) ∙ one
+
+no_less : (n : ℕ) → nat_lt n n ≡ false
+no_less n = grind (arith, nat_tests)
+
+nameless : (line : List ℕ) → has_no_sign line ≡ true → position (λ b. b == 36) line ≡ None
+nameless line none =
+    ap (λ n. cond (nat_lt n (length line)) (Some n) None) (all_before line none) ∙ ap (λ t. cond t (Some (length line)) None) (no_less (length line))
+
+pub bare_at_sight : (line : List ℕ) (said : NamedCall) → has_no_sign line ≡ true → Reads line said → IsBare line
+bare_at_sight line said none reads = record { nameless = nameless line none; says = no_directive line (ap is_some reads.says) }

@@ -100,6 +100,10 @@ without_mark line = if starts_with nat_eq line (239 ∷ 187 ∷ 191 ∷ []) then
 abbrev pub signs_of : List ℕ → List ℕ
 signs_of line = skip_blanks (without_mark line)
 
+-- it is the engine's as it stands, behind a `!`
+abbrev pub is_passed : List ℕ → Bool
+is_passed line = slice_index (signs_of line) 0 == 33
+
 -- what a line says
 abbrev pub said_of : List ℕ → Result Said Fault
 said_of line = said_of_signs (length line - length (signs_of line) + 1) (signs_of line)

@@ -1,6 +1,8 @@
 -- What is handed on of a call, and the lines that are the engine's at first sight.
-use Rattle.std.specs.Prelude.{ℕ, ◌==◌, ◌||◌, not, Bool, List, ⊤, Result, Ok, Err}
+use Rattle.std.specs.Prelude.{ℕ, ◌==◌, ◌||◌, not, Bool, true, false, List, ⊤, Result, Ok, Err}
 use Rattle.std.specs.List.{list_all}
+use Rattle.own_model.specs.Call.{Call as Modelled}
+use Rattle.own_model.specs.Call.Call.{CallSession, Poke}
 use Rattle.scenario.specs.Read.{IsReadAs}
 use Rattle.friendly_lines.specs.declared.fault.Fault.{Fault}
 use Rattle.friendly_lines.specs.declared.reading.Said.{Said}
@@ -13,10 +15,16 @@ HandsOn (Ok (Log text)) = ⊤
 HandsOn (Ok (Call line call reply)) = IsReadAs line.now call
 HandsOn (Err fault) = ⊤
 
--- a byte that only lines have in which something may be translated: a quote, the sign of a comment, the tip of an arrow, a
--- carriage return
+-- a byte that only lines have in which something may be translated or filled: a quote, the sign of a comment, the tip of an
+-- arrow, a carriage return, and the `$` of a name
 abbrev pub is_sign : ℕ → Bool
-is_sign b = b == 34 || (b == 35 || (b == 62 || b == 13))
+is_sign b = b == 34 || (b == 35 || (b == 62 || (b == 13 || b == 36)))
 
 abbrev pub has_no_sign : List ℕ → Bool
 has_no_sign text = list_all (λ b. not (is_sign b)) text
+
+-- a call in whose line a text may stand in quotes, or a size have a suffix behind the first words
+abbrev pub has_text : Modelled → Bool
+has_text (Poke address bytes) = true
+has_text (CallSession selector request) = true
+has_text call = false

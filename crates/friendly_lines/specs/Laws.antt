@@ -1,5 +1,5 @@
 -- What holds of every line of the friendly form.
-use Rattle.std.specs.Prelude.{◌≡◌, ◌≤◌, ◌==◌, ◌&&◌, ◌||◌, Bool, true, false, List, [], ◌∷◌, ℕ, length, drop, codes, nat_eq, slice_index, is_none, is_some, Option, Some, None, Ok}
+use Rattle.std.specs.Prelude.{◌≡◌, ◌≤◌, ◌==◌, ◌&&◌, ◌||◌, Bool, true, false, List, [], ◌∷◌, ℕ, length, drop, codes, nat_eq, position, slice_index, is_none, is_some, Option, Some, None, Ok}
 use Rattle.std.specs.List.{starts_with}
 use Rattle.std.specs.Str.{bytes_eq}
 use Rattle.trade_base.specs.Amount.{amount_of, number_of}
@@ -55,6 +55,11 @@ pub record IsPlain (line : List ℕ) : Type 0 where
   pub arrow : arrow_of line ≡ None
   pub comment : first_outside is_comment Outside line ≡ None
   pub untranslated : is_translated (parts_of line).tail ≡ false
+
+-- a line has neither a `$`, by which a name begins, nor an `@` as its first sign
+pub record IsBare (line : List ℕ) : Type 0 where
+  pub nameless : position (λ b. b == 36) line ≡ None
+  pub says : (slice_index (signs_of line) 0 == 64) ≡ false
 
 -- such a line is the engine's as it stands
 abbrev pub PlainLinesPass : Type 0

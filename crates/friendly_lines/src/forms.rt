@@ -204,8 +204,8 @@ pub(crate) fn form_near(word: &[u8]) -> Option<Form>
     None
 }
 
-// Whether one byte is left out, put in or replaced between two words.
-fn is_one_edit(meant: &[u8], written: &[u8]) -> bool
+/// Whether one byte is left out, put in or replaced between two words.
+pub fn is_one_edit(meant: &[u8], written: &[u8]) -> bool
     ensures { result ≡ is_one_edit meant.now written.now }
 {
     let Some((x, xs)) = meant.split_first() else {

@@ -17,9 +17,10 @@ mod words;
 
 pub use expected::{meets, stands_for};
 pub use fault::{Fault, Reason};
-pub use forms::Form;
+pub use forms::{Form, is_one_edit};
 pub use laws::calls_are_calls;
 pub use line::Line;
+pub use plain::plain_call;
 pub use quotes::arrow_of;
-pub use reading::{Said, end_of, read_friendly, signs_of};
+pub use reading::{Said, end_of, is_passed, read_friendly, signs_of};
 pub use words::{next_word, skip_blanks};

@@ -4,7 +4,7 @@ ghost use Rattle.std.specs.Option.{option_copied, option_map, option_or};
 ghost use Rattle.own_model.specs.Call.{spoken};
 ghost use Rattle.own_model.specs.Transcript.{longest_line};
 ghost use Rattle.scenario.specs.Read.{IsReadAs};
-ghost use Rattle.friendly_lines.specs.Friendly.{end_of, expects_bad_line, fault_behind, fault_in, no_call, said_of, said_of_both, said_of_call, said_of_line, said_of_signs, said_of_text, signs_of, without_comment, without_mark, without_return};
+ghost use Rattle.friendly_lines.specs.Friendly.{end_of, expects_bad_line, fault_behind, fault_in, is_passed, no_call, said_of, said_of_both, said_of_call, said_of_line, said_of_signs, said_of_text, signs_of, without_comment, without_mark, without_return};
 ghost use Rattle.friendly_lines.specs.Friendly.Said.{Call};
 ghost use Rattle.friendly_lines.specs.Handed.{HandsOn};
 ghost use Rattle.friendly_lines.specs.Laws.{IsPlain, LaterFormsAreMarked};
@@ -76,6 +76,13 @@ pub fn end_of(line: &[u8]) -> usize
 {
     let signs = signs_of(line);
     line.len() - signs.len() + without_comment(without_return(signs)).len()
+}
+
+/// Whether a line is the engine's as it stands, behind a `!`.
+pub fn is_passed(line: &[u8]) -> bool
+    ensures { result ≡ is_passed line.now }
+{
+    begins_with(signs_of(line), b'!')
 }
 
 /// What stands from a line's first sign on: behind a byte order mark and blanks.

@@ -49,7 +49,8 @@ fn suffixed(word: &[u8]) -> Option<u64>
 
 /// Whether a request has a size with a suffix.
 pub(crate) fn has_suffix(request: &[u8]) -> bool
-    ensures { result ≡ has_suffix (sizes_in (first_word request.now).word) (first_word request.now).rest }
+    ensures { result ≡ has_suffix (sizes_in (first_word request.now).word)
+        (first_word request.now).rest }
 {
     let (form, rest) = split_first_word(request);
     has_suffix_in(sizes_in(form), rest)

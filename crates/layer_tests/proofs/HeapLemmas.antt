@@ -1,4 +1,4 @@
--- Two heaps on one map: both stay sound over each other's calls, and a write into a payload of the one.
+-- Two heaps on one map: both stay sound over each other's calls.
 use Rattle.std.proofs.lemmas.Bool.Decides.{nat_tests}
 use Rattle.std.proofs.Common.{rules, ◌≡◌, ◌+◌, ◌*◌, ◌≤◌, ℕ, length, is_some, refl, sym, ap, subst, ◌∙◌, arith}
 use Rattle.std.specs.Prelude.{None}
@@ -28,30 +28,6 @@ beside_after heap other next old new regions after both sound keeps payer = reco
   other_sound = (heap_stays_beside other (payer_of heap) old new regions after both.other_sound (λ e. both.apart (sym e)) keeps sound.window).sound;
   apart = λ e. both.apart (e ∙ payer);
 }
-
-module _ (heap other : Heap) (store now : Store) (regions : Regions) (same : now ≡ store) (both : AreBeside heap other store regions) (ds offset address count : ℕ) (held : HoldsRange heap store regions ds offset address count) where
-  -- a range that is found in a payload is one of its dataspace
-  held_paid : IsPaidBy (payer_of heap) ds held.bytes store
-  held_paid = paid_in_part (payer_of heap) ds held.bytes store held.there
-
-  pub held_exists : Exists now ds
-  held_exists = subst (λ (s : Store). Exists s ds) (sym same) held_paid.exists
-
-  pub held_fits : offset + count ≤ length (space_at now ds).bytes
-  held_fits = grind (arith, nat_tests, held_paid)
-
-  -- and a word that is written there leaves both heaps sound
-  module _ (new : Store) (word : ℕ) (count_is : count ≡ 8)
-      (wrote : PartBecomes (space_at now ds).payer (part_with_bytes (part (space_at now ds).payer now) ds offset (word_bytes word)) now new) where
-    becomes : PartBecomes (payer_of heap) (part_with_bytes (part (payer_of heap) store) ds offset (word_bytes word)) store new
-    becomes = search (rules, becomes_paid, held_paid)
-
-    pub beside_poked : AreBeside heap other new regions
-    beside_poked = beside_after heap other heap store new regions regions both
-        (payload_poked heap ds offset address (word_bytes word) store new regions both.sound (below_bytes (word_bytes word) (word_bytes-lt word))
-        (subst (HoldsRange heap store regions ds offset address) (count_is ∙ sym (length-word_bytes word)) held) becomes).sound
-        (record { shares = λ k apart. ap (λ p. share_in p regions.heap regions.tags) (becomes.others k apart); root = becomes.root; parents = becomes.parents; room = becomes.room })
-        refl
 
 -- heaps of the root and of an account that was opened below it, on a new map
 pub beside_booted : (heap other : Heap) (old new : Store) (regions : Regions) (key root child pages caps accounts places ram few user : ℕ) → old ≡ fresh_store key pages caps accounts places → pages ≤ largest_machine → IsOpenIn old root → get (accounts_in old) child ≡ None →

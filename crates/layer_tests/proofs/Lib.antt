@@ -1,4 +1,2 @@
 mod HeapLemmas
-mod SlicedLemmas
 mod CellLemmas
-mod MemoryLemmas

@@ -1,3 +1,2 @@
 pub mod Heaps
-pub mod Sliced
 pub mod Cells

@@ -1,9 +1,9 @@
-//! Best fit: how many words a call loads in fact. And two thousand calls against rows kept by hand.
-ghost use Rattle.std.specs.Prelude.{◌≡◌, ℕ, ◌+◌, ◌*◌, ◌<◌, ◌≤◌, ◌%◌, length};
+//! Best fit: how many words a call loads in fact.
+ghost use Rattle.std.specs.Prelude.{◌≡◌, ℕ, ◌<◌, ◌≤◌, length};
 ghost use Rattle.layer_tests.specs.Cells.{cell_at, cell_bytes, IsTrial};
 ghost use Rattle.own_model.specs.Heap.{IsBlockSize};
 
-use avl_alloc::{BestFit, BlockAddr, WordMemory, block_bytes};
+use avl_alloc::{BestFit, BlockAddr, WordMemory};
 use std::marker::{Brand, Model};
 use std::process::Abort;
 use std::sync::ledger::{Blank, Book, Ledger, Share};
@@ -137,177 +137,10 @@ fn most_loads<L: Ledger>(rt: &impl Abort, blank: Blank, words: Vec<u64>) -> u64
     most
 }
 
-/// A block as the definition has it.
-#[derive(Clone, Copy)]
-struct Row {
-    chunk: usize,
-    offset: u64,
-    size: u64,
-    used: bool,
-}
-
-/// The place in the list of the hole that the definition takes: the rows stand by chunk and offset.
-fn best_row(rows: &[Row], size: u64) -> Option<usize> {
-    let mut best: Option<usize> = None;
-    let mut least = u64::MAX;
-    for (i, row) in rows.iter().enumerate() {
-        if !row.used && size <= row.size && row.size < least {
-            best = Some(i);
-            least = row.size;
-        }
-    }
-    best
-}
-
-/// Where the row of an address stands in the list.
-fn row_at(rows: &[Row], addr: BlockAddr) -> Option<usize> {
-    rows.iter()
-        .position(|row| row.chunk == addr.chunk && row.offset == addr.offset)
-}
-
-/// Takes the best hole by hand.
-fn take_row(rt: &impl Abort, rows: &mut Vec<Row>, bytes: u64) -> Option<BlockAddr>
-    requires { bytes < 65536 }
-{
-    let size = block_bytes(bytes);
-    let i = best_row(rows, size)?;
-    let row = *rows.get(i).expect(rt, "a row of the list");
-    let left = row.size.saturating_sub(size);
-    if left < 48 {
-        set_row(rt, rows, i, Row { used: true, ..row });
-    } else {
-        set_row(
-            rt,
-            rows,
-            i,
-            Row {
-                used: true,
-                size,
-                ..row
-            },
-        );
-        let rest = Row {
-            offset: row.offset.wrapping_add(size),
-            size: left,
-            ..row
-        };
-        assert!(rt; i < rows.len());
-        rows.insert(i + 1, rest).expect(rt, "memory for a row");
-    }
-    Some(BlockAddr {
-        chunk: row.chunk,
-        offset: row.offset,
-    })
-}
-
-/// Puts another row in the place of one.
-fn set_row(rt: &impl Abort, rows: &mut Vec<Row>, i: usize, row: Row)
-    ensures { length rows.new.items ≡ length rows.old.items }
-{
-    assert!(rt; i < rows.len());
-    rows[i] = row;
-}
-
-/// Joins a row with the next one, where both are holes of one chunk.
-fn join_rows(rt: &impl Abort, rows: &mut Vec<Row>, i: usize) {
-    if rows.len() < 2 || i >= rows.len() - 1 {
-        return;
-    }
-    let first = rows[i];
-    let second = rows[i + 1];
-    if first.used || second.used || first.chunk != second.chunk {
-        return;
-    }
-    rows[i].size = first.size.wrapping_add(second.size);
-    rows.remove(i + 1);
-}
-
-/// Gives a block back by hand.
-fn give_row(rt: &impl Abort, rows: &mut Vec<Row>, addr: BlockAddr) -> Option<u64> {
-    let i = row_at(rows, addr)?;
-    let row = *rows.get(i).expect(rt, "a row of the list");
-    if !row.used {
-        return None;
-    }
-    set_row(rt, rows, i, Row { used: false, ..row });
-    join_rows(rt, rows, i);
-    if i > 0 {
-        join_rows(rt, rows, i - 1);
-    }
-    Some(row.size)
-}
-
-/// So many calls drawn by chance, each answered as by hand.
-fn agree<L: Ledger>(rt: &impl Abort, blank: Blank, words: Vec<u64>, rows: &mut Vec<Row>)
-    requires name { blank.name ≡ L.name }
-    requires parts { blank.parts ≡ L.parts }
-    requires some { 0 < L.parts }
-{
-    let mut trial = empty_heap::<L>(blank, words);
-    let mut seed = 12_345u64;
-    for _ in 0..2000 {
-        seed = seed
-            .wrapping_mul(6_364_136_223_846_793_005)
-            .wrapping_add(1_442_695_040_888_963_407);
-        let pick = seed >> 33;
-        if pick % 3 == 0 {
-            let addr = pick_addr(rows, pick / 3);
-            assert_eq!(rt; trial.free(addr), give_row(rt, rows, addr));
-            assert_eq!(rt; trial.free(addr), None);
-        } else {
-            let bytes = 1 + pick / 3 % 700;
-            let got = trial.alloc(bytes);
-            assert_eq!(rt; got, take_row(rt, rows, bytes));
-            if got.is_none() {
-                grow(rt, &mut trial, rows);
-            }
-        }
-    }
-    assert!(rt; rows.len() > 100);
-}
-
-/// The address of one of the rows, used or not.
-fn pick_addr(rows: &[Row], pick: u64) -> BlockAddr {
-    if rows.len() == 0 {
-        return BlockAddr {
-            chunk: 0,
-            offset: 0,
-        };
-    }
-    let row = rows[pick as usize % rows.len()];
-    BlockAddr {
-        chunk: row.chunk,
-        offset: row.offset,
-    }
-}
-
-/// A chunk more, as long as there are words.
-fn grow<L: Ledger>(rt: &impl Abort, trial: &mut Trial<L>, rows: &mut Vec<Row>) {
-    let chunk = trial.chunks;
-    if chunk < 4 {
-        let bytes = 4096 * (chunk as u64 * 3 + 1);
-        trial.add_chunk(bytes);
-        let row = Row {
-            chunk,
-            offset: 0,
-            size: bytes,
-            used: false,
-        };
-        rows.push(row).expect(rt, "memory for a row");
-    }
-}
-
 #[test]
 fn a_call_after_many_holes_loads_few_words(rt: HostRuntime) {
     let words = vec![in rt.alloc(); 7; CHUNK_WORDS].expect(&rt, "memory for a chunk");
     let most = most_loads::<Brand>(&rt, Blank::new(1), words);
     assert!(rt; most <= 3584);
     assert_eq!(rt; most, 76);
-}
-
-#[test]
-fn calls_answer_as_the_definition_by_hand(rt: HostRuntime) {
-    let words = vec![in rt.alloc(); 7; 4 * CHUNK_WORDS].expect(&rt, "memory for four chunks");
-    let mut rows = Vec::new(rt.alloc());
-    agree::<Brand>(&rt, Blank::new(1), words, &mut rows);
 }

@@ -1,8 +1,6 @@
-//! Heaps: worked addresses, over two heaps on one map.
-ghost use Rattle.std.specs.Prelude.{◌≤◌};
+//! Heaps: which of two equal holes is taken, over two heaps on one map.
 ghost use Rattle.layer_tests.specs.Heaps.{AreBeside};
 
-use super::steps::Step;
 use dataspace_core::Memory;
 use heap_core::Heap;
 use region_map::RegionMap;
@@ -10,6 +8,16 @@ use std::alloc::Global;
 use std::mem;
 use std::process::Abort;
 use trade_base::{Caps, PAGE, Ram, Refusal};
+
+/// A call of one of two heaps on one map, and what it is answered.
+enum Step {
+    /// A block for so many bytes is taken: its payload starts there.
+    Take(u64, u64),
+    /// The block whose payload starts there is given back.
+    Give(u64),
+    /// The other heap is called from here on.
+    Swap,
+}
 
 /// A machine with two heaps on one map: `heap`, of the root, and `other`, of an account below it.
 #[derive(Drop)]
@@ -21,17 +29,15 @@ struct Machine {
 }
 
 impl Machine {
-    /// A machine of so many pages and capabilities. The other heap's account has so much of them.
-    fn boot(rt: &impl Abort, alloc: Global, pages: usize, ram: Ram, caps: Caps) -> Machine
-        requires { pages ≤ 4096 }
+    /// A machine of 64 pages and capabilities, of which the other heap's account has 32 and 16.
+    fn boot(rt: &impl Abort, alloc: Global) -> Machine
         ensures { AreBeside result.heap result.other result.memory result.map }
     {
-        let all = Caps(pages as u32);
-        let mut memory = Memory::boot(alloc, pages, all, 2).expect(rt, "memory for the pages");
-        let map = RegionMap::boot(alloc, 0, pages, pages).expect(rt, "memory for the regions");
+        let mut memory = Memory::boot(alloc, 64, Caps(64), 2).expect(rt, "memory for the pages");
+        let map = RegionMap::boot(alloc, 0, 64, 64).expect(rt, "memory for the regions");
         let root = memory.root();
         let account = memory
-            .open(root, ram, caps)
+            .open(root, Ram(32 * PAGE), Caps(16))
             .expect(rt, "the machine has as much");
         Machine {
             memory,
@@ -65,83 +71,18 @@ impl Machine {
         self.heap.free(&mut self.memory, &mut self.map, address)
     }
 
-    /// Gives back all blocks.
-    fn end(&mut self)
-        requires { AreBeside self.old.heap self.old.other self.old.memory self.old.map }
-        ensures { AreBeside self.new.heap self.new.other self.new.memory self.new.map }
-    {
-        self.heap.end(&mut self.memory, &mut self.map);
-    }
-
-    /// Puts a word over eight bytes of a payload.
-    fn poke(&mut self, rt: &impl Abort, address: u64, word: u64)
-        requires { AreBeside self.old.heap self.old.other self.old.memory self.old.map }
-        ensures { AreBeside self.new.heap self.new.other self.new.memory self.new.map }
-    {
-        let (ds, offset) = self
-            .heap
-            .block_of(&mut self.memory, &self.map, address, 8)
-            .expect(rt, "the payload has them");
-        assert!(rt; offset % 8 == 0);
-        self.memory.store_word(ds, offset, word);
-    }
-
-    /// Eight bytes of a payload, as a word.
-    fn peek(&mut self, rt: &impl Abort, address: u64) -> u64
-        requires { AreBeside self.old.heap self.old.other self.old.memory self.old.map }
-        ensures { AreBeside self.new.heap self.new.other self.new.memory self.new.map }
-    {
-        let mut buffer = [0; 8];
-        let (ds, offset) = self
-            .heap
-            .block_of(&mut self.memory, &self.map, address, 8)
-            .expect(rt, "the payload has them");
-        self.memory.read(ds, offset, &mut buffer);
-        u64::from_le_bytes(buffer)
-    }
-
-    /// Whether so many bytes from an address on lie in one payload.
-    fn holds(&mut self, address: u64, count: u64) -> bool
-        requires sound { AreBeside self.old.heap self.old.other self.old.memory self.old.map }
-        requires some { 1 ≤ count }
-        ensures { AreBeside self.new.heap self.new.other self.new.memory self.new.map }
-    {
-        self.heap
-            .block_of(&mut self.memory, &self.map, address, count)
-            .is_some()
-    }
-
-    /// What the root uses.
-    fn used(&self) -> (Ram, Caps) {
-        self.memory.used(self.memory.root())
-    }
-
     /// Makes a call, and tells whether it is answered as told.
-    fn carry_out(&mut self, rt: &impl Abort, step: &Step) -> bool
+    fn carry_out(&mut self, step: &Step) -> bool
         requires { AreBeside self.old.heap self.old.other self.old.memory self.old.map }
         ensures { AreBeside self.new.heap self.new.other self.new.memory self.new.map }
     {
         match *step {
             Step::Take(bytes, address) => self.take(bytes) == Ok(address),
-            Step::Refused(bytes, refusal) => self.take(bytes) == Err(refusal),
             Step::Give(address) => self.give(address).is_ok(),
-            Step::Stays(address) => self.give(address) == Err(Refusal::PageFault),
-            Step::End => {
-                self.end();
-                true
-            }
             Step::Swap => {
                 self.swap();
                 true
             }
-            Step::Holds(address, count) => count > 0 && self.holds(address, count),
-            Step::Lacks(address, count) => count > 0 && !self.holds(address, count),
-            Step::Store(address, word) => {
-                self.poke(rt, address, word);
-                true
-            }
-            Step::Shows(address, word) => self.peek(rt, address) == word,
-            Step::Uses(ram, caps) => self.used() == (Ram(ram), Caps(caps)),
         }
     }
 
@@ -151,16 +92,14 @@ impl Machine {
         ensures { AreBeside self.new.heap self.new.other self.new.memory self.new.map }
     {
         for (place, step) in steps.iter().enumerate() {
-            assert!(rt; self.carry_out(rt, step), "at step {place}");
+            assert!(rt; self.carry_out(step), "at step {place}");
         }
     }
 }
 
-/// The root has so many pages, and the other heap's account so much of them.
-fn check(rt: &impl Abort, alloc: Global, pages: usize, other: (u64, u32), steps: &[Step])
-    requires { pages ≤ 4096 }
-{
-    let mut machine = Machine::boot(rt, alloc, pages, Ram(other.0), Caps(other.1));
+/// Each call is answered as told on a machine of 64 pages, of which each heap's account has half.
+fn check(rt: &impl Abort, alloc: Global, steps: &[Step]) {
+    let mut machine = Machine::boot(rt, alloc);
     machine.run(rt, steps);
 }
 
@@ -169,8 +108,6 @@ fn ties_go_to_the_older_chunk(rt: HostRuntime) {
     check(
         &rt,
         rt.alloc(),
-        64,
-        (32 * PAGE, 16),
         &[
             Step::Swap,
             Step::Take(65536, 0x1_0000_0000),
@@ -191,8 +128,6 @@ fn ties_go_to_the_older_chunk(rt: HostRuntime) {
     check(
         &rt,
         rt.alloc(),
-        64,
-        (32 * PAGE, 16),
         &[
             Step::Take(100, 0x1_0000_0010),
             Step::Take(16240, 0x1_0000_0090),
@@ -201,188 +136,6 @@ fn ties_go_to_the_older_chunk(rt: HostRuntime) {
             Step::Give(0x1_0000_4010),
             Step::Give(0x1_0000_0010),
             Step::Take(100, 0x1_0000_0010),
-        ],
-    );
-}
-
-#[test]
-fn large_blocks_stand_alone(rt: HostRuntime) {
-    check(
-        &rt,
-        rt.alloc(),
-        64,
-        (24 * PAGE, 24),
-        &[
-            Step::Take(65535, 0x1_0000_0010),
-            Step::Uses(69632, 1),
-            Step::Take(65536, 0x1_0001_1000),
-            Step::Uses(135_168, 2),
-            Step::Refused(65536, Refusal::OutOfRam),
-            Step::Holds(0x1_0001_1000, 65536),
-            Step::Lacks(0x1_0001_1000, 65537),
-            Step::Stays(0x1_0001_1010),
-            Step::Give(0x1_0001_1000),
-            Step::Uses(69632, 1),
-            Step::Stays(0x1_0001_1000),
-        ],
-    );
-}
-
-#[test]
-fn growth_takes_the_larger_chunk_first(rt: HostRuntime) {
-    check(
-        &rt,
-        rt.alloc(),
-        64,
-        (16 * PAGE, 16),
-        &[
-            Step::Swap,
-            Step::Take(16000, 0x1_0000_0010),
-            Step::Take(16000, 0x1_0000_4010),
-            Step::Take(16000, 0x1_0000_7ea0),
-            // Sixteen pages are more than are left, four are not.
-            Step::Take(16000, 0x1_0000_c010),
-            Step::Refused(16000, Refusal::OutOfRam),
-            Step::Take(352, 0x1_0000_3ea0),
-        ],
-    );
-    check(
-        &rt,
-        rt.alloc(),
-        64,
-        (8 * PAGE, 1),
-        &[
-            Step::Swap,
-            Step::Refused(0, Refusal::InvalidSize),
-            Step::Refused(u64::MAX, Refusal::InvalidSize),
-            Step::Refused(65535, Refusal::OutOfRam),
-            Step::Take(16368, 0x1_0000_0010),
-            // Eight pages are more than are left, and one is not, but for its capability.
-            Step::Refused(1, Refusal::OutOfCaps),
-            Step::Swap,
-            Step::Uses(0, 0),
-        ],
-    );
-}
-
-#[test]
-fn sixty_four_chunks_and_no_more(rt: HostRuntime) {
-    let mut machine = Machine::boot(&rt, rt.alloc(), 4096, Ram(PAGE), Caps(1));
-    // One in each chunk of 17, 17, 17 and 32 pages, and three in each of 64.
-    for _ in 0..184 {
-        assert!(rt; machine.take(65535).is_ok());
-    }
-    machine.run(
-        &rt,
-        &[
-            Step::Uses(3923 * PAGE, 64),
-            Step::Refused(65535, Refusal::TooManyChunks),
-        ],
-    );
-    // What no chunk is needed for is granted.
-    assert!(rt; machine.take(65536).is_ok());
-    assert!(rt; machine.take(65472).is_ok());
-    machine.run(
-        &rt,
-        &[
-            Step::Uses(3939 * PAGE, 65),
-            Step::Give(0x1_0000_0010),
-            Step::Take(65535, 0x1_0000_0010),
-        ],
-    );
-}
-
-#[test]
-fn payloads_are_found_and_headers_are_not(rt: HostRuntime) {
-    check(
-        &rt,
-        rt.alloc(),
-        64,
-        (8 * PAGE, 1),
-        &[
-            Step::Take(100, 0x1_0000_0010),
-            Step::Take(100, 0x1_0000_0090),
-            Step::Holds(0x1_0000_0010, 112),
-            Step::Lacks(0x1_0000_0010, 113),
-            Step::Lacks(0x1_0000_000f, 1),
-            Step::Holds(0x1_0000_00ff, 1),
-            Step::Lacks(0x1_0000_0100, 1),
-            Step::Lacks(0x1_0000_0090, u64::MAX),
-            Step::Swap,
-            Step::Lacks(0x1_0000_0010, 1),
-            Step::Stays(0x1_0000_0010),
-            Step::Swap,
-            Step::Store(0x1_0000_0078, u64::MAX),
-            Step::Shows(0x1_0000_0076, 0xffff_ffff_ffff_0000),
-            Step::Shows(0x1_0000_0078, u64::MAX),
-            // A payload is zero again when it is handed out, beyond what is asked for as well.
-            Step::Give(0x1_0000_0010),
-            Step::Lacks(0x1_0000_0010, 1),
-            Step::Take(80, 0x1_0000_0010),
-            Step::Shows(0x1_0000_0076, 0),
-            Step::Shows(0x1_0000_0078, 0),
-        ],
-    );
-}
-
-#[test]
-fn imitated_headers_are_not_believed(rt: HostRuntime) {
-    check(
-        &rt,
-        rt.alloc(),
-        64,
-        (8 * PAGE, 1),
-        &[
-            Step::Take(100, 0x1_0000_0010),
-            Step::Take(100, 0x1_0000_0090),
-            Step::Take(100, 0x1_0000_0110),
-            // A used block of 48 bytes and a hole of 64, as far into the payload as blocks can start.
-            Step::Store(0x1_0000_0010, 48),
-            Step::Store(0x1_0000_0018, 1),
-            Step::Store(0x1_0000_0040, 64),
-            Step::Store(0x1_0000_0090, 48),
-            Step::Store(0x1_0000_0098, 1),
-            Step::Store(0x1_0000_00c0, 64),
-            Step::Store(0x1_0000_0110, 48),
-            Step::Store(0x1_0000_0118, 1),
-            Step::Store(0x1_0000_0140, 64),
-            Step::Stays(0x1_0000_0020),
-            Step::Stays(0x1_0000_00a0),
-            Step::Stays(0x1_0000_00d0),
-            Step::Stays(0x1_0000_0120),
-            Step::Stays(0x1_0000_0180),
-            Step::Stays(0x1_0000_0000),
-            Step::Stays(0),
-            Step::Stays(u64::MAX),
-            Step::Give(0x1_0000_0090),
-            Step::Stays(0x1_0000_0090),
-            Step::Give(0x1_0000_0010),
-            Step::Give(0x1_0000_0110),
-            Step::Take(16368, 0x1_0000_0010),
-        ],
-    );
-}
-
-#[test]
-fn end_leaves_the_other_heap(rt: HostRuntime) {
-    check(
-        &rt,
-        rt.alloc(),
-        64,
-        (8 * PAGE, 1),
-        &[
-            Step::Take(65535, 0x1_0000_0010),
-            Step::Take(4096, 0x1_0001_1010),
-            Step::Swap,
-            Step::Take(1, 0x1_0001_9010),
-            Step::Store(0x1_0001_9010, u64::MAX),
-            Step::Swap,
-            Step::End,
-            Step::Uses(0, 0),
-            Step::Lacks(0x1_0000_0010, 1),
-            Step::Take(1, 0x1_0000_0010),
-            Step::Swap,
-            Step::Shows(0x1_0001_9010, u64::MAX),
         ],
     );
 }

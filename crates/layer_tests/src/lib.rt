@@ -1,4 +1,5 @@
-//! Tests of the layers below the services: worked calls of each, as tables where they are such.
+//! Tests of the layers below the core, of what no scenario shows. What scripts and sessions are answered are cases
+//! (`cases/engine`).
 #![tactic(auto)]
 
 #[cfg(test)]
@@ -6,19 +7,10 @@ mod accounts;
 #[cfg(test)]
 mod best_fit;
 #[cfg(test)]
-#[tactic(auto, using(crate::proofs::MemoryLemmas::store_laws))]
-mod dataspaces;
-#[cfg(test)]
 mod heaps;
 #[cfg(test)]
 mod pages;
 #[cfg(test)]
-mod regions;
-#[cfg(test)]
 mod selectors;
-#[cfg(test)]
-mod sliced;
-#[cfg(test)]
-mod steps;
 #[cfg(test)]
 mod texts;

@@ -11,29 +11,6 @@ fn check_insert(rt: &impl Abort, space: &mut CapSpace, cap: Cap, selector: u32) 
 }
 
 #[test]
-fn freed_selector_is_given_again(rt: HostRuntime) {
-    let mut space = CapSpace::boot(rt.alloc(), 4096).expect(&rt, "memory for 4096 places");
-    assert_eq!(rt; space.places(), 4096);
-    for selector in 1..4097 {
-        check_insert(&rt, &mut space, Cap::RpcObject, selector);
-    }
-    assert!(rt; space.is_full());
-    assert_eq!(rt; space.take_dataspace(2), None);
-    assert!(rt; space.take_rpc_object(2));
-    assert!(rt; !space.take_rpc_object(2));
-    check_insert(&rt, &mut space, Cap::Dataspace(DsId(7)), 2);
-    assert!(rt; !space.take_rpc_object(2));
-    for selector in [0, 4097, 1 << 32, (1 << 32) + 1, u64::MAX] {
-        assert_eq!(rt; space.get(selector), None, "at {selector}");
-        assert_eq!(rt; space.take_dataspace(selector), None, "at {selector}");
-        assert!(rt; !space.take_rpc_object(selector), "at {selector}");
-    }
-    assert_eq!(rt; space.take_dataspace(2), Some(DsId(7)));
-    assert_eq!(rt; space.get(2), None);
-    assert_eq!(rt; space.get(4096), Some(Cap::RpcObject));
-}
-
-#[test]
 fn buffer_is_taken_by_its_dataspace(rt: HostRuntime) {
     let mut space = CapSpace::boot(rt.alloc(), 8).expect(&rt, "memory for eight places");
     let (session, other) = (Selector(1), Selector(9));

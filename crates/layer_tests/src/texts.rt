@@ -1,6 +1,6 @@
 //! The readers of texts: each on texts that it takes and on others.
 
-use session_proto::SessionArgs;
+use session_proto::{FileRequest, SessionArgs};
 use std::process::Abort;
 use text_codec::{
     decode_hex, encode_hex, find_byte, has_name_bytes, is_name, is_path, read_address, read_hex,
@@ -183,4 +183,12 @@ fn session_arguments_are_read(rt: HostRuntime) {
         assert!(rt; SessionArgs::read(text.as_bytes()).is_err(), "of {text}");
     }
     assert!(rt; SessionArgs::read(LONGEST.as_bytes()).is_ok());
+}
+
+#[test]
+fn requests_have_8192_bytes_at_most(rt: HostRuntime) {
+    let mut text = [b'0'; 8193];
+    text[..5].copy_from_slice(b"SIZE ");
+    assert!(rt; FileRequest::read(&text[..8192]).is_some());
+    assert!(rt; FileRequest::read(&text).is_none());
 }

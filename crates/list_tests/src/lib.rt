@@ -1,9 +1,6 @@
-//! Tests of start lists: what a list that is read says, where its wishes lead, what it boots, and want of memory.
+//! Tests of start lists: want of memory while one is read and booted. What a list says, what it boots and where its wishes lead
+//! are cases (`cases/lists`, `cases/engine/boots`, `cases/engine/inits`, `cases/desk/wishes`).
 #![tactic(auto)]
 
 #[cfg(test)]
-mod entries;
-#[cfg(test)]
 mod wants;
-#[cfg(test)]
-mod wishes;

@@ -4,6 +4,7 @@
 mod apart;
 mod changes;
 mod coloring;
+mod coverings;
 mod documents;
 mod ends;
 mod files;
@@ -152,6 +153,7 @@ fn answer(rt: &HostRuntime, command: Command<'_>, given: Given<'_>) -> u8 {
             machine,
             only,
             accounts,
+            numbers,
             color,
             scenario,
             ..
@@ -160,6 +162,7 @@ fn answer(rt: &HostRuntime, command: Command<'_>, given: Given<'_>) -> u8 {
                 let viewing = Viewing::Run {
                     only,
                     accounts,
+                    numbers,
                     coloring,
                 };
                 play(rt, machine, scenario, given, viewing)
@@ -244,6 +247,8 @@ fn answer(rt: &HostRuntime, command: Command<'_>, given: Given<'_>) -> u8 {
         Command::Test {
             machine,
             junit,
+            coverage,
+            json,
             color,
             paths,
         } => match Coloring::asked(rt, color) {
@@ -252,6 +257,8 @@ fn answer(rt: &HostRuntime, command: Command<'_>, given: Given<'_>) -> u8 {
                     paths: paths.as_slice(),
                     machine,
                     junit,
+                    coverage,
+                    json,
                     given,
                     colored: coloring.out,
                 };

@@ -7,11 +7,14 @@ use crate::given::Given;
 use crate::lists::tell_fault;
 use crate::unfolding::unfolded;
 use colors::{Lines, Painted};
-use init_core::{BootFault, MACHINE_A};
+use init_core::{BootFault, MACHINE_A, StartList};
 use scenario::{Input, Output, Sink, Source};
-use start_review::{Fault, Review};
+use start_review::Review;
 use std::{fs, io};
-use workbench::{Ending, Play, accounts, alone, run, trace};
+use workbench::{Ending, Play, Showing, accounts, alone, near_component, run, trace};
+
+/// The exit status where nobody has the name that is asked for.
+const NOBODY: u8 = 3;
 
 /// What is told of a scenario.
 #[derive(Clone, Copy, Debug)]
@@ -22,6 +25,8 @@ pub(crate) enum Viewing<'a> {
         only: Option<&'a str>,
         /// Whether the account list is told after the last reply.
         accounts: bool,
+        /// Whether the number of its line is told before what each line is told.
+        numbers: bool,
         /// Where lines are coloured.
         coloring: Coloring,
     },
@@ -82,11 +87,13 @@ fn play_on<'a>(
     given: Given<'_>,
     viewing: Viewing<'_>,
 ) -> u8 {
-    if let Some(name) = viewing.name() {
-        if warn_of_stranger(rt, text, machine, name) {
-            return REFUSED;
-        }
-    }
+    let is_known = match viewing.name() {
+        Some(name) => match is_component(rt, text, machine, name) {
+            Ok(found) => found,
+            Err(status) => return status,
+        },
+        None => true,
+    };
     let known = match given.known_or_told(rt) {
         Ok(known) => known,
         Err(status) => return status,
@@ -115,29 +122,48 @@ fn play_on<'a>(
     if let Err(fault) = &played.ended {
         tell_unbooted(rt, text, machine, fault);
     }
-    played.tell(rt, scenario)
+    match played.tell(rt, scenario) {
+        0 if !is_known => NOBODY,
+        status => status,
+    }
 }
 
-// Warns of a name that no component has. Where the list of a file is none it tells that, and answers that it did.
-fn warn_of_stranger(rt: &HostRuntime, text: &[u8], machine: Option<&str>, name: &str) -> bool {
+// Whether a component has a name; one that none has is told. Where the list of a file is none that is told, and the exit status
+// is answered.
+fn is_component(
+    rt: &HostRuntime,
+    text: &[u8],
+    machine: Option<&str>,
+    name: &str,
+) -> Result<bool, u8> {
     match Review::read(rt.alloc(), text) {
         Ok(review) => {
-            if review.list().find(name.as_bytes()).is_none() {
-                let _ = eprintln!(rt; "{name}: no component of the machine has this name");
+            let found = review.list().find(name.as_bytes()).is_some();
+            if !found {
+                tell_stranger(rt, review.list(), name);
             }
-            false
+            Ok(found)
         }
-        Err(fault) => tell_no_list(rt, machine, &fault),
+        Err(fault) => match machine {
+            Some(path) => {
+                tell_fault(rt, path, &fault);
+                Err(REFUSED)
+            }
+            None => Ok(true),
+        },
     }
 }
 
-// Tells why a list of a path is none, and whether there is a path.
-fn tell_no_list(rt: &HostRuntime, machine: Option<&str>, fault: &Fault) -> bool {
-    if let Some(path) = machine {
-        tell_fault(rt, path, fault);
-        return true;
-    }
-    false
+// Tells a name that no component has, and the one that may be meant.
+fn tell_stranger(rt: &HostRuntime, list: &StartList, name: &str) {
+    let near = match near_component(list, name.as_bytes()) {
+        Some(near) => str::from_utf8(near).ok(),
+        None => None,
+    };
+    let _ = match near {
+        Some(near) => eprintln!(rt; "{name}: no component; did you mean {near}?"),
+        None => eprintln!(rt; "{name}: no component"),
+    };
 }
 
 // Plays the scenario of a source over the standard streams.
@@ -154,14 +180,15 @@ fn play_from<S: Source>(
         Viewing::Run {
             only,
             accounts: listed,
+            numbers,
             coloring,
         } => {
-            let running = Running {
-                only,
-                listed,
-                coloring,
+            let showing = Showing {
+                only: name_bytes(only),
+                accounts: listed,
+                numbers,
             };
-            return run_colored(rt, play, running, reader);
+            return run_colored(rt, play, showing, coloring, reader);
         }
         Viewing::Trace { json: true } => return trace_documents(rt, play, reader),
         Viewing::Accounts { json: true } => return accounts_document(rt, play, reader),
@@ -182,21 +209,11 @@ fn play_from<S: Source>(
     }
 }
 
-// What is asked of a run.
-#[derive(Clone, Copy)]
-struct Running<'a> {
-    only: Option<&'a str>,
-    listed: bool,
-    coloring: Coloring,
-}
-
-impl<'a> Running<'a> {
-    // The name whose lines alone are answered.
-    fn name(self) -> Option<&'a [u8]> {
-        match self.only {
-            Some(name) => Some(name.as_bytes()),
-            None => None,
-        }
+// The bytes of a name, if there is one.
+fn name_bytes(name: Option<&str>) -> Option<&[u8]> {
+    match name {
+        Some(name) => Some(name.as_bytes()),
+        None => None,
     }
 }
 
@@ -204,56 +221,42 @@ impl<'a> Running<'a> {
 fn run_colored<S: Source>(
     rt: &HostRuntime,
     play: Play<'_>,
-    running: Running<'_>,
+    showing: Showing<'_>,
+    coloring: Coloring,
     reader: &mut S,
 ) -> Played {
     let mut writer = Output::new(io::writer(rt));
-    if running.coloring.out {
+    if coloring.out {
         let mut painted = Painted::new(rt.alloc(), writer, Lines::Replies);
-        let ended = run_told(rt, play, running, reader, &mut painted);
+        let ended = run_told(rt, play, showing, coloring.err, reader, &mut painted);
         return Played {
             ended,
             unread: painted.sink().is_unread(),
         };
     }
-    let ended = run_told(rt, play, running, reader, &mut writer);
+    let ended = run_told(rt, play, showing, coloring.err, reader, &mut writer);
     Played {
         ended,
         unread: writer.is_unread(),
     }
 }
 
-// The same with the transcript on a sink.
+// The same with the transcript on a sink, and complaints in colour or without.
 fn run_told<S: Source, K: Sink>(
     rt: &HostRuntime,
     play: Play<'_>,
-    running: Running<'_>,
+    showing: Showing<'_>,
+    colored: bool,
     reader: &mut S,
     writer: &mut K,
 ) -> Result<Ending, BootFault> {
     let alloc = rt.alloc();
     let mut complaints = Output::new(rt.stderr());
-    if running.coloring.err {
+    if colored {
         let mut painted = Painted::new(alloc, complaints, Lines::Complaints);
-        return run(
-            alloc,
-            play,
-            running.name(),
-            running.listed,
-            reader,
-            writer,
-            &mut painted,
-        );
+        return run(alloc, play, showing, reader, writer, &mut painted);
     }
-    run(
-        alloc,
-        play,
-        running.name(),
-        running.listed,
-        reader,
-        writer,
-        &mut complaints,
-    )
+    run(alloc, play, showing, reader, writer, &mut complaints)
 }
 
 /// Tells why no machine was booted, with the place in its start list where that is a file's.

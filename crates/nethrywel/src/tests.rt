@@ -1,4 +1,5 @@
 //! Scenarios that are run as tests, and what is told of them.
+use crate::coverings::Coverings;
 use crate::ends::{Stopped, UNWRITTEN, status_of};
 use crate::files::{read_start_list, read_whole};
 use crate::given::Given;
@@ -16,7 +17,14 @@ use std::{fs, io};
 use test_report::{
     Trial, failures, junit_document, machine_beside, policy_beside, tap_plan, tap_point,
 };
-use workbench::{Ending, Play, exit_status, run};
+use workbench::{Ending, Play, Showing, exit_status, run, trace};
+
+/// What is told of a test: its replies.
+const REPLIES: Showing<'static> = Showing {
+    only: None,
+    accounts: false,
+    numbers: false,
+};
 
 /// The exit status where a scenario isn't answered as it expects.
 const FAILED: u8 = 3;
@@ -30,6 +38,10 @@ pub(crate) struct Wanted<'a> {
     pub(crate) machine: Option<&'a str>,
     /// The file to which the document of all results is written.
     pub(crate) junit: Option<&'a str>,
+    /// Whether it is told what the scenarios show of their machines.
+    pub(crate) coverage: bool,
+    /// Whether that is told as a document, in place of all lines.
+    pub(crate) json: bool,
     /// What names stand for.
     pub(crate) given: Given<'a>,
     /// Whether lines are coloured.
@@ -65,19 +77,21 @@ fn write_document(rt: &HostRuntime, path: &str, trials: &[Trial]) -> io::Result<
     fs::write(rt, path, document)
 }
 
-// Runs all, and tells a line each.
+// Runs all, and tells a line each, and behind them what they show, where that is asked for.
 fn run_all(rt: &HostRuntime, scenarios: &[String], wanted: &Wanted<'_>) -> io::Result<Vec<Trial>> {
     let alloc = rt.alloc();
-    let teller = Teller::new(rt, wanted.colored, scenarios.len());
+    let mut coverings = Coverings::new(rt, wanted.coverage, wanted.json);
+    let teller = Teller::new(rt, wanted.colored, coverings.is_document(), scenarios.len());
     teller.tell(rt, tap_plan(alloc, scenarios.len())?.as_bytes())?;
     let mut trials = Vec::new(alloc);
     for scenario in scenarios {
-        let trial = run_one(rt, scenario.as_str(), wanted)?;
+        let trial = run_one(rt, scenario.as_str(), wanted, &mut coverings)?;
         let point = tap_point(alloc, trials.len().saturating_add(1), &trial)?;
         teller.tell(rt, point.as_slice())?;
         trials.push(trial)?;
         teller.progress(rt, trials.len());
     }
+    coverings.tell(rt)?;
     Ok(trials)
 }
 
@@ -85,15 +99,18 @@ fn run_all(rt: &HostRuntime, scenarios: &[String], wanted: &Wanted<'_>) -> io::R
 #[derive(Clone, Copy)]
 struct Teller {
     colored: bool,
+    // Whether a document is told in place of lines.
+    silent: bool,
     // Whether it is told on standard error how far the run is: where that is a terminal, and the lines go elsewhere.
     progress: bool,
     all: usize,
 }
 
 impl Teller {
-    fn new(rt: &HostRuntime, colored: bool, all: usize) -> Teller {
+    fn new(rt: &HostRuntime, colored: bool, silent: bool, all: usize) -> Teller {
         Teller {
             colored,
+            silent,
             progress: rt.stderr().is_terminal() && !rt.stdout().is_terminal(),
             all,
         }
@@ -101,6 +118,9 @@ impl Teller {
 
     // Tells lines.
     fn tell(self, rt: &HostRuntime, lines: &[u8]) -> io::Result<()> {
+        if self.silent {
+            return Ok(());
+        }
         let mut writer = io::writer(rt);
         if self.colored {
             return writer.write_all(paint(rt.alloc(), Lines::Tests, lines)?.as_slice());
@@ -122,36 +142,63 @@ impl Teller {
     }
 }
 
-// Runs a scenario on its machine.
-fn run_one(rt: &HostRuntime, scenario: &str, wanted: &Wanted<'_>) -> Result<Trial, AllocError> {
+// A scenario, on the machine of a text.
+#[derive(Clone, Copy)]
+struct Case<'a> {
+    scenario: &'a str,
+    machine: &'a [u8],
+    given: Given<'a>,
+}
+
+// Runs a scenario on its machine, and adds what it shows of that where this is asked for.
+fn run_one(
+    rt: &HostRuntime,
+    scenario: &str,
+    wanted: &Wanted<'_>,
+    coverings: &mut Coverings,
+) -> Result<Trial, AllocError> {
     let beside = machine_beside(rt.alloc(), scenario)?;
     let list = match fs::exists(rt, beside.as_str()) {
         Ok(false) => wanted.machine,
         _ => Some(beside.as_str()),
     };
     let Some(path) = list else {
-        return run_whole(rt, scenario, MACHINE_A.as_bytes(), None, wanted.given);
+        let case = Case {
+            scenario,
+            machine: MACHINE_A.as_bytes(),
+            given: wanted.given,
+        };
+        return run_whole(rt, case, None, coverings);
     };
     match read_start_list(rt, path, wanted.given) {
-        Ok(text) => run_whole(rt, scenario, &text, list, wanted.given),
+        Ok(text) => run_whole(
+            rt,
+            Case {
+                scenario,
+                machine: &text,
+                given: wanted.given,
+            },
+            list,
+            coverings,
+        ),
         Err(fault) => failed(rt, scenario, format!(in rt.alloc(); "{fault}\n")?),
     }
 }
 
-// Runs a scenario on the machine of a text, and holds the policy that stands beside it against the machine.
+// Runs a scenario on a machine, by the path of its start list where that is a file's, and holds the policy that stands beside the
+// scenario against the machine.
 fn run_whole(
     rt: &HostRuntime,
-    scenario: &str,
-    text: &[u8],
+    case: Case<'_>,
     list: Option<&str>,
-    given: Given<'_>,
+    coverings: &mut Coverings,
 ) -> Result<Trial, AllocError> {
-    let mut trial = run_on(rt, scenario, text, list, given)?;
-    let policy = policy_beside(rt.alloc(), scenario)?;
+    let mut trial = run_on(rt, case, list, coverings)?;
+    let policy = policy_beside(rt.alloc(), case.scenario)?;
     if let Ok(false) = fs::exists(rt, policy.as_str()) {
         return Ok(trial);
     }
-    if let Ok(list) = StartList::read(rt.alloc(), text) {
+    if let Ok(list) = StartList::read(rt.alloc(), case.machine) {
         hold_beside(rt, &list, policy.as_str(), &mut trial)?;
     }
     Ok(trial)
@@ -188,18 +235,18 @@ fn fail(trial: &mut Trial, line: String) -> Result<(), AllocError> {
     Ok(())
 }
 
-// Runs a scenario on the machine of a text.
+// Runs a scenario.
 fn run_on(
     rt: &HostRuntime,
-    scenario: &str,
-    text: &[u8],
+    case: Case<'_>,
     list: Option<&str>,
-    given: Given<'_>,
+    coverings: &mut Coverings,
 ) -> Result<Trial, AllocError> {
     let alloc = rt.alloc();
+    let scenario = case.scenario;
     if let Some(whole) = read_whole(rt, scenario) {
-        return match unfold(alloc, &whole, given.known(alloc)?) {
-            Ok(lines) => run_from(rt, scenario, text, list, given, &mut lines.bytes()),
+        return match unfold(alloc, &whole, case.given.known(alloc)?) {
+            Ok(lines) => run_from(rt, case, list, &mut lines.bytes(), coverings),
             Err(Unfit::Fault(fault)) => {
                 failed(rt, scenario, format!(in alloc; "{scenario}:{fault}\n")?)
             }
@@ -207,7 +254,7 @@ fn run_on(
         };
     }
     match fs::open(rt, scenario) {
-        Ok(file) => run_from(rt, scenario, text, list, given, &mut Input::new(file)),
+        Ok(file) => run_from(rt, case, list, &mut Input::new(file), coverings),
         Err(_) => failed(
             rt,
             scenario,
@@ -216,37 +263,37 @@ fn run_on(
     }
 }
 
-// Runs a scenario of a source on the machine of a text.
+// Runs a scenario of a source. What it shows is read from its trace.
 fn run_from<S: Source>(
     rt: &HostRuntime,
-    scenario: &str,
-    text: &[u8],
+    case: Case<'_>,
     list: Option<&str>,
-    given: Given<'_>,
     source: &mut S,
+    coverings: &mut Coverings,
 ) -> Result<Trial, AllocError> {
     let alloc = rt.alloc();
     let play = Play {
-        machine: text,
-        scenario: scenario.as_bytes(),
-        given: given.known(alloc)?,
+        machine: case.machine,
+        scenario: case.scenario.as_bytes(),
+        given: case.given.known(alloc)?,
     };
     let mut complaints = Output::new(Vec::new(alloc));
-    let ended = run(
-        alloc,
-        play,
-        None,
-        false,
-        source,
-        &mut Output::new(io::sink()),
-        &mut complaints,
-    );
+    let ended = if coverings.are_wanted() {
+        let mut traced = Output::new(Vec::new(alloc));
+        let ended = trace(alloc, play, source, &mut traced, &mut complaints);
+        let shown = traced.into_inner();
+        coverings.add(rt, case.machine, list, case.scenario, shown.as_slice())?;
+        ended
+    } else {
+        let mut nowhere = Output::new(io::sink());
+        run(alloc, play, REPLIES, source, &mut nowhere, &mut complaints)
+    };
     let mut told = complaints.into_inner();
-    if let Some(line) = last_line(rt, scenario, text, list, &ended)? {
+    if let Some(line) = last_line(rt, case, list, &ended)? {
         told.extend_from_slice(line.as_bytes())?;
     }
     Ok(Trial {
-        path: String::from_str(alloc, scenario)?,
+        path: String::from_str(alloc, case.scenario)?,
         passed: exit_status(&ended) == 0,
         told,
     })
@@ -255,8 +302,7 @@ fn run_from<S: Source>(
 // What is told of a play that didn't begin or didn't come to its end.
 fn last_line(
     rt: &HostRuntime,
-    scenario: &str,
-    text: &[u8],
+    case: Case<'_>,
     list: Option<&str>,
     ended: &Result<Ending, BootFault>,
 ) -> Result<Option<String>, AllocError> {
@@ -265,7 +311,7 @@ fn last_line(
         Ok(ending) => match ending.fault {
             Some(fault) => {
                 let stopped = Stopped {
-                    scenario,
+                    scenario: case.scenario,
                     lines: ending.lines,
                     fault,
                 };
@@ -275,7 +321,7 @@ fn last_line(
         },
         Err(fault) => {
             if let Some(path) = list {
-                if let Err(fault) = Review::read(alloc, text) {
+                if let Err(fault) = Review::read(alloc, case.machine) {
                     let told = Told {
                         path,
                         fault: &fault,

@@ -17,7 +17,6 @@ pub mod SlicedLemmas
 pub mod BytesLemmas
 pub mod BytesPlaceLemmas
 pub mod HexLemmas
-pub mod HexSpellingLemmas
 -- what sessions lend it
 pub mod LentLemmas
 pub mod LentGoneLemmas

@@ -1,6 +1,7 @@
 pub mod Call
 pub mod Answer
 pub mod Own
+pub mod Bytes
 pub mod Does
 pub mod Sound
 pub mod Sessions

@@ -5,8 +5,8 @@ ghost use Rattle.own_model.specs.Reply.Reply.{Selected};
 ghost use Rattle.trade_base.specs.Refusal.{refusal_name};
 ghost use Rattle.pd_core.specs.Answer.{quotas_account, reply_of, told_alone};
 
-use crate::hex_digits::{MOST_DIGITS, write_hex};
 use server_frame::{Quotas, Reply};
+use text_codec::{MOST_HEX_DIGITS, write_hex};
 use trade_base::{Caps, Ram, Refusal, Selector};
 
 /// What a call that isn't refused is answered.
@@ -120,7 +120,7 @@ fn tell_selector(selector: Selector, reply: &mut Reply)
 fn tell_address(address: u64, reply: &mut Reply)
     ensures { reply.new ≡ told_alone (codes "at " ++ address_text address) }
 {
-    let mut digits = [0; MOST_DIGITS];
+    let mut digits = [0; MOST_HEX_DIGITS];
     let start = write_hex(address, &mut digits);
     tell_text(b"at 0x", reply);
     reply.add_text(&digits[start..]);

@@ -1,19 +1,24 @@
 //! The bytes of peeks and pokes, as they are and in hexadecimal digits.
-ghost use Rattle.std.specs.Prelude.{◌≡◌, ◌+◌, ◌≤◌, length, codes, ◌++◌, slice_range};
+ghost use Rattle.std.specs.Prelude.{◌≡◌, ◌+◌, ◌/◌, ◌≤◌, length, codes, ◌++◌, slice_range, Some};
 ghost use Rattle.dataspace_core.specs.Store.{Exists, space_at};
 ghost use Rattle.own_model.specs.Reply.{hex_text};
+ghost use Rattle.own_model.specs.Text.{bytes_of_hex, hex_bytes};
+ghost use Rattle.pd_core.specs.Bytes.{PutsBytes};
 ghost use Rattle.pd_core.specs.Answer.{told_alone};
 
 use crate::answer::tell_text;
 use dataspace_core::Memory;
 use server_frame::Reply;
+use text_codec::decode_hex;
 use trade_base::DsId;
 
 /// The most bytes of a peek or a poke.
 pub(crate) const MOST_BYTES: usize = 1024;
 
-/// Writes so many bytes of a dataspace in place of what the reply was. It stands alone, as `poke` does.
-#[inline(never)]
+/// So many bytes are peeked and poked by way of a small buffer, as a large one takes long to clear.
+const FEW_BYTES: usize = 128;
+
+/// Writes so many bytes of a dataspace in place of what the reply was.
 pub(crate) fn tell_range(reply: &mut Reply, memory: &Memory, space: DsId, offset: u64, count: usize)
     requires exists { Exists memory.now space.0 }
     requires range { offset + count ≤ length (space_at memory.now space.0).bytes }
@@ -21,10 +26,64 @@ pub(crate) fn tell_range(reply: &mut Reply, memory: &Memory, space: DsId, offset
     ensures { reply.new ≡ told_alone (codes "data "
         ++ hex_text (slice_range (space_at memory.now space.0).bytes offset (offset + count))) }
 {
-    let mut buffer = [0; MOST_BYTES];
+    if count <= FEW_BYTES {
+        tell_by::<FEW_BYTES>(reply, memory, space, offset, count);
+    } else {
+        tell_by::<MOST_BYTES>(reply, memory, space, offset, count);
+    }
+}
+
+/// The same by way of a buffer of so many bytes. It stands alone, since who takes it in would clear its buffer at each call.
+#[inline(never)]
+fn tell_by<const N: usize>(
+    reply: &mut Reply,
+    memory: &Memory,
+    space: DsId,
+    offset: u64,
+    count: usize,
+)
+    requires exists { Exists memory.now space.0 }
+    requires range { offset + count ≤ length (space_at memory.now space.0).bytes }
+    requires few { count ≤ N }
+    requires small { N ≤ MOST_BYTES }
+    ensures { reply.new ≡ told_alone (codes "data "
+        ++ hex_text (slice_range (space_at memory.now space.0).bytes offset (offset + count))) }
+{
+    let mut buffer = [0; N];
     let bytes = &mut buffer[..count];
     memory.read(space, offset, bytes);
     tell_bytes(reply, bytes);
+}
+
+/// Puts the bytes that a text of hexadecimal digits stands for into a dataspace from an offset on.
+pub(crate) fn put_hex(memory: &mut Memory, space: DsId, offset: u64, hex: &[u8])
+    requires hex { bytes_of_hex hex.now ≡ Some (hex_bytes hex.now) }
+    requires exists { Exists memory.old space.0 }
+    requires range { offset + length hex.now / 2 ≤ length (space_at memory.old space.0).bytes }
+    requires few { length hex.now / 2 ≤ MOST_BYTES }
+    ensures { PutsBytes space.0 offset (hex_bytes hex.now) memory.old memory.new }
+{
+    if hex.len() / 2 <= FEW_BYTES {
+        put_by::<FEW_BYTES>(memory, space, offset, hex);
+    } else {
+        put_by::<MOST_BYTES>(memory, space, offset, hex);
+    }
+}
+
+/// The same by way of a buffer of so many bytes, as `tell_by` does it.
+#[inline(never)]
+fn put_by<const N: usize>(memory: &mut Memory, space: DsId, offset: u64, hex: &[u8])
+    requires hex { bytes_of_hex hex.now ≡ Some (hex_bytes hex.now) }
+    requires exists { Exists memory.old space.0 }
+    requires range { offset + length hex.now / 2 ≤ length (space_at memory.old space.0).bytes }
+    requires few { length hex.now / 2 ≤ N }
+    requires small { N ≤ MOST_BYTES }
+    ensures { PutsBytes space.0 offset (hex_bytes hex.now) memory.old memory.new }
+{
+    let mut buffer = [0; N];
+    let bytes = &mut buffer[..hex.len() / 2];
+    decode_hex(hex, bytes);
+    memory.write(space, offset, bytes);
 }
 
 /// Writes bytes in hexadecimal digits in place of what the reply was.

@@ -7,7 +7,6 @@ mod bytes;
 mod call;
 mod component;
 mod exiting;
-mod hex_digits;
 mod label;
 mod machine;
 mod release;

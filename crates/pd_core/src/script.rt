@@ -2,7 +2,7 @@
 
 use crate::accounts::quotas_of;
 use crate::answer::{Granted, refuse, tell};
-use crate::bytes::{MOST_BYTES, tell_range};
+use crate::bytes::{MOST_BYTES, put_hex, tell_range};
 use crate::call::Call;
 use cap_space::{Cap, CapSpace};
 use dataspace_core::Memory;
@@ -10,7 +10,6 @@ use heap_core::Heap;
 use region_map::RegionMap;
 use server_frame::{Quotas, Reply};
 use sliced_heap::SlicedHeap;
-use text_codec::decode_hex;
 use trade_base::{AccountId, DsId, Refusal};
 
 /// A script: the account that it is charged on, the account of its reserve, its capabilities, its regions, its heap and the heap
@@ -170,8 +169,7 @@ impl Script {
     }
 
     /// The bytes that a text of hexadecimal digits stands for are put from an address on, or why not, as with `peek`. They may be
-    /// put into what a session lends. It stands alone, since who takes it in would clear its buffer at each call.
-    #[inline(never)]
+    /// put into what a session lends.
     fn poke(&self, memory: &mut Memory, address: u64, hex: &[u8]) -> Result<Granted, Refusal>
         requires hex { IsSome (bytes_of_hex hex.now) }
         requires sound { IsSoundScript memory.old self.now }
@@ -180,10 +178,7 @@ impl Script {
     {
         let count = hex.len() / 2;
         let (space, offset) = self.range(memory, address, count as u64)?;
-        let mut buffer = [0; MOST_BYTES];
-        let bytes = &mut buffer[..count];
-        decode_hex(hex, bytes);
-        memory.write(space, offset, bytes);
+        put_hex(memory, space, offset, hex);
         Ok(Granted::Done)
     }
 

@@ -28,7 +28,8 @@ pub(crate) fn check_structure(alloc: Global, lines: &[&[u8]]) -> Result<(), Unfi
 
 // With a line: the rounds that it begins or ends.
 fn keep_open(opens: &mut Vec<RoundsFault>, number: usize, line: &[u8]) -> Result<(), Unfit>
-    ensures { Makes result (opens_after number line.now (kind_of line.now) opens.old.items) opens.new.items }
+    ensures { Makes result (opens_after number line.now (kind_of line.now) opens.old.items)
+        opens.new.items }
 {
     match kind_of(line) {
         Kind::Plain => Ok(()),

@@ -67,9 +67,11 @@ impl Unfolding {
     ) -> Result<usize, Unfit>
         requires { number + length behind.now ≤ most_lines }
         ensures made { Makes result
-            (step_of (within deep) number (made_of self.old) line.now (texts behind.now) (kind_of line.now))
+            (step_of (within deep) number (made_of self.old) line.now (texts behind.now)
+            (kind_of line.now))
             (made_of self.new) }
-        ensures size { IfOk result (λ size. size ≡ 1 + owned (kind_of line.now) (texts behind.now)) }
+        ensures size { IfOk result
+            (λ size. size ≡ 1 + owned (kind_of line.now) (texts behind.now)) }
         ensures inside { IfOk result (λ size. size ≤ 1 + length behind.now) }
     {
         match kind_of(line) {
@@ -120,7 +122,8 @@ impl Unfolding {
     ) -> Result<(), Unfit>
         requires { place.line + length body.now ≤ most_lines }
         ensures { Makes result
-            (rounds_from (within deep) place (head_view head.entry) 0 head.entry.count (made_of self.old) (texts body.now))
+            (rounds_from (within deep) place (head_view head.entry) 0 head.entry.count
+            (made_of self.old) (texts body.now))
             (made_of self.new) }
     {
         for k in 0..head.count {
@@ -133,7 +136,8 @@ impl Unfolding {
     // Begins rounds of which there are none.
     fn put_none(&mut self, place: Place, head: Head<'_>) -> Result<(), Unfit>
         requires { place.line ≤ most_lines }
-        ensures { Makes result (begun place (head_view head.entry) (made_of self.old)) (made_of self.new) }
+        ensures { Makes result (begun place (head_view head.entry) (made_of self.old))
+            (made_of self.new) }
     {
         if head.count > 0 {
             return Ok(());
@@ -152,7 +156,8 @@ impl Unfolding {
     fn put_begin(&mut self, place: Place, head: Head<'_>, k: u64) -> Result<(), Unfit>
         requires { place.line ≤ most_lines }
         ensures { Makes result
-            (with_mark place (made_of self.old) (mark_before (head_view head.entry) place.line k)) (made_of self.new) }
+            (with_mark place (made_of self.old) (mark_before (head_view head.entry) place.line k))
+            (made_of self.new) }
     {
         let mut digits = Buffer::new();
         let counter = counter_of(head, digits.format(k).as_bytes());
@@ -161,7 +166,8 @@ impl Unfolding {
 
     // Puts a mark.
     fn put_mark(&mut self, place: Place, mark: Directive<'_>) -> Result<(), Unfit>
-        ensures { Makes result (with_mark place (made_of self.old) (directive_view mark.entry)) (made_of self.new) }
+        ensures { Makes result (with_mark place (made_of self.old) (directive_view mark.entry))
+            (made_of self.new) }
     {
         self.count = counted(place, self.count)?;
         put_mark_text(&mut self.text, mark)?;
@@ -245,7 +251,8 @@ fn set_names(known: &mut Known, line: &[u8]) -> Result<(), AllocError>
 
 // Writes a mark.
 fn put_mark_text(text: &mut Vec<u8>, mark: Directive<'_>) -> Result<(), AllocError>
-    ensures { OnOk result (text.new.items ≡ text.old.items ++ mark_text (directive_view mark.entry)) }
+    ensures { OnOk result (text.new.items
+        ≡ text.old.items ++ mark_text (directive_view mark.entry)) }
 {
     match mark {
         Directive::Enter { line, counter } => put_round(text, b"@enter ", line, counter),
@@ -273,7 +280,8 @@ fn put_round(
 
 // Writes a counter, if there is one.
 fn put_counter(text: &mut Vec<u8>, counter: Option<Counter<'_>>) -> Result<(), AllocError>
-    ensures { OnOk result (text.new.items ≡ text.old.items ++ counter_text (counter_view counter.entry)) }
+    ensures { OnOk result (text.new.items
+        ≡ text.old.items ++ counter_text (counter_view counter.entry)) }
 {
     let Some(counter) = counter else {
         return Ok(());

@@ -15,7 +15,7 @@ ghost use Rattle.scenario.specs.declared.columns.Owner.TheVariants.{Init as OfIn
 ghost use Rattle.scenario.specs.declared.running.RunFault.TheVariants.{WriteFault};
 
 use crate::account_sums::sum_all;
-use crate::account_text::{add, add_amounts, add_number, add_quotas};
+use crate::account_text::{add_amounts, add_quotas};
 use crate::columns::{Columns, NoColumns, Owner};
 use crate::device::{DeviceFault, Sink};
 use crate::gather::Gather;
@@ -23,6 +23,7 @@ use crate::running::RunFault;
 use arrayvec::ArrayVec;
 use init_core::StartList;
 use pd_core::{Core, Quotas, Reserve, Router};
+use text_codec::{add, add_number};
 
 /// Room for what follows the name in a line.
 const LONGEST_REST: usize = 160;

@@ -1,12 +1,12 @@
 //! The texts of accounts, in a fixed buffer.
-ghost use Rattle.std.specs.Prelude.{◌≡◌, ◌+◌, ◌≤◌, ◌++◌, length};
+ghost use Rattle.std.specs.Prelude.{◌≡◌, ◌+◌, ◌≤◌, ◌++◌};
 ghost use Rattle.arrayvec.specs.ArrayVec.{array_vec_len};
 ghost use Rattle.own_model.specs.Reply.{amounts_text, quota_text, share_text};
 ghost use Rattle.pd_core.specs.Answer.{quotas_account};
 
 use arrayvec::ArrayVec;
-use itoa::{Buffer, Integer};
 use pd_core::Quotas;
+use text_codec::{add, add_number};
 use trade_base::{Caps, Ram};
 
 /// Appends use and limit of RAM and of capabilities.
@@ -47,23 +47,4 @@ fn add_share<const N: usize>(text: &mut ArrayVec<u8, N>, used: u64, limit: u64)
     add_number(text, used);
     add(text, b"/");
     add_number(text, limit);
-}
-
-/// Appends a number in decimal digits.
-pub fn add_number<I: Integer, const N: usize>(text: &mut ArrayVec<u8, N>, number: I)
-    requires { array_vec_len text.old + I.MAX_STR_LEN ≤ N }
-    ensures items { text.new.items ≡ text.old.items ++ I.text number }
-    ensures len { array_vec_len text.new ≤ array_vec_len text.old + I.MAX_STR_LEN }
-{
-    let mut digits = Buffer::new();
-    add(text, digits.format(number).as_bytes());
-}
-
-/// Appends bytes that still fit.
-pub fn add<const N: usize>(text: &mut ArrayVec<u8, N>, more: &[u8])
-    requires { array_vec_len text.old + length more.now ≤ N }
-    ensures items { text.new.items ≡ text.old.items ++ more.now }
-    ensures len { array_vec_len text.new ≡ array_vec_len text.old + length more.now }
-{
-    let _ = text.try_extend_from_slice(more);
 }

@@ -134,7 +134,8 @@ fn named_piece<'a, 'k>(
     requires { size + length rest.now < 2 ^ 64 }
     ensures some { 1 ≤ size → IfOk result (λ piece. 1 ≤ piece.size) }
     ensures within { IfOk result (λ piece. piece.size ≤ size + length rest.now) }
-    ensures value { piece_seen result ≡ named_piece name.now size (value_of known.now name.now) rest.now }
+    ensures value { piece_seen result ≡ named_piece name.now size (value_of known.now name.now)
+        rest.now }
 {
     match known.value(name) {
         Some(value) => {

@@ -8,4 +8,3 @@ pub mod FrameLaws
 pub mod PlaceLaws
 pub mod RowLaws
 pub mod LentLaws
-mod DigitLemmas

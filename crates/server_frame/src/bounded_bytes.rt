@@ -2,11 +2,10 @@
 ghost use Rattle.std.specs.Prelude.{◌≡◌, ◌+◌, ◌*◌, ◌≤◌, [], ◌++◌, length, map, decimal, IfOk};
 ghost use Rattle.own_model.specs.Reply.{hex_text, printed};
 
-use crate::digits::write_number;
 use std::alloc::Global;
 use std::boxed::BoxedSlice;
 use std::marker::Model;
-use text_codec::encode_hex;
+use text_codec::{encode_hex, write_number};
 use trade_base::NoMemory;
 
 /// The most digits of a number.

@@ -2,7 +2,6 @@
 #![tactic(auto)]
 
 mod bounded_bytes;
-mod digits;
 mod effect;
 mod furniture;
 mod laws;

@@ -6,3 +6,5 @@ pub mod PairLemmas
 pub mod KindLemmas
 pub mod NameLemmas
 pub mod PathLemmas
+pub mod DigitLemmas
+pub mod SpellingLemmas

@@ -1,14 +1,12 @@
 -- Bytes and pairs of hexadecimal digits: masks of both halves of a word, and steps of the loops over pairs.
-use Rattle.std.proofs.Common.{◌≡◌, ℕ, ◌+◌, ◌*◌, ◌/◌, ◌%◌, ◌<◌, ◌≤◌, List, [], ◌∷◌, ◌++◌, length, length-drop, take, drop, slice_index, slice_set, get_or, Option, Some, None, is_some, IsSome, true, false, cond, refl, sym, ap, ◌∙◌, arith, bit_and, eqb}
+use Rattle.std.proofs.Common.{◌≡◌, ℕ, ◌+◌, ◌*◌, ◌/◌, ◌%◌, ◌<◌, ◌≤◌, List, [], ◌∷◌, ◌++◌, length, length-drop, take, drop, slice_index, slice_set, Some, true, refl, sym, ap, ◌∙◌, arith, bit_and, eqb}
 use Rattle.std.proofs.lemmas.Nat.{and_block, and_mask, shr_split}
 use Rattle.std.proofs.lemmas.Nat.Bits.{and_pow}
 use Rattle.std.proofs.lemmas.Bool.Decides.{nat_tests}
-use Rattle.std.specs.Option.{option_map, option_and_then, unwrap_or}
-use Rattle.std.specs.Prelude.{codes}
-use Rattle.std.proofs.lemmas.List.{take_more_set, append_assoc, append-nil, take_all, drop_all}
+use Rattle.std.proofs.lemmas.List.{take_more_set, append_assoc, append-nil, take_all}
 use Rattle.std.proofs.lemmas.Option.{same_Some}
 use Rattle.std.proofs.lemmas.Bool.{agree_below_at, eqb-true}
-use Rattle.hex.specs.Hex.{encode_with, encode_lower, lower_digits}
+use Rattle.hex.specs.Hex.{encode_lower, lower_digits}
 use Rattle.hex.proofs.Pairs.{drop-pair, encode_step, encode_done}
 use Rattle.own_model.specs.Text.{hex_digit_of, byte_of_hex, bytes_of_hex, hex_bytes}
 use Rattle.own_model.specs.Reply.{hex_text}

@@ -1,5 +1,5 @@
 -- Hexadecimal digits.
-use Rattle.std.specs.Prelude.{ℕ, ◌+◌, ◌*◌, ◌/◌, ◌%◌, Bool, is_some, List, slice_index, codes, [], ◌∷◌}
+use Rattle.std.specs.Prelude.{ℕ, ◌+◌, ◌*◌, ◌/◌, ◌%◌, Bool, is_some}
 use Rattle.own_model.specs.Text.{hex_digit_of}
 
 -- a hexadecimal digit, of either case

@@ -30,6 +30,15 @@ pub fn encode_hex(bytes: &[u8], hex: &mut [u8])
     requires { length hex.old ≡ 2 * length bytes.now }
     ensures { hex.new ≡ hex_text bytes.now }
 {
+    encode_each(bytes, hex);
+}
+
+/// The same, for who knows how many they are and takes it in.
+#[inline(always)]
+pub(crate) fn encode_each(bytes: &[u8], hex: &mut [u8])
+    requires { length hex.old ≡ 2 * length bytes.now }
+    ensures { hex.new ≡ hex_text bytes.now }
+{
     for i in 0..bytes.len() {
         let [high, low] = pair_of_byte(bytes[i]);
         hex[2 * i] = high;

@@ -50,14 +50,23 @@ fn excess(byte: u8) -> u8
     past_digits.min(past_letters)
 }
 
-/// The value of a hexadecimal digit of either case, or `None` where a byte isn't one.
+// For each byte a sign: one whose low four bits are its value as a hexadecimal digit of either case, or `@` where it is none.
+static VALUES: [u8; 256] = *b"\
+    @@@@@@@@@@@@@@@@@@@@@@@@@@@@@@@@\
+    @@@@@@@@@@@@@@@@0123456789@@@@@@\
+    @:;<=>?@@@@@@@@@@@@@@@@@@@@@@@@@\
+    @:;<=>?@@@@@@@@@@@@@@@@@@@@@@@@@\
+    @@@@@@@@@@@@@@@@@@@@@@@@@@@@@@@@\
+    @@@@@@@@@@@@@@@@@@@@@@@@@@@@@@@@\
+    @@@@@@@@@@@@@@@@@@@@@@@@@@@@@@@@\
+    @@@@@@@@@@@@@@@@@@@@@@@@@@@@@@@@";
+
+/// The value of a hexadecimal digit of either case, or `None` where a byte isn't one: one look-up, in place of up to six
+/// comparisons.
+#[inline]
 pub(crate) fn hex_digit(byte: u8) -> Option<u8>
     ensures { result ≡ hex_digit_of byte }
 {
-    match byte {
-        b'0'..=b'9' => Some(byte - b'0'),
-        b'A'..=b'F' => Some(byte - b'A' + 10),
-        b'a'..=b'f' => Some(byte - b'a' + 10),
-        _ => None,
-    }
+    let sign = VALUES[byte as usize];
+    if sign == b'@' { None } else { Some(sign & 15) }
 }

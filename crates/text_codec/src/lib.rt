@@ -1,9 +1,11 @@
-//! Reading of texts: the place of a byte, words, names, addresses, and bytes in hexadecimal digits.
+//! Reading of texts: the place of a byte, words, names, addresses, and bytes in hexadecimal digits; and numbers, written.
 #![tactic(auto)]
 
 mod address;
 mod byte_kinds;
 mod bytes;
+mod digits;
+mod fixed_text;
 mod hex_pairs;
 mod hex_text;
 mod words;
@@ -11,6 +13,8 @@ mod words;
 pub use address::read_address;
 pub use byte_kinds::{is_key_byte, is_name_byte, is_quotable};
 pub use bytes::{find_byte, find_either};
+pub use digits::{MOST_HEX_DIGITS, write_hex, write_number};
+pub use fixed_text::{add, add_number};
 pub use hex_pairs::{decode_hex, decode_hex_from, encode_hex};
 pub use hex_text::read_hex;
 pub use words::{

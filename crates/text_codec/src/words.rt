@@ -75,25 +75,23 @@ fn split_names(text: &[u8]) -> Option<(&[u8], Option<&[u8]>)>
     }
 }
 
-/// Whether a word is a path: 1 to 4 names, parted by `/`.
+/// Whether a word is a path: 1 to 4 names, parted by `/`. They are looked at one after another.
 pub fn is_path(word: &[u8]) -> bool
     ensures { result ≡ is_path word.now }
 {
-    part_count(word) <= MOST_NAMES && are_names(word)
-}
-
-/// How many parts a word has between its `/`.
-fn part_count(word: &[u8]) -> usize
-    ensures { result ≡ length (slice_split (λ b. b == 47) word.now) }
-{
-    word.split(|byte| *byte == b'/').count()
-}
-
-/// Whether each of them is a name.
-fn are_names(word: &[u8]) -> bool
-    ensures { result ≡ list_all is_name (slice_split (λ b. b == 47) word.now) }
-{
-    word.split(|byte| *byte == b'/').all(|name| is_name(name))
+    let mut left = word;
+    for count in 1..MOST_NAMES {
+        match find_byte(b'/', left) {
+            Some(end) => {
+                if !is_name(&left[..end]) {
+                    return false;
+                }
+                left = &left[end + 1..];
+            }
+            None => return is_name(left),
+        }
+    }
+    is_name(left)
 }
 
 /// How many bytes at the front may stand in a name. It stands alone, so that its loop has registers of its own.

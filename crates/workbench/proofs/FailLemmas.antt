@@ -19,7 +19,7 @@ use Rattle.workbench.specs.declared.ending.PlayFault.TheVariants.{ReadFault, Wri
 pub or_none : (a b : Bool) → a ≡ false → b ≡ false → (a || b) ≡ false
 or_none a b first second = rw (first, second) refl
 
-or_first : (a b : Bool) → b ≡ false → (a || b) ≡ a
+pub or_first : (a b : Bool) → b ≡ false → (a || b) ≡ a
 or_first true b none = refl
 or_first false b none = none
 

@@ -1,8 +1,8 @@
 -- A line that is played: it says a call, which is answered and told, or nothing changes.
-use Rattle.std.proofs.Common.{◌≡◌, ℕ, Bool, true, false, List, [], ◌++◌, Option, Result, Ok, Err, IfOk, OnOk, refl, sym, ◌∙◌, ap, subst}
+use Rattle.std.proofs.Common.{◌≡◌, ℕ, Bool, true, false, List, [], ◌++◌, Option, None, Result, Ok, Err, IfOk, OnOk, refl, sym, ◌∙◌, ap, subst}
 use Rattle.own_model.specs.SaidBy.{said_by}
 use Rattle.own_model.specs.World.{World}
-use Rattle.friendly_lines.specs.Friendly.{Said, said_of}
+use Rattle.friendly_lines.specs.Friendly.{Said, is_passed, said_of}
 use Rattle.friendly_lines.specs.Friendly.Said.{Nothing, Log, Call}
 use Rattle.friendly_lines.specs.declared.fault.Fault.{Fault}
 use Rattle.scenario.specs.Answered.{after_all}
@@ -70,12 +70,12 @@ module _ (only : Option (List ℕ)) (here : List (List ℕ)) (silent : here ≡ 
 
 module _ (only : Option (List ℕ)) (world : World) (f : Filled) (line : List ℕ) (awaited : Awaited) where
   -- of what is read of it
-  judged_by : (r : Result Bool PlayFault) (said : Result Said Fault) → said ≡ said_of line → IfOk r (IsJudgedSaid only world said awaited) → IfOk r (IsJudged only world (Says f (said_of line)) awaited)
-  judged_by r said is judged = subst (λ s. IfOk r (IsJudgedSaid only world s awaited)) is judged
+  judged_by : (r : Result Bool PlayFault) (said : Result Said Fault) → said ≡ said_of line → IfOk r (IsJudgedSaid (is_passed f.line) only world said awaited) → IfOk r (IsJudged only world (Says f (said_of line)) awaited)
+  judged_by r said is judged = subst (λ s. IfOk r (IsJudgedSaid (is_passed f.line) only world s awaited)) is judged
 
   -- of a call by its answer
   pub judged_call : (r : Result Bool PlayFault) (engine : List ℕ) (reply : Option (List ℕ)) (answer : Option LineAnswer) → Ok (Call engine reply) ≡ said_of line →
-      AnswersLine only world engine answer → IfOk r (λ complained. complained ≡ is_other reply answer awaited) → IfOk r (IsJudged only world (Says f (said_of line)) awaited)
+      AnswersLine only world engine answer → IfOk r (λ complained. complained ≡ is_other (is_passed f.line) reply answer awaited) → IfOk r (IsJudged only world (Says f (said_of line)) awaited)
   judged_call (Ok complained) engine reply answer is answers judged = judged_by (Ok complained) (Ok (Call engine reply)) is (answer, answers, judged)
   judged_call (Err fault) engine reply answer is answers judged = tt
 
@@ -87,6 +87,12 @@ module _ (only : Option (List ℕ)) (world : World) (f : Filled) (line : List �
 
   pub judged_unread : (r : Result Bool PlayFault) (fault : Fault) → Err fault ≡ said_of line → IfOk r (λ complained. complained ≡ true) → IfOk r (IsJudged only world (Says f (said_of line)) awaited)
   judged_unread r fault is judged = judged_by r (Err fault) is judged
+
+-- of a call that stands as it is, by its answer
+pub judged_plain : (only : Option (List ℕ)) (world : World) (line : List ℕ) (awaited : Awaited) (r : Result Bool PlayFault) (answer : Option LineAnswer) → is_passed line ≡ false → AnswersLine only world line answer →
+    IfOk r (λ complained. complained ≡ is_other (is_passed line) None answer awaited) → IfOk r (IsJudgedSaid false only world (Ok (Call line None)) awaited)
+judged_plain only world line awaited (Ok complained) answer unmarked answers judged = (answer, answers, judged ∙ ap (λ passed. is_other passed None answer awaited) unmarked)
+judged_plain only world line awaited (Err fault) answer unmarked answers judged = tt
 
 -- ---- what is expected then
 

@@ -4,6 +4,9 @@ use Rattle.own_model.specs.SaidBy.{said_by}
 use Rattle.own_model.specs.Transcript.{longest_line}
 use Rattle.own_model.specs.World.{World}
 use Rattle.friendly_lines.specs.Friendly.{Said, end_of, said_of, signs_of}
+use Rattle.friendly_lines.specs.Friendly.Said.{Call}
+use Rattle.friendly_lines.specs.Laws.{IsBare, IsPlain}
+use Rattle.friendly_lines.proofs.PlainLemmas.{plain_lines_pass}
 use Rattle.friendly_lines.specs.declared.fault.Fault.{Fault}
 use Rattle.friendly_lines.specs.Words.{next_word}
 use Rattle.scenario.specs.Answer.{AnswersLine}
@@ -17,7 +20,7 @@ use Rattle.friendly_lines.specs.Expected.{meets}
 use Rattle.scenario_names.specs.declared.fault.NameFault.{NameFault}
 use Rattle.workbench.specs.Faults.{Fails, takes_in}
 use Rattle.workbench.specs.Judging.{Awaited, IsJudged, awaited_after}
-use Rattle.workbench.specs.Turns.{AreBare, Deed, IsBare, bare_deed, call_in, deed_by, deed_filled, deed_of, learnt_by, learnt_from, left_behind, next_stand, passed, stand_after, turns_from, turns_of}
+use Rattle.workbench.specs.Turns.{AreBare, Deed, bare_deed, call_in, deed_by, deed_filled, deed_of, learnt_by, learnt_from, left_behind, next_stand, passed, reply_in, stand_after, turns_from, turns_of}
 use Rattle.workbench.specs.Turns.Deed.{TooLong, Unnamed, Follows, Says}
 use Rattle.workbench.specs.declared.ending.PlayFault.{PlayFault}
 use Rattle.workbench.specs.declared.stand.Stand.{Stand}
@@ -94,6 +97,18 @@ bare_says line bare =
 is_bare : (stand : Stand) (line : List ℕ) → IsBare line → deed_of stand line ≡ bare_deed line
 is_bare stand line bare =
     ap (λ deed. cond (nat_le (length line) longest_line) deed TooLong) (ap deed_filled (bare_filled stand.known line bare) ∙ ap (deed_by (whole line)) (bare_says line bare))
+
+pub deed_plain : (stand : Stand) (line : List ℕ) → length line ≤ longest_line → IsBare line → IsPlain line → deed_of stand line ≡ Says (whole line) (Ok (Call line None))
+deed_plain stand line short bare plain =
+    deed_of-short stand line short ∙ ap deed_filled (bare_filled stand.known line bare) ∙ ap (deed_by (whole line)) (bare_says line bare) ∙ ap (Says (whole line)) (plain_lines_pass line plain)
+
+-- no reply binds a name of it
+learnt_whole : (world : World) (known : Known) (line : List ℕ) (calls : List (List ℕ)) → learnt_from world known (whole line) calls ≡ known
+learnt_whole world known line [] = refl
+learnt_whole world known line (call ∷ calls) = learnt_none known (whole line) (reply_in world call) refl
+
+pub stands_whole : (only : Option (List ℕ)) (world : World) (stand : Stand) (line : List ℕ) (said : Result Said Fault) → passed stand ≡ stand_after only world (passed stand) (Says (whole line) said)
+stands_whole only world stand line said = sym (ap (λ known. record (passed stand) { known = known }) (learnt_whole world stand.known line (said_by only (call_in said))))
 
 next_number : (only : Option (List ℕ)) (world : World) (stand : Stand) (line : List ℕ) (short : Bool) → (stand_after only world (passed stand) (cond short (Says (whole line) (said_of line)) TooLong)).number ≡ stand.number + 1
 next_number only world stand line true = refl

@@ -15,12 +15,12 @@ use Rattle.scenario.specs.Program.{accounts_for}
 use Rattle.workbench.specs.Alone.{SeesAlone, alone_sum, alone_tells}
 use Rattle.workbench.specs.Kept.{SeesPeaks, found, peak_at}
 use Rattle.workbench.specs.PeakList.{peaks_beside, peaks_text}
-use Rattle.workbench.specs.Played.{calls_answered, calls_said, engine_tells, told_of_calls, told_of_turns}
+use Rattle.workbench.specs.Played.{calls_answered, calls_said, told_of_calls, told_of_turns}
 use Rattle.workbench.specs.Plays.{PlaysAll}
 use Rattle.workbench.specs.Tracing.{trace_header, trace_tells}
 use Rattle.workbench.specs.Turns.{Deed, Turn, call_in, calls_in, left_behind, next_stand, turns_of}
 use Rattle.workbench.specs.Turns.Deed.{TooLong, Unnamed, Follows, Says}
-use Rattle.workbench.specs.Writes.{Closes, IsPlayedFrom, WritesAfter, list_behind, transcript_of}
+use Rattle.workbench.specs.Writes.{Closes, IsPlayedFrom, WritesAfter, list_behind, run_tells, shown_of}
 use Rattle.workbench.specs.declared.ending.Ending.{Ending}
 use Rattle.workbench.specs.declared.ending.PlayFault.{PlayFault}
 use Rattle.workbench.specs.declared.peaks.Peak.{Peak}
@@ -30,11 +30,13 @@ use Rattle.workbench.proofs.ListLemmas.{list_is}
 use Rattle.workbench.proofs.PlayedLemmas.{told_as_engine}
 use Rattle.workbench.proofs.WriteLemmas.{closes_alone, played_from}
 
--- the transcript, and the account list behind it where it is asked for
-pub run_played : (accounts : Bool) (only : Option (List ℕ)) (listed : Listed) {first : Stand} {seen : List (List ℕ) → Type 0} {start last : World} {input rest w w' w'' : Option (List ℕ)} {failed : Bool} (played ended : Ending) →
-    PlaysAll (engine_tells start) false seen only first played.fault played.lines start last [] input rest failed w w' → Closes played ended w' w'' (accounts_for accounts listed last) →
-    IsPlayedFrom (turns_of only start first) (transcript_of only start) (list_behind accounts only listed start) false ended input rest failed w w''
-run_played accounts only listed {first = first} {start = start} {w' = w'} {w'' = w''} played ended plays closes =
+-- what is told, and the account list behind it where it is asked for
+pub run_played : (numbers accounts : Bool) (only : Option (List ℕ)) (listed : Listed) {first : Stand} {seen : List (List ℕ) → Type 0} {start last : World} {input rest w w' w'' : Option (List ℕ)} {failed : Bool} (played ended : Ending) →
+    PlaysAll (run_tells numbers start) false seen only first played.fault played.lines start last [] input rest failed w w' → Closes played ended w' w'' (accounts_for accounts listed last) →
+    IsPlayedFrom (turns_of only start first) (shown_of numbers only start) (list_behind accounts only listed start) false ended input rest failed w w''
+run_played true accounts only listed {w' = w'} {w'' = w''} played ended plays closes =
+    played_from played ended plays refl (subst (λ world. Closes played ended w' w'' (accounts_for accounts listed world)) plays.world closes)
+run_played false accounts only listed {first = first} {start = start} {w' = w'} {w'' = w''} played ended plays closes =
     played_from played ended plays (told_as_engine only start (turns_of only start first plays.given))
     (subst (λ world. Closes played ended w' w'' (accounts_for accounts listed world)) plays.world closes)
 

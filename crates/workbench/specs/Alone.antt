@@ -1,5 +1,5 @@
 -- What one component is told in the whole run, and alone.
-use Rattle.std.specs.Prelude.{◌≡◌, ℕ, ◌<◌, ◌^◌, true, List, [], ◌∷◌, ◌++◌, length, codes, decimal, if◌then◌else◌, Option, Some, None}
+use Rattle.std.specs.Prelude.{◌≡◌, ℕ, ◌<◌, ◌^◌, ◌==◌, true, List, [], ◌∷◌, ◌++◌, length, codes, decimal, if◌then◌else◌, Option, Some, None}
 use Rattle.own_model.specs.Listed.{Listed}
 use Rattle.own_model.specs.SaidBy.{is_said_by, joined, pieces, pieces_for, said_by}
 use Rattle.own_model.specs.World.{World, world_running}
@@ -32,9 +32,11 @@ pub record SeesAlone (name : List ℕ) (core : World) (lines : ℕ) (difference 
   pub counted : length (said_by (Some name) earlier) < 2 ^ 64 → lines ≡ length (said_by (Some name) earlier)
   pub alike : difference ≡ None
 
--- how many lines of the name there were
+-- how many lines of the name there were, if any
 abbrev pub alone_sum : List ℕ → ℕ → List ℕ
-alone_sum name lines = decimal lines ++ codes " lines of " ++ name ++ codes ": the same alone as in the whole run" ++ 10 ∷ []
+alone_sum name lines =
+    if lines == 0 then name ++ codes ": no line of the scenario" ++ 10 ∷ []
+    else decimal lines ++ codes " lines of " ++ name ++ codes ": the same alone as in the whole run" ++ 10 ∷ []
 
 abbrev pub alone_behind : List ℕ → Listed → List Turn → List ℕ
 alone_behind name listed turns = alone_sum name (length (calls_answered (Some name) turns))

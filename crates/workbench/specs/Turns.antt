@@ -1,5 +1,5 @@
 -- The turns of a play: what each line of a scenario is, when its turn comes.
-use Rattle.std.specs.Prelude.{◌≡◌, ℕ, ◌+◌, ◌≤◌, Bool, true, false, ⊤, List, [], ◌∷◌, length, min, nat_le, nat_lt, position, if◌then◌else◌, Option, Some, None, Result, Ok, Err}
+use Rattle.std.specs.Prelude.{◌≡◌, ℕ, ◌+◌, ◌≤◌, Bool, true, false, ⊤, List, [], ◌∷◌, length, min, nat_le, nat_lt, if◌then◌else◌, Option, Some, None, Result, Ok, Err}
 use Rattle.std.specs.Option.{unwrap_or}
 use Rattle.own_model.specs.Reply.{reply_text}
 use Rattle.own_model.specs.SaidBy.{said_by}
@@ -7,13 +7,14 @@ use Rattle.own_model.specs.Transcript.{heard, longest_line}
 use Rattle.own_model.specs.World.{World}
 use Rattle.friendly_lines.specs.Friendly.{Said, said_of}
 use Rattle.friendly_lines.specs.Friendly.Said.{Nothing, Log, Call}
+use Rattle.friendly_lines.specs.Laws.{IsBare}
 use Rattle.friendly_lines.specs.declared.fault.Fault.{Fault}
 use Rattle.scenario.specs.Answer.{answered_reply}
 use Rattle.scenario.specs.Answered.{after_all}
 use Rattle.scenario.specs.declared.answering.LineAnswer.{LineAnswer}
 use Rattle.scenario_names.specs.Directives.{Directive, directive_of, followed}
 use Rattle.scenario_names.specs.Directives.Directive.{Set, Enter, Again, Leave, Repeat, End, Unknown}
-use Rattle.scenario_names.specs.Filling.{Filled, filled, is_directive, is_dollar, whole}
+use Rattle.scenario_names.specs.Filling.{Filled, filled, whole}
 use Rattle.scenario_names.specs.Known.{Known}
 use Rattle.scenario_names.specs.Learning.{learnt}
 use Rattle.scenario_names.specs.declared.fault.NameFault.{NameFault}
@@ -153,11 +154,7 @@ stand_behind only world stand (line ∷ lines) =
 
 -- ---- a scenario without names and directives
 
--- a line has neither
-pub record IsBare (line : List ℕ) : Type 0 where
-  pub nameless : position is_dollar line ≡ None
-  pub says : is_directive line ≡ false
-
+-- each line has neither
 abbrev pub AreBare : List (List ℕ) → Type 0
 AreBare [] = ⊤
 AreBare (line ∷ lines) = IsBare line × AreBare lines

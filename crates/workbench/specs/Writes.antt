@@ -1,6 +1,7 @@
 -- What a command writes of a scenario: what is told of the lines that were played, and what stands behind them.
-use Rattle.std.specs.Prelude.{◌≡◌, ◌⊎◌, ℕ, Bool, List, [], ◌++◌, length, Option, Some, None, IfSome, IfNone, Result, Ok, Err}
+use Rattle.std.specs.Prelude.{◌≡◌, ◌⊎◌, ℕ, Bool, true, false, List, [], ◌++◌, length, codes, decimal, Option, Some, None, IfSome, IfNone, Result, Ok, Err}
 use Rattle.std.specs.Io.KnownBytes.{Appends}
+use Rattle.std.specs.Option.{option_copied}
 use Rattle.own_model.specs.Listed.{Listed}
 use Rattle.own_model.specs.Text.{lines_of}
 use Rattle.own_model.specs.Transcript.{told_after}
@@ -10,13 +11,14 @@ use Rattle.scenario.specs.Lines.{AreReadable}
 use Rattle.scenario.specs.Program.{IsMachine, accounts_for, world_of}
 use Rattle.scenario.specs.Stops.{AppendsPart}
 use Rattle.workbench.specs.Faults.{unplayed}
-use Rattle.workbench.specs.Played.{calls_answered, calls_said}
+use Rattle.workbench.specs.Played.{calls_answered, calls_said, engine_tells, told_of_turns}
 use Rattle.workbench.specs.Plays.{EndsFor, TakesRoomFor}
 use Rattle.workbench.specs.Turns.{Turn, turns_of}
 use Rattle.workbench.specs.declared.ending.Ending.{Ending}
 use Rattle.workbench.specs.declared.ending.PlayFault.{PlayFault}
 use Rattle.workbench.specs.declared.ending.PlayFault.TheVariants.{ReadFault, WriteFault, TooManyLines, NoMemory}
 use Rattle.workbench.specs.declared.stand.Stand.{Stand}
+use Rattle.workbench.specs.declared.transcript.Showing.{Showing}
 
 -- all lines of a text
 abbrev pub AreAll : List (List ℕ) → List ℕ → Type 0
@@ -89,12 +91,24 @@ nothing_told listed turns = []
 abbrev pub transcript_of : Option (List ℕ) → World → List Turn → List ℕ
 transcript_of only world turns = told_after world.entries world.states [] (calls_answered only turns)
 
-abbrev pub run_told : Option (List ℕ) → Listed → List Turn → List ℕ
-run_told only listed turns = transcript_of only (world_of listed) turns
+-- the same where what each line of the scenario is told stands behind the line's number, if that is asked for
+abbrev pub number_before : Bool → ℕ → List ℕ
+number_before true number = decimal number ++ codes ": "
+number_before false number = []
+
+abbrev pub run_tells : Bool → World → List (List ℕ) → ℕ → List ℕ → List ℕ
+run_tells numbers start earlier number call = number_before numbers number ++ engine_tells start earlier number call
+
+abbrev pub shown_of : Bool → Option (List ℕ) → World → List Turn → List ℕ
+shown_of true only world turns = told_of_turns (run_tells true world) only [] turns
+shown_of false only world turns = transcript_of only world turns
+
+abbrev pub run_told : Showing → Listed → List Turn → List ℕ
+run_told showing listed turns = shown_of showing.numbers (option_copied showing.only) (world_of listed) turns
 
 -- the account list after them, where it is asked for
 abbrev pub list_behind : Bool → Option (List ℕ) → Listed → World → List Turn → List ℕ
 list_behind accounts only listed world turns = accounts_for accounts listed (after_all only world (calls_said turns))
 
-abbrev pub run_behind : Bool → Option (List ℕ) → Listed → List Turn → List ℕ
-run_behind accounts only listed turns = list_behind accounts only listed (world_of listed) turns
+abbrev pub run_behind : Showing → Listed → List Turn → List ℕ
+run_behind showing listed turns = list_behind showing.accounts (option_copied showing.only) listed (world_of listed) turns

@@ -41,7 +41,8 @@ pub fn accounts<S: Source, K: Sink, E: Sink>(
 ) -> Result<Ending, BootFault>
     ensures played { IfOk result (λ ending. fault_before (S.has_failed reader.old)
         (K.has_failed writer.old || E.has_failed complaints.old) ≡ None →
-        IsPlayed play.entry.machine.now (turns_on None (first_with play.entry.given)) nothing_told accounts_behind true ending
+        IsPlayed play.entry.machine.now (turns_on None (first_with play.entry.given)) nothing_told
+        accounts_behind true ending
         (S.remaining reader.old) (S.remaining reader.new)
         (S.has_failed reader.new) (K.contents writer.old) (K.contents writer.new)) }
     ensures few { IfOk result (λ ending. ending.lines ≤ MAX_LINES) }
@@ -55,11 +56,13 @@ pub fn accounts<S: Source, K: Sink, E: Sink>(
     ensures before { IfOk result (λ ending. IfSome (fault_before (S.has_failed reader.old)
         (K.has_failed writer.old || E.has_failed complaints.old)) (λ fault.
         IsUnplayed play.entry.machine.now ending fault
-        × (reader.new ≡ reader.old) × (writer.new ≡ writer.old) × (complaints.new ≡ complaints.old))) }
+        × (reader.new ≡ reader.old) × (writer.new ≡ writer.old)
+        × (complaints.new ≡ complaints.old))) }
     ensures unbooted { IfErr result (λ fault. fault ≢ NoMemory →
         boot_fault play.entry.machine.now ≡ Some fault) }
     ensures untouched { OnErr result
-        ((reader.new ≡ reader.old) × (writer.new ≡ writer.old) × (complaints.new ≡ complaints.old)) }
+        ((reader.new ≡ reader.old) × (writer.new ≡ writer.old)
+        × (complaints.new ≡ complaints.old)) }
 {
     let list = StartList::read(alloc, play.machine)?;
     let mut core = boot(alloc, &list)?;
@@ -102,8 +105,10 @@ fn play_with_peaks<R: Router + Drop, S: Source, K: Sink, E: Sink>(
         ≡ is_write_fault result.fault }
     ensures reading { IfNone result.fault (S.has_failed reader.new ≡ false) }
     ensures before { IfSome (fault_before (S.has_failed reader.old)
-        (K.has_failed writer.old || E.has_failed complaints.old)) (λ fault. (result ≡ unplayed fault)
-        × (reader.new ≡ reader.old) × (writer.new ≡ writer.old) × (complaints.new ≡ complaints.old)) }
+        (K.has_failed writer.old || E.has_failed complaints.old))
+        (λ fault. (result ≡ unplayed fault)
+        × (reader.new ≡ reader.old) × (writer.new ≡ writer.old)
+        × (complaints.new ≡ complaints.old)) }
 {
     let ending = play_lines(run, core, notes, peaks, b"", reader, writer, complaints);
     close_with_peaks(ending, core, run.list, peaks, writer)
@@ -120,7 +125,8 @@ fn close_with_peaks<R: Router + Drop, K: Sink>(
     requires listed { core.now.entries ≡ entries_of (start_list_of list.now) }
     ensures closes { Closes ending result (K.contents writer.old) (K.contents writer.new)
         (list_with list.now core.now (peaks_beside (entries_of (start_list_of list.now))
-        (peaked peaks.now.init) (peak_at peaks.now.components.items) (found peaks.now.sessions.items))) }
+        (peaked peaks.now.init) (peak_at peaks.now.components.items)
+        (found peaks.now.sessions.items))) }
     ensures failing { IfNone ending.fault (K.has_failed writer.new ≡ is_write_fault result.fault) }
     ensures stopped { IfSome ending.fault (λ _. (result ≡ ending) × (writer.new ≡ writer.old)) }
 {

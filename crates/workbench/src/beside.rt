@@ -49,7 +49,8 @@ impl<Q: Router + Drop> Watch for SecondMachine<'_, Q> {
 
     ghost holds = { λ second. second.name.now };
 
-    ghost sees = { λ second _. SeesAlone second.name.now second.core second.lines second.difference };
+    ghost sees = { λ second _. SeesAlone second.name.now second.core second.lines
+        second.difference };
 
     fn tell<R: Router + Drop, K: Sink>(
         &mut self,
@@ -152,7 +153,8 @@ fn put_side<K: Sink>(
 
 /// Plays a scenario on a machine, and the lines of one name alone on a second machine beside it. It writes of each of those
 /// lines its number, the line, and its answer in the whole run and the one alone; and last how many these are, and that they
-/// are the same. They always are: each component's answers are those of its own run. Complaints are written as they come.
+/// are the same; or that there are none, which counts as a complaint. They always are the same: each component's answers are
+/// those of its own run. Complaints are written as they come.
 ///
 /// At a fault what was told by then is written, or where a write failed or the host has no room a part of it, from the front. It
 /// stops as `run` does.
@@ -183,11 +185,13 @@ pub fn alone<S: Source, K: Sink, E: Sink>(
     ensures before { IfOk result (λ ending. IfSome (fault_before (S.has_failed reader.old)
         (K.has_failed writer.old || E.has_failed complaints.old)) (λ fault.
         IsUnplayed play.entry.machine.now ending fault
-        × (reader.new ≡ reader.old) × (writer.new ≡ writer.old) × (complaints.new ≡ complaints.old))) }
+        × (reader.new ≡ reader.old) × (writer.new ≡ writer.old)
+        × (complaints.new ≡ complaints.old))) }
     ensures unbooted { IfErr result (λ fault. fault ≢ NoMemory →
         boot_fault play.entry.machine.now ≡ Some fault) }
     ensures untouched { OnErr result
-        ((reader.new ≡ reader.old) × (writer.new ≡ writer.old) × (complaints.new ≡ complaints.old)) }
+        ((reader.new ≡ reader.old) × (writer.new ≡ writer.old)
+        × (complaints.new ≡ complaints.old)) }
 {
     let list = StartList::read(alloc, play.machine)?;
     let mut core = boot(alloc, &list)?;
@@ -233,8 +237,10 @@ fn play_beside<R: Router + Drop, Q: Router + Drop, S: Source, K: Sink, E: Sink>(
         ≡ is_write_fault result.fault }
     ensures reading { IfNone result.fault (S.has_failed reader.new ≡ false) }
     ensures before { IfSome (fault_before (S.has_failed reader.old)
-        (K.has_failed writer.old || E.has_failed complaints.old)) (λ fault. (result ≡ unplayed fault)
-        × (reader.new ≡ reader.old) × (writer.new ≡ writer.old) × (complaints.new ≡ complaints.old)) }
+        (K.has_failed writer.old || E.has_failed complaints.old))
+        (λ fault. (result ≡ unplayed fault)
+        × (reader.new ≡ reader.old) × (writer.new ≡ writer.old)
+        × (complaints.new ≡ complaints.old)) }
 {
     let mut watch = SecondMachine {
         list: run.list,
@@ -259,7 +265,8 @@ fn close_with_sum<K: Sink>(
     writer: &mut K,
 ) -> Ending
     ensures closes { IfNone ending.fault (difference ≡ None) →
-        Closes ending result (K.contents writer.old) (K.contents writer.new) (alone_sum name.now lines) }
+        Closes ending result (K.contents writer.old) (K.contents writer.new)
+        (alone_sum name.now lines) }
     ensures failing { IfNone ending.fault (K.has_failed writer.new ≡ is_write_fault result.fault) }
     ensures stopped { IfSome ending.fault (λ _. (result ≡ ending) × (writer.new ≡ writer.old)) }
 {
@@ -267,8 +274,20 @@ fn close_with_sum<K: Sink>(
         return ending;
     }
     match write_sum(name, lines, difference, writer) {
-        Ok(()) => ending,
+        Ok(()) => with_none(ending, lines),
         Err(fault) => ending.stopped_by(fault),
+    }
+}
+
+// A play, of which is complained once more where there was no line.
+fn with_none(ending: Ending, lines: u64) -> Ending
+    ensures lines { result.lines ≡ ending.lines }
+    ensures fault { result.fault ≡ ending.fault }
+{
+    if lines == 0 {
+        ending.complained()
+    } else {
+        ending
     }
 }
 
@@ -281,7 +300,8 @@ fn write_sum<K: Sink>(
     writer: &mut K,
 ) -> Result<(), PlayFault>
     ensures written { difference ≡ None →
-        IsWrittenBy result (K.contents writer.old) (K.contents writer.new) (alone_sum name.now lines) }
+        IsWrittenBy result (K.contents writer.old) (K.contents writer.new)
+        (alone_sum name.now lines) }
     ensures failing { K.has_failed writer.new ≡ is_write_fault (result_err result) }
 {
     if writer.failed() {
@@ -306,6 +326,9 @@ fn put_sum<K: Sink>(
         (K.contents writer.new) gathered.new (alone_sum name.now lines) }
     ensures failing { K.has_failed writer.new ≡ is_err result }
 {
+    if lines == 0 {
+        return put_three(name, b": no line of the scenario", b"\n", gathered, writer);
+    }
     let mut count: ArrayVec<u8, LONGEST_NUMBER> = ArrayVec::new();
     add_number(&mut count, lines);
     add(&mut count, b" lines of ");

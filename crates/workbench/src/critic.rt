@@ -3,18 +3,22 @@ ghost use Rattle.std.specs.Prelude.{◌≡◌, ◌||◌, false, true, not, is_so
 ghost use Rattle.std.specs.Option.{option_copied};
 ghost use Rattle.std.specs.Str.{bytes_eq};
 ghost use Rattle.friendly_lines.specs.Expected.{meets};
+ghost use Rattle.friendly_lines.specs.Friendly.{is_passed};
 ghost use Rattle.workbench.specs.Faults.{Fails};
-ghost use Rattle.workbench.specs.Judging.{awaited_more, is_other, nothing_awaited};
+ghost use Rattle.workbench.specs.Judging.{awaited_more, is_other, is_strange, nothing_awaited};
 ghost use Rattle.workbench.specs.declared.ending.PlayFault.TheVariants.{NoMemory as NoRoom};
 
 use crate::complaint::{Complaints, Place};
 use crate::ending::PlayFault;
 use crate::expected::Expected;
-use crate::given::Given;
-use friendly_lines::{Fault, end_of, meets, signs_of};
+use crate::given::{Asked, Given};
+use crate::near::near_component;
+use friendly_lines::{Fault, end_of, is_passed, meets};
+use init_core::StartList;
 use scenario::{LineAnswer, Sink};
 use scenario_names::{Known, NameFault};
 use std::alloc::Global;
+use trade_base::Refusal;
 
 /// Holds answers against what is expected, and complains. Each of its calls tells whether there was a complaint.
 #[derive(Drop)]
@@ -47,30 +51,31 @@ impl<'a> Critic<'a> {
         Ok(false)
     }
 
-    /// Judges the answer of a line's call by the reply that is expected, if one is, and by the log lines. A call that was
-    /// skipped is answered as it may be. The line comes as it was filled with what is known.
+    /// Judges the answer of a line's call on the machine of a list: by the reply that is expected, if one is, or by whether
+    /// somebody has its name, and by the log lines. A call that was skipped is answered as it may be. The line comes as it was
+    /// filled with what is known.
     pub(crate) fn judge<E: Sink>(
         &mut self,
-        given: Given<'_>,
+        list: &StartList,
+        asked: Asked<'_>,
         known: &Known,
-        line: &[u8],
-        reply: Option<&[u8]>,
         answer: Option<LineAnswer<'_>>,
         sink: &mut E,
     ) -> Result<bool, PlayFault>
         requires { E.has_failed sink.old ≡ false }
         ensures judged { IfOk result (λ complained. complained
-            ≡ is_other (option_copied reply.entry) answer.entry self.old.expected) }
+            ≡ is_other (is_passed asked.entry.line.now) (option_copied asked.entry.reply)
+            answer.entry self.old.expected) }
         ensures forgets { self.new.expected ≡ nothing_awaited }
         ensures works { OnOk result (E.has_failed sink.new ≡ false) }
         ensures failing { Fails result (E.has_failed sink.new) false }
     {
-        let judged = match (reply, answer) {
+        let judged = match (asked.reply, answer) {
             (_, None) => Ok(false),
-            (None, Some(_)) => self.judge_silent(given.number, sink),
+            (None, Some(answer)) => self.judge_silent(list, asked, answer, sink),
             (Some(reply), Some(answer)) => {
                 let wish = Wish {
-                    place: given.place(known, column_of(line, reply)),
+                    place: asked.given.place(known, column_of(asked.line, reply)),
                     reply,
                 };
                 self.judge_answer(wish, answer.reply, answer.lines, sink)
@@ -80,22 +85,35 @@ impl<'a> Critic<'a> {
         judged
     }
 
-    // Complains where log lines are expected of a call for which no reply is.
-    fn judge_silent<E: Sink>(&mut self, number: u64, sink: &mut E) -> Result<bool, PlayFault>
+    // Complains where log lines are expected of a call for which no reply is, or where nobody has its name.
+    fn judge_silent<E: Sink>(
+        &mut self,
+        list: &StartList,
+        asked: Asked<'_>,
+        answer: LineAnswer<'_>,
+        sink: &mut E,
+    ) -> Result<bool, PlayFault>
         requires { E.has_failed sink.old ≡ false }
-        ensures judged { IfOk result (λ complained. complained ≡ is_some self.old.expected.first) }
+        ensures judged { IfOk result (λ complained. complained ≡ (is_some self.old.expected.first
+            || is_strange (is_passed asked.entry.line.now) answer.entry)) }
         ensures keeps { self.new.expected ≡ self.old.expected }
         ensures works { OnOk result (E.has_failed sink.new ≡ false) }
         ensures failing { Fails result (E.has_failed sink.new) false }
     {
-        if self.expected.first().is_none() {
+        if self.expected.first().is_some() {
+            let place = Place {
+                line: asked.given.number,
+                column: 1,
+            };
+            return self.complain(place, b"log lines are expected of it, and no reply", sink);
+        }
+        if !is_strange(asked.line, answer) {
             return Ok(false);
         }
-        let place = Place {
-            line: number,
-            column: 1,
-        };
-        self.complain(place, b"log lines are expected of it, and no reply", sink)
+        let near = near_component(list, answer.name);
+        self.complaints
+            .tell_stranger(sink, asked.given.start(), answer.name, near)?;
+        Ok(true)
     }
 
     // Complains of a reply that isn't what is expected, or else of other log lines.
@@ -116,7 +134,7 @@ impl<'a> Critic<'a> {
     {
         if !meets(reply, wish.reply) {
             self.complaints
-                .tell_other(sink, wish.place, b"the reply is", reply, wish.reply)?;
+                .tell_reply(sink, wish.place, reply, wish.reply)?;
             return Ok(true);
         }
         let expected = self.expected.lines();
@@ -124,7 +142,7 @@ impl<'a> Critic<'a> {
             let lines = without_last(lines);
             let expected = without_last(expected);
             self.complaints
-                .tell_other(sink, wish.place, b"the log lines are", lines, expected)?;
+                .tell_lines(sink, wish.place, lines, expected)?;
             return Ok(true);
         }
         Ok(false)
@@ -162,12 +180,12 @@ impl<'a> Critic<'a> {
         ensures works { OnOk result (E.has_failed sink.new ≡ false) }
         ensures failing { Fails result (E.has_failed sink.new) true }
     {
-        let reason = fault.reason.to_string(self.alloc)?;
+        let words = fault.reason.to_string(self.alloc)?;
         let place = Place {
             line: number,
             column: fault.column,
         };
-        self.complain(place, reason.as_bytes(), sink)
+        self.complain(place, words.as_bytes(), sink)
     }
 
     /// Tells why a directive can't be followed.
@@ -183,15 +201,7 @@ impl<'a> Critic<'a> {
         ensures works { OnOk result (E.has_failed sink.new ≡ false) }
         ensures failing { Fails result (E.has_failed sink.new) false }
     {
-        let place = Place {
-            line: given.number,
-            column: given
-                .line
-                .len()
-                .saturating_sub(signs_of(given.line).len())
-                .saturating_add(1),
-        };
-        self.complain(place, words, sink)
+        self.complain(given.start(), words, sink)
     }
 
     /// Tells that a line is too long to be read.
@@ -249,6 +259,13 @@ impl<'a> Critic<'a> {
         self.complaints.tell(sink, place, words)?;
         Ok(true)
     }
+}
+
+// Whether nobody has the name of a line's call, which is no matter where the line is passed to the engine as it stands.
+fn is_strange(line: &[u8], answer: LineAnswer<'_>) -> bool
+    ensures { result ≡ is_strange (is_passed line.now) answer.entry }
+{
+    answer.reply == Refusal::UnknownComponent.name().as_bytes() && !is_passed(line)
 }
 
 // A reply that is expected, and where it begins.

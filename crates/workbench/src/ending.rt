@@ -99,6 +99,18 @@ impl Ending {
         }
     }
 
+    /// The same play, of which is complained once more.
+    pub(crate) fn complained(self) -> Ending
+        ensures lines { result.lines ≡ self.lines }
+        ensures fault { result.fault ≡ self.fault }
+    {
+        Ending {
+            lines: self.lines,
+            complaints: self.complaints.saturating_add(1),
+            fault: self.fault,
+        }
+    }
+
     /// The same play, stopped by a fault once it had come to its end.
     pub(crate) fn stopped_by(self, fault: PlayFault) -> Ending
         ensures { result ≡ record self { fault = Some fault } }

@@ -1,6 +1,7 @@
 //! A line as it stands in a scenario.
 
 use crate::complaint::Place;
+use friendly_lines::signs_of;
 use scenario_names::{Known, source_column};
 
 /// A line as it stands in a scenario, before it is filled.
@@ -12,7 +13,27 @@ pub(crate) struct Given<'a> {
     pub line: &'a [u8],
 }
 
+/// What is judged of a line: where it stands, what it is once it is filled, and the reply that it expects, if it expects one.
+#[derive(Clone, Copy, Debug)]
+pub(crate) struct Asked<'a> {
+    /// As it stands.
+    pub given: Given<'a>,
+    /// As it is filled.
+    pub line: &'a [u8],
+    /// The reply that is expected.
+    pub reply: Option<&'a [u8]>,
+}
+
 impl Given<'_> {
+    /// The place of its first sign.
+    pub(crate) fn start(self) -> Place {
+        let before = self.line.len().saturating_sub(signs_of(self.line).len());
+        Place {
+            line: self.number,
+            column: before.saturating_add(1),
+        }
+    }
+
     /// The place of what stands at a column of the filled line: with the same names known as it was filled with.
     pub(crate) fn place(self, known: &Known, column: usize) -> Place {
         Place {

@@ -21,7 +21,8 @@ impl Columns for Peaks {
     ghost use Rattle.workbench.specs.Kept.{found, peak_at, peaked};
     ghost use Rattle.workbench.specs.PeakList.{peaks_beside};
 
-    ghost beside = { λ peaks list. peaks_beside (entries_of (start_list_of list)) (peaked peaks.init)
+    ghost beside = { λ peaks list. peaks_beside (entries_of (start_list_of list))
+        (peaked peaks.init)
         (peak_at peaks.components.items) (found peaks.sessions.items) };
 
     fn put<K: Sink>(

@@ -172,7 +172,8 @@ impl Peaks {
         ensures sessions { OnOk result ((component selector : ℕ) →
             component < length core.now.entries →
             found self.new.sessions.items component selector
-            ≡ raised_in (session_at component selector core.now) (found self.old.sessions.items component selector)) }
+            ≡ raised_in (session_at component selector core.now)
+            (found self.old.sessions.items component selector)) }
     {
         let mut open = Vec::new(self.alloc);
         for session in mem::replace(&mut self.sessions, Vec::new(self.alloc)) {
@@ -262,7 +263,8 @@ impl Watch for Peaks {
 
     ghost takes = { true };
 
-    ghost sees = { λ peaks. SeesPeaks (peaked peaks.init) peaks.components.items peaks.sessions.items };
+    ghost sees = { λ peaks. SeesPeaks (peaked peaks.init) peaks.components.items
+        peaks.sessions.items };
 
     fn tell<R: Router + Drop, K: Sink>(
         &mut self,
@@ -282,7 +284,8 @@ impl Watch for Peaks {
 // The account of the session under a selector of the component at a place, if there is one.
 fn account_of<R: Router + Drop>(core: &Core<R>, component: usize, selector: u64) -> Option<Quotas>
     ensures { component < length core.now.entries → option_map quotas_account result
-        ≡ option_map (λ (session : Opened). session.account) (session_at component selector core.now) }
+        ≡ option_map (λ (session : Opened). session.account)
+        (session_at component selector core.now) }
 {
     if component < core.count() {
         core.session_account(component, selector)

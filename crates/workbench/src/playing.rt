@@ -1,38 +1,26 @@
 //! The play: lines of the friendly form are read, answered, told and judged.
-ghost use Rattle.std.specs.Prelude.{◌≡◌, ◌+◌, ◌<◌, ◌≤◌, ◌^◌, ◌∷◌, ◌++◌, ◌||◌, ℕ, List, [], length, take, drop, IfSome, IfNone, IfOk, OnOk, None, false, true};
+ghost use Rattle.std.specs.Prelude.{◌≡◌, ◌+◌, ◌<◌, ◌≤◌, ◌^◌, ◌++◌, ◌||◌, ℕ, List, [], length, take, drop, IfSome, IfNone, OnOk, None, false};
 ghost use Rattle.std.specs.Option.{option_copied};
 ghost use Rattle.std.specs.Result.{result_err};
 ghost use Rattle.own_model.specs.Listed.{start_list_of};
 ghost use Rattle.own_model.specs.SaidBy.{said_by};
 ghost use Rattle.own_model.specs.StartList.{entries_of};
 ghost use Rattle.own_model.specs.World.{World};
-ghost use Rattle.friendly_lines.specs.Friendly.{said_of};
-ghost use Rattle.scenario.specs.Answer.{AnswersLine};
-ghost use Rattle.scenario.specs.Answered.{after_all, point};
+ghost use Rattle.scenario.specs.Answered.{point};
 ghost use Rattle.scenario.specs.Gathered.{TellsUnless};
-ghost use Rattle.scenario.specs.Read.{IsReadAs};
-ghost use Rattle.scenario_names.specs.Views.{directive_view, filled_view};
 ghost use Rattle.workbench.specs.Devices.{AllWork, OutputsWork};
 ghost use Rattle.workbench.specs.Faults.{Fails, fault_before, is_write_fault, takes_in, unplayed};
-ghost use Rattle.workbench.specs.Judging.{IsJudged, awaited_after, is_other, nothing_awaited};
 ghost use Rattle.workbench.specs.Played.{told_of_calls};
 ghost use Rattle.workbench.specs.Plays.{PlaysAll, PlaysNext, line_played};
-ghost use Rattle.workbench.specs.Turns.{StaysLow, call_in, call_of, deed_of, followed_by, has_holes, is_misplaced, learnt_by, learnt_from, left_behind, low, next_stand};
-ghost use Rattle.workbench.specs.Turns.Deed.{Says};
+ghost use Rattle.workbench.specs.Turns.{StaysLow, call_of, deed_of, left_behind, low, next_stand};
 ghost use Rattle.workbench.specs.Watching.{Watches};
 
-use crate::critic::Critic;
 use crate::ending::{Ending, PlayFault};
-use crate::given::Given;
-use crate::notes::{Desk, Notes, Tools};
-use crate::stand::{Stand, learn, misplaced};
-use crate::watch::{Heard, Watch};
-use friendly_lines::{Said, read_friendly};
-use pd_core::{Core, Reply, Router};
-use scenario::{
-    DeviceFault, Gather, LONGEST_LINE, LineAnswer, MAX_LINES, NamedCall, Next, Run, Sink, Source,
-};
-use scenario_names::{Directive, Filled, Known, directive_of, fill};
+use crate::notes::Notes;
+use crate::turn::play_line;
+use crate::watch::Watch;
+use pd_core::{Core, Router};
+use scenario::{DeviceFault, LONGEST_LINE, MAX_LINES, Next, Run, Sink, Source};
 
 /// What became of the next line.
 #[derive(Clone, Copy, Debug, PartialEq, Eq)]
@@ -71,7 +59,8 @@ pub(crate) fn play<R: Router + Drop, W: Watch, S: Source, K: Sink, E: Sink>(
         (K.has_failed writer.old || E.has_failed complaints.old) ≡ None →
         W.sees watch.old run.now.list.now core.old [] →
         PlaysAll (W.tells watch.old core.old) W.takes (W.sees watch.new run.now.list.now core.old)
-        (option_copied run.now.only) notes.old.stand result.fault result.lines core.old core.new front.now
+        (option_copied run.now.only) notes.old.stand result.fault result.lines core.old core.new
+        front.now
         (S.remaining reader.old) (S.remaining reader.new) (S.has_failed reader.new)
         (K.contents writer.old) (K.contents writer.new) }
     ensures same { W.tells watch.new ≡ W.tells watch.old }
@@ -82,8 +71,10 @@ pub(crate) fn play<R: Router + Drop, W: Watch, S: Source, K: Sink, E: Sink>(
         ≡ is_write_fault result.fault }
     ensures reading { IfNone result.fault (S.has_failed reader.new ≡ false) }
     ensures before { IfSome (fault_before (S.has_failed reader.old)
-        (K.has_failed writer.old || E.has_failed complaints.old)) (λ fault. (result ≡ unplayed fault)
-        × (reader.new ≡ reader.old) × (writer.new ≡ writer.old) × (complaints.new ≡ complaints.old)) }
+        (K.has_failed writer.old || E.has_failed complaints.old))
+        (λ fault. (result ≡ unplayed fault)
+        × (reader.new ≡ reader.old) × (writer.new ≡ writer.old)
+        × (complaints.new ≡ complaints.old)) }
 {
     if let Some(fault) = failed_before(reader, writer, complaints) {
         return Ending::before_all(fault);
@@ -141,7 +132,8 @@ fn play_behind<R: Router + Drop, W: Watch, S: Source, K: Sink, E: Sink>(
         (E.has_failed complaints.old) }
     ensures plays { W.sees watch.old run.now.list.now core.old [] →
         PlaysAll (W.tells watch.old core.old) W.takes (W.sees watch.new run.now.list.now core.old)
-        (option_copied run.now.only) notes.old.stand (result_err result) tally.new.lines core.old core.new front.now
+        (option_copied run.now.only) notes.old.stand (result_err result) tally.new.lines core.old
+        core.new front.now
         (S.remaining reader.old) (S.remaining reader.new) (S.has_failed reader.new)
         (K.contents writer.old) (K.contents writer.new) }
     ensures same { W.tells watch.new ≡ W.tells watch.old }
@@ -176,7 +168,8 @@ fn play_all<R: Router + Drop, W: Watch, S: Source, K: Sink, E: Sink>(
         (E.has_failed complaints.old) }
     ensures plays { W.sees watch.old run.now.list.now core.old [] →
         PlaysAll (W.tells watch.old core.old) W.takes (W.sees watch.new run.now.list.now core.old)
-        (option_copied run.now.only) notes.old.stand (result_err result) tally.new.lines core.old core.new
+        (option_copied run.now.only) notes.old.stand (result_err result) tally.new.lines core.old
+        core.new
         notes.old.buffers.gathered (S.remaining reader.old) (S.remaining reader.new)
         (S.has_failed reader.new) (K.contents writer.old) (K.contents writer.new) }
     ensures same { W.tells watch.new ≡ W.tells watch.old }
@@ -239,7 +232,8 @@ fn play_next<R: Router + Drop, W: Watch, S: Source, K: Sink, E: Sink>(
     ensures next { (start : World) (earlier : List (List ℕ)) →
         Watches (W.sees watch.old run.now.list.now) start earlier core.old →
         PlaysNext (W.tells watch.old start) W.takes (W.sees watch.new run.now.list.now start)
-        (option_copied run.now.only) notes.old.stand notes.new.stand earlier result (S.has_failed reader.new)
+        (option_copied run.now.only) notes.old.stand notes.new.stand earlier result
+        (S.has_failed reader.new)
         (point core.old notes.old.buffers (S.remaining reader.old) (K.contents writer.old))
         (point core.new notes.new.buffers (S.remaining reader.new) (K.contents writer.new)) }
     ensures low { OnOk result (StaysLow notes.old.stand notes.new.stand) }
@@ -247,7 +241,8 @@ fn play_next<R: Router + Drop, W: Watch, S: Source, K: Sink, E: Sink>(
     ensures held { W.holds watch.new ≡ W.holds watch.old }
     ensures listed { core.new.entries ≡ core.old.entries }
     ensures works { OnOk result
-        (AllWork (S.has_failed reader.new) (K.has_failed writer.new) (E.has_failed complaints.new)) }
+        (AllWork (S.has_failed reader.new) (K.has_failed writer.new)
+        (E.has_failed complaints.new)) }
     ensures writing { (K.has_failed writer.new || E.has_failed complaints.new)
         ≡ is_write_fault (result_err result) }
 {
@@ -299,11 +294,13 @@ fn play_ahead<R: Router + Drop, W: Watch, K: Sink, E: Sink>(
         TellsUnless result (K.contents writer.old) notes.old.buffers.gathered
         (K.contents writer.new) notes.new.buffers.gathered
         (told_of_calls (W.tells watch.old start) earlier notes.old.stand.number
-        (said_by (option_copied run.now.only) (call_of notes.old.stand (take count notes.old.buffers.ahead)))) }
+        (said_by (option_copied run.now.only)
+        (call_of notes.old.stand (take count notes.old.buffers.ahead)))) }
     ensures seen { (start : World) (earlier : List (List ℕ)) →
         Watches (W.sees watch.old run.now.list.now) start earlier core.old →
         OnOk result (Watches (W.sees watch.new run.now.list.now) start
-        (earlier ++ said_by (option_copied run.now.only) (call_of notes.old.stand (take count notes.old.buffers.ahead))) core.new) }
+        (earlier ++ said_by (option_copied run.now.only)
+        (call_of notes.old.stand (take count notes.old.buffers.ahead))) core.new) }
     ensures stands { OnOk result (notes.new.stand ≡ next_stand (option_copied run.now.only) core.old
         notes.old.stand (take count notes.old.buffers.ahead)) }
     ensures low { OnOk result (StaysLow notes.old.stand notes.new.stand) }
@@ -328,260 +325,4 @@ fn play_ahead<R: Router + Drop, W: Watch, K: Sink, E: Sink>(
     );
     notes.buffers.ahead.pass(count + 1);
     judged
-}
-
-// Plays a line that isn't too long: it is filled with what names stand for, and then it says something, or it is a directive.
-// Tells whether there was a complaint.
-fn play_line<R: Router + Drop, W: Watch, K: Sink, E: Sink>(
-    run: &Run<'_>,
-    core: &mut Core<R>,
-    stand: &mut Stand,
-    line: &[u8],
-    desk: &mut Desk<'_>,
-    watch: &mut W,
-    gathered: &mut Gather,
-    writer: &mut K,
-    complaints: &mut E,
-) -> Result<bool, PlayFault>
-    requires short { length line.now ≤ LONGEST_LINE }
-    requires listed { core.old.entries ≡ entries_of (start_list_of run.now.list.now) }
-    requires low { stand.old.number < 2 ^ 63 }
-    requires works { OutputsWork (K.has_failed writer.old) (E.has_failed complaints.old) }
-    ensures world { core.new ≡ left_behind (option_copied run.now.only) core.old stand.old line.now }
-    ensures told { (start : World) (earlier : List (List ℕ)) →
-        Watches (W.sees watch.old run.now.list.now) start earlier core.old →
-        TellsUnless result (K.contents writer.old) gathered.old (K.contents writer.new) gathered.new
-        (told_of_calls (W.tells watch.old start) earlier stand.old.number
-        (said_by (option_copied run.now.only) (call_of stand.old line.now))) }
-    ensures seen { (start : World) (earlier : List (List ℕ)) →
-        Watches (W.sees watch.old run.now.list.now) start earlier core.old →
-        OnOk result (Watches (W.sees watch.new run.now.list.now) start
-        (earlier ++ said_by (option_copied run.now.only) (call_of stand.old line.now)) core.new) }
-    ensures stands { OnOk result (stand.new
-        ≡ next_stand (option_copied run.now.only) core.old stand.old line.now) }
-    ensures low { OnOk result (StaysLow stand.old stand.new) }
-    ensures same { W.tells watch.new ≡ W.tells watch.old }
-    ensures held { W.holds watch.new ≡ W.holds watch.old }
-    ensures works { OnOk result (OutputsWork (K.has_failed writer.new)
-        (E.has_failed complaints.new)) }
-    ensures failing { Fails result (K.has_failed writer.new || E.has_failed complaints.new)
-        (takes_in W.takes (deed_of stand.old line.now)) }
-    ensures judged { IfOk result (IsJudged (option_copied run.now.only) core.old
-        (deed_of stand.old line.now) desk.old.tools.critic.expected) }
-    ensures expects { OnOk result (desk.new.tools.critic.expected
-        ≡ awaited_after stand.old.number (deed_of stand.old line.now) desk.old.tools.critic.expected) }
-{
-    let given = Given {
-        number: stand.number,
-        line,
-    };
-    stand.number = given.number + 1;
-    match fill(line, &stand.known, &mut desk.sheet) {
-        Ok(filled) => match directive_of(filled.line) {
-            Some(directive) => follow(given, directive, stand, &mut desk.tools, complaints),
-            None => {
-                play_filled(
-                    run,
-                    core,
-                    given,
-                    &filled,
-                    &mut stand.known,
-                    &mut desk.tools,
-                    watch,
-                    gathered,
-                    writer,
-                    complaints,
-                )
-            }
-        },
-        Err(fault) => {
-            desk.tools
-                .critic
-                .tell_unnamed(given.number, fault, complaints)
-        }
-    }
-}
-
-// Goes where a directive leads, or complains of it.
-fn follow<E: Sink>(
-    given: Given<'_>,
-    directive: Directive<'_>,
-    stand: &mut Stand,
-    tools: &mut Tools<'_>,
-    complaints: &mut E,
-) -> Result<bool, PlayFault>
-    requires works { E.has_failed complaints.old ≡ false }
-    ensures stands { OnOk result (stand.new ≡ followed_by stand.old (directive_view directive.entry)) }
-    ensures low { (n : ℕ) → low ≤ n → stand.old.number ≤ n → stand.new.number ≤ n }
-    ensures works { OnOk result (E.has_failed complaints.new ≡ false) }
-    ensures failing { Fails result (E.has_failed complaints.new) true }
-    ensures judged { IfOk result (λ complained. complained
-        ≡ is_misplaced (directive_view directive.entry)) }
-    ensures keeps { tools.new.critic.expected ≡ tools.old.critic.expected }
-{
-    match misplaced(directive) {
-        Some(words) => tools.critic.tell_misplaced(given, words, complaints),
-        None => {
-            stand.follow(directive)?;
-            Ok(false)
-        }
-    }
-}
-
-// Plays a line that was filled, and is no directive.
-fn play_filled<R: Router + Drop, W: Watch, K: Sink, E: Sink>(
-    run: &Run<'_>,
-    core: &mut Core<R>,
-    given: Given<'_>,
-    filled: &Filled<'_>,
-    known: &mut Known,
-    tools: &mut Tools<'_>,
-    watch: &mut W,
-    gathered: &mut Gather,
-    writer: &mut K,
-    complaints: &mut E,
-) -> Result<bool, PlayFault>
-    requires listed { core.old.entries ≡ entries_of (start_list_of run.now.list.now) }
-    requires works { OutputsWork (K.has_failed writer.old) (E.has_failed complaints.old) }
-    ensures world { core.new ≡ after_all (option_copied run.now.only) core.old
-        (call_in (said_of filled.now.line.now)) }
-    ensures told { (start : World) (earlier : List (List ℕ)) →
-        Watches (W.sees watch.old run.now.list.now) start earlier core.old →
-        TellsUnless result (K.contents writer.old) gathered.old (K.contents writer.new) gathered.new
-        (told_of_calls (W.tells watch.old start) earlier given.entry.number
-        (said_by (option_copied run.now.only) (call_in (said_of filled.now.line.now)))) }
-    ensures seen { (start : World) (earlier : List (List ℕ)) →
-        Watches (W.sees watch.old run.now.list.now) start earlier core.old →
-        OnOk result (Watches (W.sees watch.new run.now.list.now) start
-        (earlier ++ said_by (option_copied run.now.only) (call_in (said_of filled.now.line.now)))
-        core.new) }
-    ensures learns { OnOk result (known.new ≡ learnt_from core.old known.old (filled_view filled.now)
-        (said_by (option_copied run.now.only) (call_in (said_of filled.now.line.now)))) }
-    ensures same { W.tells watch.new ≡ W.tells watch.old }
-    ensures held { W.holds watch.new ≡ W.holds watch.old }
-    ensures works { OnOk result (OutputsWork (K.has_failed writer.new)
-        (E.has_failed complaints.new)) }
-    ensures failing { Fails result (K.has_failed writer.new || E.has_failed complaints.new)
-        (takes_in W.takes (Says (filled_view filled.now) (said_of filled.now.line.now))) }
-    ensures judged { IfOk result (IsJudged (option_copied run.now.only) core.old
-        (Says (filled_view filled.now) (said_of filled.now.line.now)) tools.old.critic.expected) }
-    ensures expects { OnOk result (tools.new.critic.expected
-        ≡ awaited_after given.entry.number (Says (filled_view filled.now) (said_of filled.now.line.now))
-        tools.old.critic.expected) }
-{
-    match read_friendly(filled.line, &mut tools.room) {
-        Ok(Said::Nothing) => Ok(false),
-        Ok(Said::Log(text)) => tools.critic.expect_line(given.number, text),
-        Ok(
-            Said::Call {
-                line: engine,
-                call,
-                reply,
-            },
-        ) => {
-            match answer_call(
-                run,
-                core,
-                given.number,
-                engine,
-                call,
-                &mut tools.reply,
-                watch,
-                gathered,
-                writer,
-            ) {
-                Ok(answer) => {
-                    take_in(
-                        given,
-                        filled,
-                        known,
-                        reply,
-                        answer,
-                        &mut tools.critic,
-                        complaints,
-                    )
-                }
-                Err(fault) => Err(fault),
-            }
-        }
-        Err(fault) => tools.critic.tell_unread(given, known, fault, complaints),
-    }
-}
-
-// Judges the answer of a line's call, and binds what it binds.
-fn take_in<E: Sink>(
-    given: Given<'_>,
-    filled: &Filled<'_>,
-    known: &mut Known,
-    reply: Option<&[u8]>,
-    answer: Option<LineAnswer<'_>>,
-    critic: &mut Critic<'_>,
-    complaints: &mut E,
-) -> Result<bool, PlayFault>
-    requires works { E.has_failed complaints.old ≡ false }
-    ensures judged { IfOk result (λ complained. complained
-        ≡ is_other (option_copied reply.entry) answer.entry critic.old.expected) }
-    ensures forgets { critic.new.expected ≡ nothing_awaited }
-    ensures learns { OnOk result (known.new
-        ≡ learnt_by known.old (filled_view filled.now) answer.entry) }
-    ensures works { OnOk result (E.has_failed complaints.new ≡ false) }
-    ensures failing { Fails result (E.has_failed complaints.new) (has_holes (filled_view filled.now)) }
-{
-    match critic.judge(given, known, filled.line, reply, answer, complaints) {
-        Ok(complained) => match learn(known, filled, answer) {
-            Ok(()) => Ok(complained),
-            Err(fault) => Err(fault),
-        },
-        Err(fault) => Err(fault),
-    }
-}
-
-// Answers a line of the engine by what was read of it, and tells the answer to `watch`.
-fn answer_call<'a, 'b, R: Router + Drop, W: Watch, K: Sink>(
-    run: &Run<'a>,
-    core: &mut Core<R>,
-    number: u64,
-    line: &'b [u8],
-    call: Option<NamedCall<'b>>,
-    reply: &'b mut Reply,
-    watch: &mut W,
-    gathered: &mut Gather,
-    writer: &mut K,
-) -> Result<Option<LineAnswer<'b>>, PlayFault>
-where
-    'a: 'b,
-    requires listed { core.old.entries ≡ entries_of (start_list_of run.now.list.now) }
-    requires read { IsReadAs line.now call }
-    requires writes { K.has_failed writer.old ≡ false }
-    ensures world { core.new ≡ after_all (option_copied run.now.only) core.old (line.now ∷ []) }
-    ensures told { (start : World) (earlier : List (List ℕ)) →
-        Watches (W.sees watch.old run.now.list.now) start earlier core.old →
-        TellsUnless result (K.contents writer.old) gathered.old (K.contents writer.new) gathered.new
-        (told_of_calls (W.tells watch.old start) earlier number
-        (said_by (option_copied run.now.only) (line.now ∷ []))) }
-    ensures seen { (start : World) (earlier : List (List ℕ)) →
-        Watches (W.sees watch.old run.now.list.now) start earlier core.old →
-        OnOk result (Watches (W.sees watch.new run.now.list.now) start
-        (earlier ++ said_by (option_copied run.now.only) (line.now ∷ [])) core.new) }
-    ensures same { W.tells watch.new ≡ W.tells watch.old }
-    ensures held { W.holds watch.new ≡ W.holds watch.old }
-    ensures works { OnOk result (K.has_failed writer.new ≡ false) }
-    ensures failing { Fails result (K.has_failed writer.new) W.takes }
-    ensures answered { IfOk result (AnswersLine (option_copied run.now.only) core.old line.now) }
-{
-    match run.answer_read(core, line, call, reply) {
-        Some(answer) => {
-            let heard = Heard {
-                number,
-                line,
-                call,
-                answer,
-            };
-            match watch.tell(core, run.list, &heard, gathered, writer) {
-                Ok(()) => Ok(Some(answer)),
-                Err(fault) => Err(fault),
-            }
-        }
-        None => Ok(None),
-    }
 }

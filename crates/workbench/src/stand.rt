@@ -34,7 +34,8 @@ impl Stand {
     /// Goes where a directive leads.
     pub(crate) fn follow(&mut self, directive: Directive<'_>) -> Result<(), PlayFault>
         ensures fault { IfErr result (λ fault. fault ≡ NoRoom) }
-        ensures stands { OnOk result (self.new ≡ followed_by self.old (directive_view directive.entry)) }
+        ensures stands { OnOk result
+            (self.new ≡ followed_by self.old (directive_view directive.entry)) }
         ensures low { (n : ℕ) → low ≤ n → self.old.number ≤ n → self.new.number ≤ n }
     {
         if let Some(line) = line_told(directive) {

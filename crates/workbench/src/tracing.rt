@@ -109,7 +109,8 @@ fn told_of<'a, R: Router + Drop>(
     requires read { IsReadAs line.now call }
     ensures call { result.0.now ≡ call_text line.now }
     ensures figures { result.1.items
-        ≡ fields_text default_writer (figures core.now (heard core.now.entries line.now)) ++ 10 ∷ [] }
+        ≡ fields_text default_writer (figures core.now (heard core.now.entries line.now))
+        ++ 10 ∷ [] }
 {
     let mut text = ArrayVec::new();
     match said_in(line, call) {
@@ -177,7 +178,8 @@ fn add_session<R: Router + Drop>(
     requires room { array_vec_len text.old ≤ 84 }
     requires component { component < length core.now.entries }
     ensures items { text.new.items ≡ text.old.items
-        ++ fields_text default_writer (session_cells (state_at core.now.states component) (Some selector)) }
+        ++ fields_text default_writer (session_cells (state_at core.now.states component)
+        (Some selector)) }
     ensures len { array_vec_len text.new ≤ array_vec_len text.old + 105 }
 {
     match core.session_account(component, selector) {
@@ -217,7 +219,8 @@ pub fn trace<S: Source, K: Sink, E: Sink>(
 ) -> Result<Ending, BootFault>
     ensures played { IfOk result (λ ending. fault_before (S.has_failed reader.old)
         (K.has_failed writer.old || E.has_failed complaints.old) ≡ None →
-        IsPlayed play.entry.machine.now (turns_on None (first_with play.entry.given)) trace_told nothing_told false ending
+        IsPlayed play.entry.machine.now (turns_on None (first_with play.entry.given)) trace_told
+        nothing_told false ending
         (S.remaining reader.old) (S.remaining reader.new)
         (S.has_failed reader.new) (K.contents writer.old) (K.contents writer.new)) }
     ensures few { IfOk result (λ ending. ending.lines ≤ MAX_LINES) }
@@ -231,11 +234,13 @@ pub fn trace<S: Source, K: Sink, E: Sink>(
     ensures before { IfOk result (λ ending. IfSome (fault_before (S.has_failed reader.old)
         (K.has_failed writer.old || E.has_failed complaints.old)) (λ fault.
         IsUnplayed play.entry.machine.now ending fault
-        × (reader.new ≡ reader.old) × (writer.new ≡ writer.old) × (complaints.new ≡ complaints.old))) }
+        × (reader.new ≡ reader.old) × (writer.new ≡ writer.old)
+        × (complaints.new ≡ complaints.old))) }
     ensures unbooted { IfErr result (λ fault. fault ≢ NoMemory →
         boot_fault play.entry.machine.now ≡ Some fault) }
     ensures untouched { OnErr result
-        ((reader.new ≡ reader.old) × (writer.new ≡ writer.old) × (complaints.new ≡ complaints.old)) }
+        ((reader.new ≡ reader.old) × (writer.new ≡ writer.old)
+        × (complaints.new ≡ complaints.old)) }
 {
     let list = StartList::read(alloc, play.machine)?;
     let mut core = boot(alloc, &list)?;
@@ -276,8 +281,10 @@ fn trace_on<R: Router + Drop, S: Source, K: Sink, E: Sink>(
         ≡ is_write_fault result.fault }
     ensures reading { IfNone result.fault (S.has_failed reader.new ≡ false) }
     ensures before { IfSome (fault_before (S.has_failed reader.old)
-        (K.has_failed writer.old || E.has_failed complaints.old)) (λ fault. (result ≡ unplayed fault)
-        × (reader.new ≡ reader.old) × (writer.new ≡ writer.old) × (complaints.new ≡ complaints.old)) }
+        (K.has_failed writer.old || E.has_failed complaints.old))
+        (λ fault. (result ≡ unplayed fault)
+        × (reader.new ≡ reader.old) × (writer.new ≡ writer.old)
+        × (complaints.new ≡ complaints.old)) }
 {
     play_lines(run, core, notes, watch, HEADER, reader, writer, complaints)
 }

@@ -1,34 +1,50 @@
 //! The run of a scenario in the friendly form: its transcript, as the engine writes it.
-ghost use Rattle.std.specs.Prelude.{◌≡◌, ◌≢◌, ◌≤◌, ◌||◌, [], ⊤, false, IfNone, IfOk, IfErr, IfSome, OnErr, Some};
+ghost use Rattle.std.specs.Prelude.{◌≡◌, ◌≢◌, ◌≤◌, ◌++◌, ◌||◌, [], ⊤, false, true, is_err, IfNone, IfOk, IfErr, IfSome, OnErr, Some};
 ghost use Rattle.std.specs.Option.{option_copied};
 ghost use Rattle.own_model.specs.AccountList.{account_list_text};
 ghost use Rattle.own_model.specs.Listed.{start_list_of};
 ghost use Rattle.own_model.specs.StartList.{entries_of};
 ghost use Rattle.init_core.specs.declared.fault.BootFault.TheVariants.{NoMemory};
+ghost use Rattle.scenario.specs.Answer.{answer_text};
+ghost use Rattle.scenario.specs.Gathered.{TellsUnless};
 ghost use Rattle.scenario.specs.Program.{boot_fault};
 ghost use Rattle.scenario.specs.Runs.{HasCause};
 ghost use Rattle.workbench.specs.Faults.{fault_before, is_write_fault, unplayed};
-ghost use Rattle.workbench.specs.Played.{engine_tells};
 ghost use Rattle.workbench.specs.Turns.{first_with, turns_of};
-ghost use Rattle.workbench.specs.Writes.{Closes, IsPlayed, IsPlayedFrom, IsUnplayed, list_behind, run_behind, run_told, transcript_of, turns_on};
+ghost use Rattle.workbench.specs.Writes.{Closes, IsPlayed, IsPlayedFrom, IsUnplayed, list_behind, number_before, run_behind, run_tells, run_told, shown_of, turns_on};
 ghost use Rattle.workbench.specs.declared.ending.PlayFault.TheVariants.{NoMemory as NoRoom};
 
 use crate::ending::{Ending, PlayFault};
 use crate::machine::Play;
 use crate::notes::Notes;
 use crate::playing::play as play_lines;
+use crate::text::put_number;
 use crate::watch::{Heard, Watch};
 use init_core::{BootFault, StartList, boot};
 use pd_core::{Core, Router};
-use scenario::{Gather, MAX_LINES, Run, Sink, Source, write_accounts};
+use scenario::{DeviceFault, Gather, MAX_LINES, Run, Sink, Source, write_accounts};
 use std::alloc::Global;
+
+/// What of a play is told.
+#[derive(Clone, Copy, Debug, PartialEq, Eq)]
+pub struct Showing<'a> {
+    /// The name whose lines alone are answered, or none where all are.
+    pub only: Option<&'a [u8]>,
+    /// Whether the account list stands behind the transcript.
+    pub accounts: bool,
+    /// Whether the number of its line stands before what each line of the scenario is told.
+    pub numbers: bool,
+}
 
 /// Tells each answer as the engine does.
 #[derive(Drop)]
-pub(crate) struct Transcript;
+pub(crate) struct Transcript {
+    /// Whether the number of its line stands before it.
+    numbers: bool,
+}
 
 impl Watch for Transcript {
-    ghost tells = { λ _. engine_tells };
+    ghost tells = { λ watch. run_tells watch.numbers };
 
     ghost sees = { λ _ _ _ _. ⊤ };
 
@@ -40,14 +56,53 @@ impl Watch for Transcript {
         gathered: &mut Gather,
         writer: &mut K,
     ) -> Result<(), PlayFault> {
-        let answer = heard.answer;
-        gathered.put_answer(writer, answer.lines, answer.name, answer.reply)?;
+        put_heard(self.numbers, heard, gathered, writer)?;
         Ok(())
     }
 }
 
-/// Plays a scenario, or the lines of one name alone, and writes the transcript, with the account list behind it where it is
-/// asked for and no fault came. Complaints are written as they come.
+// Gathers an answer; or writes it behind the number of its line where that is asked for, so that complaints of it follow.
+fn put_heard<K: Sink>(
+    numbers: bool,
+    heard: &Heard<'_>,
+    gathered: &mut Gather,
+    writer: &mut K,
+) -> Result<(), DeviceFault>
+    requires { K.has_failed writer.old ≡ false }
+    ensures told { TellsUnless result (K.contents writer.old) gathered.old
+        (K.contents writer.new) gathered.new
+        (number_before numbers heard.now.number ++ answer_text (Some heard.now.answer)) }
+    ensures failing { K.has_failed writer.new ≡ is_err result }
+{
+    if numbers {
+        write_numbered(heard, gathered, writer)
+    } else {
+        let answer = heard.answer;
+        gathered.put_answer(writer, answer.lines, answer.name, answer.reply)
+    }
+}
+
+// Writes an answer behind the number of its line.
+fn write_numbered<K: Sink>(
+    heard: &Heard<'_>,
+    gathered: &mut Gather,
+    writer: &mut K,
+) -> Result<(), DeviceFault>
+    requires { K.has_failed writer.old ≡ false }
+    ensures told { TellsUnless result (K.contents writer.old) gathered.old
+        (K.contents writer.new) gathered.new
+        (number_before true heard.now.number ++ answer_text (Some heard.now.answer)) }
+    ensures failing { K.has_failed writer.new ≡ is_err result }
+{
+    put_number(heard.number, gathered, writer)?;
+    gathered.put(writer, b": ")?;
+    let answer = heard.answer;
+    gathered.put_answer(writer, answer.lines, answer.name, answer.reply)?;
+    gathered.flush(writer)
+}
+
+/// Plays a scenario, or the lines of one name alone, and writes the transcript, each line's behind its number where that is asked
+/// for, and with the account list behind it where it is asked for and no fault came. Complaints are written as they come.
 ///
 /// What is written is the transcript of the calls that the scenario's lines say, and the account list of the world after them;
 /// at a fault the transcript of the lines that were played, or where a write failed or the host has no room a part of these, from
@@ -57,16 +112,16 @@ impl Watch for Transcript {
 pub fn run<S: Source, K: Sink, E: Sink>(
     alloc: Global,
     play: Play<'_>,
-    only: Option<&[u8]>,
-    accounts: bool,
+    showing: Showing<'_>,
     reader: &mut S,
     writer: &mut K,
     complaints: &mut E,
 ) -> Result<Ending, BootFault>
     ensures played { IfOk result (λ ending. fault_before (S.has_failed reader.old)
         (K.has_failed writer.old || E.has_failed complaints.old) ≡ None →
-        IsPlayed play.entry.machine.now (turns_on (option_copied only.entry) (first_with play.entry.given))
-        (run_told (option_copied only.entry)) (run_behind accounts (option_copied only.entry)) false ending
+        IsPlayed play.entry.machine.now
+        (turns_on (option_copied showing.entry.only) (first_with play.entry.given))
+        (run_told showing.entry) (run_behind showing.entry) false ending
         (S.remaining reader.old) (S.remaining reader.new)
         (S.has_failed reader.new) (K.contents writer.old) (K.contents writer.new)) }
     ensures few { IfOk result (λ ending. ending.lines ≤ MAX_LINES) }
@@ -80,18 +135,23 @@ pub fn run<S: Source, K: Sink, E: Sink>(
     ensures before { IfOk result (λ ending. IfSome (fault_before (S.has_failed reader.old)
         (K.has_failed writer.old || E.has_failed complaints.old)) (λ fault.
         IsUnplayed play.entry.machine.now ending fault
-        × (reader.new ≡ reader.old) × (writer.new ≡ writer.old) × (complaints.new ≡ complaints.old))) }
+        × (reader.new ≡ reader.old) × (writer.new ≡ writer.old)
+        × (complaints.new ≡ complaints.old))) }
     ensures unbooted { IfErr result (λ fault. fault ≢ NoMemory →
         boot_fault play.entry.machine.now ≡ Some fault) }
     ensures untouched { OnErr result
-        ((reader.new ≡ reader.old) × (writer.new ≡ writer.old) × (complaints.new ≡ complaints.old)) }
+        ((reader.new ≡ reader.old) × (writer.new ≡ writer.old)
+        × (complaints.new ≡ complaints.old)) }
 {
     let list = StartList::read(alloc, play.machine)?;
     let mut core = boot(alloc, &list)?;
     let mut notes = Notes::new(alloc, play.scenario, play.given)?;
-    let run = Run { list: &list, only };
+    let run = Run {
+        list: &list,
+        only: showing.only,
+    };
     Ok(run_on(
-        &run, &mut core, &mut notes, accounts, reader, writer, complaints,
+        &run, &mut core, &mut notes, showing, reader, writer, complaints,
     ))
 }
 
@@ -100,7 +160,7 @@ fn run_on<R: Router + Drop, S: Source, K: Sink, E: Sink>(
     run: &Run<'_>,
     core: &mut Core<R>,
     notes: &mut Notes<'_>,
-    accounts: bool,
+    showing: Showing<'_>,
     reader: &mut S,
     writer: &mut K,
     complaints: &mut E,
@@ -112,8 +172,9 @@ fn run_on<R: Router + Drop, S: Source, K: Sink, E: Sink>(
     ensures played { fault_before (S.has_failed reader.old)
         (K.has_failed writer.old || E.has_failed complaints.old) ≡ None →
         IsPlayedFrom (turns_of (option_copied run.now.only) core.old notes.old.stand)
-        (transcript_of (option_copied run.now.only) core.old)
-        (list_behind accounts (option_copied run.now.only) run.now.list.now core.old) false result
+        (shown_of showing.entry.numbers (option_copied run.now.only) core.old)
+        (list_behind showing.entry.accounts (option_copied run.now.only) run.now.list.now core.old)
+        false result
         (S.remaining reader.old) (S.remaining reader.new)
         (S.has_failed reader.new) (K.contents writer.old) (K.contents writer.new) }
     ensures few { result.lines ≤ MAX_LINES }
@@ -121,13 +182,18 @@ fn run_on<R: Router + Drop, S: Source, K: Sink, E: Sink>(
         ≡ is_write_fault result.fault }
     ensures reading { IfNone result.fault (S.has_failed reader.new ≡ false) }
     ensures before { IfSome (fault_before (S.has_failed reader.old)
-        (K.has_failed writer.old || E.has_failed complaints.old)) (λ fault. (result ≡ unplayed fault)
-        × (reader.new ≡ reader.old) × (writer.new ≡ writer.old) × (complaints.new ≡ complaints.old)) }
+        (K.has_failed writer.old || E.has_failed complaints.old))
+        (λ fault. (result ≡ unplayed fault)
+        × (reader.new ≡ reader.old) × (writer.new ≡ writer.old)
+        × (complaints.new ≡ complaints.old)) }
 {
-    let mut watch = Transcript;
+    let mut watch = Transcript {
+        numbers: showing.numbers,
+    };
     let ending = play_lines(
         run, core, notes, &mut watch, b"", reader, writer, complaints,
     );
+    let accounts = showing.accounts;
     if accounts {
         close_with_list(ending, core, run.list, writer)
     } else {

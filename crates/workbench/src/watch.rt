@@ -56,7 +56,8 @@ pub(crate) trait Watch {
         ensures told { (start : World) (earlier : List (List ℕ)) →
             sees self.old list.now start earlier →
             IsToldOf start earlier heard.now.line.now core.now heard.now.answer →
-            TellsUnless result (K.contents writer.old) gathered.old (K.contents writer.new) gathered.new
+            TellsUnless result (K.contents writer.old) gathered.old (K.contents writer.new)
+            gathered.new
             (tells self.old start earlier heard.now.number heard.now.line.now) }
         ensures seen { (start : World) (earlier : List (List ℕ)) →
             sees self.old list.now start earlier →

@@ -95,7 +95,7 @@ IsTold form made = (app_of made ≡ command_told form) × ((out-Command made).ha
 abbrev pub run : Shape
 run =
     of_scenario (codes "run")
-    (option_rule (codes "only") ∷ flag_rule (codes "accounts") ∷ option_rule (codes "color") ∷ [])
+    (option_rule (codes "only") ∷ flag_rule (codes "accounts") ∷ flag_rule (codes "numbers") ∷ option_rule (codes "color") ∷ [])
 
 -- the command that records a scenario
 abbrev pub record_shape : Shape
@@ -134,7 +134,7 @@ route =
 abbrev pub test : Shape
 test =
     with_rules (codes "test")
-    (option_rule (codes "machine") ∷ option_rule (codes "junit")
+    (option_rule (codes "machine") ∷ option_rule (codes "junit") ∷ flag_rule (codes "coverage") ∷ flag_rule (codes "json")
     ∷ set ∷ option_rule (codes "color") ∷ words_rule (codes "path") ∷ [])
 
 -- the command that compares two start lists
@@ -182,10 +182,11 @@ IsColor Unknown word = (word ≢ codes "auto") × (word ≢ codes "always") × (
 
 -- a command is what these rows ask for behind this name
 abbrev pub Asks : Command → Text → List Row → Type 0
-Asks (command.Run machine only accounts color scenario) name rows = (name ≡ codes "run")
+Asks (command.Run machine only accounts numbers color scenario) name rows = (name ≡ codes "run")
     × (option_map (λ t. t.now) machine ≡ first_of (codes "machine") rows)
     × (option_map (λ t. t.now) only ≡ first_of (codes "only") rows)
     × (accounts ≡ is_set (codes "accounts") rows)
+    × (numbers ≡ is_set (codes "numbers") rows)
     × IsColor color (first_or (codes "auto") (codes "color") rows)
     × (scenario.now ≡ first_or (codes "-") (codes "scenario") rows)
 Asks (command.Record machine all write scenario) name rows = (name ≡ codes "record")
@@ -240,9 +241,11 @@ Asks (command.Diff json before after scenario) name rows = (name ≡ codes "diff
     × (before.now ≡ first_or [] (codes "before") rows)
     × (after.now ≡ first_or [] (codes "after") rows)
     × (option_map (λ t. t.now) scenario ≡ first_of (codes "scenario") rows)
-Asks (command.Test machine junit color paths) name rows = (name ≡ codes "test")
+Asks (command.Test machine junit coverage json color paths) name rows = (name ≡ codes "test")
     × (option_map (λ t. t.now) machine ≡ first_of (codes "machine") rows)
     × (option_map (λ t. t.now) junit ≡ first_of (codes "junit") rows)
+    × (coverage ≡ is_set (codes "coverage") rows)
+    × (json ≡ is_set (codes "json") rows)
     × IsColor color (first_or (codes "auto") (codes "color") rows)
     × (map (λ t. t.now) paths.items ≡ unwrap_or (all_of (codes "path") rows) [])
 

@@ -42,6 +42,8 @@ pub enum Command<'a> {
         only: Option<&'a str>,
         /// Whether the account list is told after the last reply.
         accounts: bool,
+        /// Whether the number of its line is told before what each line is told.
+        numbers: bool,
         /// When lines are coloured.
         color: Color,
         /// The path of the scenario.
@@ -167,6 +169,10 @@ pub enum Command<'a> {
         machine: Option<&'a str>,
         /// The path of the document of all results, or none.
         junit: Option<&'a str>,
+        /// Whether it is told what the scenarios show of their machines.
+        coverage: bool,
+        /// Whether that is told as a document of JSON, in place of all lines.
+        json: bool,
         /// When lines are coloured.
         color: Color,
         /// The paths of scenarios, and of folders with scenarios.
@@ -232,6 +238,8 @@ impl<'a> Command<'a> {
             "test" => Ok(Some(Command::Test {
                 machine: found.get_str("machine"),
                 junit: found.get_str("junit"),
+                coverage: is_set(found, "coverage"),
+                json: is_set(found, "json"),
                 color: colored(found),
                 paths: words(alloc, found, "path")?,
             })),
@@ -257,6 +265,7 @@ impl<'a> Command<'a> {
                 machine: found.get_str("machine"),
                 only: found.get_str("only"),
                 accounts: is_set(found, "accounts"),
+                numbers: is_set(found, "numbers"),
                 color: colored(found),
                 scenario: path(found, "scenario"),
             }),
@@ -322,7 +331,8 @@ impl<'a> Command<'a> {
 
 // When lines are coloured: on a terminal where it isn't told.
 fn colored(found: &ArgMatches<'_>) -> Color
-    ensures { IsColor result (first_or (codes "auto") (codes "color") (rows_of (found_of found.now))) }
+    ensures { IsColor result (first_or (codes "auto") (codes "color")
+        (rows_of (found_of found.now))) }
 {
     color_named(found.get_str("color").unwrap_or("auto"))
 }

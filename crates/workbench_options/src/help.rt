@@ -92,6 +92,8 @@ pub(crate) const ONLY: &str = "Answer the lines of this component alone";
 
 pub(crate) const WITH_ACCOUNTS: &str = "Print all accounts after the last reply";
 
+pub(crate) const NUMBERS: &str = "Print the number of its line before what each line is told";
+
 pub(crate) const SET: &str =
     "NAME stands for VALUE: $NAME in a scenario, ${NAME} in a start list; may be given again";
 
@@ -136,5 +138,8 @@ pub(crate) const PATHS: &str =
 
 pub(crate) const OTHER_MACHINE: &str =
     "A start list in JSON for scenarios without one beside them, in place of the built-in machine";
+
+pub(crate) const COVERAGE: &str =
+    "Tell which rules decide a wish, and which refusals and errors are met, and which not";
 
 pub(crate) const JUNIT: &str = "Write all results to FILE, as JUnit's XML";

@@ -52,6 +52,7 @@ pub(crate) const COMMANDS: &[Form<'static>] = &[
             MACHINE,
             Word::Value("only", "NAME", help::ONLY),
             Word::Flag("accounts", help::WITH_ACCOUNTS),
+            Word::Flag("numbers", help::NUMBERS),
             COLOR,
             SET,
             SCENARIO,
@@ -149,6 +150,8 @@ pub(crate) const COMMANDS: &[Form<'static>] = &[
         words: &[
             Word::Value("machine", "FILE", help::OTHER_MACHINE),
             Word::Value("junit", "FILE", help::JUNIT),
+            Word::Flag("coverage", help::COVERAGE),
+            JSON,
             SET,
             COLOR,
             Word::Several("path", "PATH", help::PATHS),

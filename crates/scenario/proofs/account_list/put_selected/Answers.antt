@@ -1,5 +1,4 @@
 -- The line of a session, or nothing.
-use Rattle.std.proofs.Common.{sym}
 use Rattle.own_model.specs.Transcript.{state_at}
 use Rattle.scenario.specs.Accounts.{listed_at}
 use Rattle.scenario.specs.declared.columns.Owner.TheVariants.{Session}

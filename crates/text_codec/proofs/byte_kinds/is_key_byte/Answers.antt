@@ -1,5 +1,4 @@
 use Rattle.std.proofs.Common.{refl, arith}
-use Rattle.std.proofs.lemmas.Bool.{agree_below}
 use Rattle.own_model.specs.SessionArgs.{is_key_byte}
 use Rattle.text_codec.specs.declared.byte_kinds.TheConstants.{KINDS}
 use Rattle.text_codec.proofs.KindLemmas.{kind_is}

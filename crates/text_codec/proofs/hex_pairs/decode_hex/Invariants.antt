@@ -1,5 +1,5 @@
 -- The bytes so far, and then those of the digits that are left, are those of the text.
-use Rattle.std.proofs.Common.{◌≡◌, ◌+◌, ◌*◌, ◌++◌, Some, take, drop}
+use Rattle.std.proofs.Common.{◌≡◌, ◌*◌, ◌++◌, Some, take, drop}
 use Rattle.own_model.specs.Text.{bytes_of_hex, hex_bytes}
 use Rattle.text_codec.proofs.hex_pairs.decode_hex.Given as goal
 

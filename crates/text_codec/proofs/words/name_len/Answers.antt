@@ -1,4 +1,4 @@
-use Rattle.std.proofs.Common.{◌≡◌, length, None, position, not, arith}
+use Rattle.std.proofs.Common.{◌≡◌, None, position, not, arith}
 use Rattle.std.proofs.lemmas.Bool.Decides.{nat_tests}
 use Rattle.own_model.specs.Text.{is_name_byte}
 use Rattle.text_codec.proofs.NameLemmas.{name_len-le}

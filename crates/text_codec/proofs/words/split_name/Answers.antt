@@ -1,4 +1,4 @@
-use Rattle.std.proofs.Common.{◌≡◌, ap, sym, refl, arith, inl, inr, ◌∙◌}
+use Rattle.std.proofs.Common.{sym, refl, arith, inl, inr}
 use Rattle.std.proofs.lemmas.List.{take_rest}
 use Rattle.std.proofs.lemmas.Bool.Decides.{nat_tests}
 use Rattle.text_codec.proofs.NameLemmas.{none, whole, before_space, before_other}

@@ -1,26 +1,27 @@
--- What is told is the answer.
-use Rattle.std.proofs.Common.{Some, None, refl, subst}
+-- What is told is the answer, behind its number where that is asked for.
+use Rattle.std.proofs.Common.{Some, None, ◌++◌, ap, refl, subst}
 use Rattle.own_model.specs.World.{world_running}
 use Rattle.scenario.specs.Gathered.{Tells}
 use Rattle.scenario.proofs.AnsweringLemmas.{told_answer}
 use Rattle.scenario.proofs.GatheredLemmas.{told_err}
+use Rattle.workbench.specs.Writes.{number_before}
 use Rattle.workbench.proofs.FailLemmas.{unwritten}
 use Rattle.workbench.proofs.transcript.TranscriptWatch.tell.Goals as goal
 
-pub returns-in_err-put_answer-clause-told : goal.returns-in_err-put_answer-clause-told
-returns-in_err-put_answer-clause-told g c = λ start earlier sees told.
+pub returns-in_err-put_heard-clause-told : goal.returns-in_err-put_heard-clause-told
+returns-in_err-put_heard-clause-told g c = λ start earlier sees told.
     told_err _ _ _ c.from_residual.ensures.1 (
-      c.in_err-put_answer.ensures.told.0,
-      subst (Tells (g.K.Sink.contents c.args.writer.now) c.args.gathered.now (g.K.Sink.contents c.put_answer.new.sink) c.in_err-put_answer.ensures.told.0)
-          (told_answer None (world_running start earlier) c.args.heard.now.line.now (Some c.args.heard.now.answer) (refl, told.answers))
-          c.in_err-put_answer.ensures.told.1,
+      c.in_err-put_heard.ensures.told.0,
+      subst (Tells (g.K.Sink.contents c.args.writer.now) c.args.gathered.now (g.K.Sink.contents c.put_heard.new.writer) c.in_err-put_heard.ensures.told.0)
+          (ap (λ text. number_before c.args.self.now.numbers c.args.heard.now.number ++ text) (told_answer None (world_running start earlier) c.args.heard.now.line.now (Some c.args.heard.now.answer) (refl, told.answers)))
+          c.in_err-put_heard.ensures.told.1,
     )
 
 pub returns-clause-told : goal.returns-clause-told
 returns-clause-told g c = λ start earlier sees told.
-    subst (Tells (g.K.Sink.contents c.args.writer.now) c.args.gathered.now (g.K.Sink.contents c.put_answer.new.sink) c.put_answer.new.self)
-    (told_answer None (world_running start earlier) c.args.heard.now.line.now (Some c.args.heard.now.answer) (refl, told.answers))
-    c.in_ok-put_answer.ensures.told
+    subst (Tells (g.K.Sink.contents c.args.writer.now) c.args.gathered.now (g.K.Sink.contents c.put_heard.new.writer) c.put_heard.new.gathered)
+    (ap (λ text. number_before c.args.self.now.numbers c.args.heard.now.number ++ text) (told_answer None (world_running start earlier) c.args.heard.now.line.now (Some c.args.heard.now.answer) (refl, told.answers)))
+    c.in_ok-put_heard.ensures.told
 
-pub returns-in_err-put_answer-clause-failing : goal.returns-in_err-put_answer-clause-failing
-returns-in_err-put_answer-clause-failing g c = unwritten _ _ _ c.from_residual.ensures.1 c.in_err-put_answer.ensures.failing
+pub returns-in_err-put_heard-clause-failing : goal.returns-in_err-put_heard-clause-failing
+returns-in_err-put_heard-clause-failing g c = unwritten _ _ _ c.from_residual.ensures.1 c.in_err-put_heard.ensures.failing

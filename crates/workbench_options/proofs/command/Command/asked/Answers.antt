@@ -10,6 +10,8 @@ returns-in_ok-words-in-test c =
       c.in-test.is,
       c.get_str.ensures ∙ first_value-rows found (codes "machine"),
       c.get_str-in-test.ensures ∙ first_value-rows found (codes "junit"),
+      c.is_set.ensures,
+      c.is_set-in-test.ensures,
       c.colored.ensures,
       c.in_ok-words-in-test.ensures,
     )
@@ -17,8 +19,8 @@ returns-in_ok-words-in-test c =
 pub returns-in_ok-words-in-reach-2 : goal.returns-in_ok-words-in-reach-2
 returns-in_ok-words-in-reach-2 c = (
   c.in-reach.is,
-  c.is_set.ensures,
   c.is_set-in-reach.ensures,
+  c.is_set-in-reach-2.ensures,
   c.in_ok-words-in-reach.ensures,
   c.in_ok-words-in-reach-2.ensures,
   c.path.ensures,

@@ -11,6 +11,7 @@ returns-in-run c =
       c.get_str.ensures ∙ first_value-rows found (codes "machine"),
       c.get_str-in-run.ensures ∙ first_value-rows found (codes "only"),
       c.is_set.ensures,
+      c.is_set-in-run.ensures,
       c.colored.ensures,
       c.path.ensures,
     )

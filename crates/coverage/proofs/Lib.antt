@@ -1,0 +1,3 @@
+mod CoverLemmas
+mod TableLemmas
+mod TraceLemmas

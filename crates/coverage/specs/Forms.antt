@@ -1,0 +1,71 @@
+-- The table of calls: its forms, and what each is refused for.
+use Rattle.std.specs.Prelude.{ℕ, ◌||◌, Bool, true, false, List, [], ◌∷◌, codes}
+use Rattle.std.specs.Str.{bytes_eq}
+use Rattle.trade_base.specs.declared.refusal.Refusal.{Refusal}
+use Rattle.trade_base.specs.declared.refusal.Refusal.TheVariants.{BadLine, UnknownComponent, NotAScript, Gone, BadArgs, InvalidSize, InvalidCap, OutOfRam, OutOfCaps, RegionConflict, TooManyRegions, PageFault, TooManyChunks, ServiceDenied, InsufficientRamQuota, InsufficientCapQuota, InvalidSession}
+use Rattle.coverage.specs.Words.{form_in}
+use Rattle.coverage.specs.declared.form.Form.{Form}
+use Rattle.coverage.specs.declared.form.Form.TheVariants.{AnyLine, AnyCall, Alloc, Free, Attach, AttachAt, Detach, Peek, Poke, Capalloc, Capfree, New, Del, Snew, Sdel, Request, Yield, Open, Upgrade, CallSession, Close}
+
+abbrev pub forms : List Form
+forms =
+    AnyLine ∷ AnyCall ∷ Alloc ∷ Free ∷ Attach ∷ AttachAt ∷ Detach ∷ Peek ∷ Poke ∷ Capalloc ∷ Capfree ∷ New ∷ Del ∷ Snew ∷ Sdel
+    ∷ Request ∷ Yield ∷ Open ∷ Upgrade ∷ CallSession ∷ Close ∷ []
+
+-- the word of its calls, as lines have it
+abbrev pub form_word : Form → List ℕ
+form_word AnyLine = codes "any line"
+form_word AnyCall = codes "any call"
+form_word Alloc = codes "alloc"
+form_word Free = codes "free"
+form_word Attach = codes "attach"
+form_word AttachAt = codes "attach_at"
+form_word Detach = codes "detach"
+form_word Peek = codes "peek"
+form_word Poke = codes "poke"
+form_word Capalloc = codes "capalloc"
+form_word Capfree = codes "capfree"
+form_word New = codes "new"
+form_word Del = codes "del"
+form_word Snew = codes "snew"
+form_word Sdel = codes "sdel"
+form_word Request = codes "request"
+form_word Yield = codes "yield"
+form_word Open = codes "open"
+form_word Upgrade = codes "upgrade"
+form_word CallSession = codes "call"
+form_word Close = codes "close"
+
+-- what its calls are refused for, in the order of tests
+abbrev pub refusals_of : Form → List Refusal
+refusals_of AnyLine = BadLine ∷ UnknownComponent ∷ []
+refusals_of AnyCall = NotAScript ∷ Gone ∷ []
+refusals_of Alloc = InvalidSize ∷ OutOfRam ∷ OutOfCaps ∷ []
+refusals_of Free = InvalidCap ∷ []
+refusals_of Attach = InvalidCap ∷ TooManyRegions ∷ RegionConflict ∷ []
+refusals_of AttachAt = InvalidCap ∷ TooManyRegions ∷ RegionConflict ∷ []
+refusals_of Detach = PageFault ∷ []
+refusals_of Peek = InvalidSize ∷ PageFault ∷ []
+refusals_of Poke = InvalidSize ∷ PageFault ∷ []
+refusals_of Capalloc = OutOfCaps ∷ []
+refusals_of Capfree = InvalidCap ∷ []
+refusals_of New = InvalidSize ∷ TooManyChunks ∷ OutOfRam ∷ OutOfCaps ∷ []
+refusals_of Del = PageFault ∷ []
+refusals_of Snew = InvalidSize ∷ OutOfRam ∷ OutOfCaps ∷ []
+refusals_of Sdel = PageFault ∷ []
+refusals_of Request = BadArgs ∷ OutOfRam ∷ OutOfCaps ∷ []
+refusals_of Yield = BadArgs ∷ OutOfRam ∷ OutOfCaps ∷ []
+refusals_of Open = BadArgs ∷ ServiceDenied ∷ OutOfRam ∷ OutOfCaps ∷ InsufficientRamQuota ∷ InsufficientCapQuota ∷ []
+refusals_of Upgrade = InvalidSession ∷ BadArgs ∷ OutOfRam ∷ OutOfCaps ∷ []
+refusals_of CallSession = InvalidSession ∷ []
+refusals_of Close = InvalidSession ∷ []
+
+-- of more than one form's calls
+abbrev pub is_wide : Form → Bool
+is_wide AnyLine = true
+is_wide AnyCall = true
+is_wide form = false
+
+-- a line is a call of a form
+abbrev pub is_form_of : Form → List ℕ → Bool
+is_form_of form line = is_wide form || bytes_eq (form_in line) (form_word form)

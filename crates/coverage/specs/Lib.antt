@@ -1,0 +1,7 @@
+pub mod Words
+pub mod Forms
+pub mod Requests
+pub mod Rules
+pub mod Covered
+pub mod Reported
+pub mod Laws

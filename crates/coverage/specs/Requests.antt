@@ -1,0 +1,57 @@
+-- The table of requests: what services are asked for, and what each request is answered in error.
+use Rattle.std.specs.Prelude.{ℕ, ◌&&◌, ◌||◌, Bool, true, false, List, [], ◌∷◌, codes, length, take, drop, nat_le}
+use Rattle.std.specs.Str.{bytes_eq}
+use Rattle.own_model.specs.FileText.{error_name}
+use Rattle.session_proto.specs.FileReply.{model_error}
+use Rattle.session_proto.specs.declared.file_reply.FileError.{FileError}
+use Rattle.session_proto.specs.declared.file_reply.FileError.TheVariants.{BadRequest, BadName, Exists, NotFound, Gap, TooLong, End, TooManyChunks, OutOfRam, OutOfCaps, InvalidSize, NoBuffer, BadRange}
+use Rattle.coverage.specs.Words.{form_in, request_in}
+use Rattle.coverage.specs.declared.asked.Asked.{Asked}
+use Rattle.coverage.specs.declared.asked.Asked.TheVariants.{AnyRequest, Create, Write, Read, Size, Clear, Drop, Name, Buffer, Unbuffer, Put, Get}
+
+abbrev pub requests : List Asked
+requests = AnyRequest ∷ Create ∷ Write ∷ Read ∷ Size ∷ Clear ∷ Drop ∷ Name ∷ Buffer ∷ Unbuffer ∷ Put ∷ Get ∷ []
+
+abbrev pub asked_word : Asked → List ℕ
+asked_word AnyRequest = codes "any request"
+asked_word Create = codes "CREATE"
+asked_word Write = codes "WRITE"
+asked_word Read = codes "READ"
+asked_word Size = codes "SIZE"
+asked_word Clear = codes "CLEAR"
+asked_word Drop = codes "DROP"
+asked_word Name = codes "NAME"
+asked_word Buffer = codes "BUFFER"
+asked_word Unbuffer = codes "UNBUFFER"
+asked_word Put = codes "PUT"
+asked_word Get = codes "GET"
+
+-- in the order of tests
+abbrev pub errors_of : Asked → List FileError
+errors_of AnyRequest = BadRequest ∷ []
+errors_of Create = BadName ∷ Exists ∷ TooManyChunks ∷ OutOfRam ∷ OutOfCaps ∷ []
+errors_of Write = NotFound ∷ Gap ∷ OutOfRam ∷ OutOfCaps ∷ []
+errors_of Read = NotFound ∷ Gap ∷ TooLong ∷ []
+errors_of Size = NotFound ∷ []
+errors_of Clear = NotFound ∷ []
+errors_of Drop = NotFound ∷ []
+errors_of Name = End ∷ []
+errors_of Buffer = InvalidSize ∷ Exists ∷ OutOfRam ∷ OutOfCaps ∷ []
+errors_of Unbuffer = NoBuffer ∷ []
+errors_of Put = NotFound ∷ Gap ∷ NoBuffer ∷ BadRange ∷ OutOfRam ∷ OutOfCaps ∷ []
+errors_of Get = NotFound ∷ Gap ∷ NoBuffer ∷ BadRange ∷ []
+
+abbrev pub is_any : Asked → Bool
+is_any AnyRequest = true
+is_any asked = false
+
+-- a line makes such a request
+abbrev pub is_asked : Asked → List ℕ → Bool
+is_asked asked line =
+    bytes_eq (form_in line) (codes "call") && (is_any asked || bytes_eq (request_in line) (asked_word asked))
+
+-- a reply tells an error
+abbrev pub is_error : FileError → List ℕ → Bool
+is_error error reply =
+    nat_le 4 (length reply)
+    && (bytes_eq (take 4 reply) (codes "ERR ") && bytes_eq (drop 4 reply) (error_name (model_error error)))

@@ -1,0 +1,72 @@
+//! What answers may show.
+ghost use Rattle.std.specs.Prelude.{◌≡◌};
+ghost use Rattle.coverage.specs.Requests.{is_error};
+ghost use Rattle.coverage.specs.Rules.{is_rule, is_same};
+
+use crate::asked::Asked;
+use crate::form::Form;
+use session_proto::FileError;
+use trade_base::Refusal;
+
+/// Something that an answer may show.
+#[derive(Clone, Copy, Debug, PartialEq, Eq)]
+pub enum Event {
+    /// A call of a form is refused so.
+    Refused(Form, Refusal),
+    /// A request of a form is answered so.
+    Failed(Asked, FileError),
+    /// A rule decides a wish.
+    Decided(RuleAt),
+}
+
+/// The rules of which one decides: those of an entry by its number, of the default route in the list of an init by its entry's
+/// number, or of the machine's default route.
+#[derive(Clone, Copy, Debug, PartialEq, Eq)]
+pub enum Route {
+    Own(usize),
+    Inner(usize),
+    Machine,
+}
+
+/// A rule, by its place in its route.
+#[derive(Clone, Copy, Debug, PartialEq, Eq)]
+pub struct RuleAt {
+    pub route: Route,
+    pub place: usize,
+}
+
+impl Route {
+    ghost use Rattle.std.specs.Prelude.{◌≡◌};
+    ghost use Rattle.coverage.specs.Rules.{is_same};
+
+    // Whether both are one.
+    fn is_same(self, other: Route) -> bool
+        ensures { result ≡ is_same self other }
+    {
+        match (self, other) {
+            (Route::Own(entry), Route::Own(number)) => entry == number,
+            (Route::Inner(init), Route::Inner(number)) => init == number,
+            (Route::Machine, Route::Machine) => true,
+            _ => false,
+        }
+    }
+}
+
+impl RuleAt {
+    ghost use Rattle.std.specs.Prelude.{◌≡◌};
+    ghost use Rattle.coverage.specs.Rules.{is_rule};
+
+    /// Whether both are one rule.
+    pub(crate) fn is(self, other: RuleAt) -> bool
+        ensures { result ≡ is_rule self other }
+    {
+        self.place == other.place && self.route.is_same(other.route)
+    }
+}
+
+/// Whether a reply tells an error.
+pub(crate) fn is_error(error: FileError, reply: &[u8]) -> bool
+    ensures { result ≡ is_error error reply.now }
+{
+    reply.len() >= 4 && &reply[..4] == b"ERR ".as_slice() && &reply[4..] == error.name().as_bytes()
+}

@@ -1,0 +1,169 @@
+//! The rules that decide the wish of an answered line.
+ghost use Rattle.std.specs.Prelude.{◌≡◌, ◌∷◌, ◌++◌, ◌<◌, ◌≤◌, [], length, IfOk, IfSome, IfNone, OnOk, Some, None};
+ghost use Rattle.std.specs.List.{slice_get};
+ghost use Rattle.std.specs.Option.{option_and_then, option_map};
+ghost use Rattle.own_model.specs.Call.{spoken};
+ghost use Rattle.own_model.specs.Session.{given};
+ghost use Rattle.coverage.specs.Rules.{decided_by, default_of, init_of, init_place, is_turned_away, route_by, route_for, rule_in, rules_from, rules_of_wish, wish_in};
+
+use crate::event::{Route, RuleAt};
+use init_core::{Entry, StartList};
+use pd_core::Call;
+use reach::{Course, Hop};
+use scenario::read_line;
+use session_proto::SessionArgs;
+use std::alloc::{AllocError, Global};
+use trade_base::Refusal;
+
+/// Refused so, a call comes to no rule.
+const TURNED_AWAY: [Refusal; 5] = [
+    Refusal::BadLine,
+    Refusal::UnknownComponent,
+    Refusal::NotAScript,
+    Refusal::Gone,
+    Refusal::BadArgs,
+];
+
+/// The rules that decided the wish of a line with this reply, list by list outward.
+pub(crate) fn decided_by(
+    alloc: Global,
+    list: &StartList,
+    line: &[u8],
+    reply: &[u8],
+) -> Result<Vec<RuleAt>, AllocError>
+    ensures { IfOk result (λ rules. rules.items ≡ decided_by list.now line.now reply.now) }
+{
+    if is_turned_away(reply) {
+        return Ok(Vec::new(alloc));
+    }
+    rules_of_line(alloc, list, line)
+}
+
+// Whether a reply is one of those.
+fn is_turned_away(reply: &[u8]) -> bool
+    ensures { result ≡ is_turned_away reply.now }
+{
+    TURNED_AWAY
+        .iter()
+        .any(|refusal| reply == refusal.name().as_bytes())
+}
+
+// The rules that decide the wish of a line, if it is one.
+fn rules_of_line(alloc: Global, list: &StartList, line: &[u8]) -> Result<Vec<RuleAt>, AllocError>
+    ensures { IfOk result (λ rules. rules.items
+        ≡ rules_of_wish list.now (wish_in list.now (spoken line.now))) }
+{
+    let Ok((name, Call::Open { service, args })) = read_line(line) else {
+        return Ok(Vec::new(alloc));
+    };
+    match list.find(name) {
+        Some(client) => rules_of(alloc, list, client, service, label_given(args)),
+        None => Ok(Vec::new(alloc)),
+    }
+}
+
+// Those that decide the wish of a client.
+fn rules_of(
+    alloc: Global,
+    list: &StartList,
+    client: usize,
+    service: &[u8],
+    label: &[u8],
+) -> Result<Vec<RuleAt>, AllocError>
+    requires client { client < length list.now.entries }
+    requires label { length label.now ≤ 64 }
+    ensures { IfOk result (λ rules. rules.items ≡ rules_of_wish list.now
+        (Some (record { client = client; service = service.now; label = label.now }))) }
+{
+    let course = Course::of(alloc, list, client, service, label)?;
+    let mut rules = Vec::new(alloc);
+    add_rules(&mut rules, list, client, course.hops())?;
+    Ok(rules)
+}
+
+// Adds the rules of hops, from those for an entry on outward.
+fn add_rules(
+    rules: &mut Vec<RuleAt>,
+    list: &StartList,
+    client: usize,
+    hops: &[Hop],
+) -> Result<(), AllocError>
+    ensures { OnOk result (rules.new.items
+        ≡ rules.old.items ++ rules_from list.now (Some client) hops.now) }
+{
+    let mut asks = Some(client);
+    for hop in hops {
+        if let Some(rule) = rule_in(route_of(list, asks), hop.rule()) {
+            rules.push(rule)?;
+        }
+        asks = outward(list, asks);
+    }
+    Ok(())
+}
+
+// A rule of a route, where one decides.
+fn rule_in(route: Option<Route>, place: Option<usize>) -> Option<RuleAt>
+    ensures some { IfSome result (λ rule. rule_in route place ≡ rule ∷ []) }
+    ensures none { IfNone result (rule_in route place ≡ []) }
+{
+    Some(RuleAt {
+        route: route?,
+        place: place?,
+    })
+}
+
+// The rules for who asks.
+fn route_of(list: &StartList, asks: Option<usize>) -> Option<Route>
+    ensures { result ≡ option_and_then (route_for list.now) asks }
+{
+    let client = asks?;
+    let entry = list.entries().get(client)?;
+    Some(route_by(client, entry))
+}
+
+// The rules for an entry by its number.
+fn route_by(client: usize, entry: &Entry) -> Route
+    ensures { result ≡ route_by client entry.now }
+{
+    if entry.route().is_some() {
+        Route::Own(client)
+    } else {
+        default_of(init_place(entry.home()))
+    }
+}
+
+// The default route of the list of an init.
+fn default_of(init: Option<usize>) -> Route
+    ensures { result ≡ default_of init }
+{
+    match init {
+        None => Route::Machine,
+        Some(place) => Route::Inner(place),
+    }
+}
+
+// The init of who asks, if it is a component.
+fn outward(list: &StartList, asks: Option<usize>) -> Option<usize>
+    ensures { result ≡ option_and_then (init_of list.now) asks }
+{
+    let entry = list.entries().get(asks?)?;
+    init_place(entry.home())
+}
+
+// The number of an init's own entry.
+fn init_place(init: usize) -> Option<usize>
+    ensures { result ≡ init_place init }
+{
+    if init == 0 { None } else { Some(init - 1) }
+}
+
+// The label of a session's arguments.
+fn label_given(args: &[u8]) -> &[u8]
+    ensures label { result.now ≡ (given args.now).label }
+    ensures short { length result.now ≤ 64 }
+{
+    match SessionArgs::read(args) {
+        Ok(args) => args.label(),
+        Err(_) => b"",
+    }
+}

@@ -1,6 +1,0 @@
--- Both heaps stay sound.
-use Rattle.layer_tests.specs.Heaps.{AreBeside}
-use Rattle.layer_tests.proofs.heaps.sixty_four_chunks_and_no_more.Given as goal
-
-abbrev pub invariant-loop : goal.invariant-loop
-invariant-loop g l = AreBeside l.machine.heap l.machine.other l.machine.memory l.machine.map
