@@ -1,6 +1,6 @@
 -- What a start list tells of a component's calls hangs on no budget.
 use Rattle.std.proofs.lemmas.Grind.{take_at_read}
-use Rattle.std.proofs.Common.{◌≡◌, ℕ, zero, suc, ◌+◌, ◌<◌, ◌==◌, cond, take, get_or, ◌&&◌, Bool, true, false, not, List, [], ◌∷◌, ◌++◌, length, map, refl, sym, ap, ◌∙◌}
+use Rattle.std.proofs.Common.{◌≡◌, ℕ, zero, suc, ◌+◌, ◌<◌, ◌==◌, cond, take, get_or, ◌&&◌, Bool, not, List, [], ◌∷◌, ◌++◌, length, map, refl, sym, ap, ◌∙◌}
 use Rattle.std.proofs.lemmas.List.{length-map, map-append}
 use Rattle.std.proofs.lemmas.Option.{same_Some, slice_get-map, unwrap_or-slice_get}
 use Rattle.std.proofs.lemmas.List.Sums.{sum_by-cons}
@@ -12,7 +12,6 @@ use Rattle.trade_base.specs.Service.{service_name, services}
 use Rattle.own_model.specs.Listed.{Listed, ListedEntry, ListedRule, Target, Way, init_entry, default_of, most_lists, offers, named_provider, only_provider, way_to, rules_for, service_of, service_at, server_at, lead_of, lead_to, lead_without, own_rule, own_rule_for, own_rules_asking, own_rules, level_of, levels_within, kind_of, reserve_of, start_of, start_list_of}
 use Rattle.own_model.specs.Listed.Target.{Child, AnyChild, Parent}
 use Rattle.own_model.specs.Listed.Way.{Inside, Outside}
-use Rattle.own_model.specs.Routes.{Lead, Level, Rule}
 use Rattle.own_model.specs.Account.{opened}
 use Rattle.own_model.specs.Amounts.{Amounts}
 use Rattle.own_model.specs.StartList.{StartEntry, of_component, start_state}

@@ -10,7 +10,6 @@ use Rattle.own_model.specs.Amounts.{Amounts}
 use Rattle.budget_laws.proofs.CellLemmas.{begins_within}
 use Rattle.budget_laws.specs.Need.{Need, IsBelow, cell_by, covers_ram, greatest_choice}
 use Rattle.budget_laws.specs.Stretches.{Stretch, is_covered, stretch_of, stretches}
-use Rattle.budget_meter.specs.Needs.{Shown, shown_by, shown_in}
 use Rattle.least.specs.Rows.{is_below, covers, covered_with, serves, AreRows, Follows, IsRun}
 use Rattle.least.specs.declared.rows.Row.{Row}
 use Rattle.least.specs.declared.trial.Trial.{Trial}

@@ -1,14 +1,14 @@
 -- The run of a component's own calls on a core.
 use Rattle.std.proofs.lemmas.List.{drop_all, length-map}
-use Rattle.std.proofs.Common.{arith, ◌≡◌, ℕ, suc, ◌+◌, ◌<◌, ◌≤◌, Bool, true, false, true≢false, drop, get_or, drop-cons, add-one, List, [], ◌∷◌, length, refl, sym, ap, ◌∙◌, subst, get_or-set_same, length-set}
-use Rattle.std.specs.Prelude.{slice_set, Option, Some, None, is_some}
+use Rattle.std.proofs.Common.{arith, ◌≡◌, ℕ, suc, ◌+◌, ◌<◌, ◌≤◌, true, false, true≢false, drop, get_or, drop-cons, add-one, List, [], ◌∷◌, length, refl, sym, ap, ◌∙◌, subst, get_or-set_same, length-set}
+use Rattle.std.specs.Prelude.{Option, Some, None, is_some}
 use Rattle.own_model.specs.Account.{Account}
 use Rattle.own_model.specs.Amounts.{Amounts}
 use Rattle.own_model.specs.Call.{Call, is_exit}
 use Rattle.own_model.specs.Call.Call.{Exit}
 use Rattle.own_model.specs.Listed.{Listed, start_of, start_list_of}
 use Rattle.own_model.specs.OwnState.{OwnState}
-use Rattle.own_model.specs.OwnStep.{Outcome, own_step}
+use Rattle.own_model.specs.OwnStep.{own_step}
 use Rattle.own_model.specs.Reply.{reply_text}
 use Rattle.own_model.specs.StartList.{Entry, Kind, entries_of, init_at, inits_kept, start_state, start_states}
 use Rattle.own_model.specs.StartList.Kind.{Script}

@@ -1,6 +1,5 @@
 -- Start lists but for what their entries are given.
-use Rattle.std.specs.Prelude.{◌≡◌, ℕ, map, None}
-use Rattle.own_model.specs.Amounts.{Amounts}
+use Rattle.std.specs.Prelude.{ℕ, map, None}
 use Rattle.own_model.specs.Listed.{Listed, ListedEntry, start_list_of}
 use Rattle.own_model.specs.OwnState.{OwnState}
 use Rattle.own_model.specs.StartList.{Entry, entries_of, start_states}

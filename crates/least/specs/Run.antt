@@ -3,7 +3,7 @@ use Rattle.std.specs.Prelude.{◌≡◌, ◌<◌, ℕ, false, List, length}
 use Rattle.own_model.specs.Amounts.{Amounts}
 use Rattle.own_model.specs.Call.{Call}
 use Rattle.own_model.specs.OwnState.{OwnState}
-use Rattle.own_model.specs.StartList.{Entry, StartList, entries_of, start_states}
+use Rattle.own_model.specs.StartList.{StartList, entries_of, start_states}
 use Rattle.own_model.specs.StartList.Kind.{Script}
 use Rattle.own_model.specs.Transcript.{entry_at, state_at}
 use Rattle.own_model.specs.World.{World}

@@ -1,5 +1,5 @@
 -- So many are the same.
-use Rattle.std.proofs.Common.{◌≡◌, take, length}
+use Rattle.std.proofs.Common.{◌≡◌, take}
 use Rattle.least.proofs.alike.are_same_rules.Given as goal
 
 abbrev pub invariant-loop-place : goal.invariant-loop-place

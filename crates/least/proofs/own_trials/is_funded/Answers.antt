@@ -1,5 +1,5 @@
 -- By both entries of the component.
-use Rattle.std.proofs.Common.{◌≡◌, refl, ap, sym, ◌∙◌, Some}
+use Rattle.std.proofs.Common.{refl, ap, sym, ◌∙◌}
 use Rattle.std.proofs.lemmas.Option.{slice_get_read}
 use Rattle.std.specs.List.{slice_get}
 use Rattle.budget_meter.specs.Needs.{amounts_of}

@@ -1,5 +1,5 @@
 -- Line by line.
-use Rattle.std.proofs.Common.{◌≡◌, ℕ, ◌+◌, ◌<◌, length, drop, sym, ◌∙◌, subst}
+use Rattle.std.proofs.Common.{◌+◌, ◌<◌, length, drop, sym, ◌∙◌, subst}
 use Rattle.std.specs.Prelude.{is_some}
 use Rattle.own_model.specs.Transcript.{entry_at}
 use Rattle.budget_meter.specs.Run.{Shows}

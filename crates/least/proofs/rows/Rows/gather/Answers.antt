@@ -1,9 +1,9 @@
 -- One run after another.
-use Rattle.std.proofs.Common.{◌≡◌, ℕ, ◌+◌, ◌-◌, suc, Bool, List, [], ◌||◌, refl, sym, ap, ◌∙◌, arith, subst, Option, None, Some}
+use Rattle.std.proofs.Common.{◌≡◌, ℕ, ◌-◌, suc, Bool, List, ◌||◌, refl, sym, ap, ◌∙◌, arith, subst, Option, None, Some}
 use Rattle.own_model.specs.Amounts.{Amounts}
 use Rattle.budget_laws.specs.Need.{Need}
 use Rattle.budget_laws.specs.Stretches.{is_covered, stretches}
-use Rattle.least.specs.Rows.{serves, covered_with, AreRows, Follows}
+use Rattle.least.specs.Rows.{serves, AreRows, Follows}
 use Rattle.least.specs.declared.rows.Row.{Row}
 use Rattle.least.proofs.RowLemmas.{none_left}
 use Rattle.least.proofs.rows.Rows.gather.Goals as goal

@@ -1,5 +1,5 @@
 -- The other way round the rows cover the same.
-use Rattle.std.proofs.Common.{◌≡◌, drop, length, refl, sym, ap, ◌∙◌}
+use Rattle.std.proofs.Common.{drop, length, sym, ap, ◌∙◌}
 use Rattle.std.proofs.lemmas.List.Sorted.{list_any-IsPermutation}
 use Rattle.least.specs.Rows.{covers, serves}
 use Rattle.least.proofs.RowLemmas.{front}

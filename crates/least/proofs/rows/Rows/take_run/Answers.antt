@@ -1,5 +1,4 @@
 -- The run, and what it leaves to come.
-use Rattle.std.proofs.Common.{ℕ}
 use Rattle.least.proofs.RowLemmas.{last_run, next_run}
 use Rattle.least.proofs.rows.Rows.take_run.Goals as goal
 
