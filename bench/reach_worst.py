@@ -1,7 +1,8 @@
 #!/usr/bin/env python3
 """reach_worst.py KIND: a start list of 27 scripts, each of which meets 128 rules that ask how a label begins and ends, as much as a
 list may hold. KIND is `apart` (texts of which none begins or ends another), `chain` (each front begins longer ones, and each end ends
-longer ones), `bytes` (the same, with all bytes behind fronts, so that few of them stand between two texts) or `full` (no byte does)."""
+longer ones), `bytes` (the same, with all bytes behind fronts, so that few of them stand between two texts), `full` (no byte does) or
+`blocked` (the same, with long fronts and ends, which all rules share)."""
 import json, random, sys
 
 GIVEN = [chr(b) for b in range(32, 127) if chr(b) not in '"\\']
@@ -22,11 +23,23 @@ def every_byte(draw, at):
 
 
 def full(draw, at):
-    """Fronts of one byte, all 93 of them, and long texts behind each."""
-    return [GIVEN[at % len(GIVEN)] + "".join(draw.choice(GIVEN) for _ in range(40 * (at >= len(GIVEN)))), "".join(draw.choice(GIVEN) for _ in range(40))]
+    """Fronts of one byte, all 93 of them, with no end, and then long fronts and ends."""
+    long = 40 * (at >= len(GIVEN))
+    return [GIVEN[at % len(GIVEN)] + "".join(draw.choice(GIVEN) for _ in range(long)), "".join(draw.choice(GIVEN) for _ in range(long))]
 
 
-KINDS = {"apart": apart, "chain": chain, "bytes": every_byte, "full": full}
+def blocked(draw, at):
+    """One front and one end between which no byte is free, since 93 rules ask for it with each byte, and long ends of these."""
+    front, end = "abcdefghijklmnopqrst", "uvwxyzabcdefghijklmn"
+    if at == 0:
+        return [front, end]
+    if at <= len(GIVEN):
+        byte = GIVEN[at - 1]
+        return [front + byte, front + byte + end]
+    return ["".join(draw.choice(GIVEN) for _ in range(40)), "".join(draw.choice(GIVEN) for _ in range(20))]
+
+
+KINDS = {"apart": apart, "chain": chain, "bytes": every_byte, "full": full, "blocked": blocked}
 
 
 def main():

@@ -1,6 +1,6 @@
 -- Labels that agree with what rules ask lead alike, and each label that no rule knows by itself agrees with two rules' texts.
-use Rattle.std.proofs.Common.{◌≡◌, ◌≢◌, ℕ, ◌<◌, ◌≤◌, zero, suc, ◌-◌, ◌+◌, Bool, true, false, not, ◌&&◌, ◌||◌, List, [], ◌∷◌, ◌++◌, length, get_or, take, drop, Option, Some, None, refl, sym, subst, ap, ◌∙◌, nat_eq, nat_le, arith, ◌⊎◌, inl, inr}
-use Rattle.std.specs.Prelude.{codes, if◌then◌else◌, All, Any}
+use Rattle.std.proofs.Common.{◌≡◌, ℕ, ◌<◌, ◌≤◌, zero, suc, ◌-◌, Bool, true, false, ◌&&◌, ◌||◌, List, [], ◌∷◌, ◌++◌, length, get_or, take, drop, Option, Some, None, refl, sym, subst, ap, ◌∙◌, nat_eq, nat_le, arith, ◌⊎◌, inl, inr}
+use Rattle.std.specs.Prelude.{codes, if◌then◌else◌}
 use Rattle.std.specs.List.{list_all, list_any, starts_with, ends_with, slice_get}
 use Rattle.std.specs.Option.{option_and_then, option_map, unwrap_or}
 use Rattle.std.specs.Str.{bytes_eq}
@@ -12,7 +12,7 @@ use Rattle.own_model.specs.SessionArgs.{is_quotable}
 use Rattle.own_model.specs.Routes.{as_asked, label_with}
 use Rattle.own_model.specs.Listed.{Listed, ListedEntry, ListedRule, asks_for, end_of, init_entry, most_lists, route_within, rules_for, way_by, way_to}
 use Rattle.reach.specs.Reach.{IsGiven, leads_to}
-use Rattle.reach.specs.Asked.{AskedLabel, agrees, agrees_within, asked_by, asked_of, asked_of_rule, asked_texts, asked_within, asks_nothing, behind, fits, is_given, is_known, is_open, is_tail, is_whole, known, known_within, rule_agrees, same_as, text_of}
+use Rattle.reach.specs.Asked.{AskedLabel, agrees, agrees_within, asked_by, asked_of, asked_of_rule, asked_within, asks_nothing, behind, fits, is_given, is_known, is_open, is_tail, is_whole, known, known_within, rule_agrees, same_as, text_of}
 use Rattle.reach.proofs.KeyLemmas.{begins_from, ends_from, same_tests}
 
 -- ---- tests
@@ -21,7 +21,7 @@ pub two_hold : (a b : Bool) → (a && b) ≡ true → (a ≡ true) × (b ≡ tru
 two_hold true b is = (refl, is)
 two_hold false b is = cc
 
-both_hold : (a b : Bool) → a ≡ true → b ≡ true → (a && b) ≡ true
+pub both_hold : (a b : Bool) → a ≡ true → b ≡ true → (a && b) ≡ true
 both_hold true b is other = other
 both_hold false b is other = cc
 
@@ -29,7 +29,7 @@ none_hold : (a b : Bool) → (a || b) ≡ false → (a ≡ false) × (b ≡ fals
 none_hold true b is = cc
 none_hold false b is = (refl, is)
 
-as_is : (a b : Bool) → same_as a b ≡ true → a ≡ b
+pub as_is : (a b : Bool) → same_as a b ≡ true → a ≡ b
 as_is true true same = refl
 as_is true false same = cc
 as_is false true same = cc
@@ -370,11 +370,11 @@ way_alike entries init service opened seen other end (rule ∷ rules) one two =
     ap (λ t. if t then way_to entries init rule.target service else way_by entries init rules service seen) same
     ∙ ap (λ w. if asks_for rule service other then way_to entries init rule.target service else w) others
 
-behind_is : (name label : List ℕ) → 0 < length label → label_with name label ≡ behind name label
+pub behind_is : (name label : List ℕ) → 0 < length label → label_with name label ≡ behind name label
 behind_is name [] some = absurd (omega arith)
 behind_is name (b ∷ label) some = refl
 
-behind_long : (name label : List ℕ) → 0 < length label → 0 < length (behind name label)
+pub behind_long : (name label : List ℕ) → 0 < length label → 0 < length (behind name label)
 behind_long name label some = omega (arith, length-append (name ++ codes " -> ") label)
 
 outward_alike : (lists : ℕ) (list : Listed) (name service opened seen other end : List ℕ) (outer : Option ListedEntry)

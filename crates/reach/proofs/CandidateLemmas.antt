@@ -1,26 +1,29 @@
 -- A few labels stand for all that can be given.
 use Rattle.std.proofs.Common.{◌≡◌, ℕ, ◌<◌, ◌≤◌, zero, suc, ◌-◌, ◌+◌, Bool, true, false, ◌&&◌, ◌||◌, List, [], ◌∷◌, ◌++◌, length, get_or, take, drop, Option, Some, None, refl, sym, subst, ap, ◌∙◌, nat_eq, nat_le, arith, ◌⊎◌, inl, inr}
 use Rattle.std.specs.Prelude.{All, Any}
-use Rattle.std.specs.List.{list_all, list_any, starts_with, ends_with}
+use Rattle.std.specs.List.{list_any, starts_with, ends_with}
 use Rattle.std.specs.Str.{bytes_eq}
 use Rattle.std.proofs.lemmas.Bool.Decides.{Decides-eqb, nat_tests}
 use Rattle.std.proofs.lemmas.Slice.Eq.{bytes_eq-Decides}
-use Rattle.std.proofs.lemmas.List.{append_assoc, length-append}
+use Rattle.std.proofs.lemmas.List.{length-append}
 use Rattle.std.proofs.lemmas.List.Elements.{All-contains, All-push}
 use Rattle.std.proofs.lemmas.List.Folds.{Any-from_list_any}
 use Rattle.std.proofs.lemmas.List.Quantifiers.{Any-push}
 use Rattle.own_model.specs.Listed.{Listed, ListedEntry, ListedRule, init_entry, rules_for}
 use Rattle.reach.specs.Reach.{IsGiven, leads_to}
-use Rattle.reach.specs.Closure.{IsGrown, KeptLabel}
-use Rattle.reach.specs.Ways.{AreWays, IsTold, LeadsAlike}
-use Rattle.reach.specs.Asked.{Adds, AreJoined, AreOffered, AskedLabel, IsCut, IsFilled, IsHeld, IsOffered, agrees, asked_of, behind, is_known, is_tail, is_whole, joins, known, known_within, leads_as_short, same_child}
+use Rattle.reach.specs.Closure.{KeptLabel}
+use Rattle.reach.specs.Deciding.{same_child, trail_of}
+use Rattle.reach.specs.Ways.{GoesAlike, StandForAll}
+use Rattle.reach.specs.Asked.{Adds, AreJoined, AreOffered, AskedLabel, IsCut, IsFilled, IsFollowed, IsHeld, IsOffered, Serve, agrees, asked_of, behind, goes_as_short, is_first_for, is_known, is_last_for, is_tail, is_whole, known, known_within}
 use Rattle.reach.proofs.KeyLemmas.{begins_from, ends_from}
-use Rattle.reach.proofs.ClosureLemmas.{any_grown, below_or_at, grown_push, grown_same, grown_then, same_at}
+use Rattle.reach.proofs.ClosureLemmas.{any_grown, below_or_at, grown_push, grown_same, grown_then}
+use Rattle.reach.proofs.FirstLemmas.{serving_join}
+use Rattle.reach.proofs.FollowLemmas.{decided_alike}
 use Rattle.reach.proofs.AskedLemmas.{IsBetween, begins_by, between, drop_front, ends_by, known_goes_on, leads_alike, parted, take_front, two_hold}
 
 -- ---- one after another
 
-pub adds_none : (list : Listed) (client : ℕ) (service : List ℕ) (kept : List KeptLabel) → All (IsTold list client service) kept
+pub adds_none : (list : Listed) (client : ℕ) (service : List ℕ) (kept : List KeptLabel) → All (IsFollowed list client service) kept
     → Adds list client service kept kept
 adds_none list client service kept told = record { told = told; grown = grown_same kept }
 
@@ -31,7 +34,7 @@ adds_then list client service old between new first then =
 
 pub held_on : (list : Listed) (client : ℕ) (service : List ℕ) (old new : List KeptLabel) (label : List ℕ) → Adds list client service old new
     → IsHeld list client service old label → IsHeld list client service new label
-held_on list client service old new label adds held = any_grown (LeadsAlike list client service label) old new adds.grown held
+held_on list client service old new label adds held = any_grown (GoesAlike list client service label) old new adds.grown held
 
 pub joined_on : (list : Listed) (client : ℕ) (service before front end : List ℕ) (old new : List KeptLabel) → Adds list client service old new
     → AreJoined list client service before front end old → AreJoined list client service before front end new
@@ -58,27 +61,40 @@ same_is (Some a) (Some b) same = ap Some ((Decides-eqb a b).0 same)
 at_most : (n most : ℕ) → nat_le n most ≡ true → n ≤ most
 at_most n most less = grind (arith, nat_tests)
 
-pub held_known : (list : Listed) (client : ℕ) (service label : List ℕ) (child : Option ℕ) (most : ℕ) (kept : List KeptLabel)
-    → list_any (leads_as_short child most) kept ≡ true → child ≡ leads_to list client service label → most ≡ length label
+pub held_known : (list : Listed) (client : ℕ) (service label : List ℕ) (child : Option ℕ) (rules : List ℕ) (most : ℕ) (kept : List KeptLabel)
+    → list_any (goes_as_short child rules most) kept ≡ true → All (IsFollowed list client service) kept
+    → child ≡ leads_to list client service label → rules ≡ trail_of list client service label → most ≡ length label
     → IsHeld list client service kept label
-held_known list client service label child most kept known leads long =
-    let any = Any-from_list_any (leads_as_short child most) kept known in
-    let both = two_hold (nat_le (length any.1.label) most) (same_child any.1.child child) any.4 in
-    let short : length any.1.label ≤ most = at_most (length any.1.label) most both.0 in
-    (any.0, any.1, any.2, any.3, record { short = omega arith; alike = same_is any.1.child child both.1 ∙ leads })
+held_known list client service label child rules most kept known told leads decides long =
+    let any = Any-from_list_any (goes_as_short child rules most) kept known in
+    let both = two_hold (nat_le (length any.1.label) most) (same_child any.1.child child && bytes_eq any.1.key rules) any.4 in
+    let ends = two_hold (same_child any.1.child child) (bytes_eq any.1.key rules) both.1 in
+    let one = All-contains (IsFollowed list client service) kept any.1 told (any.0, any.2, any.3) in
+    let short : length any.1.label ≤ most = at_most (length any.1.label) most both.0 in (
+      any.0,
+      any.1,
+      any.2,
+      any.3,
+      record {
+        short = omega arith;
+        alike = same_is any.1.child child ends.0 ∙ leads;
+        decided = sym one.decided ∙ ((bytes_eq-Decides any.1.key rules).0 ends.1 ∙ decides);
+      },
+    )
 
 pub held_new : (list : Listed) (client : ℕ) (service label : List ℕ) (one : KeptLabel) (kept : List KeptLabel)
     → one.label ≡ label → one.child ≡ leads_to list client service label → IsHeld list client service (kept ++ one ∷ []) label
 held_new list client service label one kept is leads =
-    Any-push (LeadsAlike list client service label) kept one (record { short = omega (arith, ap length is); alike = leads })
+    Any-push (GoesAlike list client service label) kept one
+    (record { short = omega (arith, ap length is); alike = leads; decided = ap (λ t. trail_of list client service t) is })
 
 pub adds_new : (list : Listed) (client : ℕ) (service label : List ℕ) (one : KeptLabel) (kept : List KeptLabel)
-    → All (IsTold list client service) kept → IsGiven label → one.label ≡ label → one.child ≡ leads_to list client service label
-    → Adds list client service kept (kept ++ one ∷ [])
-adds_new list client service label one kept told given is leads =
+    → All (IsFollowed list client service) kept → IsGiven label → one.label ≡ label → one.child ≡ leads_to list client service label
+    → one.key ≡ trail_of list client service label → Adds list client service kept (kept ++ one ∷ [])
+adds_new list client service label one kept told given is leads decides =
     record {
-      told = All-push (IsTold list client service) kept one told
-          (record { given = rw is given; leads = rw is leads });
+      told = All-push (IsFollowed list client service) kept one told
+          (record { given = rw is given; leads = rw is leads; decided = rw is decides });
       grown = grown_push kept one;
     }
 
@@ -149,6 +165,7 @@ filled_held list client service front label end kept other filled held agreeing 
       record {
         short = omega arith;
         alike = held.4.alike ∙ leads_alike list client service front other label end filled.some (omega arith) filled.agrees agreeing;
+        decided = held.4.decided ∙ decided_alike list client service front other label end filled.some (omega arith) filled.agrees agreeing;
       },
     )
 
@@ -171,34 +188,52 @@ between_held list client service label asked first last kept given is offered =
           filled_held list client service first.front label last.end kept filled.0 filled.1 filled.2 is.agreeing (omega arith))
     ]
 
-unknown_held : (list : Listed) (client : ℕ) (service : List ℕ) (asked : List AskedLabel) (kept : List KeptLabel)
-    → asked ≡ asked_of list client service → All (λ first. All (IsOffered list client service kept first) asked) asked
+-- one of the firsts and one of the lasts stand for the two
+served_held : (list : Listed) (client : ℕ) (service label : List ℕ) (asked firsts lasts : List AskedLabel) (first last : AskedLabel)
+    (kept : List KeptLabel) → IsGiven label → IsBetween list client service label asked first last
+    → Any (λ one. is_first_for first one ≡ true) firsts → Any (λ other. is_last_for last other ≡ true) lasts
+    → All (λ one. All (IsOffered list client service kept one) lasts) firsts → IsHeld list client service kept label
+served_held list client service label asked firsts lasts first last kept given is one other offered =
+    let join = serving_join first last one.1 other.1 one.4 other.4 is.fronts is.ends in
+    let all = All-contains (λ o. All (IsOffered list client service kept o) lasts) firsts one.1 offered (one.0, one.2, one.3) in
+    let both = All-contains (IsOffered list client service kept one.1) lasts other.1 all (other.0, other.2, other.3) in
+    between_held list client service label asked first last kept given is
+    (subst (λ f. AreOffered list client service f last.end kept) join.0
+    (subst (λ e. AreOffered list client service one.1.front e kept) join.1 (both join.2)))
+
+unknown_held : (list : Listed) (client : ℕ) (service : List ℕ) (asked firsts lasts : List AskedLabel) (kept : List KeptLabel)
+    → asked ≡ asked_of list client service → Serve is_first_for asked firsts → Serve is_last_for asked lasts
+    → All (λ first. All (IsOffered list client service kept first) lasts) firsts
     → (label : List ℕ) → IsGiven label → known list client label ≡ false → IsHeld list client service kept label
-unknown_held list client service asked kept is offered label given lost =
+unknown_held list client service asked firsts lasts kept is first_for last_for offered label given lost =
     let found = between list client service label asked is given lost in
     let place = found.2.first_at in
     let other = found.2.last_at in
-    let firsts = All-contains (λ first. All (IsOffered list client service kept first) asked) asked found.0 offered (place.0, place.1, place.2 found.0) in
-    let both = All-contains (IsOffered list client service kept found.0) asked found.1 firsts (other.0, other.1, other.2 found.1) in
-    between_held list client service label asked found.0 found.1 kept given found.2
-    (both (joins_both (starts_with nat_eq found.0.front found.1.front) _ found.2.fronts found.2.ends))
+    served_held list client service label asked firsts lasts found.0 found.1 kept given found.2
+    (All-contains (λ one. Any (λ first. is_first_for one first ≡ true) firsts) asked found.0 first_for (place.0, place.1, place.2 found.0))
+    (All-contains (λ one. Any (λ last. is_last_for one last ≡ true) lasts) asked found.1 last_for (other.0, other.1, other.2 found.1))
+    offered
 
-either_held : (list : Listed) (client : ℕ) (service : List ℕ) (asked : List AskedLabel) (kept : List KeptLabel)
-    → asked ≡ asked_of list client service → All (λ first. All (IsOffered list client service kept first) asked) asked
+either_held : (list : Listed) (client : ℕ) (service : List ℕ) (asked firsts lasts : List AskedLabel) (kept : List KeptLabel)
+    → asked ≡ asked_of list client service → Serve is_first_for asked firsts → Serve is_last_for asked lasts
+    → All (λ first. All (IsOffered list client service kept first) lasts) firsts
     → ((label : List ℕ) → IsGiven label → known list client label ≡ true → IsHeld list client service kept label)
     → (label : List ℕ) → IsGiven label → (b : Bool) → known list client label ≡ b → IsHeld list client service kept label
-either_held list client service asked kept is offered knows label given true known_is = knows label given known_is
-either_held list client service asked kept is offered knows label given false lost = unknown_held list client service asked kept is offered label given lost
+either_held list client service asked firsts lasts kept is first_for last_for offered knows label given true known_is = knows label given known_is
+either_held list client service asked firsts lasts kept is first_for last_for offered knows label given false lost =
+    unknown_held list client service asked firsts lasts kept is first_for last_for offered label given lost
 
-pub ways_few : (list : Listed) (client : ℕ) (service : List ℕ) (asked : List AskedLabel) (kept : List KeptLabel)
-    → All (IsTold list client service) kept → asked ≡ asked_of list client service
-    → All (λ first. All (IsOffered list client service kept first) asked) asked
+pub stand_few : (list : Listed) (client : ℕ) (service : List ℕ) (asked firsts lasts : List AskedLabel) (kept : List KeptLabel)
+    → All (IsFollowed list client service) kept → asked ≡ asked_of list client service
+    → Serve is_first_for asked firsts → Serve is_last_for asked lasts
+    → All (λ first. All (IsOffered list client service kept first) lasts) firsts
     → ((label : List ℕ) → IsGiven label → known list client label ≡ true → IsHeld list client service kept label)
-    → AreWays list client service kept
-ways_few list client service asked kept told is offered knows =
+    → StandForAll list client service kept
+stand_few list client service asked firsts lasts kept told is first_for last_for offered knows =
     record {
-      told = told;
-      covers = λ label given. either_held list client service asked kept is offered knows label given (known list client label) refl;
+      told = λ k d within. let one = told k d within in record { given = one.given; leads = one.leads };
+      covers = λ label given. either_held list client service asked firsts lasts kept is first_for last_for offered knows label given
+          (known list client label) refl;
     }
 
 -- ---- as calls come one after another
@@ -298,16 +333,16 @@ known_on lists less list client service entry init before outer rules old new mo
       | inr is ↦ outward label given is
     ]
 
-pub firsts_more : (list : Listed) (client : ℕ) (service : List ℕ) (asked : List AskedLabel) (first : AskedLabel) (place next : ℕ)
-    (old new : List KeptLabel) → next ≡ place + 1 → place < length asked → first ≡ get_or asked place first
-    → ((k : ℕ) (d : AskedLabel) → k < place → All (IsOffered list client service old (get_or asked k d)) asked)
-    → Adds list client service old new → All (IsOffered list client service new first) asked
-    → (k : ℕ) (d : AskedLabel) → k < next → All (IsOffered list client service new (get_or asked k d)) asked
-firsts_more list client service asked first place next old new is within at each adds here k d less =
+pub firsts_more : (list : Listed) (client : ℕ) (service : List ℕ) (firsts lasts : List AskedLabel) (first : AskedLabel) (place next : ℕ)
+    (old new : List KeptLabel) → next ≡ place + 1 → place < length firsts → first ≡ get_or firsts place first
+    → ((k : ℕ) (d : AskedLabel) → k < place → All (IsOffered list client service old (get_or firsts k d)) lasts)
+    → Adds list client service old new → All (IsOffered list client service new first) lasts
+    → (k : ℕ) (d : AskedLabel) → k < next → All (IsOffered list client service new (get_or firsts k d)) lasts
+firsts_more list client service firsts lasts first place next old new is within at each adds here k d less =
     elim (below_or_at k place (omega arith)) [
-      | inl below ↦ λ m e inside. offered_on list client service (get_or asked k d) (get_or asked m e) old new adds (each k d below m e inside)
-      | inr same ↦ subst (λ a. All (IsOffered list client service new a) asked)
-          (at ∙ (asked_at asked place first d within ∙ ap (λ n. get_or asked n d) (sym same))) here
+      | inl below ↦ λ m e inside. offered_on list client service (get_or firsts k d) (get_or lasts m e) old new adds (each k d below m e inside)
+      | inr same ↦ subst (λ a. All (IsOffered list client service new a) lasts)
+          (at ∙ (asked_at firsts place first d within ∙ ap (λ n. get_or firsts n d) (sym same))) here
     ]
 
 pub lasts_more : (list : Listed) (client : ℕ) (service : List ℕ) (asked : List AskedLabel) (first last : AskedLabel) (place next : ℕ)
@@ -322,7 +357,7 @@ lasts_more list client service asked first last place next old new is within at 
           (at ∙ (asked_at asked place last d within ∙ ap (λ n. get_or asked n d) (sym same))) here
     ]
 
-pub offered_all : (list : Listed) (client : ℕ) (service : List ℕ) (asked : List AskedLabel) (place : ℕ) (kept : List KeptLabel)
-    → length asked ≤ place → ((k : ℕ) (d : AskedLabel) → k < place → All (IsOffered list client service kept (get_or asked k d)) asked)
-    → All (λ first. All (IsOffered list client service kept first) asked) asked
-offered_all list client service asked place kept all each = λ k d within. each k d (omega arith)
+pub offered_all : (list : Listed) (client : ℕ) (service : List ℕ) (firsts lasts : List AskedLabel) (place : ℕ) (kept : List KeptLabel)
+    → length firsts ≤ place → ((k : ℕ) (d : AskedLabel) → k < place → All (IsOffered list client service kept (get_or firsts k d)) lasts)
+    → All (λ first. All (IsOffered list client service kept first) lasts) firsts
+offered_all list client service firsts lasts place kept all each = λ k d within. each k d (omega arith)

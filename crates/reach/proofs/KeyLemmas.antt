@@ -364,7 +364,7 @@ place_alike service rules seen other rest alike =
     ap (λ n. if nat_lt n (length rules) then Some n else None) (places_alike service rules seen other rest alike)
 
 -- the places of the rules that hops tell
-abbrev places_of : List HopAt → List ℕ
+abbrev pub places_of : List HopAt → List ℕ
 places_of hops = flat_map (λ (hop : HopAt). decided hop.rule) hops
 
 hops_out : (lists : ℕ) (list : Listed) (name service seen other rest : List ℕ) (out : Bool) (outer : Option ListedEntry)

@@ -5,5 +5,7 @@ pub mod TableLemmas
 pub mod TrailLemmas
 pub mod WaysLemmas
 pub mod AskedLemmas
+pub mod FirstLemmas
+pub mod FollowLemmas
 pub mod CandidateLemmas
 pub mod WishLemmas

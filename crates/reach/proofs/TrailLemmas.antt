@@ -1,24 +1,24 @@
 -- What is kept of each label's trail, and what the trails tell of all given labels.
-use Rattle.std.proofs.Common.{◌≡◌, ℕ, ◌<◌, ◌≤◌, zero, suc, ◌+◌, Bool, true, false, ◌&&◌, ◌||◌, List, [], ◌∷◌, ◌++◌, length, get_or, refl, sym, subst, ap, ◌∙◌, arith, ◌⊎◌, inl, inr, Option, Some, None}
+use Rattle.std.proofs.Common.{◌≡◌, ◌≢◌, ℕ, ◌<◌, ◌≤◌, zero, suc, ◌+◌, Bool, true, false, ◌||◌, List, [], ◌∷◌, ◌++◌, length, get_or, refl, sym, subst, ap, ◌∙◌, arith, ◌⊎◌, inl, inr, Option, Some, None}
 use Rattle.std.specs.Prelude.{All, Any, nat_le}
 use Rattle.std.specs.List.{list_all, list_any}
 use Rattle.std.specs.Str.{bytes_eq}
 use Rattle.std.proofs.lemmas.Bool.Decides.{nat_tests}
 use Rattle.std.proofs.lemmas.Slice.Eq.{bytes_eq-Decides}
-use Rattle.std.proofs.lemmas.List.{append-nil, length-append}
+use Rattle.std.proofs.lemmas.List.{length-append}
 use Rattle.std.proofs.lemmas.List.Elements.{All-contains, All-push}
 use Rattle.std.proofs.lemmas.List.Folds.{Any-from_list_any, list_any-from_Any}
 use Rattle.std.proofs.Math.ListN.{get_or-append}
 use Rattle.std.proofs.lemmas.List.Quantifiers.{Any-push}
 use Rattle.own_model.specs.Listed.{Listed}
 use Rattle.own_model.specs.SessionArgs.{is_quotable}
-use Rattle.reach.specs.Closure.{AreKept, IsKept, KeptLabel, StandsFor}
+use Rattle.reach.specs.Closure.{KeptLabel}
 use Rattle.reach.specs.Deciding.{AreTrails, IsOnTrail, IsTrail, KeepsTrail, TrailAt, for_some_label, is_same, same_child, some_byte, some_label, trail_of}
 use Rattle.reach.specs.Reach.{IsGiven, leads_to}
-use Rattle.reach.specs.Ways.{IsTold}
+use Rattle.reach.specs.Trails.{AreSeen}
+use Rattle.reach.specs.Ways.{GoesAlike, IsTold, StandForAll}
 use Rattle.reach.proofs.ClosureLemmas.{below_or_at, both_true, quotable_within, same_at, two_true}
 use Rattle.reach.proofs.KeyLemmas.{same_tests}
-use Rattle.reach.proofs.WaysLemmas.{told_kept}
 
 -- ---- one trail
 
@@ -75,68 +75,106 @@ keeps_new list client service one trail trails told are is decides leads =
 -- ---- all trails
 
 on_trail : (list : Listed) (client : ℕ) (service label : List ℕ) (one : KeptLabel) (trail : TrailAt)
-    → StandsFor list client service label one → IsOnTrail list client service one.label trail → IsOnTrail list client service label trail
-on_trail list client service label one trail stands on =
+    → IsTold list client service one → GoesAlike list client service label one → IsOnTrail list client service one.label trail
+    → IsOnTrail list client service label trail
+on_trail list client service label one trail told goes on =
     let shorter : length trail.label ≤ length one.label = on.short in
-    let short : length one.label ≤ length label = stands.short in
+    let short : length one.label ≤ length label = goes.short in
     record {
       short = omega arith;
-      decides = on.decides
-          ∙ (ap (λ t. trail_of list client service t) (sym (append-nil one.label))
-          ∙ (stands.decided [] ∙ ap (λ t. trail_of list client service t) (append-nil label)));
-      leads = on.leads
-          ∙ (ap (λ t. leads_to list client service t) (sym (append-nil one.label))
-          ∙ (stands.alike [] ∙ ap (λ t. leads_to list client service t) (append-nil label)));
+      decides = on.decides ∙ goes.decided;
+      leads = on.leads ∙ (sym told.leads ∙ goes.alike);
     }
 
--- the trails of the kept labels before a place are there
-pub record AreSeen (list : Listed) (client : ℕ) (service : List ℕ) (kept : List KeptLabel) (bound : ℕ) (trails : List TrailAt) : Type 0 where
-  pub told : All (IsTrail list client service) trails
-  pub covers : (k : ℕ) (d : KeptLabel) → k < bound → Any (IsOnTrail list client service (get_or kept k d).label) trails
-
 pub seen_none : (list : Listed) (client : ℕ) (service : List ℕ) (kept : List KeptLabel) (trails : List TrailAt) → trails ≡ []
-    → AreSeen list client service kept 0 trails
+    → AreSeen list client service kept 0 0 trails
 seen_none list client service kept trails is =
-    record { told = λ k d within. absurd (omega (arith, ap length is)); covers = λ k d within. absurd (omega arith) }
+    record {
+      told = λ k d within. absurd (omega (arith, ap length is));
+      shorter = λ k d within less. absurd (omega arith);
+      before = λ k d less. absurd (omega arith);
+    }
 
-seen_at : (list : Listed) (client : ℕ) (service : List ℕ) (kept : List KeptLabel) (place k : ℕ) (one d : KeptLabel) (old new : List TrailAt)
-    → place < length kept → get_or kept place one ≡ one → AreSeen list client service kept place old
-    → KeepsTrail list client service one.label old new → (k < place) ⊎ (k ≡ place)
+seen_at : (list : Listed) (client : ℕ) (service : List ℕ) (kept : List KeptLabel) (size place k : ℕ) (one d : KeptLabel) (old new : List TrailAt)
+    → place < length kept → get_or kept place one ≡ one → AreSeen list client service kept size place old
+    → KeepsTrail list client service one.label old new → length (get_or kept k d).label ≡ size → (k < place) ⊎ (k ≡ place)
     → Any (IsOnTrail list client service (get_or kept k d).label) new
-seen_at list client service kept place k one d old new within is seen keeps (inl below) =
-    keeps.stays (get_or kept k d).label (seen.covers k d below)
-seen_at list client service kept place k one d old new within is seen keeps (inr same) =
+seen_at list client service kept size place k one d old new within is seen keeps long (inl below) =
+    keeps.stays (get_or kept k d).label (seen.before k d below long)
+seen_at list client service kept size place k one d old new within is seen keeps long (inr same) =
     subst (λ (o : KeptLabel). Any (IsOnTrail list client service o.label) new)
     (sym (ap (λ n. get_or kept n d) same ∙ (same_at kept place d one within ∙ is))) keeps.there
 
-pub seen_more : (list : Listed) (client : ℕ) (service : List ℕ) (kept : List KeptLabel) (place : ℕ) (one : KeptLabel) (old new : List TrailAt)
-    → place < length kept → get_or kept place one ≡ one → AreSeen list client service kept place old
-    → KeepsTrail list client service one.label old new → AreSeen list client service kept (place + 1) new
-seen_more list client service kept place one old new within is seen keeps =
+pub seen_more : (list : Listed) (client : ℕ) (service : List ℕ) (kept : List KeptLabel) (size place : ℕ) (one : KeptLabel) (old new : List TrailAt)
+    → place < length kept → get_or kept place one ≡ one → AreSeen list client service kept size place old
+    → KeepsTrail list client service one.label old new → AreSeen list client service kept size (place + 1) new
+seen_more list client service kept size place one old new within is seen keeps =
     record {
       told = keeps.told;
-      covers = λ k d less. seen_at list client service kept place k one d old new within is seen keeps (below_or_at k place (omega arith));
+      shorter = λ k d there less. keeps.stays (get_or kept k d).label (seen.shorter k d there less);
+      before = λ k d less long. seen_at list client service kept size place k one d old new within is seen keeps long
+          (below_or_at k place (omega arith));
+    }
+
+passed_at : (list : Listed) (client : ℕ) (service : List ℕ) (kept : List KeptLabel) (size place k : ℕ) (one d : KeptLabel) (trails : List TrailAt)
+    → place < length kept → get_or kept place one ≡ one → length one.label ≢ size → AreSeen list client service kept size place trails
+    → length (get_or kept k d).label ≡ size → (k < place) ⊎ (k ≡ place)
+    → Any (IsOnTrail list client service (get_or kept k d).label) trails
+passed_at list client service kept size place k one d trails within is other seen long (inl below) = seen.before k d below long
+passed_at list client service kept size place k one d trails within is other seen long (inr same) =
+    absurd (other
+    (ap (λ (o : KeptLabel). length o.label) (sym (ap (λ n. get_or kept n d) same ∙ (same_at kept place d one within ∙ is))) ∙ long))
+
+-- a label of another length is passed
+pub seen_passed : (list : Listed) (client : ℕ) (service : List ℕ) (kept : List KeptLabel) (size place : ℕ) (one : KeptLabel) (trails : List TrailAt)
+    → place < length kept → get_or kept place one ≡ one → length one.label ≢ size → AreSeen list client service kept size place trails
+    → AreSeen list client service kept size (place + 1) trails
+seen_passed list client service kept size place one trails within is other seen =
+    record {
+      told = seen.told;
+      shorter = seen.shorter;
+      before = λ k d less long. passed_at list client service kept size place k one d trails within is other seen long
+          (below_or_at k place (omega arith));
+    }
+
+longer_at : (list : Listed) (client : ℕ) (service : List ℕ) (kept : List KeptLabel) (size k : ℕ) (d : KeptLabel) (trails : List TrailAt)
+    → AreSeen list client service kept size (length kept) trails → k < length kept
+    → (length (get_or kept k d).label < size) ⊎ (length (get_or kept k d).label ≡ size)
+    → Any (IsOnTrail list client service (get_or kept k d).label) trails
+longer_at list client service kept size k d trails seen within (inl less) = seen.shorter k d within less
+longer_at list client service kept size k d trails seen within (inr long) = seen.before k d within long
+
+-- with all of one length those of one byte more are begun
+pub seen_longer : (list : Listed) (client : ℕ) (service : List ℕ) (kept : List KeptLabel) (size : ℕ) (trails : List TrailAt)
+    → AreSeen list client service kept size (length kept) trails → AreSeen list client service kept (size + 1) 0 trails
+seen_longer list client service kept size trails seen =
+    record {
+      told = seen.told;
+      shorter = λ k d within less. longer_at list client service kept size k d trails seen within
+          (below_or_at (length (get_or kept k d).label) size (omega arith));
+      before = λ k d less. absurd (omega arith);
     }
 
 pub told_at : (list : Listed) (client : ℕ) (service : List ℕ) (kept : List KeptLabel) (place : ℕ) (one : KeptLabel)
-    → AreKept list client service 64 kept → place < length kept → get_or kept place one ≡ one → IsTold list client service one
-told_at list client service kept place one are within is =
-    told_kept list client service one (All-contains (IsKept list client service 64) kept one are.sound (place, within, is))
+    → StandForAll list client service kept → place < length kept → get_or kept place one ≡ one → IsTold list client service one
+told_at list client service kept place one stand within is =
+    All-contains (IsTold list client service) kept one stand.told (place, within, is)
 
 pub trails_of : (list : Listed) (client : ℕ) (service : List ℕ) (kept : List KeptLabel) (trails : List TrailAt)
-    → AreKept list client service 64 kept → AreSeen list client service kept (length kept) trails → AreTrails list client service trails
-trails_of list client service kept trails are seen =
+    → StandForAll list client service kept → AreSeen list client service kept 65 0 trails → AreTrails list client service trails
+trails_of list client service kept trails stand seen =
     record {
       told = seen.told;
-      covers = λ label given. let any = are.covers label given given.short in
-          let on = seen.covers any.0 any.1 any.2 in
-          let is : (get_or kept any.0 any.1).label ≡ any.1.label = ap (λ (o : KeptLabel). o.label) any.3 in (
+      covers = λ label given. let any = stand.covers label given in
+          let told = All-contains (IsTold list client service) kept any.1 stand.told (any.0, any.2, any.3) in
+          let is : (get_or kept any.0 any.1).label ≡ any.1.label = ap (λ (o : KeptLabel). o.label) any.3 in
+          let short : length any.1.label ≤ 64 = told.given.short in
+          let on = seen.shorter any.0 any.1 any.2 (omega (arith, ap length is)) in (
             on.0,
             on.1,
             on.2,
             on.3,
-            on_trail list client service label any.1 on.1 any.4
-                (subst (λ l. IsOnTrail list client service l on.1) is on.4),
+            on_trail list client service label any.1 on.1 told any.4 (subst (λ l. IsOnTrail list client service l on.1) is on.4),
           );
     }
 

@@ -9,7 +9,8 @@ use Rattle.own_model.specs.Listed.{Listed}
 use Rattle.reach.specs.Reach.{AllLead, IsShortest, NoneLeads, SomeStray, leads_to}
 use Rattle.reach.specs.Closure.{AreKept, IsKept, KeptLabel, StandsFor}
 use Rattle.reach.proofs.ClosureLemmas.{same_at}
-use Rattle.reach.specs.Ways.{AreWays, IsBest, IsLeast, IsTold, LeadsAlike, is_child, is_shorter, leads}
+use Rattle.reach.specs.Deciding.{trail_of}
+use Rattle.reach.specs.Ways.{AreWays, GoesAlike, IsBest, IsLeast, IsTold, StandForAll, is_child, is_shorter, leads}
 
 -- ---- from labels that stand for all others
 
@@ -17,18 +18,20 @@ pub told_kept : (list : Listed) (client : ℕ) (service : List ℕ) (one : KeptL
 told_kept list client service one kept = record { given = kept.given; leads = kept.leads }
 
 alike_kept : (list : Listed) (client : ℕ) (service label : List ℕ) (one : KeptLabel)
-    → IsKept list client service 64 one → StandsFor list client service label one → LeadsAlike list client service label one
+    → IsKept list client service 64 one → StandsFor list client service label one → GoesAlike list client service label one
 alike_kept list client service label one kept stands =
     record {
       short = stands.short;
       alike = kept.leads
           ∙ (ap (λ t. leads_to list client service t) (sym (append-nil one.label))
           ∙ (stands.alike [] ∙ ap (λ t. leads_to list client service t) (append-nil label)));
+      decided = ap (λ t. trail_of list client service t) (sym (append-nil one.label))
+          ∙ (stands.decided [] ∙ ap (λ t. trail_of list client service t) (append-nil label));
     }
 
-pub ways_kept : (list : Listed) (client : ℕ) (service : List ℕ) (kept : List KeptLabel)
-    → AreKept list client service 64 kept → AreWays list client service kept
-ways_kept list client service kept are =
+pub stand_kept : (list : Listed) (client : ℕ) (service : List ℕ) (kept : List KeptLabel)
+    → AreKept list client service 64 kept → StandForAll list client service kept
+stand_kept list client service kept are =
     record {
       told = λ k d within. told_kept list client service (get_or kept k d) (are.sound k d within);
       covers = λ label given. let any = are.covers label given given.short in (
@@ -39,6 +42,15 @@ ways_kept list client service kept are =
         alike_kept list client service label any.1
             (All-contains (IsKept list client service 64) kept any.1 are.sound (any.0, any.2, any.3)) any.4,
       );
+    }
+
+pub ways_of : (list : Listed) (client : ℕ) (service : List ℕ) (kept : List KeptLabel)
+    → StandForAll list client service kept → AreWays list client service kept
+ways_of list client service kept stand =
+    record {
+      told = stand.told;
+      covers = λ label given. let any = stand.covers label given in
+          (any.0, any.1, any.2, any.3, record { short = any.4.short; alike = any.4.alike });
     }
 
 -- ---- which one is the shortest

@@ -1,5 +1,5 @@
 -- What a script's wish for a session is answered.
-use Rattle.std.proofs.Common.{◌≡◌, ℕ, ◌<◌, ◌≤◌, ◌+◌, zero, suc, Bool, true, false, ◌&&◌, ◌==◌, List, [], ◌∷◌, length, get_or, Option, Some, None, refl, sym, ap, ◌∙◌, arith, nat_lt}
+use Rattle.std.proofs.Common.{◌≡◌, ℕ, ◌<◌, ◌≤◌, zero, suc, Bool, true, false, ◌&&◌, ◌==◌, List, [], ◌∷◌, length, get_or, Option, Some, None, refl, sym, ap, ◌∙◌, arith, nat_lt}
 use Rattle.std.specs.Prelude.{if◌then◌else◌, count_by, position}
 use Rattle.std.specs.List.{slice_get}
 use Rattle.std.specs.Option.{option_and_then, option_map, option_or}
@@ -7,14 +7,12 @@ use Rattle.std.specs.Str.{bytes_eq}
 use Rattle.std.proofs.lemmas.Bool.Decides.{nat_tests}
 use Rattle.std.proofs.lemmas.List.Quantifiers.{position-Some}
 use Rattle.trade_base.specs.declared.service.Service.{Service}
-use Rattle.trade_base.specs.declared.refusal.Refusal.{Refusal}
 use Rattle.own_model.specs.Account.{Account, shortage}
-use Rattle.own_model.specs.Listed.{Binary, Listed, ListedEntry, ListedRule, Target, Way, asks_for, end_of, init_entry, levels_within, most_lists, named_provider, offers, only_provider, route_within, rules_for, server_at, serves, service_at, service_of, start_of, way_by, way_to}
+use Rattle.own_model.specs.Listed.{Binary, Listed, ListedEntry, ListedRule, Target, Way, asks_for, end_of, init_entry, levels_within, most_lists, named_provider, offers, route_within, rules_for, server_at, serves, service_at, service_of, start_of, way_by, way_to}
 use Rattle.own_model.specs.Listed.Binary.{Script, Server, Init}
 use Rattle.own_model.specs.Listed.Target.{Child, AnyChild, Parent}
-use Rattle.own_model.specs.Listed.Way.{Inside, Outside}
 use Rattle.own_model.specs.OwnState.{OwnState}
-use Rattle.own_model.specs.OwnStep.{opened_by, own_step, refused, session_opened, turned_away, unless}
+use Rattle.own_model.specs.OwnStep.{opened_by, session_opened, turned_away, unless}
 use Rattle.own_model.specs.Routes.{ServerAt, label_with, provider}
 use Rattle.own_model.specs.Session.{donation_refusal, too_small, wish, wish_in, wish_of}
 use Rattle.own_model.specs.SessionArgs.{Arguments}

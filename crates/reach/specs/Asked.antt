@@ -6,9 +6,10 @@ use Rattle.std.specs.Str.{bytes_eq}
 use Rattle.own_model.specs.SessionArgs.{is_quotable}
 use Rattle.own_model.specs.Routes.{as_asked}
 use Rattle.own_model.specs.Listed.{Listed, ListedEntry, ListedRule, asks_for, init_entry, most_lists, rules_for}
-use Rattle.reach.specs.Reach.{IsGiven}
+use Rattle.reach.specs.Reach.{IsGiven, leads_to}
 use Rattle.reach.specs.Closure.{IsGrown, KeptLabel}
-use Rattle.reach.specs.Ways.{IsTold, LeadsAlike}
+use Rattle.reach.specs.Deciding.{same_child, trail_of}
+use Rattle.reach.specs.Ways.{GoesAlike}
 
 -- a text before what stands behind the arrow
 abbrev pub behind : List ℕ → List ℕ → List ℕ
@@ -119,13 +120,19 @@ known list client label =
 
 -- ---- what is offered
 
--- one is kept that leads where a label does, and is no longer
+-- one is kept that leads where a label does by the same rules, and is no longer
 abbrev pub IsHeld : Listed → ℕ → List ℕ → List KeptLabel → List ℕ → Type 0
-IsHeld list client service kept label = Any (LeadsAlike list client service label) kept
+IsHeld list client service kept label = Any (GoesAlike list client service label) kept
+
+-- a kept label is given, and where it leads and by which rules is kept with it
+pub record IsFollowed (list : Listed) (client : ℕ) (service : List ℕ) (kept : KeptLabel) : Type 0 where
+  pub given : IsGiven kept.label
+  pub leads : kept.child ≡ leads_to list client service kept.label
+  pub decided : kept.key ≡ trail_of list client service kept.label
 
 -- what is kept is told truly, behind what was kept
 pub record Adds (list : Listed) (client : ℕ) (service : List ℕ) (old new : List KeptLabel) : Type 0 where
-  pub told : All (IsTold list client service) new
+  pub told : All (IsFollowed list client service) new
   pub grown : IsGrown old new
 
 -- each end of a text of which the rest is an end of what stands before it, with a front before it
@@ -161,13 +168,21 @@ IsCut list client service before front end cut kept =
 
 -- ---- what is held already
 
--- both are the same component, or none
-abbrev pub same_child : Option ℕ → Option ℕ → Bool
-same_child None None = true
-same_child None (Some b) = false
-same_child (Some a) None = false
-same_child (Some a) (Some b) = nat_eq a b
+-- one of at most so many bytes leads there by the same rules
+abbrev pub goes_as_short : Option ℕ → List ℕ → ℕ → KeptLabel → Bool
+goes_as_short child rules most one =
+    nat_le (length one.label) most && (same_child one.child child && bytes_eq one.key rules)
 
--- one of at most so many bytes leads there
-abbrev pub leads_as_short : Option ℕ → ℕ → KeptLabel → Bool
-leads_as_short child most one = nat_le (length one.label) most && same_child one.child child
+-- ---- which have to be tried
+
+-- an earlier one has the front of another, and fits each label that this does
+abbrev pub is_first_for : AskedLabel → AskedLabel → Bool
+is_first_for one other = bytes_eq other.front one.front && ends_with nat_eq one.end other.end
+
+-- the same of its end
+abbrev pub is_last_for : AskedLabel → AskedLabel → Bool
+is_last_for one other = bytes_eq other.end one.end && starts_with nat_eq one.front other.front
+
+-- for each of what is asked there is such a one
+abbrev pub Serve : (AskedLabel → AskedLabel → Bool) → List AskedLabel → List AskedLabel → Type 0
+Serve serves asked some = All (λ one. Any (λ other. serves one other ≡ true) some) asked

@@ -8,3 +8,4 @@ pub mod Asked
 pub mod Paths
 pub mod WishLaws
 pub mod Deciding
+pub mod Trails

@@ -1,6 +1,7 @@
 -- Where a client's wishes for a service lead, for every given label.
 use Rattle.std.specs.Prelude.{◌≡◌, ℕ, ◌<◌, ◌≤◌, ◌==◌, Bool, true, false, List, length, nat_lt, slice_index_or, Option, Some, None, All, Any}
 use Rattle.own_model.specs.Listed.{Listed}
+use Rattle.reach.specs.Deciding.{trail_of}
 use Rattle.reach.specs.Reach.{IsGiven, IsShortest, AllLead, NoneLeads, SomeStray, leads_to}
 use Rattle.reach.specs.Closure.{KeptLabel}
 use Rattle.reach.specs.declared.ways.Reach.{Reach}
@@ -15,6 +16,17 @@ pub record IsTold (list : Listed) (client : ℕ) (service : List ℕ) (kept : Ke
 pub record LeadsAlike (list : Listed) (client : ℕ) (service label : List ℕ) (kept : KeptLabel) : Type 0 where
   pub short : length kept.label ≤ length label
   pub alike : kept.child ≡ leads_to list client service label
+
+-- it leads where another one does by the same rules, and is no longer
+pub record GoesAlike (list : Listed) (client : ℕ) (service label : List ℕ) (kept : KeptLabel) : Type 0 where
+  pub short : length kept.label ≤ length label
+  pub alike : kept.child ≡ leads_to list client service label
+  pub decided : trail_of list client service kept.label ≡ trail_of list client service label
+
+-- the kept labels stand for all given ones
+pub record StandForAll (list : Listed) (client : ℕ) (service : List ℕ) (kept : List KeptLabel) : Type 0 where
+  pub told : All (IsTold list client service) kept
+  pub covers : (label : List ℕ) → IsGiven label → Any (GoesAlike list client service label) kept
 
 -- the kept labels show where all given ones lead
 pub record AreWays (list : Listed) (client : ℕ) (service : List ℕ) (kept : List KeptLabel) : Type 0 where

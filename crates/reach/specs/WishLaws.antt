@@ -1,5 +1,5 @@
 -- What a script's wish for a session is answered, by where it leads.
-use Rattle.std.specs.Prelude.{◌≡◌, ℕ, ◌≤◌, false, List, Option, Some, None}
+use Rattle.std.specs.Prelude.{◌≡◌, ℕ, ◌≤◌, false, List, Some, None}
 use Rattle.std.specs.List.{slice_get}
 use Rattle.trade_base.specs.declared.refusal.Refusal.TheVariants.{ServiceDenied}
 use Rattle.trade_base.specs.declared.service.Service.{Service}

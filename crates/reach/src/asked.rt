@@ -30,6 +30,18 @@ impl Model for Asked {
     } };
 }
 
+impl Asked {
+    /// The same once more.
+    pub(crate) fn copy(&self) -> Asked
+        ensures { result ≡ self.now }
+    {
+        Asked {
+            front: self.front.copy(),
+            end: self.end.copy(),
+        }
+    }
+}
+
 /// What the rules ask that match a label by how it begins and ends, and first of all nothing.
 #[tactic(auto, unfolding(crate::specs::Asked::asked_of))]
 pub(crate) fn asked_of(alloc: Global, wishes: Wishes<'_>) -> Result<Vec<Asked>, AllocError>

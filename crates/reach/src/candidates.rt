@@ -4,13 +4,15 @@ ghost use Rattle.std.specs.Prelude.{◌≡◌, ◌+◌, ◌*◌, ◌≤◌, ◌<
 ghost use Rattle.std.specs.List.{list_any};
 ghost use Rattle.std.specs.Option.{option_copied};
 ghost use Rattle.reach.specs.Reach.{IsGiven};
-ghost use Rattle.reach.specs.Ways.{AreWays, IsTold};
-ghost use Rattle.reach.specs.Asked.{Adds, IsCut, AreJoined, AreOffered, IsFilled, IsHeld, IsOffered, behind, is_known, is_tail, is_whole, joins, known, known_within, leads_as_short, same_child};
+ghost use Rattle.reach.specs.Ways.{StandForAll};
+ghost use Rattle.reach.specs.Asked.{Adds, IsCut, AreJoined, AreOffered, IsFilled, IsFollowed, IsHeld, IsOffered, behind, goes_as_short, is_known, is_tail, is_whole, joins, known, known_within};
 
 use crate::asked::{Asked, agrees, asked_of, text_behind};
 use crate::closure::Kept;
+use crate::firsts::{firsts_of, lasts_of};
 use crate::key::{MOST_LISTS, client_entry, init_entry, rules_of};
 use crate::label::{LONGEST_GIVEN, Label, behind};
+use crate::rules::{rules_for, same_child};
 use crate::wishes::Wishes;
 use arrayvec::ArrayVec;
 use init_core::{Entry, Rule, route};
@@ -19,20 +21,29 @@ use std::alloc::{AllocError, Global};
 /// Labels that stand for all that can be given; none where no byte can stand between two texts for all that can.
 pub(crate) fn few_labels(alloc: Global, wishes: Wishes<'_>) -> Result<Option<Vec<Kept>>, AllocError>
     requires client { wishes.client < length wishes.list.now.entries }
-    ensures { IfOk result (λ found. IfSome found (λ kept.
-        AreWays wishes.entry.list.now wishes.entry.client wishes.entry.service.now kept.items)) }
+    ensures { IfOk result (λ found. IfSome found (λ kept. StandForAll wishes.entry.list.now
+        wishes.entry.client wishes.entry.service.now kept.items)) }
 {
     let mut kept = Vec::new(alloc);
     offer_known(alloc, &mut kept, wishes)?;
     let asked = asked_of(alloc, wishes)?;
-    if offer_all(alloc, &mut kept, wishes, asked.as_slice())? {
+    let asked = asked.as_slice();
+    let firsts = firsts_of(alloc, asked)?;
+    let lasts = lasts_of(alloc, asked)?;
+    if offer_all(
+        alloc,
+        &mut kept,
+        wishes,
+        firsts.as_slice(),
+        lasts.as_slice(),
+    )? {
         Ok(Some(kept))
     } else {
         Ok(None)
     }
 }
 
-// Keeps a label, if it can be given, unless one that is no longer leads there.
+// Keeps a label, if it can be given, unless one that is no longer leads there by the same rules.
 fn offer(
     alloc: Global,
     kept: &mut Vec<Kept>,
@@ -40,7 +51,8 @@ fn offer(
     text: &[u8],
 ) -> Result<(), AllocError>
     requires client { wishes.client < length wishes.list.now.entries }
-    requires told { All (IsTold wishes.list.now wishes.client wishes.service.now) kept.old.items }
+    requires told { All (IsFollowed wishes.list.now wishes.client wishes.service.now)
+        kept.old.items }
     ensures adds { OnOk result (Adds wishes.entry.list.now wishes.entry.client
         wishes.entry.service.now kept.old.items kept.new.items) }
     ensures held { OnOk result (IsGiven text.now → IsHeld wishes.entry.list.now wishes.entry.client
@@ -50,43 +62,36 @@ fn offer(
         return Ok(());
     };
     let child = route(wishes.list, wishes.client, wishes.service, label.as_bytes());
-    if is_held(kept, child, label.as_bytes().len()) {
+    let key = rules_for(alloc, wishes, &label)?;
+    if is_held(kept, child, key.as_slice(), label.as_bytes().len()) {
         return Ok(());
     }
-    let key = Vec::new(alloc);
     kept.push(Kept { label, key, child })?;
     Ok(())
 }
 
-// Whether a label of at most so many bytes is kept that leads there.
-fn is_held(kept: &[Kept], child: Option<usize>, most: usize) -> bool
-    ensures { result ≡ list_any (leads_as_short child most) kept.now }
+// Whether a label of at most so many bytes is kept that leads there by the same rules.
+fn is_held(kept: &[Kept], child: Option<usize>, rules: &[usize], most: usize) -> bool
+    ensures { result ≡ list_any (goes_as_short child rules.now most) kept.now }
 {
-    kept.iter().any(|one| leads_as_short(one, child, most))
+    kept.iter()
+        .any(|one| goes_as_short(one, child, rules, most))
 }
 
-// Whether it is one of at most so many bytes that leads there.
-fn leads_as_short(one: &Kept, child: Option<usize>, most: usize) -> bool
-    ensures { result ≡ leads_as_short child most one.now }
+// Whether it is one of at most so many bytes that leads there by the same rules.
+fn goes_as_short(one: &Kept, child: Option<usize>, rules: &[usize], most: usize) -> bool
+    ensures { result ≡ goes_as_short child rules.now most one.now }
 {
-    one.label.as_bytes().len() <= most && same_child(one.child, child)
-}
-
-// Whether both are the same component, or none.
-fn same_child(one: Option<usize>, other: Option<usize>) -> bool
-    ensures { result ≡ same_child one other }
-{
-    match (one, other) {
-        (Some(one), Some(other)) => one == other,
-        (None, None) => true,
-        _ => false,
-    }
+    one.label.as_bytes().len() <= most
+        && same_child(one.child, child)
+        && one.key.as_slice() == rules
 }
 
 // Keeps labels for those that rules know by themselves.
 fn offer_known(alloc: Global, kept: &mut Vec<Kept>, wishes: Wishes<'_>) -> Result<(), AllocError>
     requires client { wishes.client < length wishes.list.now.entries }
-    requires told { All (IsTold wishes.list.now wishes.client wishes.service.now) kept.old.items }
+    requires told { All (IsFollowed wishes.list.now wishes.client wishes.service.now)
+        kept.old.items }
     ensures adds { OnOk result (Adds wishes.entry.list.now wishes.entry.client
         wishes.entry.service.now kept.old.items kept.new.items) }
     ensures held { OnOk result ((label : List ℕ) → IsGiven label
@@ -110,7 +115,8 @@ fn offer_known_within(
     before: &[u8],
 ) -> Result<(), AllocError>
     requires client { wishes.client < length wishes.list.now.entries }
-    requires told { All (IsTold wishes.list.now wishes.client wishes.service.now) kept.old.items }
+    requires told { All (IsFollowed wishes.list.now wishes.client wishes.service.now)
+        kept.old.items }
     requires before { length before.now + lists * 36 ≤ 208 }
     ensures adds { OnOk result (Adds wishes.entry.list.now wishes.entry.client
         wishes.entry.service.now kept.old.items kept.new.items) }
@@ -141,7 +147,8 @@ fn offer_known_by(
     before: &[u8],
 ) -> Result<(), AllocError>
     requires client { wishes.client < length wishes.list.now.entries }
-    requires told { All (IsTold wishes.list.now wishes.client wishes.service.now) kept.old.items }
+    requires told { All (IsFollowed wishes.list.now wishes.client wishes.service.now)
+        kept.old.items }
     ensures adds { OnOk result (Adds wishes.entry.list.now wishes.entry.client
         wishes.entry.service.now kept.old.items kept.new.items) }
     ensures held { OnOk result ((label : List ℕ) → IsGiven label
@@ -164,7 +171,8 @@ fn offer_known_of(
     before: &[u8],
 ) -> Result<(), AllocError>
     requires client { wishes.client < length wishes.list.now.entries }
-    requires told { All (IsTold wishes.list.now wishes.client wishes.service.now) kept.old.items }
+    requires told { All (IsFollowed wishes.list.now wishes.client wishes.service.now)
+        kept.old.items }
     ensures adds { OnOk result (Adds wishes.entry.list.now wishes.entry.client
         wishes.entry.service.now kept.old.items kept.new.items) }
     ensures held { OnOk result ((label : List ℕ) → IsGiven label
@@ -185,7 +193,8 @@ fn offer_whole(
     before: &[u8],
 ) -> Result<(), AllocError>
     requires client { wishes.client < length wishes.list.now.entries }
-    requires told { All (IsTold wishes.list.now wishes.client wishes.service.now) kept.old.items }
+    requires told { All (IsFollowed wishes.list.now wishes.client wishes.service.now)
+        kept.old.items }
     ensures adds { OnOk result (Adds wishes.entry.list.now wishes.entry.client
         wishes.entry.service.now kept.old.items kept.new.items) }
     ensures held { OnOk result ((label : List ℕ) → IsGiven label
@@ -211,7 +220,8 @@ fn offer_tails(
     before: &[u8],
 ) -> Result<(), AllocError>
     requires client { wishes.client < length wishes.list.now.entries }
-    requires told { All (IsTold wishes.list.now wishes.client wishes.service.now) kept.old.items }
+    requires told { All (IsFollowed wishes.list.now wishes.client wishes.service.now)
+        kept.old.items }
     ensures adds { OnOk result (Adds wishes.entry.list.now wishes.entry.client
         wishes.entry.service.now kept.old.items kept.new.items) }
     ensures held { OnOk result ((label : List ℕ) → IsGiven label
@@ -235,7 +245,8 @@ fn offer_joined(
     end: &[u8],
 ) -> Result<(), AllocError>
     requires client { wishes.client < length wishes.list.now.entries }
-    requires told { All (IsTold wishes.list.now wishes.client wishes.service.now) kept.old.items }
+    requires told { All (IsFollowed wishes.list.now wishes.client wishes.service.now)
+        kept.old.items }
     ensures adds { OnOk result (Adds wishes.entry.list.now wishes.entry.client
         wishes.entry.service.now kept.old.items kept.new.items) }
     ensures joined { OnOk result (AreJoined wishes.entry.list.now wishes.entry.client
@@ -258,7 +269,8 @@ fn offer_cut(
     cut: usize,
 ) -> Result<(), AllocError>
     requires client { wishes.client < length wishes.list.now.entries }
-    requires told { All (IsTold wishes.list.now wishes.client wishes.service.now) kept.old.items }
+    requires told { All (IsFollowed wishes.list.now wishes.client wishes.service.now)
+        kept.old.items }
     requires cut { cut ≤ length end.now }
     ensures adds { OnOk result (Adds wishes.entry.list.now wishes.entry.client
         wishes.entry.service.now kept.old.items kept.new.items) }
@@ -281,7 +293,8 @@ fn offer_both(
     rest: &[u8],
 ) -> Result<(), AllocError>
     requires client { wishes.client < length wishes.list.now.entries }
-    requires told { All (IsTold wishes.list.now wishes.client wishes.service.now) kept.old.items }
+    requires told { All (IsFollowed wishes.list.now wishes.client wishes.service.now)
+        kept.old.items }
     ensures adds { OnOk result (Adds wishes.entry.list.now wishes.entry.client
         wishes.entry.service.now kept.old.items kept.new.items) }
     ensures held { OnOk result (IsGiven (front.now ++ rest.now)
@@ -305,47 +318,50 @@ fn joined(front: &[u8], rest: &[u8]) -> Option<ArrayVec<u8, LONGEST_GIVEN>>
     Some(text)
 }
 
-// Keeps labels for all that begin as one rule asks and end as another, of each two whose texts go together. Answers whether it
-// could.
+// Keeps labels for all that begin as one of the firsts asks and end as one of the lasts, of each two whose texts go together.
+// Answers whether it could.
 fn offer_all(
     alloc: Global,
     kept: &mut Vec<Kept>,
     wishes: Wishes<'_>,
-    asked: &[Asked],
+    firsts: &[Asked],
+    lasts: &[Asked],
 ) -> Result<bool, AllocError>
     requires client { wishes.client < length wishes.list.now.entries }
-    requires told { All (IsTold wishes.list.now wishes.client wishes.service.now) kept.old.items }
+    requires told { All (IsFollowed wishes.list.now wishes.client wishes.service.now)
+        kept.old.items }
     ensures adds { IfOk result (λ done. Adds wishes.entry.list.now wishes.entry.client
         wishes.entry.service.now kept.old.items kept.new.items) }
     ensures offered { IfOk result (λ done. done ≡ true → All (λ first.
         All (IsOffered wishes.entry.list.now wishes.entry.client wishes.entry.service.now
-        kept.new.items first) asked.now) asked.now) }
+        kept.new.items first) lasts.now) firsts.now) }
 {
-    for place in 0..asked.len() {
-        if !offer_first(alloc, kept, wishes, &asked[place], asked)? {
+    for place in 0..firsts.len() {
+        if !offer_first(alloc, kept, wishes, &firsts[place], lasts)? {
             return Ok(false);
         }
     }
     Ok(true)
 }
 
-// The same of one with all others.
+// The same of one with all lasts.
 fn offer_first(
     alloc: Global,
     kept: &mut Vec<Kept>,
     wishes: Wishes<'_>,
     first: &Asked,
-    asked: &[Asked],
+    lasts: &[Asked],
 ) -> Result<bool, AllocError>
     requires client { wishes.client < length wishes.list.now.entries }
-    requires told { All (IsTold wishes.list.now wishes.client wishes.service.now) kept.old.items }
+    requires told { All (IsFollowed wishes.list.now wishes.client wishes.service.now)
+        kept.old.items }
     ensures adds { IfOk result (λ done. Adds wishes.entry.list.now wishes.entry.client
         wishes.entry.service.now kept.old.items kept.new.items) }
     ensures offered { IfOk result (λ done. done ≡ true → All (IsOffered wishes.entry.list.now
-        wishes.entry.client wishes.entry.service.now kept.new.items first.now) asked.now) }
+        wishes.entry.client wishes.entry.service.now kept.new.items first.now) lasts.now) }
 {
-    for place in 0..asked.len() {
-        if !offer_if(alloc, kept, wishes, first, &asked[place])? {
+    for place in 0..lasts.len() {
+        if !offer_if(alloc, kept, wishes, first, &lasts[place])? {
             return Ok(false);
         }
     }
@@ -361,7 +377,8 @@ fn offer_if(
     last: &Asked,
 ) -> Result<bool, AllocError>
     requires client { wishes.client < length wishes.list.now.entries }
-    requires told { All (IsTold wishes.list.now wishes.client wishes.service.now) kept.old.items }
+    requires told { All (IsFollowed wishes.list.now wishes.client wishes.service.now)
+        kept.old.items }
     ensures adds { IfOk result (λ done. Adds wishes.entry.list.now wishes.entry.client
         wishes.entry.service.now kept.old.items kept.new.items) }
     ensures offered { IfOk result (λ done. done ≡ true → IsOffered wishes.entry.list.now
@@ -397,7 +414,8 @@ fn offer_between(
     end: &[u8],
 ) -> Result<bool, AllocError>
     requires client { wishes.client < length wishes.list.now.entries }
-    requires told { All (IsTold wishes.list.now wishes.client wishes.service.now) kept.old.items }
+    requires told { All (IsFollowed wishes.list.now wishes.client wishes.service.now)
+        kept.old.items }
     requires front { length front.now ≤ 64 }
     requires end { length end.now ≤ 64 }
     ensures adds { IfOk result (λ done. Adds wishes.entry.list.now wishes.entry.client

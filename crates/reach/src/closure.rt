@@ -70,8 +70,8 @@ fn lengthen(
     requires client { wishes.client < length wishes.list.now.entries }
     requires short { size < 64 }
     requires kept { AreKept wishes.list.now wishes.client wishes.service.now size kept.old.items }
-    ensures { OnOk result
-        (AreKept wishes.entry.list.now wishes.entry.client wishes.entry.service.now (size + 1) kept.new.items) }
+    ensures { OnOk result (AreKept wishes.entry.list.now wishes.entry.client
+        wishes.entry.service.now (size + 1) kept.new.items) }
 {
     for place in 0..kept.len() {
         lengthen_at(alloc, kept, wishes, size, place)?;
@@ -93,11 +93,11 @@ fn lengthen_at(
     requires within { place < length kept.old.items }
     requires sound { All (IsKept wishes.list.now wishes.client wishes.service.now (size + 1))
         kept.old.items }
-    ensures sound { OnOk result (All
-        (IsKept wishes.entry.list.now wishes.entry.client wishes.entry.service.now (size + 1)) kept.new.items) }
+    ensures sound { OnOk result (All (IsKept wishes.entry.list.now wishes.entry.client
+        wishes.entry.service.now (size + 1)) kept.new.items) }
     ensures grown { OnOk result (IsGrown kept.old.items kept.new.items) }
-    ensures longer { OnOk result (IsLengthenedAt wishes.entry.list.now wishes.entry.client wishes.entry.service.now
-        size kept.old.items place kept.new.items) }
+    ensures longer { OnOk result (IsLengthenedAt wishes.entry.list.now wishes.entry.client
+        wishes.entry.service.now size kept.old.items place kept.new.items) }
 {
     let one = &kept[place];
     let label = one.label.copy();
@@ -120,11 +120,11 @@ fn lengthen_one(
     requires short { length label.now < 64 }
     requires sound { All (IsKept wishes.list.now wishes.client wishes.service.now
         (length label.now + 1)) kept.old.items }
-    ensures sound { OnOk result (All (IsKept wishes.entry.list.now wishes.entry.client wishes.entry.service.now
-        (length label.now + 1)) kept.new.items) }
+    ensures sound { OnOk result (All (IsKept wishes.entry.list.now wishes.entry.client
+        wishes.entry.service.now (length label.now + 1)) kept.new.items) }
     ensures grown { OnOk result (IsGrown kept.old.items kept.new.items) }
-    ensures longer { OnOk result (IsLengthened wishes.entry.list.now wishes.entry.client wishes.entry.service.now
-        label.now 32 127 kept.new.items) }
+    ensures longer { OnOk result (IsLengthened wishes.entry.list.now wishes.entry.client
+        wishes.entry.service.now label.now 32 127 kept.new.items) }
 {
     keep_range(alloc, kept, wishes, label, b'a', 127)?;
     keep_range(alloc, kept, wishes, label, b'!', b'a')?;
@@ -146,11 +146,11 @@ fn keep_range(
     requires short { length label.now < 64 }
     requires sound { All (IsKept wishes.list.now wishes.client wishes.service.now
         (length label.now + 1)) kept.old.items }
-    ensures sound { OnOk result (All (IsKept wishes.entry.list.now wishes.entry.client wishes.entry.service.now
-        (length label.now + 1)) kept.new.items) }
+    ensures sound { OnOk result (All (IsKept wishes.entry.list.now wishes.entry.client
+        wishes.entry.service.now (length label.now + 1)) kept.new.items) }
     ensures grown { OnOk result (IsGrown kept.old.items kept.new.items) }
-    ensures longer { OnOk result (IsLengthened wishes.entry.list.now wishes.entry.client wishes.entry.service.now
-        label.now from until kept.new.items) }
+    ensures longer { OnOk result (IsLengthened wishes.entry.list.now wishes.entry.client
+        wishes.entry.service.now label.now from until kept.new.items) }
 {
     for byte in from..until {
         keep_with(alloc, kept, wishes, label, byte)?;
@@ -172,11 +172,11 @@ fn keep_with(
     requires short { length label.now < 64 }
     requires sound { All (IsKept wishes.list.now wishes.client wishes.service.now
         (length label.now + 1)) kept.old.items }
-    ensures sound { OnOk result (All (IsKept wishes.entry.list.now wishes.entry.client wishes.entry.service.now
-        (length label.now + 1)) kept.new.items) }
+    ensures sound { OnOk result (All (IsKept wishes.entry.list.now wishes.entry.client
+        wishes.entry.service.now (length label.now + 1)) kept.new.items) }
     ensures grown { OnOk result (IsGrown kept.old.items kept.new.items) }
-    ensures here { OnOk result (is_quotable byte ≡ true → Any (HasKey wishes.entry.list.now wishes.entry.client
-        wishes.entry.service.now (label.now ++ byte ∷ [])) kept.new.items) }
+    ensures here { OnOk result (is_quotable byte ≡ true → Any (HasKey wishes.entry.list.now
+        wishes.entry.client wishes.entry.service.now (label.now ++ byte ∷ [])) kept.new.items) }
 {
     if is_quotable(byte) {
         keep(alloc, kept, wishes, label.with(byte))
@@ -197,8 +197,8 @@ fn keep(
     requires given { IsGiven label }
     requires sound { All (IsKept wishes.list.now wishes.client wishes.service.now (length label))
         kept.old.items }
-    ensures { OnOk result (Keeps wishes.entry.list.now wishes.entry.client wishes.entry.service.now label
-        kept.old.items kept.new.items) }
+    ensures { OnOk result (Keeps wishes.entry.list.now wishes.entry.client wishes.entry.service.now
+        label kept.old.items kept.new.items) }
 {
     let key = key_of(alloc, wishes, &label)?;
     if is_known(kept, key.as_slice()) {

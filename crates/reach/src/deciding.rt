@@ -1,12 +1,14 @@
 //! Which rules decide a client's wishes for a service, list by list outward, for every label that can be given.
-ghost use Rattle.std.specs.Prelude.{◌≡◌, ◌<◌, length, All, IfOk, OnOk};
+ghost use Rattle.std.specs.Prelude.{◌≡◌, ◌+◌, ◌<◌, length, All, IfOk, OnOk};
 ghost use Rattle.std.specs.List.{list_any};
-ghost use Rattle.reach.specs.Deciding.{AreTrails, IsTrail, KeepsTrail, is_same, same_child, trail_of};
-ghost use Rattle.reach.specs.Ways.{IsTold};
+ghost use Rattle.reach.specs.Deciding.{AreTrails, IsTrail, KeepsTrail, is_same};
+ghost use Rattle.reach.specs.Trails.{AreSeen};
+ghost use Rattle.reach.specs.Ways.{IsTold, StandForAll};
 
-use crate::closure::{Kept, labels};
-use crate::course::Course;
-use crate::label::Label;
+use crate::closure::Kept;
+use crate::label::{LONGEST_GIVEN, Label};
+use crate::rules::{rules_for, same_child};
+use crate::standing::standing;
 use crate::wishes::Wishes;
 use std::alloc::{AllocError, Global};
 use std::marker::Model;
@@ -72,17 +74,16 @@ impl Model for Trails {
 
 impl Trails {
     /// How wishes are decided. An error is want of memory.
-    #[tactic(auto, using(crate::proofs::TrailLemmas::seen_none, crate::proofs::TrailLemmas::seen_more, crate::proofs::TrailLemmas::told_at, crate::proofs::TrailLemmas::trails_of))]
+    #[tactic(auto, using(crate::proofs::TrailLemmas::seen_none, crate::proofs::TrailLemmas::trails_of))]
     pub fn of(alloc: Global, wishes: Wishes<'_>) -> Result<Trails, AllocError>
         requires client { wishes.client < length wishes.list.now.entries }
         ensures { IfOk result (λ trails.
             AreTrails wishes.entry.list.now wishes.entry.client wishes.entry.service.now trails) }
     {
-        let kept = labels(alloc, wishes)?;
+        let kept = standing(alloc, wishes)?;
         let mut trails = Vec::new(alloc);
-        for place in 0..kept.len() {
-            let one = &kept[place];
-            keep(alloc, &mut trails, wishes, one)?;
+        for size in 0..LONGEST_GIVEN + 1 {
+            keep_all_of(alloc, &mut trails, wishes, kept.as_slice(), size)?;
         }
         Ok(Trails { trails })
     }
@@ -95,6 +96,54 @@ impl Trails {
     }
 }
 
+// Keeps the trails of all labels of so many bytes, behind those of shorter ones: so each trail is kept with a label of least
+// length, and once.
+fn keep_all_of(
+    alloc: Global,
+    trails: &mut Vec<Trail>,
+    wishes: Wishes<'_>,
+    kept: &[Kept],
+    size: usize,
+) -> Result<(), AllocError>
+    requires client { wishes.client < length wishes.list.now.entries }
+    requires stand { StandForAll wishes.list.now wishes.client wishes.service.now kept.now }
+    requires seen { AreSeen wishes.list.now wishes.client wishes.service.now kept.now size 0
+        trails.old.items }
+    ensures { OnOk result (AreSeen wishes.entry.list.now wishes.entry.client
+        wishes.entry.service.now kept.now (size + 1) 0 trails.new.items) }
+{
+    for place in 0..kept.len() {
+        keep_if(alloc, trails, wishes, kept, size, place)?;
+    }
+    Ok(())
+}
+
+// The same of the label at a place, if it has so many bytes.
+#[tactic(auto, using(crate::proofs::TrailLemmas::seen_more, crate::proofs::TrailLemmas::seen_passed, crate::proofs::TrailLemmas::told_at))]
+fn keep_if(
+    alloc: Global,
+    trails: &mut Vec<Trail>,
+    wishes: Wishes<'_>,
+    kept: &[Kept],
+    size: usize,
+    place: usize,
+) -> Result<(), AllocError>
+    requires client { wishes.client < length wishes.list.now.entries }
+    requires stand { StandForAll wishes.list.now wishes.client wishes.service.now kept.now }
+    requires within { place < length kept.now }
+    requires seen { AreSeen wishes.list.now wishes.client wishes.service.now kept.now size place
+        trails.old.items }
+    ensures { OnOk result (AreSeen wishes.entry.list.now wishes.entry.client
+        wishes.entry.service.now kept.now size (place + 1) trails.new.items) }
+{
+    let one = &kept[place];
+    if one.label.as_bytes().len() != size {
+        return Ok(());
+    }
+    keep(alloc, trails, wishes, one)?;
+    Ok(())
+}
+
 // Keeps the trail of a label, unless it is there with one that is no longer.
 #[tactic(auto, using(crate::proofs::TrailLemmas::keeps_known, crate::proofs::TrailLemmas::keeps_new))]
 fn keep(
@@ -105,9 +154,10 @@ fn keep(
 ) -> Result<(), AllocError>
     requires client { wishes.client < length wishes.list.now.entries }
     requires told { IsTold wishes.list.now wishes.client wishes.service.now one.now }
-    requires trails { All (IsTrail wishes.list.now wishes.client wishes.service.now) trails.old.items }
-    ensures { OnOk result (KeepsTrail wishes.entry.list.now wishes.entry.client wishes.entry.service.now
-        one.now.label trails.old.items trails.new.items) }
+    requires trails { All (IsTrail wishes.list.now wishes.client wishes.service.now)
+        trails.old.items }
+    ensures { OnOk result (KeepsTrail wishes.entry.list.now wishes.entry.client
+        wishes.entry.service.now one.now.label trails.old.items trails.new.items) }
 {
     let rules = rules_for(alloc, wishes, &one.label)?;
     if is_known(trails, &one.label, rules.as_slice(), one.child) {
@@ -119,29 +169,6 @@ fn keep(
         child: one.child,
     })?;
     Ok(())
-}
-
-// The places of the rules that decide a label's wish.
-#[tactic(auto, unfolding(crate::specs::Deciding::trail_of))]
-fn rules_for(alloc: Global, wishes: Wishes<'_>, label: &Label) -> Result<Vec<usize>, AllocError>
-    requires client { wishes.client < length wishes.list.now.entries }
-    ensures { IfOk result (λ rules. rules.items
-        ≡ trail_of wishes.entry.list.now wishes.entry.client wishes.entry.service.now label.now) }
-{
-    let course = Course::of(
-        alloc,
-        wishes.list,
-        wishes.client,
-        wishes.service,
-        label.as_bytes(),
-    )?;
-    let mut rules = Vec::new(alloc);
-    for hop in course.hops() {
-        if let Some(place) = hop.rule() {
-            rules.push(place)?;
-        }
-    }
-    Ok(rules)
 }
 
 // Whether a trail of these rules is there, with a label that is no longer.
@@ -160,15 +187,4 @@ fn is_same(label: &Label, rules: &[usize], child: Option<usize>, trail: &Trail) 
     trail.rules.as_slice() == rules
         && same_child(trail.child, child)
         && trail.label.as_bytes().len() <= label.as_bytes().len()
-}
-
-// Whether two ends are the same.
-fn same_child(child: Option<usize>, other: Option<usize>) -> bool
-    ensures { result ≡ same_child child other }
-{
-    match (child, other) {
-        (None, None) => true,
-        (Some(child), Some(other)) => child == other,
-        _ => false,
-    }
 }

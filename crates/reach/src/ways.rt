@@ -4,9 +4,9 @@ ghost use Rattle.std.specs.List.{list_all};
 ghost use Rattle.own_model.specs.Listed.{Listed};
 ghost use Rattle.reach.specs.Ways.{AreWays, IsBest, TellsReach, is_shorter, leads};
 
-use crate::candidates::few_labels;
-use crate::closure::{Kept, labels};
+use crate::closure::Kept;
 use crate::label::Label;
+use crate::standing::standing;
 use crate::wishes::Wishes;
 use std::alloc::{AllocError, Global};
 use std::marker::Model;
@@ -39,25 +39,22 @@ impl Model for Ways {
 
 impl Ways {
     /// Where wishes lead. An error is want of memory.
-    #[tactic(auto, using(crate::proofs::WaysLemmas::ways_kept))]
+    #[tactic(auto, using(crate::proofs::WaysLemmas::ways_of))]
     pub fn of(alloc: Global, wishes: Wishes<'_>) -> Result<Ways, AllocError>
         requires client { wishes.client < length wishes.list.now.entries }
         ensures { IfOk result (λ ways.
             AreWays wishes.entry.list.now wishes.entry.client wishes.entry.service.now ways) }
     {
-        match few_labels(alloc, wishes)? {
-            Some(kept) => Ok(Ways { kept }),
-            None => Ok(Ways {
-                kept: labels(alloc, wishes)?,
-            }),
-        }
+        Ok(Ways {
+            kept: standing(alloc, wishes)?,
+        })
     }
 
     /// Whether they lead to the component of a number.
     #[tactic(auto, using(crate::proofs::WaysLemmas::never_leads, crate::proofs::WaysLemmas::always_leads, crate::proofs::WaysLemmas::some_stray, crate::proofs::WaysLemmas::shortest_leads))]
     pub fn reach(&self, server: usize) -> Reach
-        ensures { (list : Listed) (client : ℕ) (service : List ℕ) → AreWays list client service self.now
-            → TellsReach list client service server result }
+        ensures { (list : Listed) (client : ℕ) (service : List ℕ) → AreWays list client service
+            self.now → TellsReach list client service server result }
     {
         let kept = self.kept.as_slice();
         match shortest(kept, server) {

@@ -7,3 +7,5 @@ mod RuleLemmas
 mod StartsLemmas
 mod UnreadLemmas
 mod ValueLemmas
+mod ViewLemmas
+pub mod IdleLemmas

@@ -1,21 +1,24 @@
 -- What a start list says that its writer can hardly have meant.
-use Rattle.std.specs.Prelude.{ℕ, ◌+◌, ◌%◌, ◌==◌, ◌&&◌, Bool, not, List, [], ◌∷◌, ◌++◌, flat_map, is_some, nat_lt, position, take, if◌then◌else◌, Option, Some, None}
+use Rattle.std.specs.Prelude.{ℕ, ◌+◌, ◌%◌, ◌==◌, ◌&&◌, Bool, not, List, [], ◌∷◌, ◌++◌, flat_map, is_some, nat_lt, position, find, take, if◌then◌else◌, Option, Some, None}
 use Rattle.std.specs.List.{enumerate_from, list_any}
 use Rattle.std.specs.Option.{option_map}
-use Rattle.std.specs.Str.{bytes_eq}
+use Rattle.std.specs.Str.{bytes_eq, str_eq_ignore_ascii_case}
 use Rattle.trade_base.specs.Service.{service_name, services}
 use Rattle.trade_base.specs.declared.service.Service.{Service}
 use Rattle.own_model.specs.Listed.{Binary, Listed, ListedEntry, ListedRule, Target, reserve_of}
 use Rattle.own_model.specs.Listed.Binary.{Script, Server, Init}
 use Rattle.own_model.specs.Listed.Target.{Child, AnyChild, Parent}
 use Rattle.start_review.specs.Hiding.{decides_some, hides}
+use Rattle.start_review.specs.Idle.{is_idle}
 use Rattle.start_review.specs.Left.{budget_of}
 use Rattle.start_review.specs.Near.{names_in, nearest}
+use Rattle.start_review.specs.Outer.{chosen_end, outer_init, why_idle, wide_front}
+use Rattle.start_review.specs.Reached.{is_led_to, leads_somewhere}
 use Rattle.start_review.specs.Steps.{part_of}
-use Rattle.start_review.specs.Wishes.{child_at, is_led_to, is_provided, leads_somewhere}
+use Rattle.start_review.specs.Wishes.{child_at, is_provided}
 use Rattle.start_review.specs.declared.finding.Finding.{Finding}
 use Rattle.start_review.specs.declared.finding.Remark.{Remark}
-use Rattle.start_review.specs.declared.finding.Remark.TheVariants.{NoChild, NotProvided, NoProvider, SeveralProviders, Hidden, Unreached, LowRam, LowCaps, PartPages, PartReserve}
+use Rattle.start_review.specs.declared.finding.Remark.TheVariants.{NoChild, NotProvided, NoProvider, SeveralProviders, Hidden, NotProviding, OtherCase, Unreached, LowRam, LowCaps, PartPages, PartReserve}
 use Rattle.start_review.specs.declared.part.Owner.{Owner}
 use Rattle.start_review.specs.declared.part.Owner.TheVariants as owner
 use Rattle.start_review.specs.declared.part.Part.{Part}
@@ -31,6 +34,18 @@ told part (Some remark) = record { part = part; remark = remark } ∷ []
 -- an earlier rule of its list hides it
 abbrev pub hidden : List ListedRule → ListedRule → Option Remark
 hidden before rule = option_map Hidden (position (λ earlier. hides earlier rule) before)
+
+-- the name of a service that differs from this in case alone
+abbrev pub is_in_case : List ℕ → List ℕ → Bool
+is_in_case written service = str_eq_ignore_ascii_case written service && not (bytes_eq written service)
+
+abbrev pub case_of : List ℕ → Service → Bool
+case_of written service = is_in_case written (service_name service)
+
+-- a rule asks for a service in another case
+abbrev pub other_case : Option (List ℕ) → Option Remark
+other_case None = None
+other_case (Some service) = option_map (λ meant. OtherCase service (service_name meant)) (find (case_of service) services)
 
 -- an entry of an init's list has a name
 abbrev pub has_name : List ListedEntry → ℕ → List ℕ → Bool
@@ -76,17 +91,36 @@ abbrev pub target_findings : List ListedEntry → ℕ → Part → List ListedRu
 target_findings entries init part before rule (Some remark) = told part (Some remark)
 target_findings entries init part before rule None = stray_findings entries init part before rule rule.service
 
--- of a rule of an init's list, which is this part, after those before it
+-- of a rule of an init's list, which is this part, after those before it: that it asks for a service in another case, or where
+-- it leads
 abbrev pub rule_findings : List ListedEntry → ℕ → Part → List ListedRule → ListedRule → List Finding
 rule_findings entries init part before rule =
-    told part (hidden before rule) ++ target_findings entries init part before rule (no_child entries init rule.target)
+    told part (other_case rule.service) ++ target_findings entries init part before rule (no_child entries init rule.target)
+
+-- the first of two that there is
+abbrev pub or_else : Option Remark → Option Remark → Option Remark
+or_else None other = other
+or_else (Some remark) other = Some remark
+
+-- it decides nothing: an earlier one hides it, or else for another reason
+abbrev pub useless : Listed → Owner → Bool → List ListedRule → ℕ × ListedRule → Option Remark
+useless list owner outer before rule =
+    or_else (hidden before rule.1) (if is_idle list owner rule.0 then Some (why_idle outer rule.1) else None)
+
+-- of a rule, by its place in an owner's list, to which some init is the first that asks it, if one does
+abbrev pub label_findings : Listed → Part → Owner → Option ListedEntry → List ListedRule → ℕ × ListedRule → List Finding
+label_findings list part owner init before rule =
+    told part (useless list owner (is_some init) before rule)
+    ++ (told part (wide_front list.entries init rule.1.label_prefix) ++ told part (chosen_end (is_some init) rule.1))
 
 -- ---- of a list of rules
 
 -- of a rule, by its place in an owner's list, which is one of an init's list
 abbrev pub findings_at : Listed → ℕ → Owner → List ListedRule → ℕ × ListedRule → List Finding
 findings_at list init owner rules rule =
-    rule_findings list.entries init (part_of list.entries (about.Rule owner rule.0)) (take rule.0 rules) rule.1
+    let part = part_of list.entries (about.Rule owner rule.0) in
+    label_findings list part owner (outer_init list owner) (take rule.0 rules) rule
+    ++ rule_findings list.entries init part (take rule.0 rules) rule.1
 
 abbrev pub rules_findings : Listed → ℕ → Owner → List ListedRule → List Finding
 rules_findings list init owner rules = flat_map (findings_at list init owner rules) (enumerate_from 0 rules)
@@ -103,26 +137,31 @@ part_reserve entry = if (reserve_of entry).ram % 4096 == 0 then None else Some (
 abbrev pub pages_findings : Part → ListedEntry → List Finding
 pages_findings part entry = told part (part_pages entry) ++ told part (part_reserve entry)
 
--- a route of a client leads to a server, and its RAM, with what it can request of its reserve, pays for no session
-abbrev pub low_ram : Listed → ListedEntry → Option Remark
+-- some wish of a client leads to a server, and its RAM, with what it can request of its reserve, pays for no session
+abbrev pub low_ram : Listed → ℕ × ListedEntry → Option Remark
 low_ram list client =
-    if leads_somewhere list client && nat_lt (budget_of client).ram 4096 then Some (LowRam client.ram (reserve_of client).ram)
-    else None
+    if leads_somewhere list client.0 && nat_lt (budget_of client.1).ram 4096
+    then Some (LowRam client.1.ram (reserve_of client.1).ram) else None
 
 -- the same of the capabilities
-abbrev pub low_caps : Listed → ListedEntry → Option Remark
+abbrev pub low_caps : Listed → ℕ × ListedEntry → Option Remark
 low_caps list client =
-    if leads_somewhere list client && nat_lt (budget_of client).caps 2 then Some (LowCaps client.caps (reserve_of client).caps)
-    else None
+    if leads_somewhere list client.0 && nat_lt (budget_of client.1).caps 2
+    then Some (LowCaps client.1.caps (reserve_of client.1).caps) else None
 
--- no script's route leads to the server of a service
-abbrev pub unreached : Listed → List ℕ → ℕ → Option Remark
-unreached list service number = if is_led_to list service number then None else Some Unreached
+-- no script's wish leads to a server
+abbrev pub unreached : Listed → ℕ → Option Remark
+unreached list number = if is_led_to list number then None else Some Unreached
+
+-- a server doesn't provide its service, or isn't reached
+abbrev pub missed : Listed → Service → ℕ × ListedEntry → Option Remark
+missed list service entry =
+    if entry.1.provides then unreached list entry.0 else Some (NotProviding (service_name service))
 
 -- of a script its means, and of a server whether it is reached
 abbrev pub use_findings : Listed → Part → ℕ × ListedEntry → Binary → List Finding
-use_findings list part entry Script = told part (low_ram list entry.1) ++ told part (low_caps list entry.1)
-use_findings list part entry (Server service) = told part (unreached list (service_name service) entry.0)
+use_findings list part entry Script = told part (low_ram list entry) ++ told part (low_caps list entry)
+use_findings list part entry (Server service) = told part (missed list service entry)
 use_findings list part entry Init = []
 
 -- of the rules of an entry's own route, if it has one

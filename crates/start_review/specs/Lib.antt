@@ -1,5 +1,7 @@
 pub mod Findings
 pub mod Hiding
+pub mod Idle
+pub mod Outer
 pub mod Left
 pub mod Near
 pub mod Places
@@ -8,3 +10,5 @@ pub mod Steps
 pub mod Wishes
 pub mod Unread
 pub mod Values
+pub mod Views
+pub mod Reached

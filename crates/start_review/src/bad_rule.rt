@@ -77,7 +77,8 @@ pub(crate) fn rule_flaw(rule: &Value) -> Option<(Option<&'static str>, Expected)
 // The same of the service.
 fn service_flaw(rule: &Value) -> Option<(Option<&'static str>, Expected)>
     ensures { option_map (λ flaw. option_copied flaw.0) result
-        ≡ service_fault (get (codes "service") (view rule.now)) (get (codes "any-service") (view rule.now)) }
+        ≡ service_fault (get (codes "service") (view rule.now))
+        (get (codes "any-service") (view rule.now)) }
 {
     match (rule.get("service"), rule.get("any-service")) {
         (Some(service), None) => name_flaw(service, "service"),
@@ -89,7 +90,8 @@ fn service_flaw(rule: &Value) -> Option<(Option<&'static str>, Expected)>
 // The same of the target.
 fn target_flaw(rule: &Value) -> Option<(Option<&'static str>, Expected)>
     ensures { option_map (λ flaw. option_copied flaw.0) result
-        ≡ target_fault (get (codes "child") (view rule.now)) (get (codes "any-child") (view rule.now)) (get (codes "parent") (view rule.now)) }
+        ≡ target_fault (get (codes "child") (view rule.now))
+        (get (codes "any-child") (view rule.now)) (get (codes "parent") (view rule.now)) }
 {
     match (rule.get("child"), rule.get("any-child"), rule.get("parent")) {
         (Some(child), None, None) => name_flaw(child, "child"),

@@ -92,6 +92,20 @@ pub enum Remark {
     SeveralProviders(Name),
     /// An earlier rule of the same list, at this place, matches whatever the rule does.
     Hidden(usize),
+    /// A rule asks for a service that no server has; one that differs in case alone.
+    OtherCase(Name, Known),
+    /// A rule decides nothing.
+    Idle,
+    /// A rule decides nothing, since this member asks for a text that no label has.
+    NoLabel(Known),
+    /// A rule decides nothing, since it asks an outer list for a label that ends in the arrow.
+    Arrow,
+    /// A rule of an outer list asks for a label that begins with the names of one entry, and this one's names begin so, too.
+    LetsIn(Written, Name),
+    /// A rule of an outer list asks how a label ends.
+    ChosenEnd,
+    /// A server doesn't provide its service.
+    NotProviding(Known),
     /// No script's route leads to the server.
     Unreached,
     /// A route leads to a server, but the RAM of the account and the reserve together pays for no session.
@@ -131,6 +145,31 @@ impl fmt::Display for Remark {
                     "hidden: rule [{rule}] of the same list matches whatever this one does"
                 )
             }
+            Remark::OtherCase(service, meant) => write!(
+                f,
+                "service: no server has {service}; did you mean \"{}\"?",
+                meant.as_str()
+            ),
+            Remark::Idle => f.write_str(
+                "decides nothing: no script's wish comes to this rule, with any label",
+            ),
+            Remark::NoLabel(member) => write!(
+                f,
+                "decides nothing: {}: no label can have this text",
+                member.as_str()
+            ),
+            Remark::Arrow => f.write_str(
+                "decides nothing: label: who gives no label is seen by the names alone, without the arrow",
+            ),
+            Remark::LetsIn(front, name) => show_let_in(f, front, name),
+            Remark::ChosenEnd => f.write_str(
+                "label_suffix: a client chooses it with any label that isn't empty, and it may reach into the names",
+            ),
+            Remark::NotProviding(service) => write!(
+                f,
+                "provides: it could provide {}, and doesn't say so",
+                service.as_str()
+            ),
             Remark::Unreached => f.write_str("no script's route leads to this server"),
             Remark::LowRam(own, kept) => write!(
                 f,
@@ -150,6 +189,19 @@ impl fmt::Display for Remark {
             }
         }
     }
+}
+
+// Whom a front lets in, too.
+fn show_let_in<W: fmt::Write>(
+    f: &mut fmt::Formatter<W>,
+    front: &Written,
+    name: &Name,
+) -> fmt::Result {
+    let front = Quoted {
+        text: front.as_str(),
+        in_graph: false,
+    };
+    write!(f, "label_prefix: {front} lets \"{name}\" in too")
 }
 
 // That nothing reads a member.

@@ -1,17 +1,24 @@
 //! What a start list says that its writer can hardly have meant, in the order of its parts: the rules of the machine's default
 //! route, and each entry with its own route and the default route of what it starts.
-ghost use Rattle.std.specs.Prelude.{◌≡◌, ◌<◌, ◌++◌, IfOk, OnOk, None, Some};
+ghost use Rattle.std.specs.Prelude.{◌≡◌, ◌<◌, ◌++◌, is_some, take, IfOk, OnOk, None, Some};
+ghost use Rattle.std.specs.Option.{option_copied};
 ghost use Rattle.trade_base.specs.Service.{service_name};
 ghost use Rattle.init_core.specs.View.{model_target};
-ghost use Rattle.start_review.specs.Findings.{entry_findings, findings_of, has_name, hidden, low_caps, low_ram, misled, no_child, pages_findings, part_pages, part_reserve, route_findings, rule_findings, rules_findings, stray_findings, strays, strays_if_provided, told, unreached, use_findings};
+ghost use Rattle.start_review.specs.Findings.{case_of, entry_findings, findings_of, has_name, hidden, label_findings, low_caps, low_ram, misled, missed, no_child, other_case, pages_findings, part_pages, part_reserve, route_findings, rule_findings, rules_findings, stray_findings, strays, strays_if_provided, told, unreached, use_findings, useless};
+ghost use Rattle.start_review.specs.Outer.{chosen_end, outer_init, wide_front};
 ghost use Rattle.start_review.specs.Steps.{part_of};
+ghost use Rattle.start_review.specs.Views.{ShowAll};
 ghost use Rattle.start_review.specs.declared.part.About.TheVariants as about;
 
-use crate::finding::{Finding, Remark};
+use crate::finding::{Finding, Known, Remark};
 use crate::hiding::{decides_some, hidden_by};
+use crate::idle::is_idle;
 use crate::near::near_name;
+use crate::outer::{chosen_end, outer_init, why_idle, wide_front};
 use crate::part::{About, Owner};
-use crate::wishes::{before, is_led_to, is_provided, leads_somewhere};
+use crate::reached::{is_led_to, leads_somewhere};
+use crate::views::{View, views_of};
+use crate::wishes::{before, is_provided};
 use init_core::{Binary, Entry, Name, Rule, StartList, Target, target_child};
 use std::alloc::{AllocError, Global};
 use trade_base::{SERVICES, Service};
@@ -30,12 +37,22 @@ pub(crate) fn tell_findings(
 ) -> Result<(), AllocError>
     ensures { OnOk result (found.new.items ≡ found.old.items ++ findings_of list.now) }
 {
-    tell_rules(found, alloc, list, 0, Owner::Default, list.default_route())?;
+    let views = views_of(alloc, list)?;
+    let views = views.as_slice();
+    tell_rules(
+        found,
+        alloc,
+        list,
+        views,
+        0,
+        Owner::Default,
+        list.default_route(),
+    )?;
     let entries = list.entries();
     let count = list.count();
     prove!(count <= 32);
     for (number, entry) in entries.iter().enumerate() {
-        tell_entry(found, alloc, list, number, entry)?;
+        tell_entry(found, alloc, list, views, number, entry)?;
     }
     Ok(())
 }
@@ -45,20 +62,23 @@ fn tell_entry(
     found: &mut Vec<Finding>,
     alloc: Global,
     list: &StartList,
+    views: &[View],
     number: usize,
     entry: &Entry,
 ) -> Result<(), AllocError>
-    requires { number < 32 }
+    requires number { number < 32 }
+    requires views { ShowAll list.now views.now }
     ensures { OnOk result
         (found.new.items ≡ found.old.items ++ entry_findings list.now (number, entry.now)) }
 {
     tell_pages(found, alloc, list, number, entry)?;
-    tell_use(found, alloc, list, number, entry)?;
-    tell_route(found, alloc, list, number, entry)?;
+    tell_use(found, alloc, list, views, number, entry)?;
+    tell_route(found, alloc, list, views, number, entry)?;
     tell_rules(
         found,
         alloc,
         list,
+        views,
         number + 1,
         Owner::Inner(number),
         entry.inner_route(),
@@ -70,9 +90,11 @@ fn tell_route(
     found: &mut Vec<Finding>,
     alloc: Global,
     list: &StartList,
+    views: &[View],
     number: usize,
     entry: &Entry,
 ) -> Result<(), AllocError>
+    requires views { ShowAll list.now views.now }
     ensures { OnOk result (found.new.items
         ≡ found.old.items ++ route_findings list.now (number, entry.now) entry.now.route) }
 {
@@ -81,6 +103,7 @@ fn tell_route(
             found,
             alloc,
             list,
+            views,
             entry.home(),
             Owner::Entry(number),
             rules,
@@ -110,9 +133,11 @@ fn tell_use(
     found: &mut Vec<Finding>,
     alloc: Global,
     list: &StartList,
+    views: &[View],
     number: usize,
     entry: &Entry,
 ) -> Result<(), AllocError>
+    requires views { ShowAll list.now views.now }
     ensures { OnOk result (found.new.items ≡ found.old.items
         ++ use_findings list.now (part_of list.now.entries (about.Entry number))
         (number, entry.now) entry.now.binary) }
@@ -120,11 +145,23 @@ fn tell_use(
     let about = About::Entry(number);
     match entry.binary() {
         Binary::Script => {
-            tell(found, alloc, list, about, low_ram(list, entry))?;
-            tell(found, alloc, list, about, low_caps(list, entry))
+            tell(
+                found,
+                alloc,
+                list,
+                about,
+                low_ram(list, views, number, entry),
+            )?;
+            tell(
+                found,
+                alloc,
+                list,
+                about,
+                low_caps(list, views, number, entry),
+            )
         }
         Binary::Server(service) => {
-            let remark = unreached(list, service.name().as_bytes(), number);
+            let remark = missed(list, views, service, number, entry);
             tell(found, alloc, list, about, remark)
         }
         Binary::Init => Ok(()),
@@ -155,11 +192,12 @@ fn part_reserve(entry: &Entry) -> Option<Remark>
 }
 
 // Whether a client that has a route to a server has too little RAM for a session, in its account and its reserve together.
-fn low_ram(list: &StartList, entry: &Entry) -> Option<Remark>
-    ensures { result ≡ low_ram list.now entry.now }
+fn low_ram(list: &StartList, views: &[View], number: usize, entry: &Entry) -> Option<Remark>
+    requires views { ShowAll list.now views.now }
+    ensures { result ≡ low_ram list.now (number, entry.now) }
 {
     let kept = entry.reserve_at_start().ram.0;
-    if leads_somewhere(list, entry) && entry.ram().saturating_add(kept) < SESSION_RAM {
+    if leads_somewhere(views, number) && entry.ram().saturating_add(kept) < SESSION_RAM {
         Some(Remark::LowRam(entry.ram(), kept))
     } else {
         None
@@ -167,22 +205,42 @@ fn low_ram(list: &StartList, entry: &Entry) -> Option<Remark>
 }
 
 // The same of capabilities.
-fn low_caps(list: &StartList, entry: &Entry) -> Option<Remark>
-    ensures { result ≡ low_caps list.now entry.now }
+fn low_caps(list: &StartList, views: &[View], number: usize, entry: &Entry) -> Option<Remark>
+    requires views { ShowAll list.now views.now }
+    ensures { result ≡ low_caps list.now (number, entry.now) }
 {
     let kept = entry.reserve_at_start().caps.0;
-    if leads_somewhere(list, entry) && entry.caps().saturating_add(kept) < SESSION_CAPS {
+    if leads_somewhere(views, number) && entry.caps().saturating_add(kept) < SESSION_CAPS {
         Some(Remark::LowCaps(entry.caps(), kept))
     } else {
         None
     }
 }
 
-// Whether no script's route leads to the server of a service.
-fn unreached(list: &StartList, service: &[u8], number: usize) -> Option<Remark>
-    ensures { result ≡ unreached list.now service.now number }
+// Whether a server doesn't provide its service, or isn't reached.
+fn missed(
+    list: &StartList,
+    views: &[View],
+    service: Service,
+    number: usize,
+    entry: &Entry,
+) -> Option<Remark>
+    requires views { ShowAll list.now views.now }
+    ensures { result ≡ missed list.now service (number, entry.now) }
 {
-    if is_led_to(list, service, number) {
+    if entry.provides() {
+        unreached(list, views, number)
+    } else {
+        Some(Remark::NotProviding(Known(service.name())))
+    }
+}
+
+// Whether no script's wish leads to a server.
+fn unreached(list: &StartList, views: &[View], number: usize) -> Option<Remark>
+    requires views { ShowAll list.now views.now }
+    ensures { result ≡ unreached list.now number }
+{
+    if is_led_to(views, number) {
         None
     } else {
         Some(Remark::Unreached)
@@ -194,18 +252,92 @@ fn tell_rules(
     found: &mut Vec<Finding>,
     alloc: Global,
     list: &StartList,
+    views: &[View],
     init: usize,
     owner: Owner,
     rules: &[Rule],
 ) -> Result<(), AllocError>
+    requires views { ShowAll list.now views.now }
     ensures { OnOk result
         (found.new.items ≡ found.old.items ++ rules_findings list.now init owner rules.now) }
 {
     for (place, rule) in rules.iter().enumerate() {
         let about = About::Rule(owner, place);
+        tell_labels(found, alloc, list, views, owner, rules, place, rule)?;
         tell_rule(found, alloc, list, init, about, before(rules, place), rule)?;
     }
     Ok(())
+}
+
+// Tells those of a rule, at its place in an owner's list, that its label has to do with.
+fn tell_labels(
+    found: &mut Vec<Finding>,
+    alloc: Global,
+    list: &StartList,
+    views: &[View],
+    owner: Owner,
+    rules: &[Rule],
+    place: usize,
+    rule: &Rule,
+) -> Result<(), AllocError>
+    requires views { ShowAll list.now views.now }
+    ensures { OnOk result (found.new.items ≡ found.old.items
+        ++ label_findings list.now (part_of list.now.entries (about.Rule owner place)) owner
+        (outer_init list.now owner) (take place rules.now) (place, rule.now)) }
+{
+    let about = About::Rule(owner, place);
+    let init = outer_init(list, owner);
+    let remark = useless(
+        list,
+        views,
+        owner,
+        init.is_some(),
+        before(rules, place),
+        place,
+        rule,
+    );
+    tell(found, alloc, list, about, remark)?;
+    tell_outer(found, alloc, list, about, init, rule)
+}
+
+// Tells what a rule's texts let in, to which some init is the first that asks it, if one does.
+fn tell_outer(
+    found: &mut Vec<Finding>,
+    alloc: Global,
+    list: &StartList,
+    about: About,
+    init: Option<&Entry>,
+    rule: &Rule,
+) -> Result<(), AllocError>
+    ensures { OnOk result (found.new.items ≡ found.old.items
+        ++ (told (part_of list.now.entries about)
+        (wide_front list.now.entries (option_copied init.entry) rule.now.label_prefix)
+        ++ told (part_of list.now.entries about)
+        (chosen_end (is_some (option_copied init.entry)) rule.now))) }
+{
+    let remark = wide_front(alloc, list.entries(), init, rule.label_prefix())?;
+    tell(found, alloc, list, about, remark)?;
+    tell(found, alloc, list, about, chosen_end(init.is_some(), rule))
+}
+
+// Why a rule decides nothing, if it does.
+fn useless(
+    list: &StartList,
+    views: &[View],
+    owner: Owner,
+    outer: bool,
+    earlier: &[Rule],
+    place: usize,
+    rule: &Rule,
+) -> Option<Remark>
+    requires views { ShowAll list.now views.now }
+    ensures { result ≡ useless list.now owner outer earlier.now (place, rule.now) }
+{
+    match hidden(earlier, rule) {
+        Some(remark) => Some(remark),
+        None if is_idle(list, views, owner, place) => Some(why_idle(outer, rule)),
+        None => None,
+    }
 }
 
 // Tells those of a rule after those before it.
@@ -222,11 +354,28 @@ fn tell_rule(
         ≡ found.old.items ++ rule_findings list.now.entries init
         (part_of list.now.entries about) earlier.now rule.now) }
 {
-    tell(found, alloc, list, about, hidden(earlier, rule))?;
+    tell(found, alloc, list, about, other_case(rule.service()))?;
     match no_child(alloc, list, init, rule.target())? {
         Some(remark) => tell(found, alloc, list, about, Some(remark)),
         None => tell_strays(found, alloc, list, init, about, earlier, rule),
     }
+}
+
+// Whether a rule asks for a service in another case.
+fn other_case(service: Option<&Name>) -> Option<Remark>
+    ensures { result ≡ other_case (option_copied service.entry) }
+{
+    let written = service?;
+    let meant = SERVICES.iter().find(|meant| case_of(written, **meant))?;
+    Some(Remark::OtherCase(written.copy(), Known(meant.name())))
+}
+
+// Whether the name of a service differs from this in case alone.
+fn case_of(written: &Name, service: Service) -> bool
+    ensures { result ≡ case_of written.now service }
+{
+    let name = service.name();
+    written.as_str().eq_ignore_ascii_case(name) && written.as_bytes() != name.as_bytes()
 }
 
 // Whether an earlier rule hides one.

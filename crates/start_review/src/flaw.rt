@@ -290,7 +290,8 @@ fn in_rules(
 ) -> Result<Flaw, AllocError>
     ensures { IfOk result (λ flaw. spot_of_flaw flaw
         ≡ rules_spot owner steps.now part key.now
-        (bad_rule (option_and_then (get key.now) (option_map (λ value. view value.now) object.entry)))) }
+        (bad_rule (option_and_then (get key.now) (option_map (λ value. view value.now)
+        object.entry)))) }
 {
     match bad_rule(member(object, key)) {
         Some((rule, bad)) => Ok(flaw_of_rule(rule_at(alloc, owner, steps, rule)?, bad)),

@@ -7,5 +7,5 @@ abbrev pub invariant-loop-place : goal.invariant-loop-place
 invariant-loop-place l = record {
   adds : Adds l.wishes.list.now l.wishes.client l.wishes.service.now l.initial.kept.items l.kept.items;
   offered : (k : ℕ) (d : AskedLabel) → k < l.place
-      → All (IsOffered l.wishes.list.now l.wishes.client l.wishes.service.now l.kept.items (get_or l.asked k d)) l.asked;
+      → All (IsOffered l.wishes.list.now l.wishes.client l.wishes.service.now l.kept.items (get_or l.firsts k d)) l.lasts;
 }

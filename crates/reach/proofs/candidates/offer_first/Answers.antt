@@ -1,5 +1,5 @@
 -- One after another.
-use Rattle.std.proofs.Common.{◌≡◌, arith, refl, true}
+use Rattle.std.proofs.Common.{◌≡◌, refl, true}
 use Rattle.reach.proofs.CandidateLemmas.{adds_then, lasts_more}
 use Rattle.reach.proofs.candidates.offer_first.Goals as goal
 
@@ -9,7 +9,7 @@ loop-place-preserved c =
     record {
       adds = adds_then c.args.wishes.list.now c.args.wishes.client c.args.wishes.service.now c.args.kept.now.items c.loop-place.kept.items c.offer_if.new.kept.items c.loop-place.invariant.adds
           c.in_ok-offer_if.ensures.adds;
-      offered = lasts_more c.args.wishes.list.now c.args.wishes.client c.args.wishes.service.now c.args.asked.now c.args.first.now c.index-asked-place.result c.loop-place.place _ c.loop-place.kept.items
-          c.offer_if.new.kept.items refl c.loop-place-test.true c.index-asked-place.is c.loop-place.invariant.offered
+      offered = lasts_more c.args.wishes.list.now c.args.wishes.client c.args.wishes.service.now c.args.lasts.now c.args.first.now c.index-lasts-place.result c.loop-place.place _ c.loop-place.kept.items
+          c.offer_if.new.kept.items refl c.loop-place-test.true c.index-lasts-place.is c.loop-place.invariant.offered
           c.in_ok-offer_if.ensures.adds (c.in_ok-offer_if.ensures.offered done);
     }

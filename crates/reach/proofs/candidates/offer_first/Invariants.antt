@@ -6,5 +6,5 @@ abbrev pub invariant-loop-place : goal.invariant-loop-place
 invariant-loop-place l = record {
   adds : Adds l.wishes.list.now l.wishes.client l.wishes.service.now l.initial.kept.items l.kept.items;
   offered : (k : ℕ) (d : AskedLabel) → k < l.place
-      → IsOffered l.wishes.list.now l.wishes.client l.wishes.service.now l.kept.items l.first (get_or l.asked k d);
+      → IsOffered l.wishes.list.now l.wishes.client l.wishes.service.now l.kept.items l.first (get_or l.lasts k d);
 }

@@ -1,6 +1,6 @@
 -- One cut after another, and the whole end.
-use Rattle.std.proofs.Common.{arith, length, refl}
-use Rattle.reach.proofs.CandidateLemmas.{adds_then, cuts_more, joined_done}
+use Rattle.std.proofs.Common.{arith}
+use Rattle.reach.proofs.CandidateLemmas.{adds_then, joined_done}
 use Rattle.reach.proofs.KeyLemmas.{ok_map, ok_map₂}
 use Rattle.reach.proofs.candidates.offer_joined.Goals as goal
 

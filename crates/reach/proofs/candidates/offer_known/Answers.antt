@@ -1,5 +1,4 @@
 -- Of the client's own entry.
-use Rattle.std.proofs.Common.{sym}
 use Rattle.reach.proofs.AskedLemmas.{known_at, known_lost}
 use Rattle.reach.proofs.KeyLemmas.{ok_map}
 use Rattle.reach.proofs.candidates.offer_known.Goals as goal
