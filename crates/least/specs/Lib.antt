@@ -1,1 +1,5 @@
-pub mod Needs
+pub mod Steps
+pub mod Run
+pub mod Rows
+pub mod Alike
+pub mod Own

@@ -1,8 +1,8 @@
 //! What is told of one account.
 
-use crate::budget::Budget;
 use crate::rows::{Hole, Likeness, Row, Rows};
 use crate::trial::{LeftOut, Refused};
+use budget_meter::Budget;
 use std::alloc::{AllocError, Global};
 
 /// A session, as its client knows it.

@@ -1,6 +1,6 @@
 //! Donations as the arguments of sessions.
 
-use crate::budget::Budget;
+use budget_meter::Budget;
 use session_proto::SessionArgs;
 use std::alloc::{AllocError, Global};
 

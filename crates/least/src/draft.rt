@@ -1,6 +1,6 @@
 //! Start lists whose budgets are others.
 
-use crate::budget::{Budget, Bytes};
+use budget_meter::{Budget, Bytes};
 use init_core::{Binary, BootFault, StartList};
 use serde_json::{Value, put};
 use std::alloc::Global;

@@ -2,12 +2,12 @@
 #![tactic(auto)]
 
 mod account;
-mod asked;
-mod budget;
+mod alike;
 mod donation;
 mod draft;
-mod meter;
 mod opened;
+mod own_run;
+mod own_trials;
 mod report;
 mod rows;
 mod scene;
@@ -18,7 +18,7 @@ mod stage;
 mod trial;
 
 pub use account::{Account, Given, Session};
-pub use budget::Budget;
+pub use budget_meter::Budget;
 pub use report::{Question, Report};
 pub use rows::{Hole, Likeness, Row};
 pub use scene::{Misread, Why};

@@ -1,10 +1,9 @@
 //! Which lines of a component reach which of its sessions, where every account is ample.
 ghost use Rattle.pd_core.specs.Call.{IsWellFormed};
 
-use crate::asked::named_by;
-use crate::budget::Budget;
 use crate::donation::args_with;
 use crate::scene::Step;
+use budget_meter::{Budget, named_by};
 use init_core::{BootFault, StartList, boot};
 use pd_core::{Call, Core, Reply, Router};
 use std::alloc::Global;

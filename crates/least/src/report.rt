@@ -1,11 +1,11 @@
 //! What all accounts of a scenario need.
 
 use crate::account::Account;
-use crate::budget::Budget;
 use crate::draft::{Draft, LARGEST, reserve_of};
 use crate::scene::{Misread, Scene, Step};
 use crate::script::Script;
 use crate::shown::Csv;
+use budget_meter::Budget;
 use init_core::{Binary, BootFault, Entry, StartList, boot};
 use pd_core::Call;
 use scenario_names::Known;

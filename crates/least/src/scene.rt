@@ -1,4 +1,7 @@
 //! The lines of a scenario, component by component.
+ghost use Rattle.std.specs.Prelude.{◌≡◌, Some};
+ghost use Rattle.pd_core.specs.Call.{model_call, IsWellFormed};
+ghost use Rattle.least.specs.Steps.{with_args};
 
 use crate::stage::Stage;
 use friendly_lines::{Fault, Line, Said, meets, read_friendly};
@@ -24,26 +27,27 @@ pub(crate) struct Step {
 }
 
 impl Step {
-    ghost use Rattle.std.specs.Prelude.{IfSome};
-    ghost use Rattle.pd_core.specs.Call.{IsWellFormed};
+    ghost use Rattle.std.specs.Prelude.{◌≡◌, IfSome};
+    ghost use Rattle.std.specs.Option.{option_map};
+    ghost use Rattle.pd_core.specs.Call.{model_call, IsWellFormed};
+    ghost use Rattle.least.specs.Steps.{call_of, call_said, with_args};
 
     /// The call that it makes.
     pub(crate) fn call(&self) -> Option<Call<'_>>
-        ensures { IfSome result IsWellFormed }
+        ensures call { option_map model_call result ≡ call_of self.now }
+        ensures well_formed { IfSome result IsWellFormed }
     {
         let call = self.said()?;
-        match (call, &self.args) {
-            (Call::Open { service, .. }, Some(args)) => Some(Call::Open {
-                service,
-                args: args.as_slice(),
-            }),
-            _ => Some(call),
+        match &self.args {
+            Some(args) => Some(opening_with(call, args.as_slice())),
+            None => Some(call),
         }
     }
 
     /// The call as it is said.
     pub(crate) fn said(&self) -> Option<Call<'_>>
-        ensures { IfSome result IsWellFormed }
+        ensures call { option_map model_call result ≡ call_said self.now.line.items }
+        ensures well_formed { IfSome result IsWellFormed }
     {
         match read_line(self.line.as_slice()) {
             Ok((_, call)) => Some(call),
@@ -62,6 +66,18 @@ impl Step {
             Some(args) => Some(args.as_slice()),
             None => None,
         }
+    }
+}
+
+// A call with other arguments, where it opens a session.
+fn opening_with<'a>(call: Call<'a>, args: &'a [u8]) -> Call<'a>
+    requires { IsWellFormed call }
+    ensures call { model_call result ≡ with_args (Some args.now) (model_call call.entry) }
+    ensures well_formed { IsWellFormed result }
+{
+    match call {
+        Call::Open { service, .. } => Call::Open { service, args },
+        _ => call,
     }
 }
 

@@ -1,14 +1,19 @@
 //! The accounts of a script: its sessions', and its own.
+ghost use Rattle.std.specs.Prelude.{◌≡◌, ◌-◌, IfOk};
+ghost use Rattle.own_model.specs.StartList.Kind.{Script as AScript};
+ghost use Rattle.least.specs.Alike.{own_entry};
+ghost use Rattle.least.specs.Own.{AreExact};
 
 use crate::account::{Account, Given, Session};
-use crate::budget::Budget;
 use crate::donation::args_with;
 use crate::draft::{Draft, LARGEST, reserve_of};
 use crate::opened::{Opened, Sessions};
+use crate::own_trials::{funded_trial, own_rows};
 use crate::rows::{Rows, Trials};
 use crate::scene::Step;
 use crate::session_trial::{Client, Reached};
 use crate::trial::Trial;
+use budget_meter::Budget;
 use init_core::{BootFault, StartList, boot};
 use pd_core::{Call, Router};
 use std::alloc::Global;
@@ -34,7 +39,7 @@ impl Script<'_> {
         as_donated: bool,
         accounts: &mut Vec<Account>,
     ) -> Result<(), BootFault> {
-        let given = trial(
+        let given = funded_trial(
             alloc,
             self.draft,
             self.list,
@@ -56,7 +61,7 @@ impl Script<'_> {
         as_donated: bool,
         accounts: &mut Vec<Account>,
     ) -> Result<(), BootFault> {
-        let most = self.most();
+        let most = most_beside(reserve_of(self.list, self.component));
         self.draft.fund(alloc, self.list, self.component, most)?;
         let ample = self.draft.list(alloc)?;
         let sessions = Sessions::of(alloc, &ample, self.component, steps)?;
@@ -71,26 +76,25 @@ impl Script<'_> {
         Ok(())
     }
 
-    // The most that the script can have beside its reserve.
-    fn most(&self) -> Budget {
+    // What its own account needs: exactly the budgets under which none of its calls is in want, up to the largest machine's, less
+    // the reserve.
+    fn own(&mut self, alloc: Global, steps: &[Step], given: Trial) -> Result<Account, BootFault>
+        ensures { IfOk result (λ account.
+            (own_entry self.old.list.now self.old.component).kind ≡ AScript →
+            AreExact self.old.list.now self.old.component steps.now (4096 - account.reserve.caps)
+            (16777216 - account.reserve.ram) account.found.rows.items) }
+    {
         let reserve = reserve_of(self.list, self.component);
-        Budget {
-            ram: (LARGEST * PAGE).saturating_sub(reserve.ram),
-            caps: LARGEST.saturating_sub(reserve.caps),
-        }
-    }
-
-    // What its own account needs.
-    fn own(&mut self, alloc: Global, steps: &[Step], given: Trial) -> Result<Account, BootFault> {
-        let most = self.most();
-        let mut trials = OwnTrials {
-            caps: most.caps,
-            list: self.list,
-            component: self.component,
-            draft: self.draft,
+        let most = most_beside(reserve);
+        let found = own_rows(
+            alloc,
+            self.draft,
+            self.list,
+            self.component,
             steps,
-        };
-        let found = Rows::of(alloc, &mut trials, most.ram, replies_of(&given))?;
+            most,
+            replies_of(&given),
+        )?;
         Ok(Account {
             component: self.component,
             session: None,
@@ -98,7 +102,7 @@ impl Script<'_> {
                 budget: self.given,
                 refused: given.refused,
             },
-            reserve: reserve_of(self.list, self.component),
+            reserve,
             found,
         })
     }
@@ -113,7 +117,7 @@ impl Script<'_> {
     ) -> Result<Account, BootFault> {
         let reached = Reached { steps, opened };
         let given = reached.trial(alloc, client, opened.donation)?;
-        let most = self.most();
+        let most = most_beside(reserve_of(self.list, self.component));
         let mut trials = SessionTrials {
             reached,
             client,
@@ -134,6 +138,17 @@ impl Script<'_> {
             reserve: Budget { ram: 0, caps: 0 },
             found,
         })
+    }
+}
+
+// The most that a script can have beside its reserve: the largest machine's.
+fn most_beside(reserve: Budget) -> Budget
+    ensures ram { result.ram ≡ 16777216 - reserve.ram }
+    ensures caps { result.caps ≡ 4096 - reserve.caps }
+{
+    Budget {
+        ram: (LARGEST * PAGE).saturating_sub(reserve.ram),
+        caps: LARGEST.saturating_sub(reserve.caps),
     }
 }
 
@@ -185,45 +200,6 @@ fn donate(
     Ok(())
 }
 
-// The run of a script's lines from a budget, on the machine on which it alone has one.
-fn trial(
-    alloc: Global,
-    draft: &mut Draft,
-    list: &StartList,
-    component: usize,
-    steps: &[Step],
-    budget: Budget,
-) -> Result<Trial, BootFault> {
-    draft.fund(alloc, list, component, budget)?;
-    let machine = draft.list(alloc)?;
-    Trial::of_account(alloc, &machine, component, steps, budget)
-}
-
-// Runs of a script's own account.
-#[derive(Drop)]
-struct OwnTrials<'a> {
-    caps: u64,
-    list: &'a StartList,
-    component: usize,
-    draft: &'a mut Draft,
-    steps: &'a [Step],
-}
-
-impl Trials for OwnTrials<'_> {
-    fn run(&mut self, alloc: Global, ram: u64) -> Result<Trial, BootFault> {
-        let caps = self.caps;
-        let budget = Budget { ram, caps };
-        trial(
-            alloc,
-            self.draft,
-            self.list,
-            self.component,
-            self.steps,
-            budget,
-        )
-    }
-}
-
 // Runs of a session's account.
 #[derive(Drop)]
 struct SessionTrials<'a, R: Router + Drop> {
@@ -233,6 +209,11 @@ struct SessionTrials<'a, R: Router + Drop> {
 }
 
 impl<R: Router + Drop> Trials for SessionTrials<'_, R> {
+    ghost caps = { λ trials. trials.caps };
+
+    // Of these nothing is promised.
+    ghost AreRuns = { λ trials each want. ⊥ };
+
     fn run(&mut self, alloc: Global, ram: u64) -> Result<Trial, BootFault> {
         let caps = self.caps;
         self.reached.trial(alloc, self.client, Budget { ram, caps })

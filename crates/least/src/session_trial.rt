@@ -1,11 +1,10 @@
 //! A run of what reaches one session from a donation.
 
-use crate::asked::{asked_by_request, file_written, is_node_choice};
-use crate::budget::Budget;
 use crate::donation::args_with;
 use crate::opened::Opened;
 use crate::scene::Step;
-use crate::trial::{Refused, Shortage, Trial, charged, is_told_by_limits, short_of};
+use crate::trial::{Refused, Shortage, Trial, is_told_by_limits, short_of};
+use budget_meter::{Budget, asked_by_request, charged, file_written, is_node_choice};
 use init_core::BootFault;
 use pd_core::{Call, Core, Quotas, Reply, Router};
 use session_proto::FileRequest;

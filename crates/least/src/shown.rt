@@ -1,10 +1,10 @@
 //! How a report is shown.
 
 use crate::account::{Account, Given};
-use crate::budget::{Budget, Bytes};
 use crate::report::Report;
 use crate::rows::{Likeness, Row};
 use crate::trial::{LeftOut, Refused};
+use budget_meter::{Budget, Bytes};
 use std::fmt;
 
 impl fmt::Display for Report {

@@ -1,15 +1,11 @@
-//! A run of a component's calls from a budget.
-ghost use Rattle.std.specs.Prelude.{◌<◌, length};
+//! What a run from a budget shows.
+ghost use Rattle.std.specs.Prelude.{◌≡◌, None};
 
-use crate::asked::{asked_by_call, is_choice, named_by};
-use crate::budget::Budget;
-use crate::meter::Meter;
-use crate::scene::Step;
-use init_core::{BootFault, StartList, boot};
-use pd_core::{Call, Core, Quotas, Reply, Router};
+use budget_meter::{Budget, Meter};
+use init_core::BootFault;
+use pd_core::{Call, Quotas};
 use session_proto::FileRequest;
 use std::alloc::Global;
-use trade_base::Refusal;
 
 /// Why an account doesn't cover a call or a request.
 #[derive(Clone, Copy, Debug, PartialEq, Eq)]
@@ -75,7 +71,9 @@ pub(crate) struct Trial {
 
 impl Trial {
     /// A run that hasn't begun.
-    pub(crate) fn new(alloc: Global, start: Budget) -> Trial {
+    pub(crate) fn new(alloc: Global, start: Budget) -> Trial
+        ensures { result.refused ≡ None }
+    {
         Trial {
             refused: None,
             meter: Meter::new(start),
@@ -84,76 +82,10 @@ impl Trial {
         }
     }
 
-    /// The run of a component's lines on the machine of a list, which gives it this budget.
-    pub(crate) fn of_account(
-        alloc: Global,
-        list: &StartList,
-        component: usize,
-        steps: &[Step],
-        start: Budget,
-    ) -> Result<Trial, BootFault> {
-        let mut core = boot(alloc, list)?;
-        let mut reply = Reply::boot(alloc)?;
-        let mut trial = Trial::new(alloc, start);
-        for step in steps {
-            if component >= core.count()
-                || !trial.goes_on(&mut core, &mut reply, component, step)?
-            {
-                break;
-            }
-        }
-        Ok(trial)
-    }
-
-    // Makes the call of a line, and answers whether the run goes on.
-    fn goes_on<R: Router + Drop>(
-        &mut self,
-        core: &mut Core<R>,
-        reply: &mut Reply,
-        component: usize,
-        step: &Step,
-    ) -> Result<bool, BootFault>
-        requires { component < length core.old.entries }
-    {
-        let Some(call) = step.call() else {
-            return Ok(true);
-        };
-        let before = core.account(component);
-        if step.is_left_out {
-            self.leave_out(step.number, before, asked_by_call(call))?;
-            return Ok(true);
-        }
-        if matches!(call, Call::Exit) {
-            return Ok(false);
-        }
-        core.step(component, call, reply);
-        self.refused = refused_of(step.number, call, reply.text());
-        if self.refused.is_some() {
-            return Ok(false);
-        }
-        self.take(call, before, core.account(component), reply.text());
-        self.keep_reply(is_told_by_limits(call), reply.text())?;
-        Ok(true)
-    }
-
-    // Takes the tests of a call in that its account didn't refuse, by the account before and after it.
-    fn take(&mut self, call: Call<'_>, before: Quotas, after: Quotas, reply: &[u8]) {
-        self.meter.pass_last(after);
-        match call {
-            Call::New(n) => if is_choice(n, charged(before, after)) {
-                self.meter.choose(after);
-            },
-            Call::Open { args, .. } => if is_insufficient(reply) {
-                if let Some(donation) = named_by(args) {
-                    self.meter.pass(before, donation);
-                }
-            },
-            _ => (),
-        }
-    }
-
     /// Keeps what was answered, but for what tells limits.
-    pub(crate) fn keep_reply(&mut self, is_limits: bool, reply: &[u8]) -> Result<(), BootFault> {
+    pub(crate) fn keep_reply(&mut self, is_limits: bool, reply: &[u8]) -> Result<(), BootFault>
+        ensures { self.new.refused ≡ self.old.refused }
+    {
         if !is_limits {
             self.replies.extend_from_slice(reply)?;
         }
@@ -167,26 +99,14 @@ impl Trial {
         line: u64,
         account: Quotas,
         asked: Option<Budget>,
-    ) -> Result<(), BootFault> {
+    ) -> Result<(), BootFault>
+        ensures { self.new.refused ≡ self.old.refused }
+    {
         if let Some(asked) = asked {
             let need = self.meter.need(account, asked);
             self.left_out.push(LeftOut { line, need })?;
         }
         Ok(())
-    }
-}
-
-/// What a call charged.
-pub(crate) fn charged(before: Quotas, after: Quotas) -> u64 {
-    after.ram_used.0.saturating_sub(before.ram_used.0)
-}
-
-// The refusal by the caller's account, if a call is refused so: a request is refused by the reserve, and of a session its account
-// replies.
-fn refused_of(line: u64, call: Call<'_>, reply: &[u8]) -> Option<Refused> {
-    match call {
-        Call::Request(_) | Call::CallSession { .. } => None,
-        _ => short_of(line, reply, [Shortage::Ram, Shortage::Caps]),
     }
 }
 
@@ -198,12 +118,6 @@ pub(crate) fn short_of(line: u64, reply: &[u8], reasons: [Shortage; 2]) -> Optio
         }
     }
     None
-}
-
-// Whether a session isn't opened since its donation is too small.
-fn is_insufficient(reply: &[u8]) -> bool {
-    reply == Refusal::InsufficientRamQuota.name().as_bytes()
-        || reply == Refusal::InsufficientCapQuota.name().as_bytes()
 }
 
 /// Whether what a call is answered tells limits.

@@ -1,0 +1,163 @@
+//! A run of a component's own calls from a budget.
+ghost use Rattle.std.specs.Prelude.{◌≡◌, ◌<◌, ◌∷◌, [], ℕ, List, false, true, is_some, length, IfOk, IfSome, OnOk, Some, None};
+ghost use Rattle.own_model.specs.Amounts.{Amounts};
+ghost use Rattle.own_model.specs.Call.{Call as Said, is_exit};
+ghost use Rattle.own_model.specs.Listed.{start_list_of};
+ghost use Rattle.own_model.specs.OwnState.{OwnState};
+ghost use Rattle.own_model.specs.StartList.{entries_of};
+ghost use Rattle.own_model.specs.Transcript.{entry_at};
+ghost use Rattle.pd_core.specs.Call.{model_call, IsWellFormed};
+ghost use Rattle.budget_meter.specs.Needs.{amounts_of};
+ghost use Rattle.budget_meter.specs.Run.{Shows};
+ghost use Rattle.least.specs.Steps.{calls_of, calls_with, call_of};
+ghost use Rattle.least.specs.Run.{Begins, HasLeft};
+
+use crate::scene::Step;
+use crate::trial::{Refused, Shortage, Trial, is_told_by_limits};
+use budget_meter::{AccountMeter, Budget, asked_by_call};
+use init_core::{BootFault, StartList, boot};
+use pd_core::{Call, Core, Reply, Router};
+use std::alloc::Global;
+
+impl Trial {
+    /// The run of a script's lines on the machine of a list, which gives it this budget.
+    pub(crate) fn of_account(
+        alloc: Global,
+        list: &StartList,
+        component: usize,
+        steps: &[Step],
+        start: Budget,
+    ) -> Result<Trial, BootFault>
+        requires { component < length list.now.entries }
+        ensures { IfOk result (λ trial. (s : OwnState) →
+            Begins (start_list_of list.now) component (amounts_of start) s →
+            Shows (entry_at (entries_of (start_list_of list.now)) component) (calls_of steps.now) s
+            (amounts_of start) (is_some trial.refused) trial.meter) }
+    {
+        let core = boot(alloc, list)?;
+        let heard = AccountMeter::new(core.account(component), true);
+        let mut run = OwnRun {
+            core,
+            component,
+            reply: Reply::boot(alloc)?,
+            heard,
+            trial: Trial::new(alloc, start),
+        };
+        run.go_through(steps)?;
+        let mut trial = run.trial;
+        trial.meter = run.heard.meter;
+        Ok(trial)
+    }
+}
+
+// A component of a core whose calls are heard.
+#[derive(Drop)]
+struct OwnRun<R: Router + Drop> {
+    core: Core<R>,
+    component: usize,
+    reply: Reply,
+    heard: AccountMeter,
+    trial: Trial,
+}
+
+impl<R: Router + Drop> OwnRun<R> {
+    // Makes the calls of lines, up to the first in want or an exit.
+    fn go_through(&mut self, steps: &[Step]) -> Result<(), BootFault>
+        requires there { self.old.component < length self.old.core.entries }
+        requires none { self.old.trial.refused ≡ None }
+        ensures shows { OnOk result ((calls : List Said) (budget : Amounts) (s : OwnState) →
+            HasLeft self.old.core self.old.component self.old.heard calls (calls_of steps.now)
+            budget s →
+            Shows (entry_at self.old.core.entries self.old.component) calls s budget
+            (is_some self.new.trial.refused) self.new.heard.meter) }
+    {
+        for step in steps {
+            if !self.goes_on(step)? {
+                return Ok(());
+            }
+        }
+        Ok(())
+    }
+
+    // Makes the call of a line, and answers whether the run goes on.
+    fn goes_on(&mut self, step: &Step) -> Result<bool, BootFault>
+        requires there { self.old.component < length self.old.core.entries }
+        requires none { self.old.trial.refused ≡ None }
+        ensures same { self.new.component ≡ self.old.component }
+        ensures entries { self.new.core.entries ≡ self.old.core.entries }
+        ensures on { IfOk result (λ goes_on. goes_on ≡ true → self.new.trial.refused ≡ None) }
+        ensures left { IfOk result (λ goes_on. goes_on ≡ true →
+            (calls rest : List Said) (budget : Amounts) (s : OwnState) →
+            HasLeft self.old.core self.old.component self.old.heard calls
+            (calls_with step.now.is_left_out (call_of step.now) rest) budget s →
+            HasLeft self.new.core self.new.component self.new.heard calls rest budget s) }
+        ensures ends { IfOk result (λ goes_on. goes_on ≡ false →
+            (calls rest : List Said) (budget : Amounts) (s : OwnState) →
+            HasLeft self.old.core self.old.component self.old.heard calls
+            (calls_with step.now.is_left_out (call_of step.now) rest) budget s →
+            Shows (entry_at self.old.core.entries self.old.component) calls s budget
+            (is_some self.new.trial.refused) self.new.heard.meter) }
+    {
+        let Some(call) = step.call() else {
+            return Ok(true);
+        };
+        if step.is_left_out {
+            let account = self.core.account(self.component);
+            self.trial
+                .leave_out(step.number, account, asked_by_call(call))?;
+            return Ok(true);
+        }
+        if is_exit(call) {
+            return Ok(false);
+        }
+        let goes_on = self.make(step.number, call)?;
+        Ok(goes_on)
+    }
+
+    // Makes a call, and answers whether the run goes on.
+    fn make(&mut self, line: u64, call: Call<'_>) -> Result<bool, BootFault>
+        requires there { self.old.component < length self.old.core.entries }
+        requires call { IsWellFormed call }
+        requires none { self.old.trial.refused ≡ None }
+        ensures same { self.new.component ≡ self.old.component }
+        ensures entries { self.new.core.entries ≡ self.old.core.entries }
+        ensures on { IfOk result (λ goes_on. goes_on ≡ true → self.new.trial.refused ≡ None) }
+        ensures left { IfOk result (λ goes_on. goes_on ≡ true →
+            (calls rest : List Said) (budget : Amounts) (s : OwnState) →
+            HasLeft self.old.core self.old.component self.old.heard calls
+            (model_call call.entry ∷ rest) budget s →
+            HasLeft self.new.core self.new.component self.new.heard calls rest budget s) }
+        ensures ends { IfOk result (λ goes_on. goes_on ≡ false →
+            (calls rest : List Said) (budget : Amounts) (s : OwnState) →
+            HasLeft self.old.core self.old.component self.old.heard calls
+            (model_call call.entry ∷ rest) budget s →
+            Shows (entry_at self.old.core.entries self.old.component) calls s budget
+            (is_some self.new.trial.refused) self.new.heard.meter) }
+    {
+        self.core.step(self.component, call, &mut self.reply);
+        let after = self.core.account(self.component);
+        if self.heard.follow(call, self.reply.text(), after) {
+            self.trial.refused = Some(refused_at(line, self.reply.text()));
+            return Ok(false);
+        }
+        self.trial
+            .keep_reply(is_told_by_limits(call), self.reply.text())?;
+        Ok(true)
+    }
+}
+
+fn is_exit(call: Call<'_>) -> bool
+    ensures { result ≡ is_exit (model_call call.entry) }
+{
+    matches!(call, Call::Exit)
+}
+
+// The refusal of a line in want, which is answered so.
+fn refused_at(line: u64, reply: &[u8]) -> Refused {
+    let shortage = if reply == Shortage::Ram.reply().as_bytes() {
+        Shortage::Ram
+    } else {
+        Shortage::Caps
+    };
+    Refused { line, shortage }
+}
