@@ -4,10 +4,54 @@ use scenario::call_in;
 use std::process::Abort;
 use std::test::Fail;
 
+/// A line, the line of the engine that it says, and the reply that is expected.
+type Calls = &'static [(&'static [u8], &'static [u8], Option<&'static [u8]>)];
+
+/// A line, and its fault with the column.
+type Faults = &'static [(&'static [u8], Reason, usize)];
+
+/// A reply, what is expected of it, and whether it meets that.
+type Replies = &'static [(&'static [u8], &'static [u8], bool)];
+
+/// A line, and the log line that it says, if it says any.
+type Silent = &'static [(&'static [u8], Option<&'static [u8]>)];
+
 // Checks that each line says the call that the engine reads beside it, with the reply that is expected or none.
-fn check_calls<R: Abort>(rt: &R, rows: &[(&[u8], &[u8], Option<&[u8]>)]) {
+fn check_calls<R: Abort>(rt: &R, rows: Calls) {
     for (line, engine, reply) in rows {
         assert!(rt; is_call(read_friendly(line, &mut Line::new()), engine, *reply));
+    }
+}
+
+// Checks that each line says itself.
+fn check_passed<R: Abort>(rt: &R, rows: &[&[u8]]) {
+    for line in rows {
+        assert!(rt; is_call(read_friendly(line, &mut Line::new()), line, None));
+    }
+}
+
+// Checks that each line has the fault beside it.
+fn check_faults<R: Abort>(rt: &R, rows: Faults) {
+    for (line, reason, column) in rows {
+        let fault = Fault {
+            reason: *reason,
+            column: *column,
+        };
+        assert!(rt; is_fault(read_friendly(line, &mut Line::new()), fault));
+    }
+}
+
+// Checks of each reply whether it meets what is expected.
+fn check_replies<R: Abort>(rt: &R, rows: Replies) {
+    for (reply, expected, met) in rows {
+        assert!(rt; meets(reply, expected) == *met);
+    }
+}
+
+// Checks that each line says the log line beside it, or nothing.
+fn check_silent<R: Abort>(rt: &R, rows: Silent) {
+    for (line, log) in rows {
+        assert!(rt; is_log(read_friendly(line, &mut Line::new()), *log));
     }
 }
 
@@ -38,296 +82,288 @@ fn is_log(said: Result<Said<'_>, Fault>, log: Option<&[u8]>) -> bool {
     }
 }
 
-#[test]
-fn lines_say_calls(rt: HostRuntime) -> Result<(), Fail> {
-    check_calls(
-        &rt,
-        &[
-            // what follows an exclamation mark passes
-            (b"!alice  quota", b"alice  quota", None),
-            (b" \t! # \" => x\r", b" # \" => x\r", None),
-            (b"!", b"", None),
-            // a carriage return at the end goes
-            (b"alice quota\r", b"alice quota", None),
-            (b"alice quota => ok\r", b"alice quota", Some(b"ok")),
-            (b"alice open LOG x\r\r", b"alice open LOG x\r", None),
-            // the last arrow outside of quotes ends the call
-            (b"alice alloc 1 => cap 1", b"alice alloc 1", Some(b"cap 1")),
-            (
-                b"alice alloc 1 =>  cap 1 ",
-                b"alice alloc 1",
-                Some(b" cap 1 "),
-            ),
-            (
-                b"alice call 1 a => b => ",
-                b"alice call 1 a => b",
-                Some(b""),
-            ),
-            (
-                b"alice call 1 WRITE \" => \" => OK 4",
-                b"alice call 1 WRITE 203d3e20",
-                Some(b"OK 4"),
-            ),
-            (
-                b"alice open LOG label=\"\\\" => \"",
-                b"alice open LOG label=\"\\\" => \"",
-                None,
-            ),
-            // no call, where that is expected
-            (b"alice  frob => Bad_line", b"alice frob", Some(b"Bad_line")),
-        ],
-    );
-    Ok(())
-}
+/// Lines with an exclamation mark, a carriage return or an arrow.
+const CALLS: Calls = &[
+    // what follows an exclamation mark passes
+    (b"!alice  quota", b"alice  quota", None),
+    (b" \t! # \" => x\r", b" # \" => x\r", None),
+    (b"!", b"", None),
+    // a carriage return at the end goes
+    (b"alice quota\r", b"alice quota", None),
+    (b"alice quota => ok\r", b"alice quota", Some(b"ok")),
+    (b"alice open LOG x\r\r", b"alice open LOG x\r", None),
+    // the last arrow outside of quotes ends the call
+    (b"alice alloc 1 => cap 1", b"alice alloc 1", Some(b"cap 1")),
+    (
+        b"alice alloc 1 =>  cap 1 ",
+        b"alice alloc 1",
+        Some(b" cap 1 "),
+    ),
+    (
+        b"alice call 1 a => b => ",
+        b"alice call 1 a => b",
+        Some(b""),
+    ),
+    (
+        b"alice call 1 WRITE \" => \" => OK 4",
+        b"alice call 1 WRITE 203d3e20",
+        Some(b"OK 4"),
+    ),
+    (
+        b"alice open LOG label=\"\\\" => \"",
+        b"alice open LOG label=\"\\\" => \"",
+        None,
+    ),
+    // no call, where that is expected
+    (b"alice  frob => Bad_line", b"alice frob", Some(b"Bad_line")),
+];
 
 #[test]
-fn comments_stand_behind_calls(rt: HostRuntime) -> Result<(), Fail> {
-    check_calls(
-        &rt,
-        &[
-            (b"alice quota # all", b"alice quota", None),
-            (b"alice quota\t#", b"alice quota", None),
-            (b"alice quota => ok  # \" => x", b"alice quota", Some(b"ok")),
-            (b"alice quota\t=> ok", b"alice quota", Some(b"ok")),
-            (b"alice call 1 a #b # c", b"alice call 1 a #b", None),
-            (
-                b"alice call 1 WRITE \" # \" # => x",
-                b"alice call 1 WRITE 202320",
-                None,
-            ),
-            (b"\xef\xbb\xbf alice quota", b"alice quota", None),
-            (b"\xef\xbb\xbf!alice  quota", b"alice  quota", None),
-        ],
-    );
-    Ok(())
+fn lines_say_calls(rt: HostRuntime) {
+    check_calls(&rt, CALLS);
 }
 
-#[test]
-fn blanks_part_the_words(rt: HostRuntime) -> Result<(), Fail> {
-    check_calls(
-        &rt,
-        &[
-            (b"\talice \t alloc   1\t", b"alice alloc 1", None),
-            (
-                b" alice  attach_at  1\t0x10 ",
-                b"alice attach_at 1 0x10",
-                None,
-            ),
-            (b" alice  open  LOG\tx\ty ", b"alice open LOG x\ty ", None),
-            (b"alice\tcall\t1\t  STAT ", b"alice call 1   STAT ", None),
-            (b" alice   exit  => ok", b"alice exit", Some(b"ok")),
-            (b" alice  reserve ", b"alice reserve", None),
-            (
-                b" alice  request\t ram_quota=4K,  x=1 ",
-                b"alice request  ram_quota=4K,  x=1 ",
-                None,
-            ),
-            (b"alice  yield", b"alice yield", None),
-            (
-                b" sub/carol\talloc  1 => cap 1",
-                b"sub/carol alloc 1",
-                Some(b"cap 1"),
-            ),
-        ],
-    );
-    Ok(())
-}
+/// Lines with a comment, or a byte order mark.
+const COMMENTED: Calls = &[
+    (b"alice quota # all", b"alice quota", None),
+    (b"alice quota\t#", b"alice quota", None),
+    (b"alice quota => ok  # \" => x", b"alice quota", Some(b"ok")),
+    (b"alice quota\t=> ok", b"alice quota", Some(b"ok")),
+    (b"alice call 1 a #b # c", b"alice call 1 a #b", None),
+    (
+        b"alice call 1 WRITE \" # \" # => x",
+        b"alice call 1 WRITE 202320",
+        None,
+    ),
+    (b"\xef\xbb\xbf alice quota", b"alice quota", None),
+    (b"\xef\xbb\xbf!alice  quota", b"alice  quota", None),
+];
 
 #[test]
-fn texts_and_sizes_are_translated(rt: HostRuntime) -> Result<(), Fail> {
-    check_calls(
-        &rt,
-        &[
-            (b"alice poke 0x10  \"hi\" ", b"alice poke 0x10 6869", None),
-            (
-                b"alice call 1 WRITE \"hi\\n\"",
-                b"alice call 1 WRITE 68690a",
-                None,
-            ),
-            (
-                b"alice call 1 WRITE f 05 \"\\t\"",
-                b"alice call 1 WRITE f 05 09",
-                None,
-            ),
-            (b"alice call 1 WRITE \"\"", b"alice call 1 WRITE", None),
-            (
-                b"alice call 1 WRITE f 0 \"\"",
-                b"alice call 1 WRITE f 0",
-                None,
-            ),
-            (
-                b"alice poke 0x10 \"\\n\\t\\\"\\\\\\x0aF\\xfF\"",
-                b"alice poke 0x10 0a09225c0a46ff",
-                None,
-            ),
-            (b"alice alloc 4K", b"alice alloc 4096", None),
-            (b"alice new 2M => x", b"alice new 2097152", Some(b"x")),
-            (b"alice snew 1G", b"alice snew 1073741824", None),
-            (b"alice  peek 0x10  1K ", b"alice peek 0x10 1024", None),
-            (b"alice call 1 BUFFER 8K", b"alice call 1 BUFFER 8192", None),
-            (
-                b"alice call 1 READ 1K 1K 2K",
-                b"alice call 1 READ 1K 1024 2048",
-                None,
-            ),
-            (
-                b"alice call 1 PUT f 1K 0 1M x",
-                b"alice call 1 PUT f 1024 0 1048576 x",
-                None,
-            ),
-            (
-                b"alice call 1 WRITE f 4K 00",
-                b"alice call 1 WRITE f 4096 00",
-                None,
-            ),
-            (
-                b"alice call 1 WRITE f 4K \"\\n\"",
-                b"alice call 1 WRITE f 4096 0a",
-                None,
-            ),
-        ],
-    );
-    Ok(())
+fn comments_stand_behind_calls(rt: HostRuntime) {
+    check_calls(&rt, COMMENTED);
 }
 
+/// Lines with blanks.
+const WITH_BLANKS: Calls = &[
+    (b"\talice \t alloc   1\t", b"alice alloc 1", None),
+    (
+        b" alice  attach_at  1\t0x10 ",
+        b"alice attach_at 1 0x10",
+        None,
+    ),
+    (b" alice  open  LOG\tx\ty ", b"alice open LOG x\ty ", None),
+    (b"alice\tcall\t1\t  STAT ", b"alice call 1   STAT ", None),
+    (b" alice   exit  => ok", b"alice exit", Some(b"ok")),
+    (b" alice  reserve ", b"alice reserve", None),
+    (
+        b" alice  request\t ram_quota=4K,  x=1 ",
+        b"alice request  ram_quota=4K,  x=1 ",
+        None,
+    ),
+    (b"alice  yield", b"alice yield", None),
+    (
+        b" sub/carol\talloc  1 => cap 1",
+        b"sub/carol alloc 1",
+        Some(b"cap 1"),
+    ),
+];
+
 #[test]
-fn lines_of_the_engine_pass(rt: HostRuntime) -> Result<(), Fail> {
-    for line in [
-        b"alice quota".as_slice(),
-        b"alice alloc 5000",
-        b"alice alloc 00018446744073709551615",
-        b"alice attach_at 1 0x10000000",
-        b"alice poke 0x10000000 00fF",
-        b"alice peek 0x10000000 16",
-        b"alice open LOG",
-        b"alice open LOG ",
-        b"alice open LOG  ram_quota=4K, cap_quota=2, label=\"a => b\"",
-        b"alice upgrade 1 ram_quota=4K ",
+fn blanks_part_the_words(rt: HostRuntime) {
+    check_calls(&rt, WITH_BLANKS);
+}
+
+/// Lines with text in quotes, or sizes.
+const TRANSLATED: Calls = &[
+    (b"alice poke 0x10  \"hi\" ", b"alice poke 0x10 6869", None),
+    (
+        b"alice call 1 WRITE \"hi\\n\"",
         b"alice call 1 WRITE 68690a",
-        b"alice call 1 ",
-        b"alice call 1 WRITE a 0 \"x\"y",
-        b"alice call 1 SAY \"x\"",
-        b"alice exit",
-        b"sub/carol quota",
-        b"a/b/c/d open LOG ram_quota=4K, cap_quota=2",
-        // arguments are never translated
-        b"alice open LOG \"\\q\"",
-        b"alice upgrade 1 \"hi\"",
-        b"alice open LOG ram_quota=4K",
-        b"alice request ram_quota=4K,  label=\"a  b\"",
-        b"alice yield  cap_quota=1 ",
-        b"alice request ",
-        b"alice call 1 BUFFER  8K",
-        b"alice call 1 NAME 1K",
-        b"alice call 1 READ f 4k 0",
-        b"alice call 1 WRITE 4K 1",
-    ] {
-        check_calls(&rt, &[(line, line, None)]);
-    }
-    Ok(())
-}
+        None,
+    ),
+    (
+        b"alice call 1 WRITE f 05 \"\\t\"",
+        b"alice call 1 WRITE f 05 09",
+        None,
+    ),
+    (b"alice call 1 WRITE \"\"", b"alice call 1 WRITE", None),
+    (
+        b"alice call 1 WRITE f 0 \"\"",
+        b"alice call 1 WRITE f 0",
+        None,
+    ),
+    (
+        b"alice poke 0x10 \"\\n\\t\\\"\\\\\\x0aF\\xfF\"",
+        b"alice poke 0x10 0a09225c0a46ff",
+        None,
+    ),
+    (b"alice alloc 4K", b"alice alloc 4096", None),
+    (b"alice new 2M => x", b"alice new 2097152", Some(b"x")),
+    (b"alice snew 1G", b"alice snew 1073741824", None),
+    (b"alice  peek 0x10  1K ", b"alice peek 0x10 1024", None),
+    (b"alice call 1 BUFFER 8K", b"alice call 1 BUFFER 8192", None),
+    (
+        b"alice call 1 READ 1K 1K 2K",
+        b"alice call 1 READ 1K 1024 2048",
+        None,
+    ),
+    (
+        b"alice call 1 PUT f 1K 0 1M x",
+        b"alice call 1 PUT f 1024 0 1048576 x",
+        None,
+    ),
+    (
+        b"alice call 1 WRITE f 4K 00",
+        b"alice call 1 WRITE f 4096 00",
+        None,
+    ),
+    (
+        b"alice call 1 WRITE f 4K \"\\n\"",
+        b"alice call 1 WRITE f 4096 0a",
+        None,
+    ),
+];
 
 #[test]
-fn lines_have_faults(rt: HostRuntime) -> Result<(), Fail> {
-    let rows: [(&[u8], Reason, usize); 29] = [
-        (b"alice quota\r ", Reason::Misspelt(Form::Quota), 7),
-        (b"alice call 1 WRITE \"hi", Reason::OpenQuote, 20),
-        (
-            b"  alice open LOG label=\"a\", \"b => x",
-            Reason::OpenQuote,
-            29,
-        ),
-        (b"alice call 1 WRITE \"hi\\\"", Reason::OpenQuote, 20),
-        (b"alice poke 0x10 \"\"", Reason::NoHex, 17),
-        (b"alice poke 0x10 \"a\"b", Reason::NoHex, 17),
-        (b"alice poke 0x10 123", Reason::NoHex, 17),
-        (b"alice poke 0x10 \"ab\\q\"", Reason::BadEscape, 20),
-        (b" alice call 1 WRITE \"\\x4\"", Reason::BadEscape, 22),
-        (
-            b"alice call 1 WRITE f 0 \"\\xg0\" => OK 1",
-            Reason::BadEscape,
-            25,
-        ),
-        (b"alice alloc 4k", Reason::SmallUnit, 13),
-        (b"alice free 4K", Reason::NoNumber, 12),
-        (b"alice alloc 17179869184G", Reason::NoSize, 13),
-        (b"alice alloc K", Reason::NoSize, 13),
-        (b"=>", Reason::NoName, 1),
-        (b"al!ce quota", Reason::NoName, 1),
-        (b"  alice frob", Reason::UnknownCall, 9),
-        (b"alice aloc 4K => ok", Reason::Misspelt(Form::Alloc), 7),
-        (b"alice alloc 1 2", Reason::TooMany(Form::Alloc), 15),
-        (b"alice attach_at  1", Reason::Missing(Form::AttachAt), 19),
-        (b"alice detach 0x12345678901234567", Reason::LongAddress, 14),
-        (b"alice peek 10 4", Reason::NoAddress, 12),
-        (b"alice open LOG! x", Reason::NoService, 12),
-        (b"\t\"", Reason::OpenQuote, 2),
-        (b"alice quota => OK \"\\q\"", Reason::BadEscape, 20),
-        (b"alice quota => \"\\q", Reason::OpenQuote, 16),
-        (b"alice quota => #", Reason::TooMany(Form::Quota), 13),
-        (b"\xef\xbb\xbf frob # x", Reason::NoForm, 9),
-        (b"\xef\xbb\xbf al ice", Reason::UnknownCall, 8),
-    ];
-    for (line, reason, column) in rows {
-        let fault = Fault { reason, column };
-        assert!(rt; is_fault(read_friendly(line, &mut Line::new()), fault));
-    }
-    Ok(())
+fn texts_and_sizes_are_translated(rt: HostRuntime) {
+    check_calls(&rt, TRANSLATED);
 }
 
-#[test]
-fn replies_meet_what_is_expected(rt: HostRuntime) -> Result<(), Fail> {
-    let rows: [(&[u8], &[u8], bool); 25] = [
-        (b"cap 1", b"cap 1", true),
-        (b"cap 1", b"cap 1 ", false),
-        (b"cap 1", b"cap", false),
-        (b"cap 1", b"granted", true),
-        (b"ok", b"granted", true),
-        (b"OK", b"granted", true),
-        (b"OK 4", b"refused", false),
-        (b"Out_of_ram", b"granted", false),
-        (b"Gone", b"refused", true),
-        (b"ERR EXISTS", b"refused", true),
-        (b"ERR EXISTS", b"*", true),
-        (b"cap 12", b"cap *", true),
-        (b"cap 12", b"cap *2", false),
-        (b"ram 0/65536 caps 0/16", b"ram */65536 caps *", true),
-        (b"ram 0/65537 caps 0/16", b"ram */65536 caps *", false),
-        (b"ram 0/65536 caps 0/16", b"ram *", false),
-        (b"ram 0/65536 caps 0/16", b"* * * *", true),
-        (b"cap ", b"cap *", false),
-        (b"OK 6869", b"OK \"hi\"", true),
-        (b"OK 6869", b"* \"hi\"  ", true),
-        (b"OK 68692a", b"OK \"hi*\"", true),
-        (b"OK 686900", b"OK \"hi\"", false),
-        (b"OK 68", b"OK \"hi\"", false),
-        (b"data ", b"data \"\"", true),
-        (b"granted", b"granted!", false),
-    ];
-    for (reply, expected, met) in rows {
-        assert!(rt; meets(reply, expected) == met);
-    }
-    Ok(())
-}
+/// Lines that pass as they stand.
+const PASSED: &[&[u8]] = &[
+    b"alice quota",
+    b"alice alloc 5000",
+    b"alice alloc 00018446744073709551615",
+    b"alice attach_at 1 0x10000000",
+    b"alice poke 0x10000000 00fF",
+    b"alice peek 0x10000000 16",
+    b"alice open LOG",
+    b"alice open LOG ",
+    b"alice open LOG  ram_quota=4K, cap_quota=2, label=\"a => b\"",
+    b"alice upgrade 1 ram_quota=4K ",
+    b"alice call 1 WRITE 68690a",
+    b"alice call 1 ",
+    b"alice call 1 WRITE a 0 \"x\"y",
+    b"alice call 1 SAY \"x\"",
+    b"alice exit",
+    b"sub/carol quota",
+    b"a/b/c/d open LOG ram_quota=4K, cap_quota=2",
+    // arguments are never translated
+    b"alice open LOG \"\\q\"",
+    b"alice upgrade 1 \"hi\"",
+    b"alice open LOG ram_quota=4K",
+    b"alice request ram_quota=4K,  label=\"a  b\"",
+    b"alice yield  cap_quota=1 ",
+    b"alice request ",
+    b"alice call 1 BUFFER  8K",
+    b"alice call 1 NAME 1K",
+    b"alice call 1 READ f 4k 0",
+    b"alice call 1 WRITE 4K 1",
+];
 
 #[test]
-fn lines_say_nothing_or_a_log_line(rt: HostRuntime) -> Result<(), Fail> {
-    let rows: [(&[u8], Option<&[u8]>); 10] = [
-        (b"", None),
-        (b" ", None),
-        (b"\t \t", None),
-        (b"\r", None),
-        (b"  \r", None),
-        (b"# alice quota", None),
-        (b" \t# \" not closed", None),
-        (b"#\r", None),
-        (b"=> [alice] \"hi", Some(b"[alice] \"hi")),
-        (b" \t=> \r", Some(b"")),
-    ];
-    for (line, log) in rows {
-        assert!(rt; is_log(read_friendly(line, &mut Line::new()), log));
-    }
-    Ok(())
+fn lines_of_the_engine_pass(rt: HostRuntime) {
+    check_passed(&rt, PASSED);
+}
+
+/// Lines with a fault, and its column.
+const FAULTS: Faults = &[
+    (b"alice quota\r ", Reason::Misspelt(Form::Quota), 7),
+    (b"alice call 1 WRITE \"hi", Reason::OpenQuote, 20),
+    (
+        b"  alice open LOG label=\"a\", \"b => x",
+        Reason::OpenQuote,
+        29,
+    ),
+    (b"alice call 1 WRITE \"hi\\\"", Reason::OpenQuote, 20),
+    (b"alice poke 0x10 \"\"", Reason::NoHex, 17),
+    (b"alice poke 0x10 \"a\"b", Reason::NoHex, 17),
+    (b"alice poke 0x10 123", Reason::NoHex, 17),
+    (b"alice poke 0x10 \"ab\\q\"", Reason::BadEscape, 20),
+    (b" alice call 1 WRITE \"\\x4\"", Reason::BadEscape, 22),
+    (
+        b"alice call 1 WRITE f 0 \"\\xg0\" => OK 1",
+        Reason::BadEscape,
+        25,
+    ),
+    (b"alice alloc 4k", Reason::SmallUnit, 13),
+    (b"alice free 4K", Reason::NoNumber, 12),
+    (b"alice alloc 17179869184G", Reason::NoSize, 13),
+    (b"alice alloc K", Reason::NoSize, 13),
+    (b"=>", Reason::NoName, 1),
+    (b"al!ce quota", Reason::NoName, 1),
+    (b"  alice frob", Reason::UnknownCall, 9),
+    (b"alice aloc 4K => ok", Reason::Misspelt(Form::Alloc), 7),
+    (b"alice alloc 1 2", Reason::TooMany(Form::Alloc), 15),
+    (b"alice attach_at  1", Reason::Missing(Form::AttachAt), 19),
+    (b"alice detach 0x12345678901234567", Reason::LongAddress, 14),
+    (b"alice peek 10 4", Reason::NoAddress, 12),
+    (b"alice open LOG! x", Reason::NoService, 12),
+    (b"\t\"", Reason::OpenQuote, 2),
+    (b"alice quota => OK \"\\q\"", Reason::BadEscape, 20),
+    (b"alice quota => \"\\q", Reason::OpenQuote, 16),
+    (b"alice quota => #", Reason::TooMany(Form::Quota), 13),
+    (b"\xef\xbb\xbf frob # x", Reason::NoForm, 9),
+    (b"\xef\xbb\xbf al ice", Reason::UnknownCall, 8),
+];
+
+#[test]
+fn lines_have_faults(rt: HostRuntime) {
+    check_faults(&rt, FAULTS);
+}
+
+/// Replies, what is expected of them, and whether they meet it.
+const EXPECTED: Replies = &[
+    (b"cap 1", b"cap 1", true),
+    (b"cap 1", b"cap 1 ", false),
+    (b"cap 1", b"cap", false),
+    (b"cap 1", b"granted", true),
+    (b"ok", b"granted", true),
+    (b"OK", b"granted", true),
+    (b"OK 4", b"refused", false),
+    (b"Out_of_ram", b"granted", false),
+    (b"Gone", b"refused", true),
+    (b"ERR EXISTS", b"refused", true),
+    (b"ERR EXISTS", b"*", true),
+    (b"cap 12", b"cap *", true),
+    (b"cap 12", b"cap *2", false),
+    (b"ram 0/65536 caps 0/16", b"ram */65536 caps *", true),
+    (b"ram 0/65537 caps 0/16", b"ram */65536 caps *", false),
+    (b"ram 0/65536 caps 0/16", b"ram *", false),
+    (b"ram 0/65536 caps 0/16", b"* * * *", true),
+    (b"cap ", b"cap *", false),
+    (b"OK 6869", b"OK \"hi\"", true),
+    (b"OK 6869", b"* \"hi\"  ", true),
+    (b"OK 68692a", b"OK \"hi*\"", true),
+    (b"OK 686900", b"OK \"hi\"", false),
+    (b"OK 68", b"OK \"hi\"", false),
+    (b"data ", b"data \"\"", true),
+    (b"granted", b"granted!", false),
+];
+
+#[test]
+fn replies_meet_what_is_expected(rt: HostRuntime) {
+    check_replies(&rt, EXPECTED);
+}
+
+/// Lines that say no call: a log line, or nothing.
+const SILENT: Silent = &[
+    (b"", None),
+    (b" ", None),
+    (b"\t \t", None),
+    (b"\r", None),
+    (b"  \r", None),
+    (b"# alice quota", None),
+    (b" \t# \" not closed", None),
+    (b"#\r", None),
+    (b"=> [alice] \"hi", Some(b"[alice] \"hi")),
+    (b" \t=> \r", Some(b"")),
+];
+
+#[test]
+fn lines_say_nothing_or_a_log_line(rt: HostRuntime) {
+    check_silent(&rt, SILENT);
 }
 
 #[test]

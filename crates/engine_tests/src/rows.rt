@@ -1,6 +1,7 @@
 //! The worked rows: each a scenario on the machine of a start list, and its transcript.
 
 pub mod machines;
+pub mod many;
 pub mod memory;
 pub mod sessions;
 
@@ -77,7 +78,8 @@ fn check_all<R: Abort + AllocGlobal>(rt: &R, rows: &[Row<'_>]) -> Result<(), Fai
 fn worked_rows(rt: HostRuntime) -> Result<(), Fail> {
     check_all(&rt, memory::ROWS)?;
     check_all(&rt, sessions::ROWS)?;
-    check_all(&rt, machines::ROWS)
+    check_all(&rt, machines::ROWS)?;
+    check_all(&rt, many::ROWS)
 }
 
 // Adds so many equal pieces to a text.
@@ -118,115 +120,6 @@ bob: ram 0/65536 caps 0/16
             task: PLAIN,
             scenario: &scenario,
             transcript: b"alice: Invalid_session\n",
-        },
-    )
-}
-
-#[test]
-fn region_limit_comes_first(rt: HostRuntime) -> Result<(), Fail> {
-    let mut scenario = Vec::from_slice(rt.alloc(), b"alice alloc 1\n")?;
-    let mut transcript = Vec::from_slice(rt.alloc(), b"alice: cap 1\n")?;
-    repeat(&mut scenario, b"alice attach 1\n", 128)?;
-    for high in b"01234567" {
-        for low in b"0123456789abcdef" {
-            transcript.extend_from_slice(b"alice: at 0x100")?;
-            transcript.extend_from_slice(&[*high, *low])?;
-            transcript.extend_from_slice(b"000\n")?;
-        }
-    }
-    scenario.extend_from_slice(b"alice attach 1\nalice attach_at 1 0x10000000\nalice attach 2\n")?;
-    transcript.extend_from_slice(
-        b"alice: Too_many_regions\nalice: Too_many_regions\nalice: Invalid_cap\n",
-    )?;
-    check(
-        &rt,
-        &Row {
-            shows: "region_limit_comes_first",
-            list: MACHINE_A,
-            task: PLAIN,
-            scenario: &scenario,
-            transcript: &transcript,
-        },
-    )
-}
-
-#[test]
-fn forty_sessions_on_one_server(rt: HostRuntime) -> Result<(), Fail> {
-    let mut scenario = Vec::new(rt.alloc());
-    let mut transcript = Vec::new(rt.alloc());
-    repeat(
-        &mut scenario,
-        b"alice open LOG ram_quota=4K, cap_quota=2\n",
-        41,
-    )?;
-    scenario.extend_from_slice(b"alice quota\n")?;
-    for session in 1u8..41 {
-        transcript.extend_from_slice(b"alice: cap ")?;
-        if session >= 10 {
-            transcript.push(b'0' + session / 10)?;
-        }
-        transcript.extend_from_slice(&[b'0' + session % 10, b'\n'])?;
-    }
-    transcript.extend_from_slice(b"alice: Out_of_caps\nalice: ram 0/245760 caps 0/0\n")?;
-    check(
-        &rt,
-        &Row {
-            shows: "forty_sessions_on_one_server",
-            list: r#"{"machine":{"pages":128,"caps":128},
- "default-route":[{"any-service":true,"any-child":true}],
- "start":[{"name":"log","quantum":"16K","caps":8,"provides":["LOG"]},
-          {"name":"alice","binary":"script","quantum":"400K","caps":80}]}"#,
-            task: PLAIN,
-            scenario: &scenario,
-            transcript: &transcript,
-        },
-    )
-}
-
-/// Inits with the longest names around a script with one.
-const LONGEST_NAMES: &str = r#"{"machine":{"pages":16,"caps":16},
- "default-route":[{"any-service":true,"any-child":true}],
- "start":[
-  {"name":"log","quantum":"0","caps":0,"provides":["LOG"]},
-  {"name":"aaaaaaaaaaaaaaaaaaaaaaaaaaaaaaaa","binary":"init","quantum":"16K","caps":8,"config":{
-   "default-route":[{"any-service":true,"parent":true}],
-   "start":[
-    {"name":"bbbbbbbbbbbbbbbbbbbbbbbbbbbbbbbb","binary":"init","quantum":"16K","caps":8,"config":{
-     "default-route":[{"any-service":true,"parent":true}],
-     "start":[
-      {"name":"cccccccccccccccccccccccccccccccc","binary":"init","quantum":"16K","caps":8,"config":{
-       "default-route":[{"any-service":true,"parent":true}],
-       "start":[
-        {"name":"dddddddddddddddddddddddddddddddd","binary":"script","quantum":"16K","caps":8}]}}]}}]}}]}"#;
-
-// The longest label stands before as many lines as one request can end.
-#[test]
-fn longest_label_before_the_most_lines(rt: HostRuntime) -> Result<(), Fail> {
-    let mut scenario = Vec::from_slice(
-        rt.alloc(),
-        br#"aaaaaaaaaaaaaaaaaaaaaaaaaaaaaaaa/bbbbbbbbbbbbbbbbbbbbbbbbbbbbbbbb/cccccccccccccccccccccccccccccccc/dddddddddddddddddddddddddddddddd open LOG ram_quota=8K, cap_quota=2, label="0123456789012345678901234567890123456789012345678901234567890123"
-aaaaaaaaaaaaaaaaaaaaaaaaaaaaaaaa/bbbbbbbbbbbbbbbbbbbbbbbbbbbbbbbb/cccccccccccccccccccccccccccccccc/dddddddddddddddddddddddddddddddd call 1 WRITE "#,
-    )?;
-    let mut transcript = Vec::from_slice(
-        rt.alloc(),
-        b"aaaaaaaaaaaaaaaaaaaaaaaaaaaaaaaa/bbbbbbbbbbbbbbbbbbbbbbbbbbbbbbbb/cccccccccccccccccccccccccccccccc/dddddddddddddddddddddddddddddddd: cap 1\n",
-    )?;
-    repeat(&mut scenario, b"0a", 4023)?;
-    scenario.push(b'\n')?;
-    let line =
-        b"[aaaaaaaaaaaaaaaaaaaaaaaaaaaaaaaa -> bbbbbbbbbbbbbbbbbbbbbbbbbbbbbbbb -> cccccccccccccccccccccccccccccccc -> dddddddddddddddddddddddddddddddd -> 0123456789012345678901234567890123456789012345678901234567890123] \n";
-    repeat(&mut transcript, line, 4023)?;
-    transcript.extend_from_slice(
-        b"aaaaaaaaaaaaaaaaaaaaaaaaaaaaaaaa/bbbbbbbbbbbbbbbbbbbbbbbbbbbbbbbb/cccccccccccccccccccccccccccccccc/dddddddddddddddddddddddddddddddd: OK 4023\n",
-    )?;
-    check(
-        &rt,
-        &Row {
-            shows: "longest_label_before_the_most_lines",
-            list: LONGEST_NAMES,
-            task: PLAIN,
-            scenario: &scenario,
-            transcript: &transcript,
         },
     )
 }
