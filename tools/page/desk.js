@@ -190,11 +190,13 @@
     if (old && old.alone && told.boots) told.alone = old.alone;
     hooks.mark([]);
     here = null;
-    Page.draw(told);
-    Page.page.prepend(since);
+    // (the editors before the page, whose new parts would be laid out for each of them)
+    Page.take(told);
     write_list();
     write_policy();
     write_scenario();
+    Page.draw(told);
+    Page.page.prepend(since);
     tell(`answered in ${took} ms`);
     document.body.dataset.round = String(++round);
   };
@@ -241,7 +243,7 @@
   let waits = null;
   const edited = () => {
     clearTimeout(waits);
-    waits = setTimeout(run, 40);
+    waits = setTimeout(run, 20);
   };
   for (const it of [list, policy, scenario]) it.on("change", edited);
   const fill = (told) => {
