@@ -67,5 +67,5 @@ const Page = (() => {
   document.addEventListener("DOMContentLoaded", () => {
     if (document.body.className === "report") draw(JSON.parse(document.getElementById("data").textContent));
   });
-  return { state, hooks, page, add, draw, redraw, el, svg, note, section, amount, refuses, fold };
+  return { state, hooks, page, add, take, draw, redraw, el, svg, note, section, amount, refuses, fold };
 })();

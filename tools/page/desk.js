@@ -121,9 +121,32 @@
     if (now.policy && now.policy.fault) under(policy, 1, "wrong", `✗ ${now.policy.fault}`);
     for (const [i, it] of (now.policy ? now.policy.lines : []).entries()) if (it.told) under(policy, i + 1, "wrong", `✗ ${it.told}`);
   });
+  // What is told under lines of the scenario, by the lines themselves: where it is as before, it stays.
+  let standing = new Map();
+  const write_under = (rows) => {
+    const wanted = new Map(), before = standing;
+    for (const [kind, text, line] of rows) {
+      const at = scenario.getLineHandle(Math.min(Math.max(line, 1), scenario.lineCount()) - 1);
+      wanted.set(at, [...(wanted.get(at) || []), [kind, text]]);
+    }
+    standing = new Map();
+    for (const [at, told] of wanted) {
+      const key = JSON.stringify(told), old = before.get(at);
+      if (old && old.key === key) {
+        standing.set(at, old);
+        before.delete(at);
+      }
+    }
+    for (const { widgets } of before.values()) for (const it of widgets) it.clear();
+    for (const [at, told] of wanted) {
+      if (standing.has(at)) continue;
+      const widgets = told.map(([kind, text]) => scenario.addLineWidget(at, el("div", { class: `told ${kind}` }, text)));
+      standing.set(at, { key: JSON.stringify(told), widgets });
+    }
+  };
   const write_scenario = () => scenario.operation(() => {
     clear(scenario);
-    for (const [kind, text, line] of Page.under().slice(0, 1500)) under(scenario, line, kind, text);
+    write_under(Page.under().slice(0, 1500));
     for (const [line, byte] of now.complaints.slice(0, 500)) {
       const text = scenario.getLine(line - 1);
       if (text === undefined) continue;
@@ -190,11 +213,13 @@
     if (old && old.alone && told.boots) told.alone = old.alone;
     hooks.mark([]);
     here = null;
-    Page.draw(told);
-    Page.page.prepend(since);
+    // (the editors before the page, whose new parts would be laid out for each of them)
+    Page.take(told);
     write_list();
     write_policy();
     write_scenario();
+    Page.draw(told);
+    Page.page.prepend(since);
     tell(`answered in ${took} ms`);
     document.body.dataset.round = String(++round);
   };
@@ -241,7 +266,7 @@
   let waits = null;
   const edited = () => {
     clearTimeout(waits);
-    waits = setTimeout(run, 40);
+    waits = setTimeout(run, 20);
   };
   for (const it of [list, policy, scenario]) it.on("change", edited);
   const fill = (told) => {
