@@ -1,4 +1,3 @@
-pub mod HexLemmas
 pub mod KnownLemmas
 pub mod SumLemmas
 pub mod FillLemmas
