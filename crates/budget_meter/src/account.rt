@@ -133,7 +133,8 @@ impl AccountMeter {
         ensures start { self.new.meter.start ≡ self.old.meter.start }
         ensures pages { (shape : Shape) → self.old.pages ≡ shape.growth → n < 65536 →
             self.new.pages ≡ (if nat_lt self.old.account.caps_used.0 after.caps_used.0
-            && nat_le (self.old.account.ram_used.0 + (larger_growth n shape).bytes) self.old.account.ram_limit.0
+            && nat_le (self.old.account.ram_used.0 + (larger_growth n shape).bytes)
+            self.old.account.ram_limit.0
             then (larger_growth n shape).next else shape.growth) }
         ensures script { self.new.is_script ≡ self.old.is_script }
         ensures gone { self.new.is_gone ≡ self.old.is_gone }

@@ -117,7 +117,8 @@ pub fn charged(before: Quotas, after: Quotas) -> u64 {
 
 /// The limits of an account.
 pub fn limits_of(account: Quotas) -> Budget
-    ensures { amounts_of result ≡ record { ram = account.ram_limit.0; caps = account.caps_limit.0 } }
+    ensures { amounts_of result
+        ≡ record { ram = account.ram_limit.0; caps = account.caps_limit.0 } }
 {
     Budget {
         ram: account.ram_limit.0,

@@ -165,7 +165,8 @@ impl Rows {
         given: Option<&[u8]>,
     ) -> Result<Option<u64>, BootFault>
         ensures follows { IfOk result (λ next. (each : Amounts → List Need)
-            (want : Amounts → Bool) → T.AreRuns trials.old each want → ram ≤ top → AreRows self.old.rows.items →
+            (want : Amounts → Bool) → T.AreRuns trials.old each want → ram ≤ top →
+            AreRows self.old.rows.items →
             Follows each want (T.caps trials.old) ram top self.old.rows.items
             self.new.rows.items next) }
         ensures still { (each : Amounts → List Need) (want : Amounts → Bool) →
