@@ -82,7 +82,7 @@ fn worked_rows(rt: HostRuntime) -> Result<(), Fail> {
     check_all(&rt, many::ROWS)
 }
 
-// Adds so many equal pieces to a text.
+/// Adds so many equal pieces to a text.
 pub fn repeat(text: &mut Vec<u8>, piece: &[u8], times: usize) -> Result<(), AllocError> {
     for _ in 0..times {
         text.extend_from_slice(piece)?;
