@@ -73,7 +73,9 @@ expect(413, "65537 bytes, at most 65536", ask("POST", "/run", {"list": "", "poli
 expect(413, "1048577 bytes, at most 1048576", ask("POST", "/run", {"list": "", "scenario": "a" * 1048577}))
 expect(413, "1000001 lines, at most 1000000", ask("POST", "/run", {"list": "", "scenario": "\n" * 1000001}))
 # What would take long is ended by its limit, and by a later run.
-LONG = {"list": "", "scenario": "alice alloc 4096\nalice free 1\n" * 450_000}
+# (a release walks the heap's chunk, here of 900 blocks)
+BLOCKS = "@repeat 900\nalice new 1\n@end\n"
+LONG = {"list": "", "scenario": BLOCKS + "@repeat 320000 as i\nalice new 1 => at $block\nalice del $block => ok\n@end\n"}
 expect(409, "longer than 1 seconds", ask("POST", "/run", LONG))
 for pause in (0.3, 0.6, 0.9, 1.2, 1.5):
     # (how long the earlier takes to begin hangs on the host)
