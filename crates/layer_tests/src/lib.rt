@@ -11,6 +11,10 @@ mod heaps;
 #[cfg(test)]
 mod pages;
 #[cfg(test)]
+mod regions;
+#[cfg(test)]
 mod selectors;
 #[cfg(test)]
 mod texts;
+#[cfg(test)]
+mod words;
