@@ -188,7 +188,8 @@ impl Player for Engine<'_> {
         gathered: &mut Gather,
         writer: &mut K,
     ) -> Result<(), PlayFault> {
-        tell(self.run.answer_no_call(), gathered, writer)
+        let run = self.run;
+        tell(run.answer_no_call(), gathered, writer)
     }
 }
 

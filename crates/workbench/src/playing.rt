@@ -53,8 +53,15 @@ pub(crate) fn play<R: Router + Drop, W: Watch, S: Source, K: Sink, E: Sink>(
         return Ending::before_all(fault);
     }
     let mut buffers = Buffers::new();
-    if let Err(DeviceFault) = buffers.gathered.put(writer, front) {
-        return Ending::before_all(PlayFault::WriteFault);
+    match buffers.gathered.put(writer, front) {
+        Ok(()) => {}
+        Err(DeviceFault) => {
+            return Ending {
+                lines: 0,
+                complaints: 0,
+                fault: Some(PlayFault::WriteFault),
+            };
+        }
     }
     let played = scenario::play(bench, core, &mut buffers, reader, writer, MAX_LINES);
     let critic = &mut bench.notes.desk.tools.critic;
