@@ -1,11 +1,12 @@
 #!/usr/bin/env python3
-"""release.py [TAIL] [RAM] <SCENARIO: what the words of a heap cost a line, now and with a tree of the used blocks in their headers.
+"""release.py [TAIL] [RAM] <SCENARIO: what a heap's words cost a line, now and with a tree of used blocks in their headers.
 
-Reads lines of `new`, `del`, `peek` and `poke` of one script, whose heap may have so many bytes of RAM (16 MiB, if none are told),
-and follows them by a second reading of best fit and of the balanced tree. Of the last TAIL lines (all, if none are told) it prints
-a line's headers walked, its loads and stores of the tree of holes, and what a tree of a chunk's used blocks would load and store:
-its links and height packed into the word of a header that tells the block's state, its root in the chunk's first header. Such a
-block is found by its offset, for a release with the used block before it, whose end is where a hole between them begins.
+Reads lines of `new`, `del`, `peek` and `poke` of one script, whose heap may have so many bytes of RAM (16 MiB if none are
+told), and follows them by a second reading of best fit and of the balanced tree. Of the last TAIL lines (all if none are
+told) it prints a line's headers walked, its loads and stores of the tree of holes, and what a tree of a chunk's used blocks
+would load and store: links and height packed into the word of a header that tells the block's state, the root in the
+chunk's first header. Such a block is found by its offset, for a release with the used block before it, whose end is where a
+hole between them begins.
 """
 import bisect
 import sys
@@ -179,8 +180,10 @@ class Heap:
             else:
                 return
             self.ram -= pages * PAGE
-            self.chunks.append({"at": self.attach(pages) * PAGE, "size": pages * PAGE, "starts": [0], "blocks": {0: [pages * PAGE, False]},
-                                "used": Tree(self.used_count, 1, 1)})
+            self.chunks.append({
+                "at": self.attach(pages) * PAGE, "size": pages * PAGE, "starts": [0], "blocks": {0: [pages * PAGE, False]},
+                "used": Tree(self.used_count, 1, 1),
+            })
             self.holes.insert((pages * PAGE, len(self.chunks) - 1, 0))
             hole = self.holes.find((want, 0, 0))
         size, number, at = hole
@@ -275,9 +278,13 @@ def main(tail="0", ram=str(1 << 24)):
         elif words[0] in ("peek", "poke"):
             heap.look(int(words[1], 16))
     count = len(lines) - start
-    print(f"{(heap.walked - was[0]) / count:9.1f} headers, tree of holes {(heap.hole_count[0] - was[1][0]) / count:6.1f} loads "
-          f"{(heap.hole_count[1] - was[1][1]) / count:6.1f} stores, tree of used blocks {(heap.used_count[0] - was[2][0]) / count:6.1f} loads "
-          f"{(heap.used_count[1] - was[2][1]) / count:6.1f} stores")
+
+    def each(now, before):
+        return f"{(now - before) / count:6.1f}"
+
+    print(f"{each(heap.walked, was[0])} headers")
+    for name, now, before in (("holes", heap.hole_count, was[1]), ("used blocks", heap.used_count, was[2])):
+        print(f"{each(now[0], before[0])} loads, {each(now[1], before[1])} stores of the tree of {name}")
 
 
 main(*sys.argv[1:])
