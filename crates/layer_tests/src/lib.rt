@@ -16,5 +16,3 @@ mod regions;
 mod selectors;
 #[cfg(test)]
 mod texts;
-#[cfg(test)]
-mod words;
