@@ -16,3 +16,6 @@ mod regions;
 mod selectors;
 #[cfg(test)]
 mod texts;
+#[cfg(test)]
+#[tactic(auto, using(crate::proofs::MemoryLemmas::store_laws))]
+mod words;
