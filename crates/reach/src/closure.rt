@@ -165,12 +165,7 @@ fn keep_with(
 
 // Keeps a label, unless one of its key is there.
 #[tactic(auto, using(crate::proofs::ClosureLemmas::keeps_known, crate::proofs::ClosureLemmas::keeps_new), unfolding(crate::specs::Reach::leads_to))]
-fn keep(
-    alloc: Global,
-    kept: &mut Held,
-    wishes: Wishes<'_>,
-    label: Label,
-) -> Result<(), AllocError>
+fn keep(alloc: Global, kept: &mut Held, wishes: Wishes<'_>, label: Label) -> Result<(), AllocError>
     requires client { wishes.client < length wishes.list.now.entries }
     requires given { IsGiven label }
     requires sound { All (IsKept wishes.list.now wishes.client wishes.service.now (length label))
