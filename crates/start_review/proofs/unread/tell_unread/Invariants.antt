@@ -2,7 +2,7 @@ use Rattle.std.proofs.Common.{◌≡◌, ◌++◌, drop, map}
 use Rattle.std.specs.List.{enumerate_from, flat_map}
 use Rattle.start_review.specs.Unread.{unread_in_entry}
 use Rattle.start_review.specs.Values.{seen}
-use Rattle.start_review.proofs.unread.unread.Given as goal
+use Rattle.start_review.proofs.unread.tell_unread.Given as goal
 
 -- what is told so far and what is to be told of the other entries
 abbrev pub invariant-loop-number : goal.invariant-loop-number

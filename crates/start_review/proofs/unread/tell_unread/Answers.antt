@@ -2,7 +2,7 @@ use Rattle.std.proofs.Common.{◌∙◌}
 use Rattle.start_review.specs.Unread.{unread_in_entry}
 use Rattle.start_review.specs.Values.{seen}
 use Rattle.start_review.proofs.ValueLemmas.{place_more}
-use Rattle.start_review.proofs.unread.unread.Goals as goal
+use Rattle.start_review.proofs.unread.tell_unread.Goals as goal
 
 pub loop-number-preserved : goal.loop-number-preserved
 loop-number-preserved c =
