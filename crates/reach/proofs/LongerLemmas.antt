@@ -1,11 +1,11 @@
 -- The key of a longer label, by that of one with which it begins.
-use Rattle.std.proofs.Common.{◌≡◌, ◌≢◌, ℕ, ◌<◌, ◌≤◌, zero, suc, ◌+◌, Bool, true, false, ◌||◌, List, [], ◌∷◌, ◌++◌, length, drop, get_or, Option, Some, None, refl, sym, ap, ◌∙◌, nat_eq, arith}
+use Rattle.std.proofs.Common.{◌≡◌, ◌≢◌, ℕ, ◌<◌, ◌≤◌, zero, suc, ◌+◌, ◌-◌, ◌*◌, Bool, true, false, ◌||◌, List, [], ◌∷◌, ◌++◌, length, drop, get_or, Option, Some, None, refl, sym, ap, ◌∙◌, nat_eq, arith}
 use Rattle.std.specs.Prelude.{codes, if◌then◌else◌, slice_index}
 use Rattle.std.specs.List.{starts_with, slice_get}
 use Rattle.std.specs.Option.{option_map, unwrap_or}
 use Rattle.std.proofs.lemmas.Bool.Decides.{Decides-eqb}
 use Rattle.std.proofs.lemmas.Slice.Eq.{starts_is}
-use Rattle.std.proofs.lemmas.List.{append_assoc, append-nil}
+use Rattle.std.proofs.lemmas.List.{append_assoc, append-nil, length-append}
 use Rattle.std.proofs.Math.Seq.{drop-cons}
 use Rattle.own_model.specs.Routes.{label_with}
 use Rattle.own_model.specs.Listed.{Listed, ListedEntry, ListedRule, init_entry, most_lists, rules_for}
@@ -183,3 +183,14 @@ key_rest list client service label key rest entry is found left =
 
 pub begins_more : (label : List ℕ) (byte : ℕ) → starts_with nat_eq (label ++ byte ∷ []) label ≡ true
 begins_more label byte = begins_from (label ++ byte ∷ []) label (byte ∷ []) refl
+
+label_long : (name label : List ℕ) → length (label_with name label) ≤ length name + 4 + length label
+label_long name [] = omega arith
+label_long name (b ∷ label) =
+    omega (arith, length-append (name ++ codes " -> ") (b ∷ label), length-append name (codes " -> "))
+
+pub named_short : (lists : ℕ) (name label outer : List ℕ) → 0 < lists → outer ≡ label_with name label → length name ≤ 32
+    → length label + lists * 36 ≤ 208 → length outer + (lists - 1) * 36 ≤ 208
+named_short lists name label outer some is short fits =
+    let long : length (label_with name label) ≤ length name + 4 + length label = label_long name label in
+    omega (arith, ap length is)

@@ -5,7 +5,7 @@ use Rattle.own_model.specs.Listed.{init_entry}
 use Rattle.own_model.specs.Routes.{label_with}
 use Rattle.reach.specs.Keys.{marks_by}
 use Rattle.reach.proofs.KeyLemmas.{key_goes_on, ok_map}
-use Rattle.reach.proofs.LongerLemmas.{key_outer, named_begins}
+use Rattle.reach.proofs.LongerLemmas.{key_outer, named_begins, named_short}
 use Rattle.reach.proofs.longer.+add_longer.Goals as goal
 
 pub add_longer-requires : goal.add_longer-requires
@@ -14,9 +14,11 @@ add_longer-requires t c =
     c.as_slice.ensures.value ∙ (c.label_with-seen.ensures ∙ ap (λ n. label_with n c.args.seen.now) c.name.ensures.name) in
     let sees_more : c.as_slice-in-Some.result.now ≡ label_with c.args.entry.now.name c.args.longer.now =
     c.as_slice-in-Some.ensures.value ∙ (c.label_with-longer.ensures ∙ ap (λ n. label_with n c.args.longer.now) c.name-in-Some.ensures.name) in (
-      search rules,
-      search rules,
-      search rules,
+      search rules, (
+      named_short c.args.lists c.args.entry.now.name c.args.seen.now c.as_slice.result.now (omega arith) sees
+      (omega (arith, c.name.ensures.short, ap length c.name.ensures.name)) c.requires.seen, (
+      named_short c.args.lists c.args.entry.now.name c.args.longer.now c.as_slice-in-Some.result.now (omega arith) sees_more
+      (omega (arith, c.name-in-Some.ensures.short, ap length c.name-in-Some.ensures.name)) c.requires.longer, (
       ap (λ s. starts_with nat_eq c.as_slice-in-Some.result.now s) sees
       ∙ (ap (λ l. starts_with nat_eq l (label_with c.args.entry.now.name c.args.seen.now)) sees_more
       ∙ named_begins c.args.entry.now.name c.args.seen.now c.args.longer.now c.requires.begins),
@@ -25,7 +27,7 @@ add_longer-requires t c =
       (c.in_ok-outer.ensures.rest
       ∙ ap (λ r. drop (length (marks_by c.args.service.now r c.args.seen.now)) c.args.key.now) c.rules_of.ensures)
       (sym (c.in-Some.ensures ∙ ap (λ n. init_entry c.args.list.now n) c.home.ensures))
-      sees,
+      sees))),
     )
 
 pub returns-in-Some : goal.returns-in-Some
