@@ -43,10 +43,10 @@ pub marks_lost : (service : List ℕ) (rule : ListedRule) (seen longer key : Lis
 marks_lost service rule seen longer key more begins none =
     let lost = lost_case (lost_of service rule seen) _ _ _ key _ (parts key (marks_of service rule seen) begins) none in (
       ap (λ l. if l then 0 ∷ []
-      else 1 ∷ mark whole_mark rule.label longer ∷ mark front_mark rule.label_prefix longer ∷ mark end_mark rule.label_suffix longer ∷ [])
-      (lost_on service rule seen longer more lost),
+          else 1 ∷ mark whole_mark rule.label longer ∷ mark front_mark rule.label_prefix longer ∷ mark end_mark rule.label_suffix longer ∷ [])
+          (lost_on service rule seen longer more lost),
       ap (λ l. length (if l then 0 ∷ []
-      else 1 ∷ mark whole_mark rule.label seen ∷ mark front_mark rule.label_prefix seen ∷ mark end_mark rule.label_suffix seen ∷ [])) lost,
+          else 1 ∷ mark whole_mark rule.label seen ∷ mark front_mark rule.label_prefix seen ∷ mark end_mark rule.label_suffix seen ∷ [])) lost,
     )
 
 live_case : (lost : Bool) (a b c : ℕ) (key rest : List ℕ) → key ≡ (if lost then 0 ∷ [] else 1 ∷ a ∷ b ∷ c ∷ []) ++ rest

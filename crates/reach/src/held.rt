@@ -46,8 +46,8 @@ impl Model for Held {
     ghost view = { λ held. held.labels.items };
 
     ghost invariant = { λ held. (key : List ℕ)
-      → list_any (λ one. bytes_eq key one.items) held.keys.keys
-      ≡ list_any (has_key key) held.labels.items };
+        → list_any (λ one. bytes_eq key one.items) held.keys.keys
+        ≡ list_any (has_key key) held.labels.items };
 }
 
 impl Held {

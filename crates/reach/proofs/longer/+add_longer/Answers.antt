@@ -14,20 +14,26 @@ add_longer-requires t c =
     c.as_slice.ensures.value ∙ (c.label_with-seen.ensures ∙ ap (λ n. label_with n c.args.seen.now) c.name.ensures.name) in
     let sees_more : c.as_slice-in-Some.result.now ≡ label_with c.args.entry.now.name c.args.longer.now =
     c.as_slice-in-Some.ensures.value ∙ (c.label_with-longer.ensures ∙ ap (λ n. label_with n c.args.longer.now) c.name-in-Some.ensures.name) in (
-      search rules, (
-      named_short c.args.lists c.args.entry.now.name c.args.seen.now c.as_slice.result.now (omega arith) sees
-      (omega (arith, c.name.ensures.short, ap length c.name.ensures.name)) c.requires.seen, (
-      named_short c.args.lists c.args.entry.now.name c.args.longer.now c.as_slice-in-Some.result.now (omega arith) sees_more
-      (omega (arith, c.name-in-Some.ensures.short, ap length c.name-in-Some.ensures.name)) c.requires.longer, (
-      ap (λ s. starts_with nat_eq c.as_slice-in-Some.result.now s) sees
-      ∙ (ap (λ l. starts_with nat_eq l (label_with c.args.entry.now.name c.args.seen.now)) sees_more
-      ∙ named_begins c.args.entry.now.name c.args.seen.now c.args.longer.now c.requires.begins),
-      key_outer c.args.lists (c.args.lists - 1) c.args.list.now c.args.entry.now c.in-Some.init.now c.args.service.now c.args.seen.now
-      c.as_slice.result.now c.args.key.now c.in_ok-outer.outer.now (omega arith) c.requires.key
-      (c.in_ok-outer.ensures.rest
-      ∙ ap (λ r. drop (length (marks_by c.args.service.now r c.args.seen.now)) c.args.key.now) c.rules_of.ensures)
-      (sym (c.in-Some.ensures ∙ ap (λ n. init_entry c.args.list.now n) c.home.ensures))
-      sees))),
+      search rules,
+      (
+        named_short c.args.lists c.args.entry.now.name c.args.seen.now c.as_slice.result.now (omega arith) sees
+            (omega (arith, c.name.ensures.short, ap length c.name.ensures.name)) c.requires.seen,
+        (
+          named_short c.args.lists c.args.entry.now.name c.args.longer.now c.as_slice-in-Some.result.now (omega arith) sees_more
+              (omega (arith, c.name-in-Some.ensures.short, ap length c.name-in-Some.ensures.name)) c.requires.longer,
+          (
+            ap (λ s. starts_with nat_eq c.as_slice-in-Some.result.now s) sees
+                ∙ (ap (λ l. starts_with nat_eq l (label_with c.args.entry.now.name c.args.seen.now)) sees_more
+                ∙ named_begins c.args.entry.now.name c.args.seen.now c.args.longer.now c.requires.begins),
+            key_outer c.args.lists (c.args.lists - 1) c.args.list.now c.args.entry.now c.in-Some.init.now c.args.service.now c.args.seen.now
+                c.as_slice.result.now c.args.key.now c.in_ok-outer.outer.now (omega arith) c.requires.key
+                (c.in_ok-outer.ensures.rest
+                ∙ ap (λ r. drop (length (marks_by c.args.service.now r c.args.seen.now)) c.args.key.now) c.rules_of.ensures)
+                (sym (c.in-Some.ensures ∙ ap (λ n. init_entry c.args.list.now n) c.home.ensures))
+                sees,
+          ),
+        ),
+      ),
     )
 
 pub returns-in-Some : goal.returns-in-Some
