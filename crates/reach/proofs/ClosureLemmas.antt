@@ -351,3 +351,10 @@ pub given_at : (list : Listed) (client : ℕ) (service label : List ℕ) (most p
 given_at list client service label most place kept one sound within is same =
     let found = All-contains (IsKept list client service most) kept one sound (place, within, is) in
     subst IsGiven (sym same) found.given
+
+pub keyed_at : (list : Listed) (client : ℕ) (service label key : List ℕ) (most place : ℕ) (kept : List KeptLabel) (one : KeptLabel)
+    → All (IsKept list client service most) kept → place < length kept → get_or kept place one ≡ one → label ≡ one.label → key ≡ one.key
+    → key ≡ key_of list client service label
+keyed_at list client service label key most place kept one sound within is same keyed =
+    let found = All-contains (IsKept list client service most) kept one sound (place, within, is) in
+    keyed ∙ (found.keyed ∙ ap (λ t. key_of list client service t) (sym same))

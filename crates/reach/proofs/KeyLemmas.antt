@@ -14,7 +14,7 @@ use Rattle.own_model.specs.Listed.{Listed, ListedEntry, ListedRule, asks_for, en
 use Rattle.reach.specs.Deciding.{decided, trail_of}
 use Rattle.reach.specs.Hops.{HopAt, hops_of, hops_within, leads_out}
 use Rattle.reach.specs.Reach.{leads_to}
-use Rattle.reach.specs.Keys.{end_mark, front_mark, is_lost, key_of, key_within, lost_of, mark, marks_by, marks_of, whole_mark}
+use Rattle.reach.specs.Keys.{end_mark, front_mark, is_lost, key_of, key_within, lost_of, lost_texts, mark, marks_by, marks_of, whole_mark}
 
 -- ---- tests
 
@@ -197,7 +197,7 @@ texts_ask rule label =
     as_asked (bytes_eq label) rule.label
     && (as_asked (starts_with nat_eq label) rule.label_prefix && as_asked (ends_with nat_eq label) rule.label_suffix)
 
-lost_asks : (rule : ListedRule) (seen rest : List ℕ) → lost_of rule seen ≡ true → texts_ask rule (seen ++ rest) ≡ false
+lost_asks : (rule : ListedRule) (seen rest : List ℕ) → lost_texts rule seen ≡ true → texts_ask rule (seen ++ rest) ≡ false
 unfolding texts_ask
 lost_asks rule seen rest lost =
     none_holds _ _ _ _ _ (lost_whole rule.label seen rest) (lost_front rule.label_prefix seen rest) lost
@@ -217,11 +217,11 @@ live_asks rule seen other rest alike =
     let end = end_alike rule.label_suffix seen other rest heads.2 in
     cc
 
-asks_case : (asks one two : Bool) (rule : ListedRule) (seen other rest : List ℕ) → lost_of rule seen ≡ one → lost_of rule other ≡ two
-    → (if asks then if one then 0 ∷ []
-    else 1 ∷ mark whole_mark rule.label seen ∷ mark front_mark rule.label_prefix seen ∷ mark end_mark rule.label_suffix seen ∷ [] else [])
-    ≡ (if asks then if two then 0 ∷ []
-    else 1 ∷ mark whole_mark rule.label other ∷ mark front_mark rule.label_prefix other ∷ mark end_mark rule.label_suffix other ∷ [] else [])
+asks_case : (asks one two : Bool) (rule : ListedRule) (seen other rest : List ℕ) → lost_texts rule seen ≡ one → lost_texts rule other ≡ two
+    → (if not asks || one then 0 ∷ []
+    else 1 ∷ mark whole_mark rule.label seen ∷ mark front_mark rule.label_prefix seen ∷ mark end_mark rule.label_suffix seen ∷ [])
+    ≡ (if not asks || two then 0 ∷ []
+    else 1 ∷ mark whole_mark rule.label other ∷ mark front_mark rule.label_prefix other ∷ mark end_mark rule.label_suffix other ∷ [])
     → (asks && texts_ask rule (seen ++ rest)) ≡ (asks && texts_ask rule (other ++ rest))
 asks_case false one two rule seen other rest first second alike = refl
 asks_case true true true rule seen other rest first second alike =
@@ -234,16 +234,16 @@ rule_alike : (service : List ℕ) (rule : ListedRule) (seen other rest : List �
     → asks_for rule service (seen ++ rest) ≡ asks_for rule service (other ++ rest)
 unfolding texts_ask
 rule_alike service rule seen other rest alike =
-    asks_case (as_asked (bytes_eq service) rule.service) (lost_of rule seen) (lost_of rule other) rule seen other rest refl refl alike
+    asks_case (as_asked (bytes_eq service) rule.service) (lost_texts rule seen) (lost_texts rule other) rule seen other rest refl refl alike
 
 -- ---- lists of rules
 
 split_case : (asks one two : Bool) (a b c d e f : ℕ) (us vs : List ℕ)
-    → (if asks then if one then 0 ∷ [] else 1 ∷ a ∷ b ∷ c ∷ [] else []) ++ us
-    ≡ (if asks then if two then 0 ∷ [] else 1 ∷ d ∷ e ∷ f ∷ [] else []) ++ vs
-    → ((if asks then if one then 0 ∷ [] else 1 ∷ a ∷ b ∷ c ∷ [] else []) ≡ (if asks then if two then 0 ∷ [] else 1 ∷ d ∷ e ∷ f ∷ [] else []))
+    → (if not asks || one then 0 ∷ [] else 1 ∷ a ∷ b ∷ c ∷ []) ++ us
+    ≡ (if not asks || two then 0 ∷ [] else 1 ∷ d ∷ e ∷ f ∷ []) ++ vs
+    → ((if not asks || one then 0 ∷ [] else 1 ∷ a ∷ b ∷ c ∷ []) ≡ (if not asks || two then 0 ∷ [] else 1 ∷ d ∷ e ∷ f ∷ []))
     × (us ≡ vs)
-split_case false one two a b c d e f us vs same = (refl, same)
+split_case false one two a b c d e f us vs same = (refl, tails_same 0 0 us vs same)
 split_case true true true a b c d e f us vs same = (refl, tails_same 0 0 us vs same)
 split_case true true false a b c d e f us vs same = absurd (heads_apart _ _ same)
 split_case true false true a b c d e f us vs same = absurd (heads_apart _ _ (sym same))
@@ -257,7 +257,7 @@ marks_split : (service : List ℕ) (rule : ListedRule) (seen other us vs : List 
     → marks_of service rule seen ++ us ≡ marks_of service rule other ++ vs
     → (marks_of service rule seen ≡ marks_of service rule other) × (us ≡ vs)
 marks_split service rule seen other us vs same =
-    split_case (as_asked (bytes_eq service) rule.service) (lost_of rule seen) (lost_of rule other) _ _ _ _ _ _ us vs same
+    split_case (as_asked (bytes_eq service) rule.service) (lost_texts rule seen) (lost_texts rule other) _ _ _ _ _ _ us vs same
 
 rules_split : (service : List ℕ) (rules : List ListedRule) (seen other us vs : List ℕ)
     → marks_by service rules seen ++ us ≡ marks_by service rules other ++ vs
@@ -470,3 +470,72 @@ ok_map₂ P Q S (Err e) goes one two = one
 pub ok_map : {V E : Type 0} → (P Q : Type 0) (r : Result V E) → (P → Q) → OnOk r P → OnOk r Q
 ok_map P Q (Ok v) goes holds = goes holds
 ok_map P Q (Err e) goes holds = holds
+
+-- ---- a longer label
+
+-- a text that begins with the longer of two begins with the shorter
+begins_on : (asked seen longer : List ℕ) → starts_with nat_eq longer seen ≡ true → starts_with nat_eq asked longer ≡ true
+    → starts_with nat_eq asked seen ≡ true
+begins_on asked seen longer more is =
+    begins_from asked seen (drop (length seen) longer ++ drop (length longer) asked)
+    ((starts_is Decides-eqb asked longer _ refl).0 is
+    ∙ (ap (λ t. t ++ drop (length longer) asked) ((starts_is Decides-eqb longer seen _ refl).0 more)
+    ∙ append_assoc seen (drop (length seen) longer) (drop (length longer) asked)))
+
+begun_on : (asked seen longer : List ℕ) → starts_with nat_eq longer seen ≡ true → starts_with nat_eq longer asked ≡ true
+    → (starts_with nat_eq seen asked ≡ true) ⊎ (starts_with nat_eq asked seen ≡ true)
+begun_on asked seen longer more is =
+    front_apart asked seen (drop (length seen) longer)
+    (sym (ap (λ t. starts_with nat_eq t asked) ((starts_is Decides-eqb longer seen _ refl).0 more)) ∙ is)
+    (by_length asked seen)
+
+no_mark : (n : ℕ) → nat_eq (suc n) 0 ≡ true → ⊥
+no_mark n lost = below_apart 0 (suc n) (omega arith) (sym ((Decides-eqb (suc n) 0).0 lost))
+
+whole_goes_on : (now later : Bool) (n m : ℕ) → (later ≡ true → now ≡ true)
+    → nat_eq (if now then suc n else 0) 0 ≡ true → nat_eq (if later then suc m else 0) 0 ≡ true
+whole_goes_on true later n m back lost = absurd (no_mark n lost)
+whole_goes_on false true n m back lost = cc (back refl)
+whole_goes_on false false n m back lost = lost
+
+front_goes_on : (begun begins more less : Bool) (n m k l : ℕ)
+    → (more ≡ true → (begun ≡ true) ⊎ (begins ≡ true)) → (less ≡ true → begins ≡ true)
+    → nat_eq (if begun then suc n else if begins then suc m else 0) 0 ≡ true
+    → nat_eq (if more then suc k else if less then suc l else 0) 0 ≡ true
+front_goes_on true begins more less n m k l first second lost = absurd (no_mark n lost)
+front_goes_on false true more less n m k l first second lost = absurd (no_mark m lost)
+front_goes_on false false true less n m k l first second lost = elim (first refl) [ inl is ↦ cc | inr is ↦ cc ]
+front_goes_on false false false true n m k l first second lost = cc (second refl)
+front_goes_on false false false false n m k l first second lost = lost
+
+whole_lost_on : (asked : Option (List ℕ)) (seen longer : List ℕ) → starts_with nat_eq longer seen ≡ true
+    → is_lost asked (mark whole_mark asked seen) ≡ true → is_lost asked (mark whole_mark asked longer) ≡ true
+whole_lost_on None seen longer more lost = lost
+whole_lost_on (Some asked) seen longer more lost =
+    whole_goes_on (starts_with nat_eq asked seen) (starts_with nat_eq asked longer) (length seen) (length longer)
+    (begins_on asked seen longer more) lost
+
+front_lost_on : (asked : Option (List ℕ)) (seen longer : List ℕ) → starts_with nat_eq longer seen ≡ true
+    → is_lost asked (mark front_mark asked seen) ≡ true → is_lost asked (mark front_mark asked longer) ≡ true
+front_lost_on None seen longer more lost = lost
+front_lost_on (Some asked) seen longer more lost =
+    front_goes_on (starts_with nat_eq seen asked) (starts_with nat_eq asked seen) (starts_with nat_eq longer asked) (starts_with nat_eq asked longer)
+    (length asked) (length seen) (length asked) (length longer)
+    (begun_on asked seen longer more) (begins_on asked seen longer more) lost
+
+or_on : (a b c d : Bool) → (a ≡ true → c ≡ true) → (b ≡ true → d ≡ true) → (a || b) ≡ true → (c || d) ≡ true
+or_on true b true d first second is = refl
+or_on true b false d first second is = cc (first refl)
+or_on false true true d first second is = refl
+or_on false true false true first second is = refl
+or_on false true false false first second is = cc (second refl)
+or_on false false c d first second is = cc
+
+-- a rule that is lost stays so
+pub lost_on : (service : List ℕ) (rule : ListedRule) (seen longer : List ℕ) → starts_with nat_eq longer seen ≡ true
+    → lost_of service rule seen ≡ true → lost_of service rule longer ≡ true
+lost_on service rule seen longer more lost =
+    or_on (not (as_asked (bytes_eq service) rule.service)) (lost_texts rule seen) (not (as_asked (bytes_eq service) rule.service)) (lost_texts rule longer)
+    (λ is. is)
+    (or_on _ _ _ _ (whole_lost_on rule.label seen longer more) (front_lost_on rule.label_prefix seen longer more))
+    lost

@@ -10,3 +10,4 @@ pub mod FollowLemmas
 pub mod CandidateLemmas
 pub mod WishLemmas
 pub mod HeldLemmas
+pub mod LongerLemmas

@@ -1,5 +1,5 @@
 -- What of a label matters to where it and all longer ones lead: how far it stands in each text that some rule asks for.
-use Rattle.std.specs.Prelude.{ℕ, zero, suc, Bool, false, ◌||◌, List, [], ◌∷◌, ◌++◌, length, nat_eq, if◌then◌else◌, Option, Some, None}
+use Rattle.std.specs.Prelude.{ℕ, zero, suc, Bool, false, ◌||◌, List, [], ◌∷◌, ◌++◌, length, nat_eq, if◌then◌else◌, not, Option, Some, None}
 use Rattle.std.specs.List.{starts_with, slice_get}
 use Rattle.std.specs.Option.{option_map, unwrap_or}
 use Rattle.std.specs.Str.{bytes_eq}
@@ -30,17 +30,19 @@ is_lost None n = false
 is_lost (Some asked) n = nat_eq n 0
 
 -- a whole label or a front is asked, and neither the bytes seen nor longer ones are as asked
-abbrev pub lost_of : ListedRule → List ℕ → Bool
-lost_of rule seen =
+abbrev pub lost_texts : ListedRule → List ℕ → Bool
+lost_texts rule seen =
     is_lost rule.label (mark whole_mark rule.label seen) || is_lost rule.label_prefix (mark front_mark rule.label_prefix seen)
 
--- of a rule's three texts behind a 1, where it asks for the service, and of a lost rule a 0 only
+-- a rule asks for another service, or its texts are lost: it matches neither the bytes seen nor longer ones
+abbrev pub lost_of : List ℕ → ListedRule → List ℕ → Bool
+lost_of service rule seen = not (as_asked (bytes_eq service) rule.service) || lost_texts rule seen
+
+-- of a rule's three texts behind a 1, and of a lost rule a 0 only
 abbrev pub marks_of : List ℕ → ListedRule → List ℕ → List ℕ
 marks_of service rule seen =
-    if as_asked (bytes_eq service) rule.service
-    then if lost_of rule seen then 0 ∷ []
+    if lost_of service rule seen then 0 ∷ []
     else 1 ∷ mark whole_mark rule.label seen ∷ mark front_mark rule.label_prefix seen ∷ mark end_mark rule.label_suffix seen ∷ []
-    else []
 
 -- of the rules of a list
 abbrev pub marks_by : List ℕ → List ListedRule → List ℕ → List ℕ

@@ -2,11 +2,13 @@
 ghost use Rattle.std.specs.Prelude.{◌≡◌, ◌≤◌, ◌<◌, ◌+◌, ◌++◌, ◌∷◌, [], true, length, All, Any, IfOk, OnOk};
 ghost use Rattle.own_model.specs.SessionArgs.{is_quotable};
 ghost use Rattle.reach.specs.Reach.{IsGiven};
+ghost use Rattle.reach.specs.Keys.{key_of};
 ghost use Rattle.reach.specs.Closure.{AreKept, HasKey, IsGrown, IsKept, IsLengthened, IsLengthenedAt, Keeps};
 
 use crate::held::{Held, Kept};
 use crate::key::key_of;
 use crate::label::{LONGEST_GIVEN, Label};
+use crate::longer::longer_key;
 use crate::wishes::Wishes;
 use init_core::route;
 use std::alloc::{AllocError, Global};
@@ -33,7 +35,9 @@ fn first(alloc: Global, wishes: Wishes<'_>) -> Result<Held, AllocError>
         AreKept wishes.entry.list.now wishes.entry.client wishes.entry.service.now 0 kept) }
 {
     let mut kept = Held::new(alloc);
-    keep(alloc, &mut kept, wishes, Label::empty())?;
+    let label = Label::empty();
+    let key = key_of(alloc, wishes, &label)?;
+    keep(alloc, &mut kept, wishes, label, key)?;
     Ok(kept)
 }
 
@@ -58,7 +62,7 @@ fn lengthen(
 }
 
 // Keeps labels that stand for those which a byte makes of the label at a place, where that has so many bytes.
-#[tactic(auto, using(crate::proofs::ClosureLemmas::given_at, crate::proofs::ClosureLemmas::done_at, crate::proofs::ClosureLemmas::passed_at, crate::proofs::ClosureLemmas::grown_same))]
+#[tactic(auto, using(crate::proofs::ClosureLemmas::given_at, crate::proofs::ClosureLemmas::keyed_at, crate::proofs::ClosureLemmas::done_at, crate::proofs::ClosureLemmas::passed_at, crate::proofs::ClosureLemmas::grown_same))]
 fn lengthen_at(
     alloc: Global,
     kept: &mut Held,
@@ -80,7 +84,8 @@ fn lengthen_at(
     let one = &kept.as_slice()[place];
     let label = one.label.copy();
     if label.as_bytes().len() == size {
-        lengthen_one(alloc, kept, wishes, &label)?;
+        let key = Vec::from_slice(alloc, one.key.as_slice())?;
+        lengthen_one(alloc, kept, wishes, key.as_slice(), &label)?;
     }
     Ok(())
 }
@@ -91,11 +96,13 @@ fn lengthen_one(
     alloc: Global,
     kept: &mut Held,
     wishes: Wishes<'_>,
+    key: &[usize],
     label: &Label,
 ) -> Result<(), AllocError>
     requires client { wishes.client < length wishes.list.now.entries }
     requires given { IsGiven label.now }
     requires short { length label.now < 64 }
+    requires key { key.now ≡ key_of wishes.list.now wishes.client wishes.service.now label.now }
     requires sound { All (IsKept wishes.list.now wishes.client wishes.service.now
         (length label.now + 1)) kept.old }
     ensures sound { OnOk result (All (IsKept wishes.entry.list.now wishes.entry.client
@@ -104,9 +111,9 @@ fn lengthen_one(
     ensures longer { OnOk result (IsLengthened wishes.entry.list.now wishes.entry.client
         wishes.entry.service.now label.now 32 127 kept.new) }
 {
-    keep_range(alloc, kept, wishes, label, b'a', 127)?;
-    keep_range(alloc, kept, wishes, label, b'!', b'a')?;
-    keep_range(alloc, kept, wishes, label, b' ', b'!')
+    keep_range(alloc, kept, wishes, key, label, b'a', 127)?;
+    keep_range(alloc, kept, wishes, key, label, b'!', b'a')?;
+    keep_range(alloc, kept, wishes, key, label, b' ', b'!')
 }
 
 // The same for the bytes of a range.
@@ -115,6 +122,7 @@ fn keep_range(
     alloc: Global,
     kept: &mut Held,
     wishes: Wishes<'_>,
+    key: &[usize],
     label: &Label,
     from: u8,
     until: u8,
@@ -122,6 +130,7 @@ fn keep_range(
     requires client { wishes.client < length wishes.list.now.entries }
     requires given { IsGiven label.now }
     requires short { length label.now < 64 }
+    requires key { key.now ≡ key_of wishes.list.now wishes.client wishes.service.now label.now }
     requires sound { All (IsKept wishes.list.now wishes.client wishes.service.now
         (length label.now + 1)) kept.old }
     ensures sound { OnOk result (All (IsKept wishes.entry.list.now wishes.entry.client
@@ -131,23 +140,25 @@ fn keep_range(
         wishes.entry.service.now label.now from until kept.new) }
 {
     for byte in from..until {
-        keep_with(alloc, kept, wishes, label, byte)?;
+        keep_with(alloc, kept, wishes, key, label, byte)?;
     }
     Ok(())
 }
 
 // Keeps one that stands for a label with a byte behind it, if it can be given.
-#[tactic(auto, using(crate::proofs::ClosureLemmas::given_more, crate::proofs::ClosureLemmas::grown_same))]
+#[tactic(auto, using(crate::proofs::ClosureLemmas::given_more, crate::proofs::ClosureLemmas::grown_same, crate::proofs::LongerLemmas::begins_more))]
 fn keep_with(
     alloc: Global,
     kept: &mut Held,
     wishes: Wishes<'_>,
+    key: &[usize],
     label: &Label,
     byte: u8,
 ) -> Result<(), AllocError>
     requires client { wishes.client < length wishes.list.now.entries }
     requires given { IsGiven label.now }
     requires short { length label.now < 64 }
+    requires key { key.now ≡ key_of wishes.list.now wishes.client wishes.service.now label.now }
     requires sound { All (IsKept wishes.list.now wishes.client wishes.service.now
         (length label.now + 1)) kept.old }
     ensures sound { OnOk result (All (IsKept wishes.entry.list.now wishes.entry.client
@@ -157,7 +168,9 @@ fn keep_with(
         wishes.entry.client wishes.entry.service.now (label.now ++ byte ∷ [])) kept.new) }
 {
     if is_quotable(byte) {
-        keep(alloc, kept, wishes, label.with(byte))
+        let longer = label.with(byte);
+        let key = longer_key(alloc, wishes, key, label, &longer)?;
+        keep(alloc, kept, wishes, longer, key)
     } else {
         Ok(())
     }
@@ -165,15 +178,21 @@ fn keep_with(
 
 // Keeps a label, unless one of its key is there.
 #[tactic(auto, using(crate::proofs::ClosureLemmas::keeps_known, crate::proofs::ClosureLemmas::keeps_new), unfolding(crate::specs::Reach::leads_to))]
-fn keep(alloc: Global, kept: &mut Held, wishes: Wishes<'_>, label: Label) -> Result<(), AllocError>
+fn keep(
+    alloc: Global,
+    kept: &mut Held,
+    wishes: Wishes<'_>,
+    label: Label,
+    key: Vec<usize>,
+) -> Result<(), AllocError>
     requires client { wishes.client < length wishes.list.now.entries }
     requires given { IsGiven label }
+    requires key { key.items ≡ key_of wishes.list.now wishes.client wishes.service.now label }
     requires sound { All (IsKept wishes.list.now wishes.client wishes.service.now (length label))
         kept.old }
     ensures { OnOk result (Keeps wishes.entry.list.now wishes.entry.client wishes.entry.service.now
         label kept.old kept.new) }
 {
-    let key = key_of(alloc, wishes, &label)?;
     if kept.has(key.as_slice()) {
         return Ok(());
     }

@@ -42,8 +42,8 @@ pub(crate) fn key_of(
     Ok(key)
 }
 
-// 0 of the empty label, which stands by itself, and 1 of every other.
-fn filled(label: &[u8]) -> usize
+/// 0 of the empty label, which stands by itself, and 1 of every other.
+pub(crate) fn filled(label: &[u8]) -> usize
     ensures { result ≡ filled label.now }
 {
     if label.is_empty() { 0 } else { 1 }
@@ -120,8 +120,8 @@ fn add_marks(
     Ok(())
 }
 
-// The marks of a rule's three texts, where it asks for the service, and of a lost rule that it is lost.
-fn add_rule(
+/// The marks of a rule's three texts, and of a lost rule that it is lost.
+pub(crate) fn add_rule(
     key: &mut Vec<usize>,
     rule: &Rule,
     service: &[u8],
@@ -131,12 +131,12 @@ fn add_rule(
     ensures { OnOk result (key.new.items
         ≡ key.old.items ++ marks_of service.now rule.now seen.now) }
 {
-    if !asks_service(rule, service) {
-        return Ok(());
-    }
     let whole = mark_of_whole(rule.label(), seen);
     let front = mark_of_front(rule.label_prefix(), seen);
-    if is_lost(rule.label(), whole) || is_lost(rule.label_prefix(), front) {
+    if !asks_service(rule, service)
+        || is_lost(rule.label(), whole)
+        || is_lost(rule.label_prefix(), front)
+    {
         key.push(0)?;
         return Ok(());
     }

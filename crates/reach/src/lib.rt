@@ -13,6 +13,7 @@ mod held;
 mod key;
 mod label;
 mod laws;
+mod longer;
 mod named;
 mod near;
 mod paths;

@@ -1,0 +1,136 @@
+//! The key of a longer label by that of a label with which it begins: a rule that is lost stays so, and isn't looked at again.
+ghost use Rattle.std.specs.Prelude.{◌≡◌, ◌+◌, ◌*◌, ◌≤◌, ◌<◌, ◌++◌, true, length, drop, nat_eq, IfOk, OnOk};
+ghost use Rattle.std.specs.List.{starts_with};
+ghost use Rattle.reach.specs.Keys.{key_of, key_within, marks_by, marks_of};
+
+use crate::key::{MOST_LISTS, add_rule, filled, init_entry, rules_of};
+use crate::label::{Label, label_with};
+use crate::wishes::Wishes;
+use init_core::{Entry, Rule, StartList};
+use std::alloc::{AllocError, Global};
+
+/// The key of the longer label.
+#[tactic(auto, using(crate::proofs::LongerLemmas::key_some, crate::proofs::LongerLemmas::key_rest), unfolding(crate::specs::Keys::key_of))]
+pub(crate) fn longer_key(
+    alloc: Global,
+    wishes: Wishes<'_>,
+    key: &[usize],
+    label: &Label,
+    longer: &Label,
+) -> Result<Vec<usize>, AllocError>
+    requires label { length label.now ≤ 64 }
+    requires longer { length longer.now ≤ 64 }
+    requires begins { starts_with nat_eq longer.now label.now ≡ true }
+    requires key { key.now ≡ key_of wishes.list.now wishes.client wishes.service.now label.now }
+    ensures { IfOk result (λ next. next.items
+        ≡ key_of wishes.entry.list.now wishes.entry.client wishes.entry.service.now longer.now) }
+{
+    let mut next = Vec::with_capacity(alloc, key.len())?;
+    next.push(filled(longer.as_bytes()))?;
+    if let Some(entry) = wishes.list.entries().get(wishes.client) {
+        add_longer(
+            &mut next,
+            &key[1..],
+            wishes.list,
+            MOST_LISTS,
+            entry,
+            wishes.service,
+            label.as_bytes(),
+            longer.as_bytes(),
+        )?;
+    }
+    Ok(next)
+}
+
+// The marks of the rules for an entry and, through so many lists outward at most, for the inits around it.
+#[tactic(auto, using(crate::proofs::LongerLemmas::key_first, crate::proofs::LongerLemmas::key_outer, crate::proofs::LongerLemmas::named_begins))]
+fn add_longer(
+    next: &mut Vec<usize>,
+    key: &[usize],
+    list: &StartList,
+    lists: usize,
+    entry: &Entry,
+    service: &[u8],
+    seen: &[u8],
+    longer: &[u8],
+) -> Result<(), AllocError>
+    requires seen { length seen.now + lists * 36 ≤ 208 }
+    requires longer { length longer.now + lists * 36 ≤ 208 }
+    requires begins { starts_with nat_eq longer.now seen.now ≡ true }
+    requires key { key.now ≡ key_within lists list.now entry.now service.now seen.now }
+    ensures { OnOk result (next.new.items
+        ≡ next.old.items ++ key_within lists list.now entry.now service.now longer.now) }
+{
+    if lists == 0 {
+        return Ok(());
+    }
+    let outer = add_longer_marks(next, key, rules_of(list, entry), service, seen, longer)?;
+    match init_entry(list, entry.home()) {
+        Some(init) => {
+            let seen = label_with(entry.name(), seen);
+            let longer = label_with(entry.name(), longer);
+            add_longer(
+                next,
+                outer,
+                list,
+                lists - 1,
+                init,
+                service,
+                seen.as_slice(),
+                longer.as_slice(),
+            )
+        }
+        None => Ok(()),
+    }
+}
+
+// The marks of the rules of a list; answers what stands behind theirs in the key.
+#[tactic(auto, using(crate::proofs::LongerLemmas::turn_first))]
+fn add_longer_marks<'a>(
+    next: &mut Vec<usize>,
+    key: &'a [usize],
+    rules: &[Rule],
+    service: &[u8],
+    seen: &[u8],
+    longer: &[u8],
+) -> Result<&'a [usize], AllocError>
+    requires longer { length longer.now ≤ 208 }
+    requires begins { starts_with nat_eq longer.now seen.now ≡ true }
+    requires key { starts_with nat_eq key.now (marks_by service.now rules.now seen.now) ≡ true }
+    ensures marks { OnOk result (next.new.items
+        ≡ next.old.items ++ marks_by service.now rules.now longer.now) }
+    ensures rest { IfOk result (λ rest. rest.now
+        ≡ drop (length (marks_by service.now rules.now seen.now)) key.now) }
+{
+    let mut rest = key;
+    for place in 0..rules.len() {
+        rest = add_longer_rule(next, rest, &rules[place], service, seen, longer)?;
+    }
+    Ok(rest)
+}
+
+// The marks of a rule; answers what stands behind its own in the key.
+#[tactic(auto, using(crate::proofs::LongerLemmas::marks_some, crate::proofs::LongerLemmas::marks_lost, crate::proofs::LongerLemmas::marks_live))]
+fn add_longer_rule<'a>(
+    next: &mut Vec<usize>,
+    key: &'a [usize],
+    rule: &Rule,
+    service: &[u8],
+    seen: &[u8],
+    longer: &[u8],
+) -> Result<&'a [usize], AllocError>
+    requires longer { length longer.now ≤ 208 }
+    requires begins { starts_with nat_eq longer.now seen.now ≡ true }
+    requires key { starts_with nat_eq key.now (marks_of service.now rule.now seen.now) ≡ true }
+    ensures marks { OnOk result (next.new.items
+        ≡ next.old.items ++ marks_of service.now rule.now longer.now) }
+    ensures rest { IfOk result (λ rest. rest.now
+        ≡ drop (length (marks_of service.now rule.now seen.now)) key.now) }
+{
+    if key[0] == 0 {
+        next.push(0)?;
+        return Ok(&key[1..]);
+    }
+    add_rule(next, rule, service, longer)?;
+    Ok(&key[4..])
+}
