@@ -1,13 +1,15 @@
-//! What a change of a start list changes: entries that came, went or have other means, who reaches whom, and replies.
+//! What a change of a start list changes: entries that came, went or have other means, who reaches whom, needs, and replies.
 #![tactic(auto)]
 
 mod documents;
 mod fates;
+mod needs;
 mod reaches;
 mod replies;
 mod texts;
 
 pub use fates::{Change, changes};
+pub use needs::{Lack, Means, Need, lacks};
 pub use reaches::{Lead, Side, leads};
 pub use replies::{Changed, changed_replies};
 pub use texts::Differences;

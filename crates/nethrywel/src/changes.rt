@@ -1,12 +1,15 @@
 //! What a change of a start list changes.
-use crate::ends::{Played, REFUSED, UNWRITTEN, status_of};
+use crate::ends::{Played as Ended, REFUSED, UNWRITTEN, status_of};
 use crate::files::read_list;
 use crate::given::Given;
 use crate::lists::tell_fault;
 use crate::unfolding::unfolded;
-use init_core::StartList;
+use init_core::{Entry, StartList};
 use json_documents::Listing;
-use list_diff::{Changed, Differences, Side, changed_replies, changes, leads};
+use least::{Account, Budget, Question, Report};
+use list_diff::{
+    Changed, Differences, Lack, Means, Need, Side, changed_replies, changes, lacks, leads,
+};
 use reach::Table;
 use scenario::Output;
 use scenario_names::Known;
@@ -39,14 +42,14 @@ pub(crate) fn diff(rt: &HostRuntime, compared: Compared<'_>, json: bool) -> u8 {
     ) else {
         return REFUSED;
     };
-    let replies = match compared.scenario {
-        Some(path) => match replies(rt, path, &before, &after) {
-            Ok(replies) => replies,
+    let played = match compared.scenario {
+        Some(path) => match play_both(rt, path, &before, &after) {
+            Ok(played) => played,
             Err(status) => return status,
         },
-        None => Vec::new(rt.alloc()),
+        None => Played::nothing(rt.alloc()),
     };
-    let Ok(told) = differences(rt.alloc(), &before, &after, replies.as_slice(), json) else {
+    let Ok(told) = differences(rt.alloc(), &before, &after, &played, json) else {
         let _ = eprintln!(rt; "run: No_memory");
         return UNWRITTEN;
     };
@@ -63,6 +66,23 @@ pub(crate) fn diff(rt: &HostRuntime, compared: Compared<'_>, json: bool) -> u8 {
 struct Text {
     text: Vec<u8>,
     is_changed: bool,
+}
+
+// What a scenario shows of both lists.
+#[derive(Drop)]
+struct Played<'a> {
+    replies: Vec<Changed>,
+    lacks: Vec<Lack<'a>>,
+}
+
+impl<'a> Played<'a> {
+    // Nothing, where none is played.
+    fn nothing(alloc: Global) -> Played<'a> {
+        Played {
+            replies: Vec::new(alloc),
+            lacks: Vec::new(alloc),
+        }
+    }
 }
 
 // A start list that boots, with its text.
@@ -92,12 +112,12 @@ impl<'a> Policy<'a> {
     }
 }
 
-// What is told of entries, of who reaches whom, and of replies.
+// What is told of entries, of who reaches whom, of needs, and of replies.
 fn differences(
     alloc: Global,
     before: &Policy<'_>,
     after: &Policy<'_>,
-    replies: &[Changed],
+    played: &Played<'_>,
     json: bool,
 ) -> Result<Text, AllocError> {
     let (before, after) = (before.review.list(), after.review.list());
@@ -111,7 +131,7 @@ fn differences(
         list: after,
         cells: news.cells(),
     };
-    compare(alloc, was, now, replies, json)
+    compare(alloc, was, now, played, json)
 }
 
 // The same, by the cells of both tables.
@@ -119,7 +139,7 @@ fn compare<'a>(
     alloc: Global,
     was: Side<'a>,
     now: Side<'a>,
-    replies: &'a [Changed],
+    played: &'a Played<'a>,
     json: bool,
 ) -> Result<Text, AllocError> {
     let changes = changes(alloc, was.list, now.list)?;
@@ -132,18 +152,21 @@ fn compare<'a>(
     };
     Ok(Text {
         text: if json {
-            documents(alloc, told, replies)?
+            documents(alloc, told, played)?
         } else {
-            lines(alloc, told, replies)?
+            lines(alloc, told, played)?
         },
-        is_changed: !(told.is_empty() && replies.is_empty()),
+        is_changed: !(told.is_empty() && played.lacks.is_empty() && played.replies.is_empty()),
     })
 }
 
 // A line for each difference.
-fn lines(alloc: Global, told: Differences<'_>, replies: &[Changed]) -> Result<Vec<u8>, AllocError> {
+fn lines(alloc: Global, told: Differences<'_>, played: &Played<'_>) -> Result<Vec<u8>, AllocError> {
     let mut text = told.to_string(alloc)?.into_bytes();
-    for reply in replies {
+    for lack in &played.lacks {
+        text.extend_from_slice(lack.to_string(alloc)?.as_bytes())?;
+    }
+    for reply in &played.replies {
         reply.add_line(&mut text)?;
     }
     Ok(text)
@@ -153,23 +176,26 @@ fn lines(alloc: Global, told: Differences<'_>, replies: &[Changed]) -> Result<Ve
 fn documents(
     alloc: Global,
     told: Differences<'_>,
-    replies: &[Changed],
+    played: &Played<'_>,
 ) -> Result<Vec<u8>, AllocError> {
     let mut listing = Listing::new(alloc);
     told.list(alloc, &mut listing)?;
-    for reply in replies {
+    for lack in &played.lacks {
+        lack.list(&mut listing)?;
+    }
+    for reply in &played.replies {
         reply.list(&mut listing)?;
     }
     listing.into_text()
 }
 
-// The replies of a scenario that are other ones, or the exit status of one that can't be played to its end.
-fn replies(
+// What a scenario shows of both lists, or the exit status of one that can't be played to its end.
+fn play_both<'a>(
     rt: &HostRuntime,
     path: &str,
-    before: &Policy<'_>,
-    after: &Policy<'_>,
-) -> Result<Vec<Changed>, u8> {
+    before: &'a Policy<'_>,
+    after: &'a Policy<'_>,
+) -> Result<Played<'a>, u8> {
     let Ok(scenario) = fs::read(rt, path) else {
         let _ = eprintln!(rt; "{path}: Unreadable_scenario");
         return Err(REFUSED);
@@ -177,12 +203,81 @@ fn replies(
     let lines = unfolded(rt, path, &scenario, Given::nothing())?;
     let was = traced(rt, path, lines.bytes(), before)?;
     let now = traced(rt, path, lines.bytes(), after)?;
-    match changed_replies(rt.alloc(), was.as_slice(), now.as_slice()) {
-        Ok(replies) => Ok(replies),
+    let had = needs(rt, lines.bytes(), before)?;
+    let has = needs(rt, lines.bytes(), after)?;
+    let alloc = rt.alloc();
+    match (
+        changed_replies(alloc, was.as_slice(), now.as_slice()),
+        lacks(alloc, had.as_slice(), has.as_slice()),
+    ) {
+        (Ok(replies), Ok(lacks)) => Ok(Played { replies, lacks }),
+        _ => {
+            let _ = eprintln!(rt; "run: No_memory");
+            Err(UNWRITTEN)
+        }
+    }
+}
+
+// What the components of a list need for a scenario, or the exit status where there is no memory for it. Sessions aren't
+// looked at: what they are given the scenario says.
+fn needs<'a>(
+    rt: &HostRuntime,
+    scenario: &[u8],
+    policy: &'a Policy<'_>,
+) -> Result<Vec<Need<'a>>, u8> {
+    let alloc = rt.alloc();
+    let question = Question {
+        machine: &policy.text,
+        scenario,
+        as_donated: true,
+    };
+    let report = match Report::of(alloc, question, Known::new(alloc)) {
+        Ok(report) => report,
+        Err(fault) => {
+            let _ = eprintln!(rt; "{}: {fault}", policy.path);
+            return Err(REFUSED);
+        }
+    };
+    match needs_told(alloc, &report, policy.review.list()) {
+        Ok(needs) => Ok(needs),
         Err(AllocError) => {
             let _ = eprintln!(rt; "run: No_memory");
             Err(UNWRITTEN)
         }
+    }
+}
+
+// What a report tells of the components' own accounts.
+fn needs_told<'a>(
+    alloc: Global,
+    report: &Report,
+    list: &'a StartList,
+) -> Result<Vec<Need<'a>>, AllocError> {
+    let mut needs = Vec::new(alloc);
+    for account in report.accounts() {
+        if let (None, Some(entry)) = (account.session(), list.entries().get(account.component())) {
+            needs.push(need_of(account, entry))?;
+        }
+    }
+    Ok(needs)
+}
+
+// What is told of a component's account.
+fn need_of<'a>(account: &Account, entry: &'a Entry) -> Need<'a> {
+    let given = account.given();
+    Need {
+        name: entry.path(),
+        has: means_of(given.budget),
+        needs: account.least().map(means_of),
+        is_covered: given.refused.is_none(),
+    }
+}
+
+// The same budget, as differences tell it.
+fn means_of(budget: Budget) -> Means {
+    Means {
+        ram: budget.ram,
+        caps: budget.caps,
     }
 }
 
@@ -207,7 +302,7 @@ fn traced(
         let _ = eprintln!(rt; "{}: {fault}", policy.path);
         return Err(REFUSED);
     }
-    let played = Played {
+    let played = Ended {
         ended,
         unread: false,
     };
