@@ -42,14 +42,35 @@ pub(crate) fn diff(rt: &HostRuntime, compared: Compared<'_>, json: bool) -> u8 {
     ) else {
         return REFUSED;
     };
-    let played = match compared.scenario {
-        Some(path) => match play_both(rt, path, &before, &after) {
-            Ok(played) => played,
-            Err(status) => return status,
-        },
-        None => Played::nothing(rt.alloc()),
-    };
-    let Ok(told) = differences(rt.alloc(), &before, &after, &played, json) else {
+    match compared.scenario {
+        Some(path) => tell_played(rt, path, &before, &after, json),
+        None => tell(rt, &before, &after, &Played::nothing(rt.alloc()), json),
+    }
+}
+
+// Tells the differences with what a scenario shows of both lists.
+fn tell_played(
+    rt: &HostRuntime,
+    path: &str,
+    before: &Policy<'_>,
+    after: &Policy<'_>,
+    json: bool,
+) -> u8 {
+    match play_both(rt, path, before, after) {
+        Ok(played) => tell(rt, before, after, &played, json),
+        Err(status) => status,
+    }
+}
+
+// Tells all differences, and answers the exit status.
+fn tell(
+    rt: &HostRuntime,
+    before: &Policy<'_>,
+    after: &Policy<'_>,
+    played: &Played<'_>,
+    json: bool,
+) -> u8 {
+    let Ok(told) = differences(rt.alloc(), before, after, played, json) else {
         let _ = eprintln!(rt; "run: No_memory");
         return UNWRITTEN;
     };
