@@ -3,7 +3,7 @@ use Rattle.std.proofs.Common.{◌≡◌, ℕ, ◌+◌, ◌<◌, ◌≤◌, zero,
 use Rattle.std.specs.List.{flat_map, list_all, list_any}
 use Rattle.std.proofs.lemmas.Bool.Decides.{nat_tests}
 use Rattle.std.proofs.lemmas.Grind.{flat_map-append}
-use Rattle.std.proofs.lemmas.List.{get_or-map, length-map, map-set}
+use Rattle.std.proofs.lemmas.List.{get_or-map, map-set}
 use Rattle.std.proofs.lemmas.List.Concat.{flat_map-cons}
 use Rattle.std.proofs.lemmas.List.Folds.{list_all-append, list_any-append}
 use Rattle.recording.specs.Marked.{all_marked, marked, marks_after, noted_more, unmarked}
@@ -144,26 +144,35 @@ at n (suc place) e (mark ∷ marks) d is within =
     rw (not_above e.number n place is) (ap (λ ms. mark ∷ ms) (at (n + 1) place e marks d (omega (arith, is)) (omega (arith, within))))
 
 -- the same of marks as contracts see them
+many : (marks : List Marked) → length (marks_view marks) ≡ length marks
+many [] = refl
+many (mark ∷ marks) = ap suc (many marks)
+
+event_of : ℕ → Meeting → Event
+event_of number meeting = record { number = number; meeting = meeting }
+
 pub marked_at : (number place : ℕ) (meeting : Meeting) (marks : List Marked) (old new : Marked) → number ≡ 1 + place → place < length marks →
     old ≡ get_or marks place old → mark_view new ≡ marked (mark_view old) meeting →
     marks_view (slice_set marks place new) ≡ marks_after 1 (record { number = number; meeting = meeting }) (marks_view marks)
+unfolding event_of
 marked_at number place meeting marks old new is within there becomes =
-    let e = record { number = number; meeting = meeting } in
-    let inside : place < length (marks_view marks) = omega (arith, within, length-map mark_view marks) in
+    let inside : place < length (marks_view marks) = omega (arith, within, many marks) in
     let found : get_or (marks_view marks) place (mark_view old) ≡ mark_view old =
-    get_or-map mark_view marks place old (mark_view old) within ∙ ap mark_view (sym there) in
+        get_or-map mark_view marks place old (mark_view old) within ∙ ap mark_view (sym there) in
     map-set mark_view marks place new
     ∙ ap (slice_set (marks_view marks) place) (becomes ∙ ap (λ m. marked m meeting) (sym found))
-    ∙ sym (at 1 place e (marks_view marks) (mark_view old) is inside)
+    ∙ sym (at 1 place (event_of number meeting) (marks_view marks) (mark_view old) is inside)
 
 pub marked_behind : (number place : ℕ) (meeting : Meeting) (marks : List Marked) → number ≡ 1 + place → length marks ≤ place →
     marks_view marks ≡ marks_after 1 (record { number = number; meeting = meeting }) (marks_view marks)
+unfolding event_of
 marked_behind number place meeting marks is above =
-    sym (high 1 place (record { number = number; meeting = meeting }) (marks_view marks) is (omega (arith, above, length-map mark_view marks)))
+    sym (high 1 place (event_of number meeting) (marks_view marks) is (omega (arith, above, many marks)))
 
 pub marked_before : (number : ℕ) (meeting : Meeting) (marks : List Marked) → number < 1 →
     marks_view marks ≡ marks_after 1 (record { number = number; meeting = meeting }) (marks_view marks)
-marked_before number meeting marks low = sym (marks_low 1 (record { number = number; meeting = meeting }) (marks_view marks) low)
+unfolding event_of
+marked_before number meeting marks low = sym (marks_low 1 (event_of number meeting) (marks_view marks) low)
 
 -- what follows where there was room
 pub ok_then : {T E P Q : Type 0} (r : Result T E) → (P → Q) → OnOk r P → OnOk r Q

@@ -1,15 +1,29 @@
 -- What is recorded of a scenario that is played line by line.
-use Rattle.std.proofs.Common.{◌≡◌, ℕ, Bool, false, List, [], ◌∷◌, ◌++◌, Result, Ok, ap, refl, sym, ◌∙◌}
+use Rattle.std.proofs.Common.{◌≡◌, ℕ, ◌<◌, ◌≤◌, nat_le, nat_lt, cond, not, ◌&&◌, Bool, true, false, is_some, List, [], ◌∷◌, ◌++◌, length, Option, Some, None, Result, Ok, Err, OnOk, arith, ap, refl, subst, sym, ◌∙◌}
+use Rattle.std.specs.List.{flat_map}
+use Rattle.std.proofs.lemmas.Bool.Decides.{nat_tests}
 use Rattle.own_model.specs.Listed.{Listed, start_list_of}
+use Rattle.own_model.specs.Reply.{log_text}
 use Rattle.own_model.specs.StartList.{Boots}
+use Rattle.own_model.specs.Transcript.{heard as heard_call, longest_line}
 use Rattle.own_model.specs.World.{World, start_world}
 use Rattle.init_core.specs.StartText.{list_in}
+use Rattle.friendly_lines.specs.Friendly.{Said, said_of}
+use Rattle.friendly_lines.specs.declared.fault.Fault.{Fault}
+use Rattle.scenario.specs.Answer.{finished_lines}
 use Rattle.scenario.proofs.TaskLemmas.{fault_of_list, fault_of_text}
+use Rattle.scenario_names.specs.Directives.{Directive, directive_of}
+use Rattle.scenario_names.specs.Filling.{Filled, filled}
 use Rattle.scenario_names.specs.Known.{Known}
-use Rattle.recording.specs.Marked.{all_marked, unmarked}
-use Rattle.recording.specs.Played.{Deed, Stage, deed_of, events, first_stage, met_in, passed, stage_after, stage_behind}
+use Rattle.scenario_names.specs.declared.fault.NameFault.{NameFault}
+use Rattle.recording.specs.Marked.{TurnsTo, all_marked, marks_after, unmarked}
+use Rattle.recording.specs.Played.{Deed, Hearing, Stage, deed_by, deed_filled, deed_of, deed_said, events, first_stage, hearing_of, met_in, number_behind, passed, reply_in, stage_after, stage_behind}
 use Rattle.recording.specs.Played.Deed.{Passes, Follows, Awaits, Calls}
-use Rattle.recording.specs.Recorded.{IsRecorded, Mark, marks_of, pieces_of, recorded, without_last, written_lines}
+use Rattle.recording.specs.Played.Meeting.{Hears}
+use Rattle.recording.specs.Recorded.{IsRecorded, Mark, pieces_of, without_last, written_lines}
+use Rattle.recording.specs.Views.{hearing_view, stage_in}
+use Rattle.recording.specs.declared.hearing.Hearing.{Hearing as Heard}
+use Rattle.recording.specs.declared.stand.Stand.{Stand}
 use Rattle.recording.proofs.MarkLemmas.{marked_on, marks_in_all}
 
 -- no line changes who is there
@@ -22,12 +36,98 @@ entries_by stage (Calls filled call reply) = refl
 pub entries_behind : (stage : Stage) (line : List ℕ) → (stage_behind stage line).world.entries ≡ stage.world.entries
 entries_behind stage line = entries_by stage (deed_of stage.known line)
 
--- that a line was passed is no matter to what is met in it
-pub met_passed : (all : Bool) (number : ℕ) (stage : Stage) (deed : Deed) → met_in all number (passed stage) deed ≡ met_in all number stage deed
+-- ---- the turn of a line
+
+is_short : (n : ℕ) → n ≤ longest_line → nat_le n longest_line ≡ true
+is_short n short = grind (arith, nat_tests)
+
+is_long : (n : ℕ) → longest_line < n → nat_le n longest_line ≡ false
+is_long n long = grind (arith, nat_tests)
+
+-- what a line is
+pub deed_long : (known : Known) (line : List ℕ) → longest_line < length line → deed_of known line ≡ Passes
+deed_long known line long = ap (λ b. cond b (deed_filled (filled known line)) Passes) (is_long (length line) long)
+
+deed_short : (known : Known) (line : List ℕ) (made : Result Filled NameFault) → length line ≤ longest_line → made ≡ filled known line →
+    deed_of known line ≡ deed_filled made
+deed_short known line made short is =
+    ap (λ b. cond b (deed_filled (filled known line)) Passes) (is_short (length line) short) ∙ ap deed_filled (sym is)
+
+pub deed_unnamed : (known : Known) (line : List ℕ) (fault : NameFault) → length line ≤ longest_line → Err fault ≡ filled known line →
+    deed_of known line ≡ Passes
+deed_unnamed known line fault short is = deed_short known line (Err fault) short is
+
+pub deed_follows : (known : Known) (line : List ℕ) (made : Filled) (directive : Directive) → length line ≤ longest_line →
+    Ok made ≡ filled known line → Some directive ≡ directive_of made.line → deed_of known line ≡ Follows directive
+deed_follows known line made directive short is says = deed_short known line (Ok made) short is ∙ ap (deed_by made) (sym says)
+
+pub deed_says : (known : Known) (line : List ℕ) (made : Filled) → length line ≤ longest_line →
+    Ok made ≡ filled known line → None ≡ directive_of made.line → deed_of known line ≡ deed_said made (said_of made.line)
+deed_says known line made short is says = deed_short known line (Ok made) short is ∙ ap (deed_by made) (sym says)
+
+pub said_deed : (made : Filled) (line : List ℕ) (said : Result Said Fault) → said ≡ said_of line → deed_said made (said_of line) ≡ deed_said made said
+said_deed made line said is = ap (deed_said made) (sym is)
+
+-- a turn by what its line is
+pub turned_by : {E : Type 0} (r : Result Unit E) {all : Bool} {number : ℕ} {deed shown : Deed} {old new : Stage} {before after : List Mark} →
+    deed ≡ shown → OnOk r (TurnsTo all number shown old new before after) → OnOk r (TurnsTo all number deed old new before after)
+turned_by r {all} {number} {deed} {shown} {old} {new} {before} {after} is holds =
+    subst (λ d. OnOk r (TurnsTo all number d old new before after)) (sym is) holds
+
+-- where nothing is met
+pub turned_over : {E : Type 0} (r : Result Unit E) {all : Bool} {number : ℕ} {deed : Deed} {old new : Stage} {before after : List Mark} →
+    deed ≡ Passes → new ≡ old → after ≡ before → OnOk r (TurnsTo all number deed old new before after)
+turned_over (Ok done) {all} {number} {deed} {old} {new} {before} {after} is stays same =
+    subst (λ d. TurnsTo all number d old new before after) (sym is) (record { stage = stays; marks = same })
+turned_over (Err fault) is stays same = tt
+
+-- a call as it was heard
+pub heard_is : (all : Bool) (stage : Stage) (made : Filled) (call : List ℕ) (expected : Option (List ℕ)) (heard : Heard) (reply lines : List ℕ) →
+    heard.known.now ≡ stage.known → heard.binds ≡ nat_lt 0 (length made.holes) → heard.expects ≡ is_some expected → heard.call.now ≡ call →
+    heard.reply.now ≡ reply → heard.lines.now ≡ cond (stage.awaits && not all) [] lines → reply ≡ reply_in stage.world call →
+    lines ≡ flat_map log_text (finished_lines stage.world (heard_call stage.world.entries call)) →
+    hearing_view heard ≡ hearing_of all stage made call expected
+heard_is all stage made call expected heard reply lines known binds expects call_is reply_is lines_is answered finished =
+    rw (known, binds, expects, call_is, reply_is, lines_is, answered, finished) refl
+
+pub called : {all : Bool} {number : ℕ} {stage next : Stage} {made : Filled} {call : List ℕ} {expected : Option (List ℕ)} {before after : List Mark}
+    (h : Hearing) → h ≡ hearing_of all stage made call expected → next ≡ stage_after stage (Calls made call expected) →
+    after ≡ marks_after 1 (record { number = number; meeting = Hears h }) before →
+    TurnsTo all number (Calls made call expected) stage next before after
+called {number = number} {before = before} h is next_is after_is = record {
+  stage = next_is;
+  marks = after_is ∙ ap (λ x. marks_after 1 (record { number = number; meeting = Hears x }) before) is;
+}
+
+-- ---- a line is passed, and then played
+
+pub passed_in : (old new : Stand) (world : World) → new.number ≡ number_behind old.number → new.known ≡ old.known → new.awaits ≡ old.awaits →
+    stage_in new world ≡ passed (stage_in old world)
+passed_in old new world number known awaits = rw (number, known, awaits) refl
+
+met_passed : (all : Bool) (number : ℕ) (stage : Stage) (deed : Deed) → met_in all number (passed stage) deed ≡ met_in all number stage deed
 met_passed all number stage Passes = refl
 met_passed all number stage (Follows directive) = refl
 met_passed all number stage Awaits = refl
 met_passed all number stage (Calls filled call reply) = refl
+
+pub played_stage : {E : Type 0} (r : Result Unit E) {all : Bool} {number : ℕ} {line : List ℕ} {old stage new : Stage} {before after : List Mark}
+    (known : Known) → stage ≡ passed old → known ≡ old.known → OnOk r (TurnsTo all number (deed_of known line) stage new before after) →
+    OnOk r (new ≡ stage_behind old line)
+played_stage (Ok done) {line = line} {old} known is same turned =
+    turned.stage ∙ ap (λ s. stage_after s (deed_of known line)) is ∙ ap (λ k. stage_after (passed old) (deed_of k line)) same
+played_stage (Err fault) known is same turned = tt
+
+pub played_marks : {E : Type 0} (r : Result Unit E) {all : Bool} {line : List ℕ} {old stage new : Stage} {before after : List Mark}
+    (number : ℕ) (known : Known) → stage ≡ passed old → known ≡ old.known → number ≡ old.number →
+    OnOk r (TurnsTo all number (deed_of known line) stage new before after) →
+    OnOk r (after ≡ all_marked (met_in all old.number old (deed_of old.known line)) before)
+played_marks (Ok done) {all} {line} {old} {before = before} number known is same numbered turned =
+    turned.marks
+    ∙ ap (λ s. all_marked (met_in all number s (deed_of known line)) before) is
+    ∙ ap (λ es. all_marked es before) (met_passed all number old (deed_of known line))
+    ∙ rw (same, numbered) refl
+played_marks (Err fault) number known is same numbered turned = tt
 
 -- a line more is played
 pub one_more : (whole marks now : List Mark) (all all' : Bool) (stage next : Stage) (text line : List ℕ) (behind : List (List ℕ)) →
@@ -38,6 +138,11 @@ one_more whole marks now all all' stage next text line behind so pieces now_is a
     rw (now_is, all_is, next_is)
     (so ∙ ap (λ ps. all_marked (events all stage ps) marks) pieces
     ∙ marked_on (met_in all stage.number stage (deed_of stage.known line)) (events all (stage_behind stage line) behind) marks)
+
+-- a play begins
+pub first_in : (stand : Stand) (world : World) (given : Known) → stand.number ≡ 1 → stand.known ≡ given → stand.awaits ≡ false →
+    stage_in stand world ≡ first_stage world given
+first_in stand world given number known awaits = rw (number, known, awaits) refl
 
 -- the whole text
 pub whole_recorded : (machine : List ℕ) (all made_all : Bool) (given : Known) (played scenario : List ℕ) (listed : Listed) (world : World)

@@ -1,7 +1,7 @@
 -- What is met in each line of a scenario, event by event.
-use Rattle.std.specs.Prelude.{ℕ, ◌+◌, true, false, List, [], ◌∷◌, ◌++◌, map, nat_eq, if◌then◌else◌, Option, Some, None}
+use Rattle.std.specs.Prelude.{◌≡◌, ℕ, ◌+◌, Bool, true, false, List, [], ◌∷◌, ◌++◌, map, nat_eq, if◌then◌else◌, Option, Some, None}
 use Rattle.recording.specs.Notes.{heard_first, heard_more}
-use Rattle.recording.specs.Played.{Event, Hearing, Meeting}
+use Rattle.recording.specs.Played.{Deed, Event, Hearing, Meeting, Stage, met_in, stage_after}
 use Rattle.recording.specs.Played.Meeting.{Logs, Hears}
 use Rattle.recording.specs.Recorded.{Mark, Note}
 
@@ -29,3 +29,8 @@ marks_after number event (mark ∷ marks) =
 abbrev pub all_marked : List Event → List Mark → List Mark
 all_marked [] marks = marks
 all_marked (event ∷ events) marks = all_marked events (marks_after 1 event marks)
+
+-- the line of a number is played from one stage to the next, and what is met in it is marked
+pub record TurnsTo (all : Bool) (number : ℕ) (deed : Deed) (old new : Stage) (before after : List Mark) : Type 0 where
+  pub stage : new ≡ stage_after old deed
+  pub marks : after ≡ all_marked (met_in all number old deed) before

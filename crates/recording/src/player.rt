@@ -4,8 +4,8 @@ ghost use Rattle.std.specs.Option.{option_copied};
 ghost use Rattle.init_core.specs.declared.fault.BootFault.TheVariants.{NoMemory};
 ghost use Rattle.friendly_lines.specs.Friendly.{said_of};
 ghost use Rattle.scenario_names.specs.Views.{directive_view, filled_view};
-ghost use Rattle.recording.specs.Marked.{all_marked};
-ghost use Rattle.recording.specs.Played.{deed_of, deed_said, events, met_in, stage_after, stage_behind};
+ghost use Rattle.recording.specs.Marked.{TurnsTo, all_marked};
+ghost use Rattle.recording.specs.Played.{deed_of, deed_said, events, met_in, stage_behind};
 ghost use Rattle.recording.specs.Played.Deed.{Calls, Follows};
 ghost use Rattle.recording.specs.Recorded.{pieces_of, without_last, written_lines};
 ghost use Rattle.recording.specs.Views.{marks_view, stage_in};
@@ -98,10 +98,28 @@ impl<'a> Player<'a> {
             ≡ stage_behind (stage_in self.old.stand core.old) line.now) }
         ensures marks { OnOk result (marks_view self.new.marks.marks.items ≡ all_marked
             (met_in self.old.all self.old.stand.number (stage_in self.old.stand core.old)
-            (deed_of self.old.stand.known line.now))
-            (marks_view self.old.marks.marks.items)) }
+            (deed_of self.old.stand.known line.now)) (marks_view self.old.marks.marks.items)) }
     {
         let number = self.stand.pass();
+        self.play_passed(list, core, number, line, rooms)
+    }
+
+    // Plays a line of this number, which is passed.
+    fn play_passed<R: Router + Drop>(
+        &mut self,
+        list: &StartList,
+        core: &mut Core<R>,
+        number: u64,
+        line: &[u8],
+        rooms: &mut Rooms,
+    ) -> Result<(), AllocError>
+        requires listed { core.old.entries ≡ entries_of (start_list_of list.now) }
+        ensures all { self.new.all ≡ self.old.all }
+        ensures turned { OnOk result (TurnsTo self.old.all number
+            (deed_of self.old.stand.known line.now)
+            (stage_in self.old.stand core.old) (stage_in self.new.stand core.new)
+            (marks_view self.old.marks.marks.items) (marks_view self.new.marks.marks.items)) }
+    {
         if line.len() > LONGEST_LINE {
             return self.miss(number, Why::TooLong);
         }
@@ -122,9 +140,10 @@ impl<'a> Player<'a> {
         directive: Directive<'_>,
     ) -> Result<(), AllocError>
         ensures all { self.new.all ≡ self.old.all }
-        ensures marks { self.new.marks ≡ self.old.marks }
-        ensures stage { (world : World) → OnOk result (stage_in self.new.stand world
-            ≡ stage_after (stage_in self.old.stand world) (Follows (directive_view directive.entry))) }
+        ensures turned { (world : World) → OnOk result (TurnsTo self.old.all number
+            (Follows (directive_view directive.entry))
+            (stage_in self.old.stand world) (stage_in self.new.stand world)
+            (marks_view self.old.marks.marks.items) (marks_view self.new.marks.marks.items)) }
     {
         match directive {
             Directive::Repeat | Directive::End => self.miss(number, Why::Rounds(column_of(line))),
@@ -145,13 +164,10 @@ impl<'a> Player<'a> {
     ) -> Result<(), AllocError>
         requires listed { core.old.entries ≡ entries_of (start_list_of list.now) }
         ensures all { self.new.all ≡ self.old.all }
-        ensures stage { OnOk result (stage_in self.new.stand core.new
-            ≡ stage_after (stage_in self.old.stand core.old)
-            (deed_said (filled_view filled.now) (said_of filled.now.line.now))) }
-        ensures marks { OnOk result (marks_view self.new.marks.marks.items ≡ all_marked
-            (met_in self.old.all number (stage_in self.old.stand core.old)
-            (deed_said (filled_view filled.now) (said_of filled.now.line.now)))
-            (marks_view self.old.marks.marks.items)) }
+        ensures turned { OnOk result (TurnsTo self.old.all number
+            (deed_said (filled_view filled.now) (said_of filled.now.line.now))
+            (stage_in self.old.stand core.old) (stage_in self.new.stand core.new)
+            (marks_view self.old.marks.marks.items) (marks_view self.new.marks.marks.items)) }
     {
         match read_friendly(filled.line, room) {
             Ok(Said::Nothing) => Ok(()),
@@ -186,13 +202,10 @@ impl<'a> Player<'a> {
     ) -> Result<(), AllocError>
         requires listed { core.old.entries ≡ entries_of (start_list_of list.now) }
         ensures all { self.new.all ≡ self.old.all }
-        ensures stage { OnOk result (stage_in self.new.stand core.new
-            ≡ stage_after (stage_in self.old.stand core.old)
-            (Calls (filled_view filled.now) call.now (option_copied expected.entry))) }
-        ensures marks { OnOk result (marks_view self.new.marks.marks.items ≡ all_marked
-            (met_in self.old.all number (stage_in self.old.stand core.old)
-            (Calls (filled_view filled.now) call.now (option_copied expected.entry)))
-            (marks_view self.old.marks.marks.items)) }
+        ensures turned { OnOk result (TurnsTo self.old.all number
+            (Calls (filled_view filled.now) call.now (option_copied expected.entry))
+            (stage_in self.old.stand core.old) (stage_in self.new.stand core.new)
+            (marks_view self.old.marks.marks.items) (marks_view self.new.marks.marks.items)) }
     {
         let run = Run { list, only: None };
         let Some(answer) = run.answer(core, call, &mut self.reply) else {

@@ -13,10 +13,10 @@ pub returns-in-Some-get_mut : goal.returns-in-Some-get_mut
 returns-in-Some-get_mut c =
     ok_then c.hear.result
     (marked_at c.args.number c.in-Some.place (Hears (hearing_view c.args.hearing.now)) c.args.self.now.marks.items c.in-Some-get_mut.mark.now
-    c.hear.new.self (omega (arith, c.in-Some.ensures)) c.in-Some-get_mut.ensures.item.1.1.1.0.0 c.in-Some-get_mut.ensures.value)
+    c.hear.new.self (omega (arith, c.in-Some.ensures)) c.in-Some-get_mut.ensures.item.3.0 c.in-Some-get_mut.ensures.value)
     c.hear.ensures
 
 pub returns-in-None : goal.returns-in-None
 returns-in-None c =
     marked_behind c.args.number c.in-Some.place (Hears (hearing_view c.args.hearing.now)) c.args.self.now.marks.items
-    (omega (arith, c.in-Some.ensures)) c.in-None.ensures.item.1.1.1.0
+    (omega (arith, c.in-Some.ensures)) c.in-None.ensures.item.3

@@ -10,9 +10,9 @@ returns-in_default c = marked_before c.args.number Logs c.args.self.now.marks.it
 pub returns-in-Some-get_mut : goal.returns-in-Some-get_mut
 returns-in-Some-get_mut c =
     marked_at c.args.number c.in-Some.place Logs c.args.self.now.marks.items c.in-Some-get_mut.mark.now _
-    (omega (arith, c.in-Some.ensures)) c.in-Some-get_mut.ensures.item.1.1.1.0.0 c.in-Some-get_mut.ensures.value refl
+    (omega (arith, c.in-Some.ensures)) c.in-Some-get_mut.ensures.item.3.0 c.in-Some-get_mut.ensures.value refl
 
 pub returns-in_default-get_mut : goal.returns-in_default-get_mut
 returns-in_default-get_mut c =
     marked_behind c.args.number c.in-Some.place Logs c.args.self.now.marks.items
-    (omega (arith, c.in-Some.ensures)) c.in_default-get_mut.ensures.item.1.1.1.0
+    (omega (arith, c.in-Some.ensures)) c.in_default-get_mut.ensures.item.3
