@@ -69,17 +69,17 @@ pub said_deed : (made : Filled) (line : List ℕ) (said : Result Said Fault) →
 said_deed made line said is = ap (deed_said made) (sym is)
 
 -- a turn by what its line is
-pub turned_by : {E : Type 0} (r : Result Unit E) {all : Bool} {number : ℕ} {deed shown : Deed} {old new : Stage} {before after : List Mark} →
+pub turned_by : {E : Type 0} (r : Result Unit E) (all : Bool) (number : ℕ) (deed shown : Deed) (old new : Stage) (before after : List Mark) →
     deed ≡ shown → OnOk r (TurnsTo all number shown old new before after) → OnOk r (TurnsTo all number deed old new before after)
-turned_by r {all} {number} {deed} {shown} {old} {new} {before} {after} is holds =
+turned_by r all number deed shown old new before after is holds =
     subst (λ d. OnOk r (TurnsTo all number d old new before after)) (sym is) holds
 
 -- where nothing is met
-pub turned_over : {E : Type 0} (r : Result Unit E) {all : Bool} {number : ℕ} {deed : Deed} {old new : Stage} {before after : List Mark} →
+pub turned_over : {E : Type 0} (r : Result Unit E) (all : Bool) (number : ℕ) (deed : Deed) (old new : Stage) (before after : List Mark) →
     deed ≡ Passes → new ≡ old → after ≡ before → OnOk r (TurnsTo all number deed old new before after)
-turned_over (Ok done) {all} {number} {deed} {old} {new} {before} {after} is stays same =
+turned_over (Ok done) all number deed old new before after is stays same =
     subst (λ d. TurnsTo all number d old new before after) (sym is) (record { stage = stays; marks = same })
-turned_over (Err fault) is stays same = tt
+turned_over (Err fault) all number deed old new before after is stays same = tt
 
 -- a call as it was heard
 pub heard_is : (all : Bool) (stage : Stage) (made : Filled) (call : List ℕ) (expected : Option (List ℕ)) (heard : Heard) (reply lines : List ℕ) →
@@ -111,23 +111,23 @@ met_passed all number stage (Follows directive) = refl
 met_passed all number stage Awaits = refl
 met_passed all number stage (Calls filled call reply) = refl
 
-pub played_stage : {E : Type 0} (r : Result Unit E) {all : Bool} {number : ℕ} {line : List ℕ} {old stage new : Stage} {before after : List Mark}
+pub played_stage : {E : Type 0} (r : Result Unit E) (all : Bool) (number : ℕ) (line : List ℕ) (old stage new : Stage) (before after : List Mark)
     (known : Known) → stage ≡ passed old → known ≡ old.known → OnOk r (TurnsTo all number (deed_of known line) stage new before after) →
     OnOk r (new ≡ stage_behind old line)
-played_stage (Ok done) {line = line} {old} known is same turned =
+played_stage (Ok done) all number line old stage new before after known is same turned =
     turned.stage ∙ ap (λ s. stage_after s (deed_of known line)) is ∙ ap (λ k. stage_after (passed old) (deed_of k line)) same
-played_stage (Err fault) known is same turned = tt
+played_stage (Err fault) all number line old stage new before after known is same turned = tt
 
-pub played_marks : {E : Type 0} (r : Result Unit E) {all : Bool} {line : List ℕ} {old stage new : Stage} {before after : List Mark}
+pub played_marks : {E : Type 0} (r : Result Unit E) (all : Bool) (line : List ℕ) (old stage new : Stage) (before after : List Mark)
     (number : ℕ) (known : Known) → stage ≡ passed old → known ≡ old.known → number ≡ old.number →
     OnOk r (TurnsTo all number (deed_of known line) stage new before after) →
     OnOk r (after ≡ all_marked (met_in all old.number old (deed_of old.known line)) before)
-played_marks (Ok done) {all} {line} {old} {before = before} number known is same numbered turned =
+played_marks (Ok done) all line old stage new before after number known is same numbered turned =
     turned.marks
     ∙ ap (λ s. all_marked (met_in all number s (deed_of known line)) before) is
     ∙ ap (λ es. all_marked es before) (met_passed all number old (deed_of known line))
     ∙ rw (same, numbered) refl
-played_marks (Err fault) number known is same numbered turned = tt
+played_marks (Err fault) all line old stage new before after number known is same numbered turned = tt
 
 -- a line more is played
 pub one_more : (whole marks now : List Mark) (all all' : Bool) (stage next : Stage) (text line : List ℕ) (behind : List (List ℕ)) →
