@@ -69,16 +69,24 @@ pub said_deed : (made : Filled) (line : List ℕ) (said : Result Said Fault) →
 said_deed made line said is = ap (deed_said made) (sym is)
 
 -- a turn by what its line is
+pub turns_by : (all : Bool) (number : ℕ) (deed shown : Deed) (old new : Stage) (before after : List Mark) →
+    deed ≡ shown → TurnsTo all number shown old new before after → TurnsTo all number deed old new before after
+turns_by all number deed shown old new before after is turns = subst (λ d. TurnsTo all number d old new before after) (sym is) turns
+
 pub turned_by : {E : Type 0} (r : Result Unit E) (all : Bool) (number : ℕ) (deed shown : Deed) (old new : Stage) (before after : List Mark) →
     deed ≡ shown → OnOk r (TurnsTo all number shown old new before after) → OnOk r (TurnsTo all number deed old new before after)
-turned_by r all number deed shown old new before after is holds =
-    subst (λ d. OnOk r (TurnsTo all number d old new before after)) (sym is) holds
+turned_by (Ok done) all number deed shown old new before after is turns = turns_by all number deed shown old new before after is turns
+turned_by (Err fault) all number deed shown old new before after is none = tt
 
 -- where nothing is met
+pub turns_over : (all : Bool) (number : ℕ) (deed : Deed) (old new : Stage) (before after : List Mark) →
+    deed ≡ Passes → new ≡ old → after ≡ before → TurnsTo all number deed old new before after
+turns_over all number deed old new before after is stays same =
+    turns_by all number deed Passes old new before after is (record { stage = stays; marks = same })
+
 pub turned_over : {E : Type 0} (r : Result Unit E) (all : Bool) (number : ℕ) (deed : Deed) (old new : Stage) (before after : List Mark) →
     deed ≡ Passes → new ≡ old → after ≡ before → OnOk r (TurnsTo all number deed old new before after)
-turned_over (Ok done) all number deed old new before after is stays same =
-    subst (λ d. TurnsTo all number d old new before after) (sym is) (record { stage = stays; marks = same })
+turned_over (Ok done) all number deed old new before after is stays same = turns_over all number deed old new before after is stays same
 turned_over (Err fault) all number deed old new before after is stays same = tt
 
 -- a call as it was heard

@@ -45,11 +45,11 @@ abbrev pub call_end : List ℕ → ℕ
 call_end line = unwrap_or (arrow_of (take (end_of line) line)) (end_of line)
 
 -- a line of whose call this is expected, in place of what is, and all else as it stands
-abbrev pub expecting : List ℕ → List ℕ → List ℕ
+unfoldable pub expecting : List ℕ → List ℕ → List ℕ
 expecting line reply = take (call_end line) line ++ codes " => " ++ reply ++ drop (end_of line) line
 
 -- whether a reply refuses, as it is expected
-abbrev pub verdict : List ℕ → List ℕ
+unfoldable pub verdict : List ℕ → List ℕ
 verdict reply = if meets reply (codes "refused") then codes "refused" else codes "granted"
 
 -- ---- what holds in one turn
@@ -72,7 +72,7 @@ is_met hearing line =
     if nat_le (length line) longest_line then reads_met hearing (filled hearing.known line) else false
 
 -- and so are these log lines before it
-abbrev pub holds : List ℕ → List ℕ → Hearing → Bool
+unfoldable pub holds : List ℕ → List ℕ → Hearing → Bool
 holds lines line hearing = bytes_eq hearing.lines lines && is_met hearing line
 
 -- ---- what the turns of one line say together
@@ -106,7 +106,7 @@ anew_unbound line note =
     if note.exact then Some (expecting line note.reply)
     else (if note.told then Some (expecting line (verdict note.reply)) else None)
 
-abbrev pub anew : Bool → List ℕ → Note → Option (List ℕ)
+unfoldable pub anew : Bool → List ℕ → Note → Option (List ℕ)
 anew all line note =
     if note.expects && not all then None
     else (if note.binds then (if note.own then Some line else None) else anew_unbound line note)

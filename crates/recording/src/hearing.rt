@@ -43,6 +43,7 @@ pub(crate) struct Hearing<'a> {
 
 impl Hearing<'_> {
     /// Whether a line in its place is met, as names stood then, and these log lines before it.
+    #[tactic(auto, unfolding(crate::specs::Recorded::holds))]
     pub(crate) fn holds(&self, lines: &[u8], line: &[u8], rooms: &mut Rooms) -> bool
         ensures { result ≡ holds lines.now line.now (hearing_view self.now) }
     {

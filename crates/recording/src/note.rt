@@ -122,6 +122,7 @@ impl Note {
     }
 
     // How the line is written.
+    #[tactic(auto, unfolding(crate::specs::Recorded::anew))]
     fn form(&self, all: bool) -> Form
         ensures { (line : List ℕ) →
             line_by line (note_view self.now) result ≡ anew all line (note_view self.now) }
@@ -143,6 +144,7 @@ impl Note {
 }
 
 // Whether a reply refuses, as it is expected.
+#[tactic(auto, unfolding(crate::specs::Recorded::verdict))]
 fn verdict(reply: &[u8]) -> &[u8]
     ensures { result.now ≡ verdict reply.now }
 {

@@ -146,7 +146,8 @@ impl<'a> Player<'a> {
             (marks_view self.old.marks.marks.items) (marks_view self.new.marks.marks.items)) }
     {
         match directive {
-            Directive::Repeat | Directive::End => self.miss(number, Why::Rounds(column_of(line))),
+            Directive::Repeat => self.miss(number, Why::Repeat(column_of(line))),
+            Directive::End => self.miss(number, Why::End(column_of(line))),
             Directive::Unknown => self.miss(number, Why::Directive(column_of(line))),
             _ => self.stand.follow(directive),
         }

@@ -16,9 +16,12 @@ pub enum Why {
     /// A name in it has one.
     #[error("{0}")]
     Name(NameFault),
-    /// It is `@repeat` or `@end`, and wasn't so before it was filled; this is its column.
-    #[error("{0}: @repeat and @end are read before names stand for anything")]
-    Rounds(usize),
+    /// It is `@repeat`, and wasn't so before it was filled; this is its column.
+    #[error("{0}: @repeat stands in a scenario of a file alone")]
+    Repeat(usize),
+    /// It is `@end`, and wasn't so before it was filled; this is its column.
+    #[error("{0}: @end stands in a scenario of a file alone")]
+    End(usize),
     /// It begins with `@` and is no directive; this is its column.
     #[error("{0}: none of @set NAME VALUE, @repeat N [as NAME] and @end")]
     Directive(usize),

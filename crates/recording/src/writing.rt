@@ -31,6 +31,7 @@ pub(crate) fn put_expected(text: &mut Vec<u8>, lines: &[u8], line: &[u8]) -> Res
 }
 
 /// A line of whose call this is expected, in place of what is, and all else as it stands.
+#[tactic(auto, unfolding(crate::specs::Recorded::expecting))]
 pub(crate) fn expecting(alloc: Global, line: &[u8], reply: &[u8]) -> Result<Vec<u8>, AllocError>
     ensures { IfOk result (λ new. new.items ≡ expecting line.now reply.now) }
 {
