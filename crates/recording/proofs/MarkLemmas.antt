@@ -158,7 +158,7 @@ unfolding event_of
 marked_at number place meeting marks old new is within there becomes =
     let inside : place < length (marks_view marks) = omega (arith, within, many marks) in
     let found : get_or (marks_view marks) place (mark_view old) ≡ mark_view old =
-        get_or-map mark_view marks place old (mark_view old) within ∙ ap mark_view (sym there) in
+    get_or-map mark_view marks place old (mark_view old) within ∙ ap mark_view (sym there) in
     map-set mark_view marks place new
     ∙ ap (slice_set (marks_view marks) place) (becomes ∙ ap (λ m. marked m meeting) (sym found))
     ∙ sym (at 1 place (event_of number meeting) (marks_view marks) (mark_view old) is inside)
