@@ -3,8 +3,9 @@ use crate::ends::{REFUSED, UNWRITTEN, status_of};
 use crate::files::{STANDARD_INPUT, read_start_list};
 use crate::given::Given;
 use crate::needs::{read_scenario, tell_unbooted};
+use crate::unfolding::unfolded;
 use init_core::MACHINE_A;
-use recording::{Recording, record};
+use recording::{Recording, Scenario, record};
 use std::fs::File;
 use std::io::Write;
 use std::{fs, io};
@@ -51,7 +52,18 @@ fn record_on(rt: &HostRuntime, machine: &[u8], wanted: Wanted<'_>) -> u8 {
         Ok(text) => text,
         Err(status) => return status,
     };
-    match record(rt.alloc(), machine, text.as_slice(), wanted.all) {
+    let (lines, known) = match (
+        unfolded(rt, wanted.scenario, text.as_slice(), wanted.given),
+        wanted.given.known_or_told(rt),
+    ) {
+        (Ok(lines), Ok(known)) => (lines, known),
+        (Err(status), _) | (_, Err(status)) => return status,
+    };
+    let scenario = Scenario {
+        text: text.as_slice(),
+        unfolded: lines.bytes(),
+    };
+    match record(rt.alloc(), machine, scenario, known, wanted.all) {
         Ok(recording) => {
             let status = tell_unread(rt, wanted.scenario, &recording);
             let told = tell(rt, wanted, text.as_slice(), recording.text.as_slice());

@@ -1,2 +1,3 @@
 mod PieceLemmas
+mod MarkLemmas
 mod RecordedLemmas

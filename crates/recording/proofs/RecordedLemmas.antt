@@ -1,20 +1,42 @@
--- What is recorded of a line, by what is read of it and what it is answered; and of lines, one after another.
-use Rattle.std.proofs.Common.{◌≡◌, ℕ, ◌<◌, ◌≤◌, nat_le, cond, not, ◌&&◌, Bool, true, false, is_some, List, [], ◌∷◌, ◌++◌, length, append_assoc, Option, Result, Ok, Err, OnOk, arith, refl, sym, ap, ◌∙◌}
+-- What is recorded of a scenario that is played line by line.
+use Rattle.std.proofs.Common.{◌≡◌, ℕ, ◌<◌, ◌≤◌, nat_le, nat_lt, cond, not, ◌&&◌, Bool, true, false, is_some, List, [], ◌∷◌, ◌++◌, length, Option, Some, None, Result, Ok, Err, OnOk, arith, ap, refl, subst, sym, ◌∙◌}
+use Rattle.std.specs.List.{flat_map}
 use Rattle.std.proofs.lemmas.Bool.Decides.{nat_tests}
 use Rattle.own_model.specs.Listed.{Listed, start_list_of}
-use Rattle.own_model.specs.Reply.{reply_text}
+use Rattle.own_model.specs.Reply.{log_text}
 use Rattle.own_model.specs.StartList.{Boots}
-use Rattle.own_model.specs.Transcript.{heard, longest_line}
+use Rattle.own_model.specs.Transcript.{heard as heard_call, longest_line}
 use Rattle.own_model.specs.World.{World, start_world}
 use Rattle.init_core.specs.StartText.{list_in}
 use Rattle.friendly_lines.specs.Friendly.{Said, said_of}
-use Rattle.friendly_lines.specs.Friendly.Said.{Nothing, Log, Call}
 use Rattle.friendly_lines.specs.declared.fault.Fault.{Fault}
-use Rattle.scenario.specs.Answer.{answered_reply}
+use Rattle.scenario.specs.Answer.{finished_lines}
 use Rattle.scenario.proofs.TaskLemmas.{fault_of_list, fault_of_text}
-use Rattle.recording.specs.Recorded.{IsRecorded, answered_line, awaits_after, ending_of, expected_lines, expecting, is_met, kept, lines_for, pieces_of, recorded_call, recorded_line, recorded_lines, verdict, without_last, world_after, world_behind}
+use Rattle.scenario_names.specs.Directives.{Directive, directive_of}
+use Rattle.scenario_names.specs.Filling.{Filled, filled}
+use Rattle.scenario_names.specs.Known.{Known}
+use Rattle.scenario_names.specs.declared.fault.NameFault.{NameFault}
+use Rattle.recording.specs.Marked.{TurnsTo, all_marked, marks_after, unmarked}
+use Rattle.recording.specs.Played.{Deed, Hearing, Stage, deed_by, deed_filled, deed_of, deed_said, events, first_stage, hearing_of, met_in, number_behind, passed, reply_in, stage_after, stage_behind}
+use Rattle.recording.specs.Played.Deed.{Passes, Follows, Awaits, Calls}
+use Rattle.recording.specs.Played.Meeting.{Hears}
+use Rattle.recording.specs.Recorded.{IsRecorded, Mark, pieces_of, without_last, written_lines}
+use Rattle.recording.specs.Views.{hearing_view, stage_in}
+use Rattle.recording.specs.declared.hearing.Hearing.{Hearing as Heard}
+use Rattle.recording.specs.declared.stand.Stand.{Stand}
+use Rattle.recording.proofs.MarkLemmas.{marked_on, marks_in_all}
 
--- ---- choices
+-- no line changes who is there
+entries_by : (stage : Stage) (deed : Deed) → (stage_after (passed stage) deed).world.entries ≡ stage.world.entries
+entries_by stage Passes = refl
+entries_by stage (Follows directive) = refl
+entries_by stage Awaits = refl
+entries_by stage (Calls filled call reply) = refl
+
+pub entries_behind : (stage : Stage) (line : List ℕ) → (stage_behind stage line).world.entries ≡ stage.world.entries
+entries_behind stage line = entries_by stage (deed_of stage.known line)
+
+-- ---- the turn of a line
 
 is_short : (n : ℕ) → n ≤ longest_line → nat_le n longest_line ≡ true
 is_short n short = grind (arith, nat_tests)
@@ -22,109 +44,130 @@ is_short n short = grind (arith, nat_tests)
 is_long : (n : ℕ) → longest_line < n → nat_le n longest_line ≡ false
 is_long n long = grind (arith, nat_tests)
 
--- what is so of a line that isn't too long is so by what is read of it
-pub by_said : {X : Type 0} (f : Result Said Fault → X) (whole : X) (line : List ℕ) (said : Result Said Fault) →
-    length line ≤ longest_line → said ≡ said_of line → cond (nat_le (length line) longest_line) (f (said_of line)) whole ≡ f said
-by_said f whole line said short is = ap (λ b. cond b (f (said_of line)) whole) (is_short (length line) short) ∙ ap f (sym is)
+-- what a line is
+pub deed_long : (known : Known) (line : List ℕ) → longest_line < length line → deed_of known line ≡ Passes
+deed_long known line long = ap (λ b. cond b (deed_filled (filled known line)) Passes) (is_long (length line) long)
 
--- and of one that is too long nothing is read
-pub too_long : {X : Type 0} (read whole : X) (line : List ℕ) → longest_line < length line → cond (nat_le (length line) longest_line) read whole ≡ whole
-too_long read whole line long = ap (λ b. cond b read whole) (is_long (length line) long)
+deed_short : (known : Known) (line : List ℕ) (made : Result Filled NameFault) → length line ≤ longest_line → made ≡ filled known line →
+    deed_of known line ≡ deed_filled made
+deed_short known line made short is =
+    ap (λ b. cond b (deed_filled (filled known line)) Passes) (is_short (length line) short) ∙ ap deed_filled (sym is)
 
-chosen : {X : Type 0} (b : Bool) (x y : X) → b ≡ true → cond b x y ≡ x
-chosen b x y is = ap (λ b. cond b x y) is
+pub deed_unnamed : (known : Known) (line : List ℕ) (fault : NameFault) → length line ≤ longest_line → Err fault ≡ filled known line →
+    deed_of known line ≡ Passes
+deed_unnamed known line fault short is = deed_short known line (Err fault) short is
 
-other : {X : Type 0} (b : Bool) (x y : X) → b ≡ false → cond b x y ≡ y
-other b x y is = ap (λ b. cond b x y) is
+pub deed_follows : (known : Known) (line : List ℕ) (made : Filled) (directive : Directive) → length line ≤ longest_line →
+    Ok made ≡ filled known line → Some directive ≡ directive_of made.line → deed_of known line ≡ Follows directive
+deed_follows known line made directive short is says = deed_short known line (Ok made) short is ∙ ap (deed_by made) (sym says)
 
--- what is so whether or not there was room
-pub on_ok : {T E P : Type 0} (r : Result T E) → P → OnOk r P
-on_ok (Ok x) holds = holds
-on_ok (Err fault) holds = tt
+pub deed_says : (known : Known) (line : List ℕ) (made : Filled) → length line ≤ longest_line →
+    Ok made ≡ filled known line → None ≡ directive_of made.line → deed_of known line ≡ deed_said made (said_of made.line)
+deed_says known line made short is says = deed_short known line (Ok made) short is ∙ ap (deed_by made) (sym says)
 
--- both of two, by the first
-pub follows : (a b both : Bool) → a ≡ true → both ≡ b → both ≡ (a && b)
-follows a b both is so = so ∙ ap (λ x. x && b) (sym is)
+pub said_deed : (made : Filled) (line : List ℕ) (said : Result Said Fault) → said ≡ said_of line → deed_said made (said_of line) ≡ deed_said made said
+said_deed made line said is = ap (deed_said made) (sym is)
 
-pub falls : (a b both : Bool) → a ≡ false → both ≡ false → both ≡ (a && b)
-falls a b both is so = so ∙ ap (λ x. x && b) (sym is)
+-- a turn by what its line is
+pub turns_by : (all : Bool) (number : ℕ) (deed shown : Deed) (old new : Stage) (before after : List Mark) →
+    deed ≡ shown → TurnsTo all number shown old new before after → TurnsTo all number deed old new before after
+turns_by all number deed shown old new before after is turns = subst (λ d. TurnsTo all number d old new before after) (sym is) turns
 
--- ---- a line that is answered
+pub turned_by : {E : Type 0} (r : Result Unit E) (all : Bool) (number : ℕ) (deed shown : Deed) (old new : Stage) (before after : List Mark) →
+    deed ≡ shown → OnOk r (TurnsTo all number shown old new before after) → OnOk r (TurnsTo all number deed old new before after)
+turned_by (Ok done) all number deed shown old new before after is turns = turns_by all number deed shown old new before after is turns
+turned_by (Err fault) all number deed shown old new before after is none = tt
 
-pub with_reply : (line call : List ℕ) (old : Option (List ℕ)) (lines reply seen new : List ℕ) →
-    seen ≡ expecting line old reply → is_met call reply seen ≡ true → new ≡ expecting line old reply →
-    expected_lines (ending_of line) true lines ++ kept new ≡ answered_line line call old lines reply
-with_reply line call old lines reply seen new seen_is met is =
-    ap (λ text. expected_lines (ending_of line) true lines ++ kept text) is
-    ∙ sym (chosen (is_met call reply (expecting line old reply)) _ _ (ap (is_met call reply) (sym seen_is) ∙ met))
+-- where nothing is met
+pub turns_over : (all : Bool) (number : ℕ) (deed : Deed) (old new : Stage) (before after : List Mark) →
+    deed ≡ Passes → new ≡ old → after ≡ before → TurnsTo all number deed old new before after
+turns_over all number deed old new before after is stays same =
+    turns_by all number deed Passes old new before after is (record { stage = stays; marks = same })
 
-pub with_verdict : (line call : List ℕ) (old : Option (List ℕ)) (lines reply exact seen new : List ℕ) →
-    exact ≡ expecting line old reply → is_met call reply exact ≡ false →
-    seen ≡ expecting line old (verdict reply) → is_met call reply seen ≡ true → new ≡ expecting line old (verdict reply) →
-    expected_lines (ending_of line) true lines ++ kept new ≡ answered_line line call old lines reply
-with_verdict line call old lines reply exact seen new exactly unmet seen_is met is =
-    ap (λ text. expected_lines (ending_of line) true lines ++ kept text) is
-    ∙ sym (chosen (is_met call reply (expecting line old (verdict reply))) _ _ (ap (is_met call reply) (sym seen_is) ∙ met))
-    ∙ sym (other (is_met call reply (expecting line old reply)) _ _ (ap (is_met call reply) (sym exactly) ∙ unmet))
+pub turned_over : {E : Type 0} (r : Result Unit E) (all : Bool) (number : ℕ) (deed : Deed) (old new : Stage) (before after : List Mark) →
+    deed ≡ Passes → new ≡ old → after ≡ before → OnOk r (TurnsTo all number deed old new before after)
+turned_over (Ok done) all number deed old new before after is stays same = turns_over all number deed old new before after is stays same
+turned_over (Err fault) all number deed old new before after is stays same = tt
 
-pub with_nothing : (line call : List ℕ) (old : Option (List ℕ)) (lines reply exact new : List ℕ) →
-    exact ≡ expecting line old reply → is_met call reply exact ≡ false →
-    new ≡ expecting line old (verdict reply) → is_met call reply new ≡ false →
-    kept line ≡ answered_line line call old lines reply
-with_nothing line call old lines reply exact new exactly unmet is unsaid =
-    sym (other (is_met call reply (expecting line old (verdict reply))) _ _ (ap (is_met call reply) (sym is) ∙ unsaid))
-    ∙ sym (other (is_met call reply (expecting line old reply)) _ _ (ap (is_met call reply) (sym exactly) ∙ unmet))
+-- a call as it was heard
+pub heard_is : (all : Bool) (stage : Stage) (made : Filled) (call : List ℕ) (expected : Option (List ℕ)) (heard : Heard) (reply lines : List ℕ) →
+    heard.known.now ≡ stage.known → heard.binds ≡ nat_lt 0 (length made.holes) → heard.expects ≡ is_some expected → heard.call.now ≡ call →
+    heard.reply.now ≡ reply → heard.lines.now ≡ cond (stage.awaits && not all) [] lines → reply ≡ reply_in stage.world call →
+    lines ≡ flat_map log_text (finished_lines stage.world (heard_call stage.world.entries call)) →
+    hearing_view heard ≡ hearing_of all stage made call expected
+heard_is all stage made call expected heard reply lines known binds expects call_is reply_is lines_is answered finished =
+    rw (known, binds, expects, call_is, reply_is, lines_is, answered, finished) refl
 
--- ---- a call
+pub called : {all : Bool} {number : ℕ} {stage next : Stage} {made : Filled} {call : List ℕ} {expected : Option (List ℕ)} {before after : List Mark}
+    (h : Hearing) → h ≡ hearing_of all stage made call expected → next ≡ stage_after stage (Calls made call expected) →
+    after ≡ marks_after 1 (record { number = number; meeting = Hears h }) before →
+    TurnsTo all number (Calls made call expected) stage next before after
+called {number = number} {before = before} h is next_is after_is = record {
+  stage = next_is;
+  marks = after_is ∙ ap (λ x. marks_after 1 (record { number = number; meeting = Hears x }) before) is;
+}
 
-pub call_kept : (all awaits : Bool) (world : World) (line call : List ℕ) (old : Option (List ℕ)) →
-    (is_some old && not all) ≡ true → kept line ≡ recorded_call all awaits world line call old
-call_kept all awaits world line call old is = sym (chosen (is_some old && not all) _ _ is)
+-- ---- a line is passed, and then played
 
-pub call_answered : (all awaits : Bool) (world : World) (line call : List ℕ) (old : Option (List ℕ)) (lines reply : List ℕ) →
-    (is_some old && not all) ≡ false → lines ≡ lines_for (awaits && not all) world call →
-    reply ≡ reply_text (answered_reply world (heard world.entries call)) →
-    answered_line line call old lines reply ≡ recorded_call all awaits world line call old
-call_answered all awaits world line call old lines reply is lines_are reply_is =
-    ap (λ ls. answered_line line call old ls reply) lines_are
-    ∙ ap (answered_line line call old (lines_for (awaits && not all) world call)) reply_is
-    ∙ sym (other (is_some old && not all) _ _ is)
+pub passed_in : (old new : Stand) (world : World) → new.number ≡ number_behind old.number → new.known ≡ old.known → new.awaits ≡ old.awaits →
+    stage_in new world ≡ passed (stage_in old world)
+passed_in old new world number known awaits = rw (number, known, awaits) refl
 
--- ---- line after line
+met_passed : (all : Bool) (number : ℕ) (stage : Stage) (deed : Deed) → met_in all number (passed stage) deed ≡ met_in all number stage deed
+met_passed all number stage Passes = refl
+met_passed all number stage (Follows directive) = refl
+met_passed all number stage Awaits = refl
+met_passed all number stage (Calls filled call reply) = refl
 
-entries_behind : (world : World) (said : Result Said Fault) → (world_behind world said).entries ≡ world.entries
-entries_behind world (Ok Nothing) = refl
-entries_behind world (Ok (Log text)) = refl
-entries_behind world (Ok (Call call old)) = refl
-entries_behind world (Err fault) = refl
+pub played_stage : {E : Type 0} (r : Result Unit E) (all : Bool) (number : ℕ) (line : List ℕ) (old stage new : Stage) (before after : List Mark)
+    (known : Known) → stage ≡ passed old → known ≡ old.known → OnOk r (TurnsTo all number (deed_of known line) stage new before after) →
+    OnOk r (new ≡ stage_behind old line)
+played_stage (Ok done) all number line old stage new before after known is same turned =
+    turned.stage ∙ ap (λ s. stage_after s (deed_of known line)) is ∙ ap (λ k. stage_after (passed old) (deed_of k line)) same
+played_stage (Err fault) all number line old stage new before after known is same turned = tt
 
--- no line changes who is there
-pub entries_after : (world : World) (line : List ℕ) → (world_after world line).entries ≡ world.entries
-entries_after world line =
-    elim (nat_le (length line) longest_line) as (λ b. (cond b (world_behind world (said_of line)) world).entries ≡ world.entries) [
-      | true ↦ entries_behind world (said_of line)
-      | false ↦ refl
-    ]
+pub played_marks : {E : Type 0} (r : Result Unit E) (all : Bool) (line : List ℕ) (old stage new : Stage) (before after : List Mark)
+    (number : ℕ) (known : Known) → stage ≡ passed old → known ≡ old.known → number ≡ old.number →
+    OnOk r (TurnsTo all number (deed_of known line) stage new before after) →
+    OnOk r (after ≡ all_marked (met_in all old.number old (deed_of old.known line)) before)
+played_marks (Ok done) all line old stage new before after number known is same numbered turned =
+    turned.marks
+    ∙ ap (λ s. all_marked (met_in all number s (deed_of known line)) before) is
+    ∙ ap (λ es. all_marked es before) (met_passed all number old (deed_of known line))
+    ∙ rw (same, numbered) refl
+played_marks (Err fault) all line old stage new before after number known is same numbered turned = tt
 
--- a line more is recorded
-pub one_more : (whole before now : List ℕ) (all all' awaits awaits' : Bool) (world world' : World) (rest line : List ℕ) (behind : List (List ℕ)) →
-    whole ≡ before ++ recorded_lines all awaits world (pieces_of rest) → pieces_of rest ≡ line ∷ behind →
-    now ≡ before ++ recorded_line all awaits world line → all' ≡ all → awaits' ≡ awaits_after awaits line → world' ≡ world_after world line →
-    whole ≡ now ++ recorded_lines all' awaits' world' behind
-one_more whole before now all all' awaits awaits' world world' rest line behind so pieces now_is all_is awaits_is world_is =
-    rw (now_is, all_is, awaits_is, world_is)
-    (so ∙ ap (λ ps. before ++ recorded_lines all awaits world ps) pieces ∙ sym (append_assoc before (recorded_line all awaits world line) _))
+-- a line more is played
+pub one_more : (whole marks now : List Mark) (all all' : Bool) (stage next : Stage) (text line : List ℕ) (behind : List (List ℕ)) →
+    whole ≡ all_marked (events all stage (pieces_of text)) marks → pieces_of text ≡ line ∷ behind →
+    now ≡ all_marked (met_in all stage.number stage (deed_of stage.known line)) marks → all' ≡ all → next ≡ stage_behind stage line →
+    whole ≡ all_marked (events all' next behind) now
+one_more whole marks now all all' stage next text line behind so pieces now_is all_is next_is =
+    rw (now_is, all_is, next_is)
+    (so ∙ ap (λ ps. all_marked (events all stage ps) marks) pieces
+    ∙ marked_on (met_in all stage.number stage (deed_of stage.known line)) (events all (stage_behind stage line) behind) marks)
 
--- ---- the whole text
+-- a play begins
+pub first_in : (stand : Stand) (world : World) (given : Known) → stand.number ≡ 1 → stand.known ≡ given → stand.awaits ≡ false →
+    stage_in stand world ≡ first_stage world given
+first_in stand world given number known awaits = rw (number, known, awaits) refl
 
-pub whole_recorded : (machine : List ℕ) (all : Bool) (scenario : List ℕ) (listed : Listed) (world : World) (made_all awaits : Bool) (empty sheet text : List ℕ) →
-    list_in machine ≡ Ok listed → Boots (start_list_of listed) → world ≡ start_world (start_list_of listed) →
-    made_all ≡ all → awaits ≡ false → empty ≡ [] → sheet ≡ empty ++ recorded_lines made_all awaits world (pieces_of scenario) →
-    text ≡ without_last sheet → IsRecorded machine all scenario text
-whole_recorded machine all scenario listed world made_all awaits empty sheet text reads boots starts all_is awaits_is empty_is sheet_is text_is = record {
+-- the whole text
+pub whole_recorded : (machine : List ℕ) (all made_all : Bool) (given : Known) (played scenario : List ℕ) (listed : Listed) (world : World)
+    (stage : Stage) (first marks : List Mark) (text : List ℕ) →
+    list_in machine ≡ Ok listed → Boots (start_list_of listed) → world ≡ start_world (start_list_of listed) → made_all ≡ all →
+    stage ≡ first_stage world given → first ≡ unmarked (pieces_of scenario) →
+    marks ≡ all_marked (events made_all stage (pieces_of played)) first → text ≡ without_last (written_lines made_all marks) →
+    IsRecorded machine all given played scenario text
+whole_recorded machine all made_all given played scenario listed world stage first marks text reads boots starts all_is stage_is first_is marks_is text_is = record {
   listed = listed;
   boots = record { reads = reads; boots = boots };
-  is = text_is ∙ ap without_last (sheet_is ∙ rw (starts, all_is, awaits_is, empty_is) refl);
+  is =
+      text_is
+      ∙ ap (λ ms. without_last (written_lines made_all ms))
+      (marks_is ∙ ap (all_marked (events made_all stage (pieces_of played))) first_is
+      ∙ marks_in_all (events made_all stage (pieces_of played)) (pieces_of scenario))
+      ∙ rw (stage_is, starts, all_is) refl;
 }
 
 pub ruleset unbooted = (fault_of_list, fault_of_text)

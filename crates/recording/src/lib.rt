@@ -1,14 +1,17 @@
 //! A scenario with the replies of its calls behind them.
 #![tactic(auto)]
 
-mod answered;
+mod hearing;
+mod marks;
+mod note;
 mod pieces;
+mod player;
 mod recording;
 mod sheet;
+mod stand;
 mod unread;
 mod writing;
 
 pub use pieces::first_piece;
-pub use recording::record;
-pub use sheet::Recording;
+pub use recording::{Recording, Scenario, record};
 pub use unread::{Unread, Why};

@@ -1,134 +1,98 @@
-//! What is written of a scenario so far.
-ghost use Rattle.std.specs.Prelude.{◌≡◌, ◌++◌, [], ◌∷◌, false, true, if◌then◌else◌, OnOk};
-ghost use Rattle.std.specs.Option.{option_copied};
-ghost use Rattle.own_model.specs.Listed.{start_list_of};
-ghost use Rattle.own_model.specs.StartList.{entries_of};
-ghost use Rattle.scenario.specs.Answered.{after_all};
-ghost use Rattle.recording.specs.Recorded.{kept, recorded_call, without_last};
+//! What is written of a scenario, line by line.
+ghost use Rattle.std.specs.Prelude.{◌≡◌, ◌++◌, Bool, [], false, IfOk, OnOk, if◌then◌else◌};
+ghost use Rattle.recording.specs.Recorded.{kept, stays_by, written_by};
+ghost use Rattle.recording.specs.Views.{mark_view, settled};
 
-use crate::answered::{Answered, Asked};
-use crate::unread::{Unread, Why};
+use crate::marks::Mark;
 use crate::writing::put_kept;
-use friendly_lines::Line;
-use init_core::StartList;
-use pd_core::{Core, Reply, Router};
-use scenario::{LineAnswer, Run};
 use std::alloc::{AllocError, Global};
 
-/// A scenario with its replies.
-#[derive(Drop)]
-pub struct Recording {
-    /// Its text.
-    pub text: Vec<u8>,
-    /// The lines that aren't read, and stand as they were.
-    pub unread: Vec<Unread>,
-}
-
-/// What is written of a scenario so far.
+/// What is written of a scenario so far. What stands behind the last call is there twice, since log lines that are expected of a
+/// call go or stay as that does.
 #[derive(Drop)]
 pub(crate) struct Sheet {
-    pub alloc: Global,
+    alloc: Global,
     /// Whether each reply is written anew.
-    pub all: bool,
-    /// Whether log lines are expected of the next call.
-    pub awaits: bool,
-    pub text: Vec<u8>,
-    pub unread: Vec<Unread>,
+    all: bool,
+    /// Up to the last call.
+    text: Vec<u8>,
+    /// Behind it, if the next call stays.
+    staying: Vec<u8>,
+    /// And if it doesn't.
+    going: Vec<u8>,
 }
 
 impl Sheet {
-    /// Writes a line as it is.
-    pub(crate) fn put_kept(&mut self, line: &[u8]) -> Result<(), AllocError>
-        ensures text { OnOk result (self.new.text.items ≡ self.old.text.items ++ kept line.now) }
-        ensures all { self.new.all ≡ self.old.all }
-        ensures awaits { self.new.awaits ≡ self.old.awaits }
+    /// Nothing.
+    pub(crate) fn new(alloc: Global, all: bool) -> Sheet
+        ensures all { result.all ≡ all }
+        ensures empty { (stays : Bool) → settled result stays ≡ [] }
     {
-        put_kept(&mut self.text, line)
+        Sheet {
+            alloc,
+            all,
+            text: Vec::new(alloc),
+            staying: Vec::new(alloc),
+            going: Vec::new(alloc),
+        }
     }
 
-    /// Writes a line that isn't read as it is, and keeps why.
-    pub(crate) fn put_unread(
-        &mut self,
-        number: u64,
-        line: &[u8],
-        why: Why,
-    ) -> Result<(), AllocError>
-        ensures text { OnOk result (self.new.text.items ≡ self.old.text.items ++ kept line.now) }
+    /// Writes a line with what is met in it.
+    pub(crate) fn put(&mut self, mark: &Mark<'_>) -> Result<(), AllocError>
         ensures all { self.new.all ≡ self.old.all }
-        ensures awaits { self.new.awaits ≡ self.old.awaits }
+        ensures written { (later : Bool) → OnOk result (settled self.new later
+            ≡ settled self.old (stays_by self.old.all (mark_view mark.now) (mark_view mark.now).note later)
+            ++ written_by self.old.all later (mark_view mark.now) (mark_view mark.now).note) }
     {
-        self.unread.push(Unread { number, why })?;
-        put_kept(&mut self.text, line)
+        match &mark.note {
+            Some(note) => {
+                self.settle(note.stays(self.all))?;
+                note.put(self.alloc, self.all, mark.line, &mut self.text)
+            }
+            None => self.put_aside(mark.line, mark.logs && self.all),
+        }
     }
 
-    /// Writes a line with a log line that is expected, unless each is written anew.
-    pub(crate) fn put_log(&mut self, line: &[u8]) -> Result<(), AllocError>
-        ensures text { OnOk result (self.new.text.items
-            ≡ self.old.text.items ++ (if self.old.all then [] else kept line.now)) }
+    // Writes a line behind the last call, which goes with what is expected, or stays.
+    fn put_aside(&mut self, line: &[u8], goes: bool) -> Result<(), AllocError>
         ensures all { self.new.all ≡ self.old.all }
-        ensures awaits { self.new.awaits ≡ true }
+        ensures text { self.new.text ≡ self.old.text }
+        ensures staying { OnOk result
+            (self.new.staying.items ≡ self.old.staying.items ++ kept line.now) }
+        ensures going { OnOk result (self.new.going.items
+            ≡ self.old.going.items ++ (if goes then [] else kept line.now)) }
     {
-        self.awaits = true;
-        if self.all {
+        put_kept(&mut self.staying, line)?;
+        if goes {
             Ok(())
         } else {
-            put_kept(&mut self.text, line)
+            put_kept(&mut self.going, line)
         }
     }
 
-    /// Carries out the call of a line, and writes the line with its reply, unless one is expected already.
-    pub(crate) fn put_call<'a, R: Router + Drop>(
-        &mut self,
-        list: &'a StartList,
-        core: &mut Core<R>,
-        asked: Asked<'a>,
-        reply: &'a mut Reply,
-        room: &mut Line,
-    ) -> Result<(), AllocError>
-        requires listed { core.old.entries ≡ entries_of (start_list_of list.now) }
-        ensures text { OnOk result (self.new.text.items ≡ self.old.text.items
-            ++ recorded_call self.old.all self.old.awaits core.old asked.entry.line.now
-            asked.entry.call.now (option_copied asked.entry.expected)) }
+    // Writes what stands behind the last call: the next one stays, or it doesn't.
+    fn settle(&mut self, stays: bool) -> Result<(), AllocError>
         ensures all { self.new.all ≡ self.old.all }
-        ensures awaits { self.new.awaits ≡ false }
-        ensures world { core.new ≡ after_all None core.old (asked.entry.call.now ∷ []) }
+        ensures text { OnOk result (self.new.text.items ≡ settled self.old stays) }
+        ensures staying { OnOk result (self.new.staying.items ≡ []) }
+        ensures going { OnOk result (self.new.going.items ≡ []) }
     {
-        let awaits = self.awaits && !self.all;
-        self.awaits = false;
-        let run = Run { list, only: None };
-        let answer = run.answer(core, asked.call, reply);
-        if asked.expected.is_some() && !self.all {
-            return put_kept(&mut self.text, asked.line);
+        if stays {
+            self.text.extend_from_slice(self.staying.as_slice())?;
+        } else {
+            self.text.extend_from_slice(self.going.as_slice())?;
         }
-        match answer {
-            Some(answer) => {
-                let answered = Answered {
-                    asked,
-                    lines: lines_for(awaits, answer),
-                    reply: answer.reply,
-                };
-                answered.put(self.alloc, &mut self.text, room)
-            }
-            None => put_kept(&mut self.text, asked.line),
-        }
+        self.staying.clear();
+        self.going.clear();
+        Ok(())
     }
 
-    /// The recording, without the newline behind the last line.
-    pub(crate) fn into_recording(self) -> Recording
-        ensures { result.text.items ≡ without_last self.text.items }
+    /// All of it.
+    pub(crate) fn into_text(self) -> Result<Vec<u8>, AllocError>
+        ensures { IfOk result (λ text. text.items ≡ settled self false) }
     {
-        let mut text = self.text;
-        let _ = text.pop();
-        Recording {
-            text,
-            unread: self.unread,
-        }
+        let mut sheet = self;
+        sheet.settle(false)?;
+        Ok(sheet.text)
     }
-}
-
-// The log lines that are to be expected of a call, unless some are already.
-fn lines_for<'a>(awaits: bool, answer: LineAnswer<'a>) -> &'a [u8]
-    ensures { result.now ≡ (if awaits then [] else answer.entry.lines.now) }
-{
-    if awaits { b"" } else { answer.lines }
 }

@@ -1,8 +1,11 @@
 //! Lines as they are written.
-ghost use Rattle.std.specs.Prelude.{◌≡◌, ◌++◌, ◌==◌, ◌-◌, OnOk, true, length, slice_index};
-ghost use Rattle.recording.specs.Recorded.{byte_of_lines, ending_of, expected_lines, kept};
+ghost use Rattle.std.specs.Prelude.{◌≡◌, ◌++◌, ◌==◌, ◌-◌, OnOk, IfOk, true, take, drop, length, slice_index};
+ghost use Rattle.std.specs.Option.{unwrap_or};
+ghost use Rattle.friendly_lines.specs.Friendly.{arrow_of, end_of};
+ghost use Rattle.recording.specs.Recorded.{byte_of_lines, call_end, ending_of, escaped_byte, expected_lines, expecting, kept};
 
-use std::alloc::AllocError;
+use friendly_lines::{arrow_of, end_of};
+use std::alloc::{AllocError, Global};
 
 /// Writes a line as it is, with its newline.
 pub(crate) fn put_kept(text: &mut Vec<u8>, line: &[u8]) -> Result<(), AllocError>
@@ -27,6 +30,30 @@ pub(crate) fn put_expected(text: &mut Vec<u8>, lines: &[u8], line: &[u8]) -> Res
     Ok(())
 }
 
+/// A line of whose call this is expected, in place of what is, and all else as it stands.
+#[tactic(auto, unfolding(crate::specs::Recorded::expecting))]
+pub(crate) fn expecting(alloc: Global, line: &[u8], reply: &[u8]) -> Result<Vec<u8>, AllocError>
+    ensures { IfOk result (λ new. new.items ≡ expecting line.now reply.now) }
+{
+    let mut new = Vec::new(alloc);
+    new.extend_from_slice(first(call_end(line), line))?;
+    new.extend_from_slice(b" => ")?;
+    new.extend_from_slice(reply)?;
+    new.extend_from_slice(behind(end_of(line), line))?;
+    Ok(new)
+}
+
+// Where the call of a line ends: before what is expected of it, and a comment.
+fn call_end(line: &[u8]) -> usize
+    ensures { result ≡ call_end line.now }
+{
+    let end = end_of(line);
+    match arrow_of(first(end, line)) {
+        Some(place) => place,
+        None => end,
+    }
+}
+
 // Writes a byte of finished log lines, at which a line begins or not.
 fn put_byte(text: &mut Vec<u8>, ending: &[u8], begins: bool, byte: u8) -> Result<(), AllocError>
     ensures { OnOk result
@@ -37,9 +64,19 @@ fn put_byte(text: &mut Vec<u8>, ending: &[u8], begins: bool, byte: u8) -> Result
     }
     if byte == b'\n' {
         text.extend_from_slice(ending)?;
-    } else {
-        text.push(byte)?;
+        return Ok(());
     }
+    put_sign(text, byte)
+}
+
+// Writes a byte as a line has it that is filled with names, in which `$$` is one `$`.
+fn put_sign(text: &mut Vec<u8>, byte: u8) -> Result<(), AllocError>
+    ensures { OnOk result (text.new.items ≡ text.old.items ++ escaped_byte byte) }
+{
+    if byte == b'$' {
+        text.push(b'$')?;
+    }
+    text.push(byte)?;
     Ok(())
 }
 
@@ -51,5 +88,27 @@ fn ending_of(line: &[u8]) -> &[u8]
         b"\r\n"
     } else {
         b"\n"
+    }
+}
+
+// The first bytes of a text, so many, or all.
+fn first(count: usize, text: &[u8]) -> &[u8]
+    ensures { result.now ≡ take count text.now }
+{
+    if count < text.len() {
+        &text[..count]
+    } else {
+        text
+    }
+}
+
+// What is behind the first bytes of a text, so many.
+fn behind(count: usize, text: &[u8]) -> &[u8]
+    ensures { result.now ≡ drop count text.now }
+{
+    if count < text.len() {
+        &text[count..]
+    } else {
+        b""
     }
 }
