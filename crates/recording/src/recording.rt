@@ -31,12 +31,11 @@ pub struct Recording {
     pub unread: Vec<Unread>,
 }
 
-/// Plays a scenario with what names stand for, and writes its own lines with the reply of each call behind it, and before it the
-/// log lines that the call finishes, as what is expected of it: of each call of which no reply is expected yet, or with `all` of
-/// each anew, whatever is expected of it. A line within rounds expects what holds in all of them: its reply, or where that is
-/// another one from round to round whether it refuses. Where a reply binds a name, what is expected stays as it is. Every other
-/// byte stays. A call whose line can't say what is expected of it, as one behind `!`, stays as it is.
-///
+/// Plays a scenario with what names stand for, and writes its own lines with the reply of each call behind it, and before
+/// it the log lines that the call finishes, as what is expected of it: of each call of which no reply is expected yet, or
+/// with `all` of each anew, whatever is expected of it. A line within rounds expects what holds in all of them: its reply,
+/// or where that is another one from round to round whether it refuses. Where a reply binds a name, what is expected stays
+/// as it is. Every other byte stays. A call whose line can't say what is expected of it, as one behind `!`, stays as it is.
 /// An error is that of the start list, which may be none or not boot, or want of memory.
 #[tactic(auto, using(crate::proofs::RecordedLemmas::unbooted))]
 pub fn record(

@@ -7,8 +7,8 @@ use crate::marks::Mark;
 use crate::writing::put_kept;
 use std::alloc::{AllocError, Global};
 
-/// What is written of a scenario so far. What stands behind the last call is there twice, since log lines that are expected of a
-/// call go or stay as that does.
+/// What is written of a scenario so far. What stands behind the last call is there twice, since log lines that are expected
+/// of a call go or stay as that does.
 #[derive(Drop)]
 pub(crate) struct Sheet {
     alloc: Global,
