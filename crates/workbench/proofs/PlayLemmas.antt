@@ -82,24 +82,20 @@ module _ (only : Option (List ℕ)) (start mid : World) (first stand : Stand) (x
   goes_on : {A : Type 0} (calls : Bool) (seen : List (List ℕ) → Type 0) (last : World) (next : Stand) (judged : Result Bool PlayFault) (write_failed : Bool) → A → last ≡ left_behind only mid stand line →
       OnOk judged (seen (earlier ++ said_by only (call_of stand line))) → OnOk judged (next ≡ next_stand only mid stand line) → Fails judged write_failed (takes_in calls (deed_of stand line)) →
       GoesOn (λ lines. A × LeadsTurns only start last first next seen lines) (λ fault lines. A × StopsTurns calls only start last first fault lines) (xs ++ line ∷ []) (counted judged)
-  goes_on calls seen last next (Ok complained) write_failed a world sees after fails = (
-    a,
-    record {
-      world_is = world_next last world;
-      stands = after ∙ stand_more only start mid first stand xs (line ∷ []) left stands;
-      sees = seen_next seen sees;
-    },
-  )
+  goes_on calls seen last next (Ok complained) write_failed a world sees after fails =
+      (a, record {
+        world_is = world_next last world;
+        stands = after ∙ stand_more only start mid first stand xs (line ∷ []) left stands;
+        sees = seen_next seen sees;
+      })
   goes_on calls seen last next (Err ReadFault) write_failed a world sees after fails = absurd fails
   goes_on calls seen last next (Err WriteFault) write_failed a world sees after fails = (a, record { world_is = world_next last world; takes = tt })
   goes_on calls seen last next (Err TooManyLines) write_failed a world sees after fails = absurd fails
-  goes_on calls seen last next (Err NoMemory) write_failed a world sees after fails = (
-    a,
-    record {
-      world_is = world_next last world;
-      takes = (turns_of only start first xs, turn_of stand line, sym (turns_more only start mid first stand xs (line ∷ []) left stands), fails.1);
-    },
-  )
+  goes_on calls seen last next (Err NoMemory) write_failed a world sees after fails =
+      (a, record {
+        world_is = world_next last world;
+        takes = (turns_of only start first xs, turn_of stand line, sym (turns_more only start mid first stand xs (line ∷ []) left stands), fails.1);
+      })
 
   -- what is told of it is told behind what was told of those, and it leads on
   pub bench_plays : {A : Type 0} (tells : List (List ℕ) → ℕ → List ℕ → List ℕ) (calls : Bool) (seen : List (List ℕ) → Type 0) (last : World) (next : Stand) (judged : Result Bool PlayFault) (write_failed : Bool) (w w' : Option (List ℕ)) (g g' : List ℕ) → A →

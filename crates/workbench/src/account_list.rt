@@ -74,7 +74,9 @@ pub fn accounts<S: Source, K: Sink, E: Sink>(
         only: None,
     };
     let peaks = Peaks::new(alloc, &core)?;
-    Ok(play_with_peaks(&run, &mut core, notes, peaks, reader, writer, complaints))
+    Ok(play_with_peaks(
+        &run, &mut core, notes, peaks, reader, writer, complaints,
+    ))
 }
 
 // The same on a machine that has booted, with the peaks of its accounts.
