@@ -10,7 +10,7 @@ returns-clause-runs g c =
     runs (option_copied c.args.run.now.only) c.args.core.now c.play-played.new.core c.play-played.result.fault c.play-played.ensures.plays _ c.outcome.result c.new-buffers.ensures.gathered c.outcome.ensures c.play-played.ensures.writing c.play-played.ensures.reading c.play-played.ensures.few
 
 pub outcome-requires : goal.outcome-requires
-outcome-requires g c = record { room = has_room (option_copied c.args.run.now.only) c.args.core.now c.play-played.new.core c.play-played.result.fault c.play-played.ensures.plays }
+outcome-requires g c = has_room (option_copied c.args.run.now.only) c.args.core.now c.play-played.new.core c.play-played.result.fault c.play-played.ensures.plays
 
 pub play-played-requires-clause-leads : goal.play-played-requires-clause-leads
 play-played-requires-clause-leads g c = (refl, sym (left_none (option_copied c.args.run.now.only) c.args.core.now))
