@@ -142,7 +142,7 @@ leads_none only world first seen sees = record { world_is = sym (left_none only 
 
 -- ---- the end
 
-module _ (A : Type 0) (calls : Bool) (only : Option (List ℕ)) (old new : World) (first next : Stand) (seen : List (List ℕ) → Type 0) where
+module _ {A : Type 0} {calls : Bool} {only : Option (List ℕ)} {old new : World} {first next : Stand} {seen : List (List ℕ) → Type 0} where
   abbrev leads : List (List ℕ) → Type 0
   leads lines = A × LeadsTurns only old new first next seen lines
 
@@ -158,7 +158,7 @@ module _ (A : Type 0) (calls : Bool) (only : Option (List ℕ)) (old new : World
   ends_at lines (Some TooManyLines) ended = (ended.0, ended.1.world_is, tt, tt)
   ends_at lines (Some NoMemory) ended = (ended.0, ended.1.world_is, ended.1.takes, tt)
 
-  module _ (tells : List (List ℕ) → ℕ → List ℕ → List ℕ) {fault : Option PlayFault} {count : ℕ} {front : List ℕ} {input rest : Option (List ℕ)} {failed : Bool} {w w' : Option (List ℕ)}
+  module _ {tells : List (List ℕ) → ℕ → List ℕ → List ℕ} {fault : Option PlayFault} {count : ℕ} {front : List ℕ} {input rest : Option (List ℕ)} {failed : Bool} {w w' : Option (List ℕ)}
       (plays : PlaysLines (λ lines. told_of_turns tells only [] (turns_of only old first lines)) leads stops fault count most_lines front input rest failed w w') where
     pub remains : A
     remains = (ends_at plays.given fault plays.ends_as).0
