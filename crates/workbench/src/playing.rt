@@ -55,13 +55,7 @@ pub(crate) fn play<R: Router + Drop, W: Watch, S: Source, K: Sink, E: Sink>(
     let mut buffers = Buffers::new();
     match buffers.gathered.put(writer, front) {
         Ok(()) => {}
-        Err(DeviceFault) => {
-            return Ending {
-                lines: 0,
-                complaints: 0,
-                fault: Some(PlayFault::WriteFault),
-            };
-        }
+        Err(DeviceFault) => return Ending::before_all(PlayFault::WriteFault),
     }
     let played = scenario::play(bench, core, &mut buffers, reader, writer, MAX_LINES);
     let critic = &mut bench.notes.desk.tools.critic;
