@@ -188,8 +188,7 @@ impl Player for Engine<'_> {
         gathered: &mut Gather,
         writer: &mut K,
     ) -> Result<(), PlayFault> {
-        let run = self.run;
-        tell(run.answer_no_call(), gathered, writer)
+        tell(self.run.answer_no_call(), gathered, writer)
     }
 }
 

@@ -53,9 +53,8 @@ pub(crate) fn play<R: Router + Drop, W: Watch, S: Source, K: Sink, E: Sink>(
         return Ending::before_all(fault);
     }
     let mut buffers = Buffers::new();
-    match buffers.gathered.put(writer, front) {
-        Ok(()) => {}
-        Err(DeviceFault) => return Ending::before_all(PlayFault::WriteFault),
+    if let Err(DeviceFault) = buffers.gathered.put(writer, front) {
+        return Ending::before_all(PlayFault::WriteFault);
     }
     let played = scenario::play(bench, core, &mut buffers, reader, writer, MAX_LINES);
     let critic = &mut bench.notes.desk.tools.critic;

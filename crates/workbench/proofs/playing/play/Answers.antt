@@ -18,13 +18,13 @@ play-requires-clause-leads g c = (
 
 pub returns-in-Err-clause-plays : goal.returns-in-Err-clause-plays
 returns-in-Err-clause-plays g c = λ works.
-    front_cut c.args.bench.now.notes.stand 0 c.args.core.now (g.S.Source.remaining c.args.reader.now) (g.S.Source.has_failed c.args.reader.now) c.new-buffers.ensures.gathered c.in-Err.ensures.told
+    front_cut c.args.bench.now.notes.stand 0 c.args.core.now (g.S.Source.remaining c.args.reader.now) (g.S.Source.has_failed c.args.reader.now) c.new-buffers.ensures.gathered c.put.ensures.told
 
 pub returns-clause-plays : goal.returns-clause-plays
 returns-clause-plays g c = λ works.
     plays_closed c.play-played.result.fault c.close-fault.result _ _ c.close-fault.ensures
     (plays_behind
-    (subst (λ (gathered : List ℕ). Tells (g.K.Sink.contents c.args.writer.now) gathered (g.K.Sink.contents c.put.new.sink) c.put.new.self c.args.front.now) c.new-buffers.ensures.gathered c.in-Ok.ensures.told)
+    (subst (λ (gathered : List ℕ). Tells (g.K.Sink.contents c.args.writer.now) gathered (g.K.Sink.contents c.put.new.sink) c.put.new.self c.args.front.now) c.new-buffers.ensures.gathered c.put.ensures.told)
     (turns_played c.play-played.ensures.plays))
 
 pub returns-clause-same_reference : goal.returns-clause-same_reference
