@@ -10,10 +10,8 @@ pub mod FaultLemmas
 pub mod ToCome
 pub mod PassedLines
 pub mod ReachLemmas
-pub mod ToldLemmas
-pub mod PlayLemmas
+pub mod Serving
 pub mod Ending
 pub mod CallerLemmas
 pub mod AnsweringLemmas
-pub mod EngineLemmas
 pub mod TaskLemmas

@@ -10,8 +10,7 @@ pub mod Stops
 pub mod Answered
 pub mod Answer
 pub mod Read
-pub mod Faults
-pub mod Plays
+pub mod Serves
 pub mod Runs
 pub mod Program
 pub mod Ending

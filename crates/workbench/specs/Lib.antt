@@ -1,3 +1,4 @@
+pub mod Devices
 pub mod Said
 pub mod Ending
 pub mod Turns
