@@ -57,12 +57,13 @@ impl<W: Watch, E: Sink> Player for Bench<'_, W, E> {
         gathered: &mut Gather,
         writer: &mut K,
     ) -> Result<(), PlayFault> {
+        let notes = &mut self.notes;
         let judged = play_line(
             &self.run,
             core,
-            &mut self.notes.stand,
+            &mut notes.stand,
             line,
-            &mut self.notes.desk,
+            &mut notes.desk,
             &mut self.watch,
             gathered,
             writer,

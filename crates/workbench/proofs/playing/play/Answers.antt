@@ -3,7 +3,7 @@ use Rattle.std.proofs.Common.{ℕ, List, [], arith, refl, sym, subst, ap, ◌∙
 use Rattle.std.specs.Option.{option_copied}
 use Rattle.scenario.specs.Gathered.{Tells, TellsPart}
 use Rattle.workbench.specs.Turns.{low}
-use Rattle.workbench.proofs.PlayLemmas.{closed_on, closed_writing, leads_none, plays_closed, remains, turns_played, world_left}
+use Rattle.workbench.proofs.PlayLemmas.{closed_on, closed_writing, complaints_work, leads_none, plays_closed, remains, turns_played, world_left}
 use Rattle.workbench.proofs.WriteLemmas.{front_cut, plays_behind}
 use Rattle.workbench.proofs.playing.play.Goals as goal
 
@@ -15,6 +15,9 @@ play-played-requires-clause-leads g c = (
   record { name_is = refl; run_is = refl; tells_is = refl; holds_is = refl },
   leads_none (option_copied c.args.bench.now.run.only) c.args.core.now c.args.bench.now.notes.stand _ c.requires.sees,
 )
+
+pub close-fault-requires : goal.close-fault-requires
+close-fault-requires g c = record { works = complaints_work c.play-played.result.fault _ _ c.play-played.ensures.writing }
 
 pub returns-in-Err-clause-plays : goal.returns-in-Err-clause-plays
 returns-in-Err-clause-plays g c = λ works.

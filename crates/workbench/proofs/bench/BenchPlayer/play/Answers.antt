@@ -14,7 +14,7 @@ abbrev Telling : Type 0
 Telling = World → List (List ℕ) → ℕ → List ℕ → List ℕ
 
 pub play_line-judged-requires-clause-low : goal.play_line-judged-requires-clause-low
-play_line-judged-requires-clause-low g c = numbered c.args.self.now.notes.stand _ c.requires.ready.2
+play_line-judged-requires-clause-low g c = numbered c.args.self.now.notes.stand _ c.requires.ready.1.1
 
 pub returns-clause-played : goal.returns-clause-played
 returns-clause-played g c = λ first start earlier led.
