@@ -210,12 +210,12 @@ pub fn alone<S: Source, K: Sink, E: Sink>(
 }
 
 // The same on two machines that have booted.
-fn play_beside<R: Router + Drop, Q: Router + Drop, S: Source, K: Sink, E: Sink>(
-    run: &Run<'_>,
+fn play_beside<'a, R: Router + Drop, Q: Router + Drop, S: Source, K: Sink, E: Sink>(
+    run: &Run<'a>,
     core: &mut Core<R>,
     second: Core<Q>,
     reply: Reply,
-    name: &[u8],
+    name: &'a [u8],
     notes: &mut Notes<'_>,
     reader: &mut S,
     writer: &mut K,
