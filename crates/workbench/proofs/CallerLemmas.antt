@@ -30,7 +30,7 @@ module _ (list : Listed) (component : ℕ) (within : component < length list.ent
   abbrev here : ListedEntry
   here = get_or list.entries component somebody
 
-  kind_here : (entry_at (entries_of (start_list_of list)) component).kind ≡ kind_of here.binary
+  pub kind_here : (entry_at (entries_of (start_list_of list)) component).kind ≡ kind_of here.binary
   kind_here =
       ap (λ (e : Entry). e.kind)
       (get_or-map (λ (start : StartEntry). start.entry) (map (start_of list) list.entries) component (start_of list somebody) nobody (omega (arith, within, length-map list.entries (start_of list)))

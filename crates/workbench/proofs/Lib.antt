@@ -12,5 +12,8 @@ pub mod NotedLemmas
 pub mod KeptLemmas
 pub mod CallerLemmas
 pub mod SaidLemmas
+pub mod NeedLemmas
+pub mod ClosedLemmas
+pub mod AccountingLemmas
 pub mod ListLemmas
 pub mod RowLemmas

@@ -3,7 +3,9 @@
 #![tactic(auto)]
 
 mod account_list;
+mod accounting;
 mod beside;
+mod closed_lines;
 mod complaint;
 mod critic;
 mod ending;
@@ -11,7 +13,9 @@ mod expected;
 mod given;
 mod laws;
 mod machine;
+mod metered;
 mod near;
+mod needs;
 mod notes;
 mod peak_columns;
 mod peaks;

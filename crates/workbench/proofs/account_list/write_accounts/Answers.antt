@@ -1,0 +1,9 @@
+-- One text behind the other, or a part of both.
+use Rattle.workbench.proofs.ClosedLemmas.{written_both, part_of_both, part_of_first}
+use Rattle.workbench.proofs.account_list.write_accounts.Goals as goal
+
+pub returns-clause-told : goal.returns-clause-told
+returns-clause-told g c = written_both c.write_closed.result c.in_ok-write_columns.ensures.told c.write_closed.ensures.told
+
+pub returns-clause-part : goal.returns-clause-part
+returns-clause-part g c = part_of_both c.write_closed.result c.in_ok-write_columns.ensures.told c.write_closed.ensures.part
