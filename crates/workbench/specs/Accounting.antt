@@ -24,9 +24,11 @@ with_needs needs beside owner = needed_text (needs owner) ++ beside owner
 
 -- ---- sessions that were closed
 
+abbrev pub session_of : List Entry → ℕ → List ℕ
+session_of entries component = codes "session " ++ name_at entries (Some component) ++ codes " "
+
 abbrev pub closed_front : List Entry → Session → List ℕ
-closed_front entries session =
-    codes "session " ++ name_at entries (Some session.component) ++ codes " " ++ decimal session.selector ++ codes " closed"
+closed_front entries session = session_of entries session.component ++ decimal session.selector ++ codes " closed"
 
 abbrev pub closed_line : List Entry → Closed → List ℕ
 closed_line entries closed =

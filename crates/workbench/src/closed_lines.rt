@@ -6,7 +6,7 @@ ghost use Rattle.own_model.specs.StartList.{entries_of};
 ghost use Rattle.scenario.specs.Gathered.{TellsUnless};
 ghost use Rattle.scenario.specs.Stops.{AppendsPart, is_write_fault};
 ghost use Rattle.scenario.specs.declared.running.RunFault.TheVariants.{WriteFault};
-ghost use Rattle.workbench.specs.Accounting.{closed_front, closed_line, closed_lines};
+ghost use Rattle.workbench.specs.Accounting.{closed_front, closed_line, closed_lines, session_of};
 
 use crate::accounting::put_needed;
 use crate::metered::Closed;
@@ -87,13 +87,17 @@ fn put_session<K: Sink>(
         (closed_line (entries_of (start_list_of list.now)) session.now) }
     ensures failing { K.has_failed sink.new ≡ is_err result }
 {
+    let figure = Figure {
+        need: session.need,
+        is_gone: false,
+    };
     put_front(list, &session.session, gathered, sink)?;
-    put_needed(Figure::of(session.need), gathered, sink)?;
+    put_needed(figure, gathered, sink)?;
     put_noted(list, &session.session, gathered, sink)?;
     gathered.put(sink, b"\n")
 }
 
-// Gathers whose it was, and that it was closed.
+// Gathers whose it was under which selector, and that it was closed.
 fn put_front<K: Sink>(
     list: &StartList,
     session: &Session,
@@ -106,8 +110,24 @@ fn put_front<K: Sink>(
         (closed_front (entries_of (start_list_of list.now)) session.now) }
     ensures failing { K.has_failed sink.new ≡ is_err result }
 {
-    let name = name_at(list, Some(session.component));
-    put_three(b"session ", name, b" ", gathered, sink)?;
+    put_owner(list, session.component, gathered, sink)?;
     put_number(session.selector, gathered, sink)?;
     gathered.put(sink, b" closed")
+}
+
+// Gathers the first word of a session's line, and the name of the component that has it.
+fn put_owner<K: Sink>(
+    list: &StartList,
+    component: usize,
+    gathered: &mut Gather,
+    sink: &mut K,
+) -> Result<(), DeviceFault>
+    requires { K.has_failed sink.old ≡ false }
+    ensures told { TellsUnless result (K.contents sink.old) gathered.old
+        (K.contents sink.new) gathered.new
+        (session_of (entries_of (start_list_of list.now)) component) }
+    ensures failing { K.has_failed sink.new ≡ is_err result }
+{
+    let name = name_at(list, Some(component));
+    put_three(b"session ", name, b" ", gathered, sink)
 }
