@@ -13,6 +13,7 @@ pub mod KeptLemmas
 pub mod CallerLemmas
 pub mod SaidLemmas
 pub mod NeedLemmas
+pub mod HearLemmas
 pub mod ClosedLemmas
 pub mod AccountingLemmas
 pub mod ListLemmas

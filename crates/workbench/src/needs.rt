@@ -21,7 +21,7 @@ ghost use Rattle.workbench.specs.Watching.{IsToldOf};
 
 use crate::metered::Sessions;
 use crate::peaks::Peaks;
-use crate::text::{caller_of, said_in};
+use crate::text::made_in;
 use crate::watch::Heard;
 use budget_meter::{AccountMeter, Budget};
 use init_core::{Binary, Entry, StartList};
@@ -131,6 +131,7 @@ impl Needs {
     }
 
     /// Takes an answer in, with the core after it, and with the peaks before it.
+    #[tactic(auto, using(crate::proofs::HearLemmas::still_sees, crate::proofs::HearLemmas::sees_more))]
     pub(crate) fn hear<R: Router + Drop>(
         &mut self,
         core: &Core<R>,
@@ -145,10 +146,7 @@ impl Needs {
             IsToldOf start earlier heard.now.line.now core.now heard.now.answer →
             OnOk result (SeesNeeds self.new.meters.items start (earlier ++ heard.now.line.now ∷ [])) }
     {
-        let Some((name, call)) = said_in(heard.line, heard.call) else {
-            return Ok(());
-        };
-        let Some(component) = caller_of(list, name) else {
+        let Some((component, call)) = made_in(list, heard.line, heard.call) else {
             return Ok(());
         };
         let reply = heard.answer.reply;
