@@ -46,7 +46,7 @@ def route_of(told, client, rules):
 
 
 def findings_of(told, text, found):
-    """Reads the faults and findings of a start list, each with its place, and of a policy the lines that are broken."""
+    """Reads the faults, findings and advice of a start list, each with its place, and of a policy the lines that are broken."""
     findings, broken = [], []
     for line in told.splitlines():
         at = re.match(r"list\.json:(\d+):(\d+): (.*)", line)
@@ -60,7 +60,8 @@ def findings_of(told, text, found):
             findings.append({"told": line.removeprefix("list.json:"), "range": [where, where + 1]})
         else:
             told = line.removeprefix("list.json:").strip()
-            findings.append({"told": told, "range": part_of(re.sub(r"^[A-Z]\w+(?: \S+)?: ", "", told), found)})
+            advice = told.startswith("servers' accounts stay as they began: ")
+            findings.append({"told": told, "range": part_of(re.sub(r"^[A-Z]\w+(?: \S+)?: ", "", told), found), "advice": advice})
     return findings, broken
 
 

@@ -83,7 +83,7 @@
   // --- findings and the policy
 
   const findings = () => state.data.findings.map((it) => {
-    const told = el("p", { class: state.data.boots ? "finding" : "bad" }, state.data.boots ? "⚠ finding: " : "✗ fault: ", it.told, " ");
+    const told = el("p", { class: state.data.boots ? "finding" : "bad" }, !state.data.boots ? "✗ fault: " : it.advice ? "advice: " : "⚠ finding: ", it.told, " ");
     if (it.range) told.append(show([it.range]));
     return told;
   });

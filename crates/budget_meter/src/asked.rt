@@ -35,12 +35,11 @@ const SLICED_HEADER: u64 = 32;
 /// A node of a file.
 pub(crate) const NODE: u64 = 96;
 
-/// What a call asks of its caller's account, if it asks anything: of a heap the least chunk that it could take, and for no bytes, which
-/// are refused whatever the account has, what stands around them and a capability.
+/// What a call asks of its caller's account, if it asks anything: of a heap the least chunk that it could take. For no bytes it asks
+/// nothing, since it is refused whatever the account has.
 pub fn asked_by_call(call: Call<'_>) -> Option<Budget> {
     match call {
-        Call::Alloc(n) => pages_if_any(n),
-        Call::Snew(n) => whole_pages(n.saturating_add(SLICED_HEADER)),
+        Call::New(0) => None,
         Call::New(n) => least_chunk(n),
         Call::Open { args, .. } | Call::Upgrade { args, .. } => named_by(args),
         _ => asked_when_told(call, b""),
@@ -131,14 +130,6 @@ fn whole_pages(n: u64) -> Option<Budget>
     Some(Budget { ram, caps: 1 })
 }
 
-// The same of bytes that may be none, which have no pages.
-fn pages_if_any(n: u64) -> Option<Budget> {
-    if n == 0 {
-        return Some(Budget { ram: 0, caps: 1 });
-    }
-    whole_pages(n)
-}
-
 /// The least chunk in which a block for so many bytes has room, or the block that stands alone.
 pub fn least_chunk(n: u64) -> Option<Budget>
     ensures ram { n < 65536 → IfSome result (λ asked. asked.ram ≡ page_of (block_size n)) }
@@ -178,7 +169,7 @@ pub fn asked_by_request(request: FileRequest<'_>, size: u64) -> Option<Budget> {
             longer(size, offset.saturating_add(hex.len() as u64 / 2))
         }
         FileRequest::Put { offset, len, .. } => longer(size, offset.saturating_add(len)),
-        FileRequest::Buffer(n) => pages_if_any(n),
+        FileRequest::Buffer(n) => whole_pages(n),
         _ => None,
     }
 }

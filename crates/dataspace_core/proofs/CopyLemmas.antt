@@ -1,6 +1,5 @@
 -- Bytes of a dataspace put over a part of another, one piece after another.
-use Rattle.std.proofs.Common.{◌≡◌, ◌≢◌, ℕ, ◌+◌, ◌-◌, ◌%◌, ◌<◌, ◌≤◌, min, ◌++◌, List, [], length, take, drop, sym, ap, ◌∙◌, unwrap_or, is_some, arith, take-add, drop-drop, rules}
-use Rattle.std.proofs.lemmas.List.{length-take-le}
+use Rattle.std.proofs.Common.{◌≡◌, ◌≢◌, ℕ, ◌+◌, ◌-◌, ◌≤◌, ◌++◌, List, [], length, take, drop, sym, ap, ◌∙◌, unwrap_or, is_some, arith, take-add, drop-drop}
 use Rattle.std.specs.FinMap.{get}
 use Rattle.std.specs.Prelude.{Option, slice_range}
 use Rattle.trade_base.proofs.BytesLemmas.{length-slice_range}
@@ -8,11 +7,6 @@ use Rattle.own_model.proofs.NatMapLemmas.{value_at, get-insert_other}
 use Rattle.dataspace_core.specs.Store.{Store, Space, Exists, PartBecomes, part, part_with_bytes, space_at, with_bytes_at}
 use Rattle.dataspace_core.proofs.PartLemmas.{becomes-with_bytes_at}
 use Rattle.dataspace_core.proofs.PutLemmas.{put_nothing, put_there, put_long, put_more}
-
--- a piece is no more than is left, and as long as the part of the array that holds it
-pub piece_taken : (count done size at : ℕ) (buffer : List ℕ) → done < count → length buffer ≡ 4096 → size ≡ min (4096 - at % 4096) (count - done) →
-    (done + size ≤ count) × (length (take size buffer) ≡ size)
-piece_taken count done size at buffer more long is = search (rules, length-take-le)
 
 -- where no less is done than is asked, all is
 pub done_all : (done count : ℕ) → count ≤ done → done ≤ count → done ≡ count
@@ -78,9 +72,6 @@ module _ (store : Store) (from to : ℕ) (apart : from ≢ to) (source : Exists 
     -- a piece that is read there
     abbrev piece : List ℕ
     piece = slice_range (space_at now from).bytes (a + done) (a + done + size)
-
-    pub piece_long : length piece ≡ size
-    piece_long = ap (λ l. length (slice_range l (a + done) (a + done + size))) same_source ∙ length-slice_range bytes (a + done) size (omega (arith, more, there))
 
     -- once it is put, more bytes are copied
     pub copied_more : with_bytes_at now to (b + done) piece ≡ copied (done + size)

@@ -33,9 +33,9 @@ filled_more pages table start count offset done n buffer piece run here within f
     ∙ ap (λ k. take n (drop k bytes)) (sym here.place))
     ∙ pieces_join bytes offset done n
 
--- a word of a page is that word of the run
-pub run_word : (pages : List (Option (List ℕ))) (table : List PageNo) (start count offset : ℕ) → IsRun pages table start count → IsInPage count offset 8 → slice_range (page_bytes pages (page_in table (start + offset / 4096))) (offset % 4096) (offset % 4096 + 8) ≡ slice_range (run_bytes pages table start count) offset (offset + 8)
-run_word pages table start count offset run here = search (rules, range_piece, run_piece)
+-- a range of a page is that range of the run
+pub run_range : (pages : List (Option (List ℕ))) (table : List PageNo) (start count offset n : ℕ) → IsRun pages table start count → IsInPage count offset n → slice_range (page_bytes pages (page_in table (start + offset / 4096))) (offset % 4096) (offset % 4096 + n) ≡ slice_range (run_bytes pages table start count) offset (offset + n)
+run_range pages table start count offset n run here = search (rules, range_piece, run_piece)
 
 -- a buffer that is filled to its end
 pub filled_all : (buffer bytes : List ℕ) (offset done len : ℕ) → length buffer ≡ len → done ≤ length buffer → length buffer ≤ done → take done buffer ≡ take done (drop offset bytes) → buffer ≡ slice_range bytes offset (offset + len)

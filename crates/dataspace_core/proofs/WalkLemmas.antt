@@ -2,6 +2,7 @@
 use Rattle.std.proofs.lemmas.Bool.Decides.{nat_tests}
 use Rattle.std.proofs.Common.{◌≡◌, ℕ, ◌+◌, ◌*◌, ◌-◌, ◌/◌, ◌%◌, ◌<◌, ◌≤◌, min, length, List, arith, ◌∙◌, take, drop, length-drop}
 use Rattle.std.proofs.lemmas.List.{length-take-le}
+use Rattle.dataspace_core.specs.Layout.{IsPieceIn}
 
 -- so many bytes at a position lie in one page of a run
 pub record IsInPage (count at n : ℕ) : Type 0 where
@@ -39,6 +40,12 @@ word_fits offset aligned = omega arith
 -- so it is in one page
 pub word_in_page : (count offset : ℕ) → offset % 8 ≡ 0 → offset + 8 ≤ count * 4096 → IsInPage count offset 8
 word_in_page count offset aligned range = grind (arith, nat_tests, page_below, place_in, word_fits)
+
+-- a piece that lies in one page does
+pub piece_in_page : (count offset n : ℕ) → IsPieceIn count offset n → IsInPage count offset n
+piece_in_page count offset n piece =
+    let some = piece.some in let fits = piece.fits in let within = piece.within in
+    record { below = page_below offset count (omega arith); place = place_in offset; fits = fits }
 
 -- the part that a step takes of what is walked over
 pub length-lent : (whole : List ℕ) (done n : ℕ) → done + n ≤ length whole → length (take (done + n - done) (drop done whole)) ≡ n

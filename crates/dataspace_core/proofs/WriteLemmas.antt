@@ -65,11 +65,19 @@ pub IsWritten-step : (old_pages pages : List (Option (List ℕ))) (table : List 
     free_count new_pages ≡ free_count pages → IsWritten old_pages new_pages table start count offset (take (done + n) part)
 IsWritten-step old_pages pages table start count offset done n part run here within so_far free = search (rules, length-lent, take-add, IsWritten-more, length-take-le)
 
+-- a part is written into one page
+pub IsWritten-part : (pages : List (Option (List ℕ))) (table : List PageNo) (start count offset : ℕ) (part : List ℕ) → IsRun pages table start count → IsInPage count offset (length part) →
+    let page = page_in table (start + offset / 4096) in
+    let new_pages = set pages page (Some (with_bytes (page_bytes pages page) (offset % 4096) part)) in
+    free_count new_pages ≡ free_count pages → IsWritten pages new_pages table start count offset part
+IsWritten-part pages table start count offset part run here free =
+    IsWritten-more pages pages table start count offset (offset / 4096) (offset % 4096) [] part run (IsWritten-nothing pages table start count offset run) here.below
+    (omega (arith, here.place)) here.fits free
+
 -- a word is written into one page
 pub IsWritten-word : (pages : List (Option (List ℕ))) (table : List PageNo) (start count offset word : ℕ) → IsRun pages table start count → IsInPage count offset 8 →
     let page = page_in table (start + offset / 4096) in
     let new_pages = set pages page (Some (with_bytes (page_bytes pages page) (offset % 4096) (word_bytes word))) in
     free_count new_pages ≡ free_count pages → IsWritten pages new_pages table start count offset (word_bytes word)
 IsWritten-word pages table start count offset word run here free =
-    IsWritten-more pages pages table start count offset (offset / 4096) (offset % 4096) [] (word_bytes word) run (IsWritten-nothing pages table start count offset run) here.below
-    (omega (arith, here.place)) (omega (arith, here.fits, length-word_bytes word)) free
+    IsWritten-part pages table start count offset (word_bytes word) run (rw (length-word_bytes word) here) free

@@ -34,6 +34,10 @@ pub record IsRun (pages : List (Option (List ℕ))) (table : List PageNo) (start
   pub held : (i : ℕ) → i < count → length (page_bytes pages (page_in table (start + i))) ≡ 4096
   pub apart : (i j : ℕ) → i < count → j < count → page_in table (start + i) ≡ page_in table (start + j) → i ≡ j
 
+-- no page is in both of two runs
+abbrev pub AreApart : List PageNo → ℕ → ℕ → ℕ → ℕ → Type 0
+AreApart table start count other more = (i j : ℕ) → i < count → j < more → page_in table (start + i) ≢ page_in table (other + j)
+
 -- so many free pages were taken and stand at the end of the table, from this start on, and what was taken before stays
 pub record IsNewRun (pages : List (Option (List ℕ))) (table : List PageNo) (new_pages : List (Option (List ℕ))) (new_table : List PageNo) (start count : ℕ) : Type 0 where
   pub at_end : start ≡ length table
@@ -74,6 +78,12 @@ pub record HasMovedDown (gap : Run) (spaces new_spaces : Slab Dataspace) : Type 
 -- no dataspace lies behind the gap
 abbrev pub NoneLiesBehind : Run → Slab Dataspace → Type 0
 NoneLiesBehind gap spaces = (ds : ℕ) (d : Dataspace) → get spaces ds ≡ Some d → d.run.start ≤ gap.start
+
+-- so many bytes, one at least, stand at an offset of so many pages, in one of them
+pub record IsPieceIn (count offset bytes : ℕ) : Type 0 where
+  pub some : 0 < bytes
+  pub fits : offset % 4096 + bytes ≤ 4096
+  pub within : offset + bytes ≤ count * 4096
 
 -- a word stands at an offset of so many pages
 pub record IsWordIn (count offset : ℕ) : Type 0 where

@@ -1,5 +1,5 @@
 //! Bytes that go from one dataspace to another.
-ghost use Rattle.std.specs.Prelude.{◌≡◌, ◌≢◌, ◌+◌, ◌≤◌, length, slice_range};
+ghost use Rattle.std.specs.Prelude.{◌≡◌, ◌≢◌, ◌+◌, ◌%◌, ◌<◌, ◌≤◌, length, slice_range};
 ghost use Rattle.dataspace_core.specs.Store.{Exists, PartBecomes, part, part_with_bytes, space_at, with_bytes_at};
 
 use crate::memory::Memory;
@@ -8,7 +8,7 @@ use trade_base::{DsId, PAGE};
 impl Memory {
     /// Puts `count` bytes of a dataspace, those from an offset on, into another one from an offset on. Nothing else changes.
     ///
-    /// They go in pieces that each end with a page of the target, so a piece is one or two slices read and one written.
+    /// They go in pieces that each end with a page of one of the two.
     pub fn copy(&mut self, from: DsId, from_offset: u64, to: DsId, to_offset: u64, count: u64)
         requires apart { from.0 ≢ to.0 }
         requires source { Exists self.old from.0 }
@@ -27,15 +27,23 @@ impl Memory {
         // Both ends are sizes, so no offset before them is past 64 bits.
         let _source_end = self.size(from);
         let _target_end = self.size(to);
-        let mut buffer = [0; PAGE as usize];
         let mut done = 0;
         while done < count {
-            let at = to_offset + done;
-            let size = (PAGE - at % PAGE).min(count - done) as usize;
-            let piece = &mut buffer[..size];
-            self.read(from, from_offset + done, piece);
-            self.write(to, at, piece);
-            done += size as u64;
+            let (source, target) = (from_offset + done, to_offset + done);
+            let size = piece(source, target, count - done);
+            self.copy_piece(from, source, to, target, size);
+            done += size;
         }
     }
+}
+
+/// How many bytes of so many that are left, one at least, end with a page at either place.
+fn piece(source: u64, target: u64, left: u64) -> u64
+    requires { 0 < left }
+    ensures some { 0 < result }
+    ensures within { result ≤ left }
+    ensures source { source % 4096 + result ≤ 4096 }
+    ensures target { target % 4096 + result ≤ 4096 }
+{
+    (PAGE - source % PAGE).min(PAGE - target % PAGE).min(left)
 }

@@ -1,5 +1,5 @@
 //! Dataspaces over a pool of pages and the books of accounts.
-ghost use Rattle.std.specs.Prelude.{◌≡◌, ◌+◌, ◌*◌, ◌/◌, ◌%◌, ◌^◌, ◌<◌, ◌≤◌, length, if◌then◌else◌, Some, None, IsSome, IfOk, IfErr, IfSome, OnOk, OnErr, slice_range};
+ghost use Rattle.std.specs.Prelude.{◌≡◌, ◌≢◌, ◌+◌, ◌*◌, ◌/◌, ◌%◌, ◌^◌, ◌<◌, ◌≤◌, length, if◌then◌else◌, Some, None, IsSome, IfOk, IfErr, IfSome, OnOk, OnErr, slice_range};
 ghost use Rattle.std.specs.Result.{result_err};
 ghost use Rattle.std.specs.FinMap.{get, len};
 ghost use Rattle.trade_base.specs.Page.{is_valid_size, page_of};
@@ -17,7 +17,7 @@ ghost use Rattle.dataspace_core.specs.Store.{credited_part, PartBecomes, OpensPa
 
 use crate::dataspace::{Dataspace, size_of, space_under};
 use crate::runs::{
-    close_gap, give_run, load_run, no_pages, read_run, store_run, take_run, write_run,
+    close_gap, copy_piece, give_run, load_run, no_pages, read_run, store_run, take_run, write_run,
 };
 use crate::spaces::Spaces;
 use page_pool::{PageNo, Pool};
@@ -181,6 +181,40 @@ impl Memory {
     {
         let run = space_under(&self.spaces, ds).run;
         write_run(&mut self.pool, &self.table, run, offset as usize, bytes);
+    }
+
+    /// Puts `count` bytes of a dataspace, which lie in one page, into one page of another one. Nothing else changes.
+    pub(crate) fn copy_piece(
+        &mut self,
+        from: DsId,
+        from_offset: u64,
+        to: DsId,
+        to_offset: u64,
+        count: u64,
+    )
+        requires apart { from.0 ≢ to.0 }
+        requires source { Exists self.old from.0 }
+        requires target { Exists self.old to.0 }
+        requires some { 0 < count }
+        requires from_page { from_offset % 4096 + count ≤ 4096 }
+        requires to_page { to_offset % 4096 + count ≤ 4096 }
+        requires there { from_offset + count ≤ length (space_at self.old from.0).bytes }
+        requires room { to_offset + count ≤ length (space_at self.old to.0).bytes }
+        ensures { let bytes = (space_at self.old from.0).bytes in
+            self.new ≡ with_bytes_at self.old to.0 to_offset
+            (slice_range bytes from_offset (from_offset + count)) }
+    {
+        let source = space_under(&self.spaces, from).run;
+        let target = space_under(&self.spaces, to).run;
+        copy_piece(
+            &mut self.pool,
+            &self.table,
+            source,
+            from_offset as usize,
+            target,
+            to_offset as usize,
+            count as usize,
+        );
     }
 
     /// The word of a dataspace that stands at `offset`, its lowest byte first.

@@ -2,7 +2,7 @@
 ghost use Rattle.std.specs.Prelude.{◌≡◌, ◌+◌, ◌*◌, ◌%◌, ◌^◌, ◌<◌, ◌≤◌, [], length, slice_range, vec_len, vec_capacity, IfOk};
 ghost use Rattle.page_pool.specs.Pages.{free_count};
 ghost use Rattle.trade_base.specs.Word.{word_of, word_bytes};
-ghost use Rattle.dataspace_core.specs.Layout.{IsRun, IsNewRun, IsGiven, IsClosed, IsWordIn, IsWritten, run_bytes};
+ghost use Rattle.dataspace_core.specs.Layout.{AreApart, IsRun, IsNewRun, IsGiven, IsClosed, IsPieceIn, IsWordIn, IsWritten, run_bytes};
 
 use page_pool::{PageNo, Pool};
 use std::alloc::Global;
@@ -94,6 +94,36 @@ pub(crate) fn write_run(pool: &mut Pool, table: &Vec<PageNo>, run: Run, offset: 
         pool.write(page, at % PAGE_BYTES, &part[done..done + count]);
         done += count;
     }
+}
+
+/// Puts `count` bytes of a run, which lie in one page, into one page of another run.
+pub(crate) fn copy_piece(
+    pool: &mut Pool,
+    table: &Vec<PageNo>,
+    from: Run,
+    from_offset: usize,
+    to: Run,
+    to_offset: usize,
+    count: usize,
+)
+    requires source { IsRun pool.old table.now.items from.start from.count }
+    requires target { IsRun pool.old table.now.items to.start to.count }
+    requires apart { AreApart table.now.items from.start from.count to.start to.count }
+    requires there { IsPieceIn from.count from_offset count }
+    requires room { IsPieceIn to.count to_offset count }
+    ensures { let bytes = run_bytes pool.old table.now.items from.start from.count in
+        let part = slice_range bytes from_offset (from_offset + count) in
+        IsWritten pool.old pool.new table.now.items to.start to.count to_offset part }
+{
+    let source = table[from.start + from_offset / PAGE_BYTES];
+    let target = table[to.start + to_offset / PAGE_BYTES];
+    pool.copy(
+        source,
+        from_offset % PAGE_BYTES,
+        target,
+        to_offset % PAGE_BYTES,
+        count,
+    );
 }
 
 /// The word at `offset` of a run.

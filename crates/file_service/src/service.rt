@@ -34,6 +34,9 @@ const MOST_WRITTEN: usize = 4096;
 /// So many bytes are written by way of a small buffer, as a large one takes long to clear.
 const FEW_WRITTEN: usize = 128;
 
+/// So many bytes are written by way of a buffer that is larger, and not the largest.
+const MORE_WRITTEN: usize = 1024;
+
 /// The most bytes that a request reads.
 const MOST_READ: usize = 1024;
 
@@ -236,6 +239,8 @@ fn write(
 {
     if hex.len() <= 2 * FEW_WRITTEN {
         write_by::<FEW_WRITTEN>(session, memory, map, file, offset, hex)
+    } else if hex.len() <= 2 * MORE_WRITTEN {
+        write_by::<MORE_WRITTEN>(session, memory, map, file, offset, hex)
     } else {
         write_by::<MOST_WRITTEN>(session, memory, map, file, offset, hex)
     }

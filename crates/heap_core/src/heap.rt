@@ -75,6 +75,21 @@ impl Heap {
         }
     }
 
+    // Makes it as a new one. What stands in its lists' places is left there, past their ends.
+    pub(crate) fn forget(&mut self)
+        ensures payer { payer_of self.new ≡ payer_of self.old }
+        ensures sound { (store : Store) (regions : Regions) → IsOpenIn store (payer_of self.old) →
+            IsWindowOf store regions.pages regions.heap_most regions.heap →
+            HasNoBlocks (share_at (payer_of self.old) store regions) →
+            IsSound self.new store regions }
+        ensures empty { (share : Share) → HasNoBlocks share → heap_in self.new share ≡ no_heap }
+    {
+        self.fit = BestFit::new();
+        self.chunks.clear();
+        self.large.clear();
+        self.growth = FIRST_GROWTH;
+    }
+
     /// Takes a block for so many bytes, all zero, and tells the address of its payload. Below 65536 bytes it is taken in the
     /// best hole, and where no hole is large enough the heap grows by a chunk: the account pays for the chunk's bytes and
     /// one capability. From 65536 bytes on the block is large, and the account pays for its bytes in whole pages and one

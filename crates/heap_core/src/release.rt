@@ -68,7 +68,7 @@ impl Heap {
     {
         self.end_large(memory, map);
         self.end_chunks(memory, map);
-        *self = Heap::new(self.account);
+        self.forget();
     }
 
     // Gives back all large blocks, the last of the list first.

@@ -7,7 +7,7 @@ use crate::name::{Label, Path};
 use std::marker::Model;
 
 /// Where the list of an init stands: the init's number, and its path and its label, both empty of the machine's.
-#[derive(Debug, Drop)]
+#[derive(Drop)]
 pub(crate) struct Place {
     pub(crate) init: usize,
     pub(crate) path: Path,

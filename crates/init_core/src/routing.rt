@@ -14,7 +14,7 @@ use pd_core::label_of;
 pub const MOST_LISTS: usize = 4;
 
 /// Where a rule leads: to a child or to none, or out of its init.
-#[derive(Clone, Copy, Debug, PartialEq, Eq)]
+#[derive(Clone, Copy, PartialEq, Eq)]
 enum Way {
     /// To the child of a number, or to none.
     Inside(Option<usize>),

@@ -11,6 +11,11 @@ mod heaps;
 #[cfg(test)]
 mod pages;
 #[cfg(test)]
+mod regions;
+#[cfg(test)]
 mod selectors;
 #[cfg(test)]
 mod texts;
+#[cfg(test)]
+#[tactic(auto, using(crate::proofs::MemoryLemmas::store_laws))]
+mod words;

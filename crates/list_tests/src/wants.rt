@@ -3,8 +3,10 @@
 
 use init_core::{BootFault, MACHINE_A, StartList, boot, route};
 use pd_core::Reply;
+use services::Host;
 use std::alloc::Global;
 use std::process::Abort;
+use trade_base::Service;
 
 /// A machine with two file servers, of which a rule takes the second.
 const TO_FILES2: &str = r#"{"machine":{"pages":64,"caps":64},
@@ -107,6 +109,15 @@ fn want_of_memory_for_a_machine(rt: HostRuntime) {
         (NESTED, 2, None),
     ] {
         check(&rt, rt.alloc(), text, client, leads);
+    }
+}
+
+#[test]
+fn want_of_memory_for_a_server(rt: HostRuntime) {
+    for service in [Service::Log, Service::Files] {
+        let first = Host::boot(rt.alloc(), service, 2048, 4096);
+        let second = Host::boot(rt.alloc(), service, 2048, 4096);
+        assert!(rt; first.is_ok() || second.is_ok(), "one of two servers");
     }
 }
 

@@ -7,7 +7,7 @@ use crate::policies::{BROKEN, Noted, Standing, hold_against};
 use init_core::StartList;
 use json_documents::{Field, Listing, tree_documents};
 use reach::{Chosen, Reach, Table};
-use start_review::{Fault, Finding, Review, Whereabouts};
+use start_review::{Fault, Finding, Part, Review, Whereabouts};
 use std::alloc::{AllocError, Global};
 use std::io;
 use std::io::Write;
@@ -119,6 +119,7 @@ fn add_all(
     for finding in review.findings() {
         add_finding(alloc, listing, check.list, finding)?;
     }
+    add_advice(alloc, listing, check.list, &review)?;
     if check.strict && !review.findings().is_empty() {
         return Ok(REFUSED);
     }
@@ -182,26 +183,28 @@ fn add_fault(
         let what = &fault.fault;
         let text = format!(in alloc; "{what}: {reason}")?;
         let place = (number_of(*line), number_of(*column));
-        return add_told(listing, path, place, text.as_str());
+        return add_told(listing, "fault", path, place, text.as_str());
     }
     let text = fault.to_string(alloc)?;
     add_told(
         listing,
+        "fault",
         path,
         (Field::Nothing, Field::Nothing),
         text.as_str(),
     )
 }
 
-// Adds what is told of a fault.
+// Adds what is told of a fault, or of a finding, by a place in the text.
 fn add_told<'a>(
     listing: &mut Listing,
+    kind: &'static str,
     path: &'a str,
     (line, column): (Field<'a>, Field<'a>),
     told: &'a str,
 ) -> Result<(), AllocError> {
     listing.add(&[
-        ("kind", Field::Word("fault")),
+        ("kind", Field::Word(kind)),
         ("file", text_of(path)),
         ("line", line),
         ("column", column),
@@ -216,8 +219,12 @@ fn add_finding(
     path: &str,
     finding: &Finding,
 ) -> Result<(), AllocError> {
-    let part = finding.part.to_string(alloc)?;
     let text = finding.remark.to_string(alloc)?;
+    if let Part::Text(line, column) = &finding.part {
+        let place = (number_of(*line), number_of(*column));
+        return add_told(listing, "finding", path, place, text.as_str());
+    }
+    let part = finding.part.to_string(alloc)?;
     add_remark(listing, path, part.as_str(), text.as_str())
 }
 
@@ -233,6 +240,32 @@ fn add_remark<'a>(
         ("file", text_of(path)),
         ("part", text_of(part)),
         ("text", text_of(text)),
+    ])
+}
+
+// Adds what servers have that nothing uses, if they have something.
+fn add_advice(
+    alloc: Global,
+    listing: &mut Listing,
+    path: &str,
+    review: &Review,
+) -> Result<(), AllocError> {
+    match review.advice() {
+        Some(advice) => add_advised(listing, path, advice.to_string(alloc)?.as_str()),
+        None => Ok(()),
+    }
+}
+
+// Adds what is advised.
+fn add_advised<'a>(
+    listing: &mut Listing,
+    path: &'a str,
+    advised: &'a str,
+) -> Result<(), AllocError> {
+    listing.add(&[
+        ("kind", Field::Word("advice")),
+        ("file", text_of(path)),
+        ("text", text_of(advised)),
     ])
 }
 

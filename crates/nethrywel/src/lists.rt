@@ -4,14 +4,14 @@ use crate::files::read_start_list;
 use crate::given::Given;
 use init_core::StartList;
 use reach::{Chosen, Course, NoCourse, Table, WayList};
-use start_review::{Fault, Review, Whereabouts};
+use start_review::{Fault, Finding, Part, Review, Whereabouts};
 use std::{fmt, io};
 
 /// The exit status of a wish that leads nowhere.
 const DENIED: u8 = 3;
 
 /// Tells what is wrong with a start list, a line each on standard error, and `ok` where nothing is that counts: findings
-/// count where the check is strict. Answers the exit status.
+/// count where the check is strict, and advice never does. Answers the exit status.
 pub(crate) fn check(rt: &HostRuntime, path: &str, given: Given<'_>, strict: bool) -> u8 {
     match checked(rt, path, given, strict) {
         Some(_) => status_of(rt, println!(rt; "ok")),
@@ -19,7 +19,7 @@ pub(crate) fn check(rt: &HostRuntime, path: &str, given: Given<'_>, strict: bool
     }
 }
 
-/// The start list of a path with its findings told, or none where it has a fault, or findings that count.
+/// The start list of a path with its findings and advice told, or none where it has a fault, or findings that count.
 pub(crate) fn checked(
     rt: &HostRuntime,
     path: &str,
@@ -28,7 +28,11 @@ pub(crate) fn checked(
 ) -> Option<Review> {
     let review = review(rt, path, given)?;
     for finding in review.findings() {
-        let _ = eprintln!(rt; "{path}: {finding}");
+        let noticed = Noticed { path, finding };
+        let _ = eprintln!(rt; "{noticed}");
+    }
+    if let Some(advice) = review.advice() {
+        let _ = eprintln!(rt; "{path}: {advice}");
     }
     if strict && !review.findings().is_empty() {
         return None;
@@ -233,6 +237,27 @@ impl fmt::Display for Told<'_> {
                 write!(f, "{path}:{line}:{column}: {}: {reason}", self.fault.fault)
             }
             _ => write!(f, "{path}: {}", self.fault),
+        }
+    }
+}
+
+/// A finding with its place, in the same way.
+#[derive(Clone, Copy)]
+struct Noticed<'a> {
+    /// The path of the start list.
+    path: &'a str,
+    /// The finding.
+    finding: &'a Finding,
+}
+
+impl fmt::Display for Noticed<'_> {
+    fn fmt<W: fmt::Write>(&self, f: &mut fmt::Formatter<W>) -> fmt::Result {
+        let path = self.path;
+        match &self.finding.part {
+            Part::Text(line, column) => {
+                write!(f, "{path}:{line}:{column}: {}", self.finding.remark)
+            }
+            _ => write!(f, "{path}: {}", self.finding),
         }
     }
 }

@@ -1,6 +1,6 @@
 -- What each call makes of a pool, behind whose pages come some that have never been handed out.
 use Rattle.std.proofs.Common.{◌≡◌, ◌≢◌, ℕ, suc, ◌+◌, ◌-◌, ◌*◌, ◌/◌, ◌<◌, ◌≤◌, ◌^◌, true, List, [], ◌∷◌, ◌++◌, length, get_or, Option, Some, None, ⊎_elim, refl, sym, ap, arith, rules, ◌∙◌}
-use Rattle.std.specs.Prelude.{Vec, slice_set, slice_get}
+use Rattle.std.specs.Prelude.{Vec, slice_set, slice_get, slice_range}
 use Rattle.std.specs.Vec.{with_items}
 use Rattle.std.proofs.lemmas.List.{same_lists, places, length-replicate, length-append, get_or-replicate, get_or-append_right, get_or_append_left, get_or_past, set-append_left, append_assoc, with_items_is}
 use Rattle.std.proofs.Math.Seq.{set-append_seam, get_or-append_seam}
@@ -11,7 +11,7 @@ use Rattle.std.proofs.lemmas.Bool.{cases_lt}
 use Rattle.std.proofs.lemmas.Bool.Decides.{nat_tests}
 use Rattle.trade_base.specs.Bytes.{with_bytes}
 use Rattle.trade_base.specs.Word.{word_bytes}
-use Rattle.trade_base.proofs.BytesLemmas.{length-with_bytes}
+use Rattle.trade_base.proofs.BytesLemmas.{length-with_bytes, length-slice_range}
 use Rattle.trade_base.proofs.WordLemmas.{length-word_bytes}
 use Rattle.page_pool.specs.Pages.{fresh_pages, free_count, is_taken, page_bytes, zero_page}
 use Rattle.page_pool.specs.Layout.{word_at, linked, page_count, bytes_at, pages_of, pool_of, IsLaidOut, IsPool}
@@ -244,3 +244,22 @@ write_taken bytes bytes' count head fresh room room' pages page offset part pool
       size = rw same wrote.size;
       count = rw (← view) (let a = free_count-behind used fresh in let b = free_count-behind (pages_of (linked bytes' count head) bytes') fresh in let c = wrote.count in omega (arith, a, b, c));
     }
+
+-- ranges of two pages are apart
+pub ranges_apart : (from to from_offset to_offset count : ℕ) → from ≢ to → from_offset + count ≤ 4096 → to_offset + count ≤ 4096 → to * 4096 + to_offset < from * 4096 + from_offset + count → to * 4096 + to_offset + count ≤ from * 4096 + from_offset
+ranges_apart from to from_offset to_offset count apart there room below = omega (arith, apart)
+
+-- a part of a taken page put at a taken page's place is written to that page alone
+pub copied_taken : {Z : Type 0} (v : Vec ℕ Z) (lent after : List ℕ) (count head fresh : ℕ) (pages : List (Option (List ℕ))) (from from_offset to to_offset size : ℕ) → IsPool (linked v.items count head) v.items fresh v.cap → pool_of (linked v.items count head) v.items fresh ≡ pages → is_taken pages from ≡ true → is_taken pages to ≡ true → from_offset + size ≤ 4096 → to_offset + size ≤ 4096 → lent ≡ v.items →
+    after ≡ with_bytes lent (to * 4096 + to_offset) (slice_range lent (from * 4096 + from_offset) (from * 4096 + from_offset + size)) →
+    PoolWrote (linked (with_items v after).items count head) (with_items v after).items fresh v.cap pages to to_offset (slice_range (page_bytes pages from) from_offset (from_offset + size))
+copied_taken v lent after count head fresh pages from from_offset to to_offset size pool view source target there room is change =
+    let free = linked v.items count head in
+    let part = slice_range (page_bytes pages from) from_offset (from_offset + size) in
+    let reads = read_taken free v.items fresh v.cap pages from from_offset size pool view source there in
+    let inside = (LiesIn-in_pool free v.items fresh v.cap pages to pool view target).inside in
+    let long : length part ≡ size = length-slice_range (page_bytes pages from) from_offset size (omega (arith, reads.size)) in
+    let same : slice_range lent (from * 4096 + from_offset) (from * 4096 + from_offset + size) ≡ part = rw is reads.part in
+    let put : after ≡ with_bytes lent (to * 4096 + to_offset) part = change ∙ ap (with_bytes lent (to * 4096 + to_offset)) same in
+    write_taken v.items _ count head fresh v.cap v.cap pages to to_offset part pool view target (omega (arith, long, room))
+    (written v lent after part (to * 4096 + to_offset) is (omega (arith, long, room, inside)) put) (omega arith)

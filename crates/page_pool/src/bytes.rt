@@ -1,5 +1,5 @@
 //! Bytes of host memory, read and written by ranges, by words and by pages.
-ghost use Rattle.std.specs.Prelude.{◌≡◌, ◌+◌, ◌≤◌, [], ◌++◌, length, slice_range, vec_len, vec_capacity, IfOk};
+ghost use Rattle.std.specs.Prelude.{◌≡◌, ◌+◌, ◌<◌, ◌≤◌, [], ◌++◌, length, slice_range, vec_len, vec_capacity, IfOk};
 ghost use Rattle.trade_base.specs.Bytes.{with_bytes};
 ghost use Rattle.trade_base.specs.Word.{word_bytes};
 ghost use Rattle.page_pool.specs.Pages.{zero_page};
@@ -36,6 +36,22 @@ pub(crate) fn write(bytes: &mut [u8], start: usize, part: &[u8])
     ensures { bytes.new ≡ with_bytes bytes.old start part.now }
 {
     bytes[start..start + part.len()].copy_from_slice(part);
+}
+
+/// Puts the `count` bytes at `from` at `to` as well, a range apart from theirs.
+pub(crate) fn copy(bytes: &mut [u8], from: usize, to: usize, count: usize)
+    requires source { from + count ≤ length bytes.old }
+    requires target { to + count ≤ length bytes.old }
+    requires apart { to < from + count → to + count ≤ from }
+    ensures { bytes.new ≡ with_bytes bytes.old to (slice_range bytes.old from (from + count)) }
+{
+    if from < to {
+        let (front, back) = bytes.split_at_mut(to);
+        back[..count].copy_from_slice(&front[from..from + count]);
+    } else {
+        let (front, back) = bytes.split_at_mut(from);
+        front[to..to + count].copy_from_slice(&back[..count]);
+    }
 }
 
 /// The word at `start`, its lowest byte first.

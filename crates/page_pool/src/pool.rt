@@ -1,6 +1,6 @@
 //! The pool over one block of host memory. Each free page that has been handed out before begins with the number of the next;
 //! pages that have never been handed out are not touched.
-ghost use Rattle.std.specs.Prelude.{◌≡◌, ◌+◌, ◌%◌, ◌≤◌, length, IsTrue, IfOk, IfSome, IfNone, Some, None, is_some, nat_lt, slice_get, slice_set, slice_range};
+ghost use Rattle.std.specs.Prelude.{◌≡◌, ◌≢◌, ◌+◌, ◌%◌, ◌≤◌, length, IsTrue, IfOk, IfSome, IfNone, Some, None, is_some, nat_lt, slice_get, slice_set, slice_range};
 ghost use Rattle.trade_base.specs.Bytes.{with_bytes};
 ghost use Rattle.trade_base.specs.Word.{word_bytes, word_of};
 ghost use Rattle.page_pool.specs.Pages.{fresh_pages, free_count, is_taken, page_bytes, zero_page};
@@ -120,6 +120,31 @@ impl Pool {
     {
         let start = page.0 as usize * PAGE_BYTES + offset;
         bytes::write(&mut self.bytes, start, part);
+    }
+
+    /// Puts `count` bytes of a taken page, those from an offset on, into another one from an offset on. Nothing else changes.
+    pub fn copy(
+        &mut self,
+        from: PageNo,
+        from_offset: usize,
+        to: PageNo,
+        to_offset: usize,
+        count: usize,
+    )
+        requires source { IsTrue (is_taken self.old from.0) }
+        requires target { IsTrue (is_taken self.old to.0) }
+        requires apart { from.0 ≢ to.0 }
+        requires there { from_offset + count ≤ 4096 }
+        requires room { to_offset + count ≤ 4096 }
+        ensures copied { let end = from_offset + count in
+            let part = slice_range (page_bytes self.old from.0) from_offset end in
+            let bytes = with_bytes (page_bytes self.old to.0) to_offset part in
+            self.new ≡ slice_set self.old to.0 (Some bytes) }
+        ensures count { free_count self.new ≡ free_count self.old }
+    {
+        let source = from.0 as usize * PAGE_BYTES + from_offset;
+        let target = to.0 as usize * PAGE_BYTES + to_offset;
+        bytes::copy(&mut self.bytes, source, target, count);
     }
 
     /// The word of a taken page that stands at `offset`, its lowest byte first.

@@ -2,7 +2,6 @@
 use Rattle.std.proofs.Common.{◌≡◌, ◌≢◌, ℕ, ◌<◌, ◌≤◌, zero, suc, ◌+◌, Bool, true, false, ◌&&◌, List, [], ◌∷◌, ◌++◌, length, get_or, refl, sym, subst, ap, ◌∙◌, arith, ◌⊎◌, inl, inr}
 use Rattle.std.specs.Prelude.{All, Any}
 use Rattle.std.specs.List.{list_all, list_any}
-use Rattle.std.specs.Str.{bytes_eq}
 use Rattle.std.proofs.lemmas.Slice.Eq.{bytes_eq-Decides}
 use Rattle.std.proofs.lemmas.List.{append_assoc, length-append}
 use Rattle.std.proofs.lemmas.Bool.Decides.{nat_tests}
@@ -15,7 +14,7 @@ use Rattle.own_model.specs.SessionArgs.{is_quotable}
 use Rattle.reach.specs.Reach.{IsGiven, leads_to}
 use Rattle.reach.specs.Deciding.{trail_of}
 use Rattle.reach.specs.Keys.{key_of}
-use Rattle.reach.specs.Closure.{AreKept, HasKey, IsGrown, IsKept, IsLengthened, IsLengthenedAt, Keeps, KeptLabel, StandsFor}
+use Rattle.reach.specs.Closure.{AreKept, HasKey, IsGrown, IsKept, IsLengthened, IsLengthenedAt, Keeps, KeptLabel, StandsFor, has_key}
 use Rattle.reach.proofs.KeyLemmas.{key_alike, trail_alike}
 
 -- ---- more of them
@@ -48,13 +47,13 @@ same_at (x ∷ kept) (suc place) d e within = same_at kept place d e (omega arit
 
 pub keeps_known : (list : Listed) (client : ℕ) (service label key : List ℕ) (kept : List KeptLabel)
     → All (IsKept list client service (length label)) kept → key ≡ key_of list client service label
-    → list_any (λ one. bytes_eq one.key key) kept ≡ true → Keeps list client service label kept kept
+    → list_any (has_key key) kept ≡ true → Keeps list client service label kept kept
 keeps_known list client service label key kept sound keyed known =
-    let any = Any-from_list_any (λ one. bytes_eq one.key key) kept known in
+    let any = Any-from_list_any (has_key key) kept known in
     record {
       grown = grown_same kept;
       sound = sound;
-      there = (any.0, any.1, any.2, any.3, (bytes_eq-Decides any.1.key key).0 any.4 ∙ keyed);
+      there = (any.0, any.1, any.2, any.3, sym ((bytes_eq-Decides key any.1.key).0 any.4) ∙ keyed);
     }
 
 pub keeps_new : (list : Listed) (client : ℕ) (service label : List ℕ) (one : KeptLabel) (kept : List KeptLabel)

@@ -9,3 +9,4 @@ pub mod FirstLemmas
 pub mod FollowLemmas
 pub mod CandidateLemmas
 pub mod WishLemmas
+pub mod HeldLemmas

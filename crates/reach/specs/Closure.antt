@@ -1,5 +1,6 @@
 -- Labels that stand for all others: of each kind of label, by its key, one that is no longer.
-use Rattle.std.specs.Prelude.{◌≡◌, ℕ, ◌<◌, ◌≤◌, true, List, [], ◌∷◌, ◌++◌, length, slice_index_or, Option, All, Any}
+use Rattle.std.specs.Prelude.{◌≡◌, ℕ, ◌<◌, ◌≤◌, Bool, true, List, [], ◌∷◌, ◌++◌, length, slice_index_or, Option, All, Any}
+use Rattle.std.specs.Str.{bytes_eq}
 use Rattle.own_model.specs.Listed.{Listed}
 use Rattle.own_model.specs.SessionArgs.{is_quotable}
 use Rattle.reach.specs.Deciding.{trail_of}
@@ -38,6 +39,10 @@ pub record IsGrown (old new : List KeptLabel) : Type 0 where
 -- a kept label has the key of a label
 abbrev pub HasKey : Listed → ℕ → List ℕ → List ℕ → KeptLabel → Type 0
 HasKey list client service label kept = kept.key ≡ key_of list client service label
+
+-- the same by a test
+abbrev pub has_key : List ℕ → KeptLabel → Bool
+has_key key kept = bytes_eq key kept.key
 
 -- each label that is one byte longer has the key of a kept one, where the byte is within a range
 abbrev pub IsLengthened : Listed → ℕ → List ℕ → List ℕ → ℕ → ℕ → List KeptLabel → Type 0

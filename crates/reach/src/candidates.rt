@@ -8,8 +8,8 @@ ghost use Rattle.reach.specs.Ways.{StandForAll};
 ghost use Rattle.reach.specs.Asked.{Adds, IsCut, AreJoined, AreOffered, IsFilled, IsFollowed, IsHeld, IsOffered, behind, goes_as_short, is_known, is_tail, is_whole, joins, known, known_within};
 
 use crate::asked::{Asked, agrees, asked_of, text_behind};
-use crate::closure::Kept;
 use crate::firsts::{firsts_of, lasts_of};
+use crate::held::Kept;
 use crate::key::{MOST_LISTS, client_entry, init_entry, rules_of};
 use crate::label::{LONGEST_GIVEN, Label, behind};
 use crate::rules::{rules_for, same_child};

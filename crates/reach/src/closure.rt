@@ -1,38 +1,16 @@
 //! Labels that stand for all others: of the labels of one key the first that is found, from the shortest on.
 ghost use Rattle.std.specs.Prelude.{◌≡◌, ◌≤◌, ◌<◌, ◌+◌, ◌++◌, ◌∷◌, [], true, length, All, Any, IfOk, OnOk};
-ghost use Rattle.std.specs.List.{list_any};
-ghost use Rattle.std.specs.Str.{bytes_eq};
 ghost use Rattle.own_model.specs.SessionArgs.{is_quotable};
 ghost use Rattle.reach.specs.Reach.{IsGiven};
 ghost use Rattle.reach.specs.Closure.{AreKept, HasKey, IsGrown, IsKept, IsLengthened, IsLengthenedAt, Keeps};
 
+use crate::held::{Held, Kept};
 use crate::key::key_of;
 use crate::label::{LONGEST_GIVEN, Label};
 use crate::wishes::Wishes;
 use init_core::route;
 use std::alloc::{AllocError, Global};
-use std::marker::Model;
 use text_codec::is_quotable;
-
-/// A label with its key, and the component to which it leads.
-#[derive(Drop)]
-pub(crate) struct Kept {
-    pub(crate) label: Label,
-    pub(crate) key: Vec<usize>,
-    pub(crate) child: Option<usize>,
-}
-
-impl Model for Kept {
-    ghost use Rattle.reach.specs.Closure.{KeptLabel};
-
-    ghost Value = { KeptLabel };
-
-    ghost view = { λ kept. record {
-      label = kept.label;
-      key = kept.key.items;
-      child = kept.child;
-    } };
-}
 
 /// Labels that stand for all that can be given.
 pub(crate) fn labels(alloc: Global, wishes: Wishes<'_>) -> Result<Vec<Kept>, AllocError>
@@ -44,17 +22,17 @@ pub(crate) fn labels(alloc: Global, wishes: Wishes<'_>) -> Result<Vec<Kept>, All
     for size in 0..LONGEST_GIVEN {
         lengthen(alloc, &mut kept, wishes, size)?;
     }
-    Ok(kept)
+    Ok(kept.into_labels())
 }
 
 // The empty label alone.
 #[tactic(auto, using(crate::proofs::ClosureLemmas::given_empty, crate::proofs::ClosureLemmas::kept_none, crate::proofs::ClosureLemmas::first_of))]
-fn first(alloc: Global, wishes: Wishes<'_>) -> Result<Vec<Kept>, AllocError>
+fn first(alloc: Global, wishes: Wishes<'_>) -> Result<Held, AllocError>
     requires client { wishes.client < length wishes.list.now.entries }
     ensures { IfOk result (λ kept.
-        AreKept wishes.entry.list.now wishes.entry.client wishes.entry.service.now 0 kept.items) }
+        AreKept wishes.entry.list.now wishes.entry.client wishes.entry.service.now 0 kept) }
 {
-    let mut kept = Vec::new(alloc);
+    let mut kept = Held::new(alloc);
     keep(alloc, &mut kept, wishes, Label::empty())?;
     Ok(kept)
 }
@@ -63,15 +41,15 @@ fn first(alloc: Global, wishes: Wishes<'_>) -> Result<Vec<Kept>, AllocError>
 #[tactic(auto, using(crate::proofs::ClosureLemmas::all_wider, crate::proofs::ClosureLemmas::grown_same, crate::proofs::ClosureLemmas::places_more, crate::proofs::ClosureLemmas::longer_kept))]
 fn lengthen(
     alloc: Global,
-    kept: &mut Vec<Kept>,
+    kept: &mut Held,
     wishes: Wishes<'_>,
     size: usize,
 ) -> Result<(), AllocError>
     requires client { wishes.client < length wishes.list.now.entries }
     requires short { size < 64 }
-    requires kept { AreKept wishes.list.now wishes.client wishes.service.now size kept.old.items }
+    requires kept { AreKept wishes.list.now wishes.client wishes.service.now size kept.old }
     ensures { OnOk result (AreKept wishes.entry.list.now wishes.entry.client
-        wishes.entry.service.now (size + 1) kept.new.items) }
+        wishes.entry.service.now (size + 1) kept.new) }
 {
     for place in 0..kept.len() {
         lengthen_at(alloc, kept, wishes, size, place)?;
@@ -83,23 +61,23 @@ fn lengthen(
 #[tactic(auto, using(crate::proofs::ClosureLemmas::given_at, crate::proofs::ClosureLemmas::done_at, crate::proofs::ClosureLemmas::passed_at, crate::proofs::ClosureLemmas::grown_same))]
 fn lengthen_at(
     alloc: Global,
-    kept: &mut Vec<Kept>,
+    kept: &mut Held,
     wishes: Wishes<'_>,
     size: usize,
     place: usize,
 ) -> Result<(), AllocError>
     requires client { wishes.client < length wishes.list.now.entries }
     requires short { size < 64 }
-    requires within { place < length kept.old.items }
+    requires within { place < length kept.old }
     requires sound { All (IsKept wishes.list.now wishes.client wishes.service.now (size + 1))
-        kept.old.items }
+        kept.old }
     ensures sound { OnOk result (All (IsKept wishes.entry.list.now wishes.entry.client
-        wishes.entry.service.now (size + 1)) kept.new.items) }
-    ensures grown { OnOk result (IsGrown kept.old.items kept.new.items) }
+        wishes.entry.service.now (size + 1)) kept.new) }
+    ensures grown { OnOk result (IsGrown kept.old kept.new) }
     ensures longer { OnOk result (IsLengthenedAt wishes.entry.list.now wishes.entry.client
-        wishes.entry.service.now size kept.old.items place kept.new.items) }
+        wishes.entry.service.now size kept.old place kept.new) }
 {
-    let one = &kept[place];
+    let one = &kept.as_slice()[place];
     let label = one.label.copy();
     if label.as_bytes().len() == size {
         lengthen_one(alloc, kept, wishes, &label)?;
@@ -111,7 +89,7 @@ fn lengthen_at(
 #[tactic(auto, using(crate::proofs::ClosureLemmas::three_ranges, crate::proofs::ClosureLemmas::grown_then))]
 fn lengthen_one(
     alloc: Global,
-    kept: &mut Vec<Kept>,
+    kept: &mut Held,
     wishes: Wishes<'_>,
     label: &Label,
 ) -> Result<(), AllocError>
@@ -119,12 +97,12 @@ fn lengthen_one(
     requires given { IsGiven label.now }
     requires short { length label.now < 64 }
     requires sound { All (IsKept wishes.list.now wishes.client wishes.service.now
-        (length label.now + 1)) kept.old.items }
+        (length label.now + 1)) kept.old }
     ensures sound { OnOk result (All (IsKept wishes.entry.list.now wishes.entry.client
-        wishes.entry.service.now (length label.now + 1)) kept.new.items) }
-    ensures grown { OnOk result (IsGrown kept.old.items kept.new.items) }
+        wishes.entry.service.now (length label.now + 1)) kept.new) }
+    ensures grown { OnOk result (IsGrown kept.old kept.new) }
     ensures longer { OnOk result (IsLengthened wishes.entry.list.now wishes.entry.client
-        wishes.entry.service.now label.now 32 127 kept.new.items) }
+        wishes.entry.service.now label.now 32 127 kept.new) }
 {
     keep_range(alloc, kept, wishes, label, b'a', 127)?;
     keep_range(alloc, kept, wishes, label, b'!', b'a')?;
@@ -135,7 +113,7 @@ fn lengthen_one(
 #[tactic(auto, using(crate::proofs::ClosureLemmas::lengthened_more, crate::proofs::ClosureLemmas::grown_same, crate::proofs::ClosureLemmas::grown_then))]
 fn keep_range(
     alloc: Global,
-    kept: &mut Vec<Kept>,
+    kept: &mut Held,
     wishes: Wishes<'_>,
     label: &Label,
     from: u8,
@@ -145,12 +123,12 @@ fn keep_range(
     requires given { IsGiven label.now }
     requires short { length label.now < 64 }
     requires sound { All (IsKept wishes.list.now wishes.client wishes.service.now
-        (length label.now + 1)) kept.old.items }
+        (length label.now + 1)) kept.old }
     ensures sound { OnOk result (All (IsKept wishes.entry.list.now wishes.entry.client
-        wishes.entry.service.now (length label.now + 1)) kept.new.items) }
-    ensures grown { OnOk result (IsGrown kept.old.items kept.new.items) }
+        wishes.entry.service.now (length label.now + 1)) kept.new) }
+    ensures grown { OnOk result (IsGrown kept.old kept.new) }
     ensures longer { OnOk result (IsLengthened wishes.entry.list.now wishes.entry.client
-        wishes.entry.service.now label.now from until kept.new.items) }
+        wishes.entry.service.now label.now from until kept.new) }
 {
     for byte in from..until {
         keep_with(alloc, kept, wishes, label, byte)?;
@@ -162,7 +140,7 @@ fn keep_range(
 #[tactic(auto, using(crate::proofs::ClosureLemmas::given_more, crate::proofs::ClosureLemmas::grown_same))]
 fn keep_with(
     alloc: Global,
-    kept: &mut Vec<Kept>,
+    kept: &mut Held,
     wishes: Wishes<'_>,
     label: &Label,
     byte: u8,
@@ -171,12 +149,12 @@ fn keep_with(
     requires given { IsGiven label.now }
     requires short { length label.now < 64 }
     requires sound { All (IsKept wishes.list.now wishes.client wishes.service.now
-        (length label.now + 1)) kept.old.items }
+        (length label.now + 1)) kept.old }
     ensures sound { OnOk result (All (IsKept wishes.entry.list.now wishes.entry.client
-        wishes.entry.service.now (length label.now + 1)) kept.new.items) }
-    ensures grown { OnOk result (IsGrown kept.old.items kept.new.items) }
+        wishes.entry.service.now (length label.now + 1)) kept.new) }
+    ensures grown { OnOk result (IsGrown kept.old kept.new) }
     ensures here { OnOk result (is_quotable byte ≡ true → Any (HasKey wishes.entry.list.now
-        wishes.entry.client wishes.entry.service.now (label.now ++ byte ∷ [])) kept.new.items) }
+        wishes.entry.client wishes.entry.service.now (label.now ++ byte ∷ [])) kept.new) }
 {
     if is_quotable(byte) {
         keep(alloc, kept, wishes, label.with(byte))
@@ -187,31 +165,18 @@ fn keep_with(
 
 // Keeps a label, unless one of its key is there.
 #[tactic(auto, using(crate::proofs::ClosureLemmas::keeps_known, crate::proofs::ClosureLemmas::keeps_new), unfolding(crate::specs::Reach::leads_to))]
-fn keep(
-    alloc: Global,
-    kept: &mut Vec<Kept>,
-    wishes: Wishes<'_>,
-    label: Label,
-) -> Result<(), AllocError>
+fn keep(alloc: Global, kept: &mut Held, wishes: Wishes<'_>, label: Label) -> Result<(), AllocError>
     requires client { wishes.client < length wishes.list.now.entries }
     requires given { IsGiven label }
     requires sound { All (IsKept wishes.list.now wishes.client wishes.service.now (length label))
-        kept.old.items }
+        kept.old }
     ensures { OnOk result (Keeps wishes.entry.list.now wishes.entry.client wishes.entry.service.now
-        label kept.old.items kept.new.items) }
+        label kept.old kept.new) }
 {
     let key = key_of(alloc, wishes, &label)?;
-    if is_known(kept, key.as_slice()) {
+    if kept.has(key.as_slice()) {
         return Ok(());
     }
     let child = route(wishes.list, wishes.client, wishes.service, label.as_bytes());
-    kept.push(Kept { label, key, child })?;
-    Ok(())
-}
-
-// Whether a label of a key is there.
-fn is_known(kept: &[Kept], key: &[usize]) -> bool
-    ensures { result ≡ list_any (λ one. bytes_eq one.key key.now) kept.now }
-{
-    kept.iter().any(|one| one.key.as_slice() == key)
+    kept.push(alloc, Kept { label, key, child })
 }

@@ -5,7 +5,7 @@ ghost use Rattle.reach.specs.Deciding.{AreTrails, IsTrail, KeepsTrail, is_same};
 ghost use Rattle.reach.specs.Trails.{AreSeen};
 ghost use Rattle.reach.specs.Ways.{IsTold, StandForAll};
 
-use crate::closure::Kept;
+use crate::held::Kept;
 use crate::label::{LONGEST_GIVEN, Label};
 use crate::rules::{rules_for, same_child};
 use crate::standing::standing;

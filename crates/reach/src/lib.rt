@@ -9,6 +9,7 @@ mod closure;
 mod course;
 mod deciding;
 mod firsts;
+mod held;
 mod key;
 mod label;
 mod laws;

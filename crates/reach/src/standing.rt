@@ -3,7 +3,8 @@ ghost use Rattle.std.specs.Prelude.{◌<◌, length, IfOk};
 ghost use Rattle.reach.specs.Ways.{StandForAll};
 
 use crate::candidates::few_labels;
-use crate::closure::{Kept, labels};
+use crate::closure::labels;
+use crate::held::Kept;
 use crate::wishes::Wishes;
 use std::alloc::{AllocError, Global};
 

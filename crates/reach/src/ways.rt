@@ -4,7 +4,7 @@ ghost use Rattle.std.specs.List.{list_all};
 ghost use Rattle.own_model.specs.Listed.{Listed};
 ghost use Rattle.reach.specs.Ways.{AreWays, IsBest, TellsReach, is_shorter, leads};
 
-use crate::closure::Kept;
+use crate::held::Kept;
 use crate::label::Label;
 use crate::standing::standing;
 use crate::wishes::Wishes;

@@ -1,9 +1,9 @@
 //! The lines that make calls.
-ghost use Rattle.std.specs.Prelude.{◌≡◌, IfSome, None, Some, [], IfOk, IfErr, OnErr};
+ghost use Rattle.std.specs.Prelude.{◌≡◌, IfSome, None, Some, [], IfOk, IfErr, OnErr, drop};
 ghost use Rattle.std.specs.Option.{option_and_then, option_copied, option_map, unwrap_or};
 ghost use Rattle.trade_base.specs.declared.refusal.Refusal.TheVariants.{BadLine};
 ghost use Rattle.own_model.specs.Text.{address_of, number_of};
-ghost use Rattle.own_model.specs.Call.{call_of, form_of, name_of, of_none, of_text, of_two, some_bytes_of_hex, spoken, Spoken};
+ghost use Rattle.own_model.specs.Call.{call_in, call_of, form_of, forms, name_of, of_none, of_text, of_two, some_bytes_of_hex, spoken, Spoken};
 ghost use Rattle.own_model.specs.Call.Call.{AttachAt, Peek, Poke, Open, Upgrade, CallSession};
 ghost use Rattle.pd_core.specs.Call.{model_call, IsWellFormed};
 ghost use Rattle.scenario.specs.Read.{IsReadAs, spoken_as};
@@ -73,11 +73,13 @@ fn read_call(text: &[u8]) -> Option<Call<'_>>
 }
 
 /// The call of a form by its word, with what stands after the word and a space as its arguments.
+///
+/// Each form returns where it is found: along a chain of `else if` its call would be copied at each form. The forms are looked
+/// for in their order, in four functions.
 fn call_from<'a>(word: &[u8], arguments: Option<&'a [u8]>) -> Option<Call<'a>>
     ensures call { option_map model_call result ≡ call_of word.now (option_copied arguments.entry) }
     ensures well_formed { IfSome result IsWellFormed }
 {
-    // Each form returns where it is found: along a chain of `else if` its call would be copied at each form.
     if word == b"alloc".as_slice() {
         return Some(Call::Alloc(number(arguments)?));
     }
@@ -99,6 +101,15 @@ fn call_from<'a>(word: &[u8], arguments: Option<&'a [u8]>) -> Option<Call<'a>>
     if word == b"poke".as_slice() {
         return read_poke(arguments?);
     }
+    block_call_from(word, arguments)
+}
+
+/// That of a form of capabilities or of blocks, or of one behind these.
+fn block_call_from<'a>(word: &[u8], arguments: Option<&'a [u8]>) -> Option<Call<'a>>
+    ensures call { option_map model_call result
+        ≡ call_in (drop 7 forms) word.now (option_copied arguments.entry) }
+    ensures well_formed { IfSome result IsWellFormed }
+{
     if word == b"capalloc".as_slice() {
         return read_none(Call::Capalloc, arguments);
     }
@@ -117,6 +128,15 @@ fn call_from<'a>(word: &[u8], arguments: Option<&'a [u8]>) -> Option<Call<'a>>
     if word == b"sdel".as_slice() {
         return Some(Call::Sdel(address(arguments)?));
     }
+    session_call_from(word, arguments)
+}
+
+/// That of a form of sessions, or of one behind these.
+fn session_call_from<'a>(word: &[u8], arguments: Option<&'a [u8]>) -> Option<Call<'a>>
+    ensures call { option_map model_call result
+        ≡ call_in (drop 13 forms) word.now (option_copied arguments.entry) }
+    ensures well_formed { IfSome result IsWellFormed }
+{
     if word == b"open".as_slice() {
         return read_open(arguments?);
     }
@@ -129,6 +149,15 @@ fn call_from<'a>(word: &[u8], arguments: Option<&'a [u8]>) -> Option<Call<'a>>
     if word == b"close".as_slice() {
         return Some(Call::Close(number(arguments)?));
     }
+    account_call_from(word, arguments)
+}
+
+/// That of a form of the component's own account.
+fn account_call_from<'a>(word: &[u8], arguments: Option<&'a [u8]>) -> Option<Call<'a>>
+    ensures call { option_map model_call result
+        ≡ call_in (drop 17 forms) word.now (option_copied arguments.entry) }
+    ensures well_formed { IfSome result IsWellFormed }
+{
     if word == b"exit".as_slice() {
         return read_none(Call::Exit, arguments);
     }

@@ -1,7 +1,7 @@
 //! The command line.
 ghost use Rattle.std.specs.Prelude.{◌≡◌, IfErr, IfOk, MatchResult, codes, map, option_map, false, true};
-ghost use Rattle.clap.specs.Words.{FailsBy, app_of, fault_of, first_of, found_of, kind_of, matches_of, rows_of, rule_of, takes};
-ghost use Rattle.scenario.specs.Options.{flag_rule, is_set, program};
+ghost use Rattle.clap.specs.Words.{FailsBy, app_of, fault_of, first_of, found_of, kind_of, matches_of, new_app, rows_of, rule_of, takes, with_rule};
+ghost use Rattle.scenario.specs.Options.{config_rule, flag_rule, is_set, only_rule, program};
 
 use clap::error::ErrorKind;
 use clap::{Arg, ArgAction, ArgMatches, Command, Error};
@@ -70,23 +70,53 @@ fn command<'a>(alloc: Global) -> Result<Command<'a>, Error>
     ensures { MatchResult result (λ made. app_of made ≡ program)
         (λ error. kind_of error ≡ ErrorKind.OutOfMemory) }
 {
-    let check = flag(alloc, "check", "Only boot, print ok and read no scenario");
-    let accounts = flag(alloc, "accounts", "Print all accounts after the last reply");
-    let only = Arg::new(alloc, "only")
-        .long("only")
-        .value_name("NAME")
-        .help("Answer the lines of this component alone");
-    let config = Arg::new(alloc, "config").value_name("CONFIG").help(
-        "A start list in JSON; without it a built-in machine boots",
-    );
-    let command = Command::new(alloc, "scenario_run")
+    let checking = flag(alloc, "check", "Only boot, print ok and read no scenario");
+    let command = with_argument(bare(alloc), checking)?;
+    let telling = flag(alloc, "accounts", "Print all accounts after the last reply");
+    let command = with_argument(command, telling)?;
+    let command = with_argument(command, only(alloc))?;
+    let command = with_argument(command, config(alloc))?;
+    Ok(command)
+}
+
+// The command without its arguments.
+fn bare<'a>(alloc: Global) -> Command<'a>
+    ensures { app_of result ≡ new_app (codes "scenario_run") }
+{
+    Command::new(alloc, "scenario_run")
         .about(ABOUT)
         .after_help(FORMS)
-        .arg(check)?
-        .arg(accounts)?
-        .arg(only)?
-        .arg(config)?;
-    Ok(command)
+}
+
+// Adds an argument that counts for this command alone.
+fn with_argument<'a>(command: Command<'a>, argument: Arg<'a>) -> Result<Command<'a>, AllocError>
+    requires { argument.global ≡ false }
+    ensures { IfOk result
+        (λ made. app_of made ≡ with_rule (app_of command.entry) (rule_of argument.entry)) }
+{
+    let made = command.arg(argument)?;
+    Ok(made)
+}
+
+// The name whose lines alone are answered.
+fn only<'a>(alloc: Global) -> Arg<'a>
+    ensures rule { rule_of result ≡ only_rule }
+    ensures local { result.global ≡ false }
+{
+    Arg::new(alloc, "only")
+        .long("only")
+        .value_name("NAME")
+        .help("Answer the lines of this component alone")
+}
+
+// The path of a start list.
+fn config<'a>(alloc: Global) -> Arg<'a>
+    ensures rule { rule_of result ≡ config_rule }
+    ensures local { result.global ≡ false }
+{
+    Arg::new(alloc, "config").value_name("CONFIG").help(
+        "A start list in JSON; without it a built-in machine boots",
+    )
 }
 
 // A flag by its name.
@@ -112,9 +142,14 @@ pub fn words_given<R: Env + AllocGlobal>(rt: &R) -> Result<Vec<String>, Error> {
     match env::args(rt) {
         Ok(words) => Ok(words.collect(rt.alloc())?),
         Err(fault) if fault.kind() == io::ErrorKind::OutOfMemory => Err(Error::from(AllocError)),
-        Err(_) => Err(command(rt.alloc())?.error(
-            ErrorKind::InvalidValue,
-            "invalid UTF-8 was detected in one or more arguments",
-        )?),
+        Err(_) => Err(isnt_text(rt.alloc())?),
     }
+}
+
+// The error of a word that isn't UTF-8.
+fn isnt_text(alloc: Global) -> Result<Error, Error> {
+    Ok(command(alloc)?.error(
+        ErrorKind::InvalidValue,
+        "invalid UTF-8 was detected in one or more arguments",
+    )?)
 }

@@ -1,5 +1,5 @@
 //! The program's task: from the text of a start list to the end of a scenario.
-ghost use Rattle.std.specs.Prelude.{◌≡◌, ◌≤◌, length, Bool, IfOk, IfErr, IfSome, OnOk, Err, [], true};
+ghost use Rattle.std.specs.Prelude.{◌≡◌, ◌≤◌, ℕ, List, length, Bool, IfOk, IfErr, IfSome, OnOk, Err, [], true};
 ghost use Rattle.std.specs.Option.{option_copied, option_map};
 ghost use Rattle.std.specs.Io.KnownBytes.{Appends};
 ghost use Rattle.own_model.specs.Listed.{Listed as Machine, start_list_of};
@@ -7,7 +7,7 @@ ghost use Rattle.own_model.specs.StartList.{entries_of};
 ghost use Rattle.own_model.specs.Text.{lines_of};
 ghost use Rattle.init_core.specs.declared.fault.BootFault.{BootFault as Unbooted};
 ghost use Rattle.init_core.specs.declared.fault.BootFault.TheVariants.{NoMemory as NoRoom};
-ghost use Rattle.scenario.specs.Program.{AsksFor, FailsFor, FailsIn, IsAnswered, IsBoundedFor, IsDone, IsMachine, StopsScenario, ok_line, scenario_text, status_of, written_for};
+ghost use Rattle.scenario.specs.Program.{AsksFor, FailsFor, FailsIn, IsAnswered, IsBoundedFor, IsDone, IsMachine, StopsScenario, ok_line, scenario_text, status_of, world_of, written_for};
 ghost use Rattle.scenario.specs.Stops.{AppendsPart, is_write_fault};
 ghost use Rattle.scenario.specs.Texts.{failure_text};
 ghost use Rattle.scenario.specs.declared.program.Failure.TheVariants.{Boot as Booting, Run as Running};
@@ -128,6 +128,33 @@ pub fn boot_and_run<S: Source, K: Sink>(
 {
     let list = StartList::read(alloc, text)?;
     let mut core = boot(alloc, &list)?;
+    do_task(alloc, &mut core, &list, task, reader, writer)
+}
+
+// Does a task on the machine of a start list, which has just booted.
+#[tactic(auto, using(crate::proofs::TaskLemmas::tasks))]
+fn do_task<R: Router + Drop, S: Source, K: Sink>(
+    alloc: Global,
+    core: &mut Core<R>,
+    list: &StartList,
+    task: Task<'_>,
+    reader: &mut S,
+    writer: &mut K,
+) -> Result<Summary, Failure>
+    requires starts { core.old ≡ world_of list.now }
+    ensures done { (text : List ℕ) → IsMachine text list.now →
+        IfOk result (λ summary. IsDone task.entry text
+        (S.remaining reader.old) summary.lines (K.contents writer.old) (K.contents writer.new)) }
+    ensures few { IfOk result (λ summary. summary.lines ≤ MAX_LINES) }
+    ensures fails { (text : List ℕ) → IsMachine text list.now →
+        IfErr result (λ failure. FailsFor failure task.entry text MAX_LINES
+        (S.remaining reader.old) (S.remaining reader.new) (S.has_failed reader.new)
+        (K.contents writer.old) (K.contents writer.new)) }
+    ensures unbooted { (fault : Unbooted) → result ≡ Err (Booting fault) →
+        (reader.new ≡ reader.old) × (writer.new ≡ writer.old) }
+    ensures unread { task.entry ≡ Checking → reader.new ≡ reader.old }
+    ensures writing { result ≡ Err (Running Unwritten) → K.has_failed writer.new ≡ true }
+{
     match task {
         Task::Check => match tell_ok(writer) {
             Ok(summary) => Ok(summary),
@@ -135,7 +162,7 @@ pub fn boot_and_run<S: Source, K: Sink>(
         },
         Task::Run { accounts, only } => {
             let mut reply = Reply::boot(alloc)?;
-            match answer_scenario(&mut core, &list, &mut reply, accounts, only, reader, writer) {
+            match answer_scenario(core, list, &mut reply, accounts, only, reader, writer) {
                 Ok(summary) => Ok(summary),
                 Err(fault) => Err(Failure::Run(fault)),
             }

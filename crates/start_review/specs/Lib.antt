@@ -5,7 +5,9 @@ pub mod Outer
 pub mod Left
 pub mod Near
 pub mod Places
+pub mod Repeated
 pub mod RuleFaults
+pub mod Spare
 pub mod Steps
 pub mod Wishes
 pub mod Unread

@@ -80,6 +80,8 @@ impl Known {
 /// What is to be told of a part of a start list.
 #[derive(Debug, Drop)]
 pub enum Remark {
+    /// An earlier member of the same object has this name, too.
+    GivenTwice(Written),
     /// Nothing reads a member; the nearest that is read, if one is near.
     Unread(Written, Option<Known>),
     /// No entry has the name of a rule's child; the nearest name, if one is near.
@@ -121,8 +123,13 @@ pub enum Remark {
 impl fmt::Display for Remark {
     fn fmt<W: fmt::Write>(&self, f: &mut fmt::Formatter<W>) -> fmt::Result {
         match self {
+            Remark::GivenTwice(member) => {
+                show_member(f, member.as_str())?;
+                f.write_str(": given twice; the last one counts")
+            }
             Remark::Unread(member, near) => {
-                show_unread(f, member.as_str())?;
+                show_member(f, member.as_str())?;
+                f.write_str(": nothing reads this member")?;
                 show_near(f, known_text(near))
             }
             Remark::NoChild(child, near) => {
@@ -204,13 +211,13 @@ fn show_let_in<W: fmt::Write>(
     write!(f, "label_prefix: {front} lets \"{name}\" in too")
 }
 
-// That nothing reads a member.
-fn show_unread<W: fmt::Write>(f: &mut fmt::Formatter<W>, member: &str) -> fmt::Result {
+// The name of a member.
+fn show_member<W: fmt::Write>(f: &mut fmt::Formatter<W>, member: &str) -> fmt::Result {
     let member = Quoted {
         text: member,
         in_graph: false,
     };
-    write!(f, "{member}: nothing reads this member")
+    write!(f, "{member}")
 }
 
 // What may have been meant, if something may.

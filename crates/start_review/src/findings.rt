@@ -1,27 +1,26 @@
 //! What a start list says that its writer can hardly have meant, in the order of its parts: the rules of the machine's default
 //! route, and each entry with its own route and the default route of what it starts.
-ghost use Rattle.std.specs.Prelude.{◌≡◌, ◌<◌, ◌++◌, is_some, take, IfOk, OnOk, None, Some};
+ghost use Rattle.std.specs.Prelude.{◌≡◌, ◌<◌, ◌++◌, is_some, take, OnOk};
 ghost use Rattle.std.specs.Option.{option_copied};
-ghost use Rattle.trade_base.specs.Service.{service_name};
-ghost use Rattle.init_core.specs.View.{model_target};
-ghost use Rattle.start_review.specs.Findings.{case_of, entry_findings, findings_of, has_name, hidden, label_findings, low_caps, low_ram, misled, missed, no_child, other_case, pages_findings, part_pages, part_reserve, route_findings, rule_findings, rules_findings, stray_findings, strays, strays_if_provided, told, unreached, use_findings, useless};
+ghost use Rattle.start_review.specs.Findings.{entry_findings, findings_of, hidden, label_findings, low_caps, low_ram, missed, pages_findings, part_pages, part_reserve, route_findings, rule_findings, rules_findings, told, unreached, use_findings, useless};
 ghost use Rattle.start_review.specs.Outer.{chosen_end, outer_init, wide_front};
 ghost use Rattle.start_review.specs.Steps.{part_of};
 ghost use Rattle.start_review.specs.Views.{ShowAll};
 ghost use Rattle.start_review.specs.declared.part.About.TheVariants as about;
 
 use crate::finding::{Finding, Known, Remark};
-use crate::hiding::{decides_some, hidden_by};
+use crate::hiding::hidden_by;
 use crate::idle::is_idle;
-use crate::near::near_name;
+use crate::near::other_case;
 use crate::outer::{chosen_end, outer_init, why_idle, wide_front};
 use crate::part::{About, Owner};
 use crate::reached::{is_led_to, leads_somewhere};
+use crate::strays::tell_target;
 use crate::views::{View, views_of};
-use crate::wishes::{before, is_provided};
-use init_core::{Binary, Entry, Name, Rule, StartList, Target, target_child};
+use crate::wishes::before;
+use init_core::{Binary, Entry, Rule, StartList};
 use std::alloc::{AllocError, Global};
-use trade_base::{SERVICES, Service};
+use trade_base::Service;
 
 /// The least RAM in bytes that pays for a session.
 const SESSION_RAM: u64 = 4096;
@@ -355,27 +354,7 @@ fn tell_rule(
         (part_of list.now.entries about) earlier.now rule.now) }
 {
     tell(found, alloc, list, about, other_case(rule.service()))?;
-    match no_child(alloc, list, init, rule.target())? {
-        Some(remark) => tell(found, alloc, list, about, Some(remark)),
-        None => tell_strays(found, alloc, list, init, about, earlier, rule),
-    }
-}
-
-// Whether a rule asks for a service in another case.
-fn other_case(service: Option<&Name>) -> Option<Remark>
-    ensures { result ≡ other_case (option_copied service.entry) }
-{
-    let written = service?;
-    let meant = SERVICES.iter().find(|meant| case_of(written, **meant))?;
-    Some(Remark::OtherCase(written.copy(), Known(meant.name())))
-}
-
-// Whether the name of a service differs from this in case alone.
-fn case_of(written: &Name, service: Service) -> bool
-    ensures { result ≡ case_of written.now service }
-{
-    let name = service.name();
-    written.as_str().eq_ignore_ascii_case(name) && written.as_bytes() != name.as_bytes()
+    tell_target(found, alloc, list, init, about, earlier, rule)
 }
 
 // Whether an earlier rule hides one.
@@ -388,138 +367,8 @@ fn hidden(earlier: &[Rule], rule: &Rule) -> Option<Remark>
     }
 }
 
-// Whether no entry of an init's list has the name of a target's child.
-fn no_child(
-    alloc: Global,
-    list: &StartList,
-    init: usize,
-    target: &Target,
-) -> Result<Option<Remark>, AllocError>
-    ensures { IfOk result
-        (λ remark. remark ≡ no_child list.now.entries init (model_target target.now)) }
-{
-    match target {
-        Target::Child(name) => if has_name(list.entries(), init, name.as_bytes()) {
-            Ok(None)
-        } else {
-            let near = near_name(alloc, list.entries(), init, name.as_str())?;
-            Ok(Some(Remark::NoChild(name.copy(), near)))
-        },
-        Target::AnyChild | Target::Parent => Ok(None),
-    }
-}
-
-// Whether some entry of an init's list has a name.
-fn has_name(entries: &[Entry], init: usize, name: &[u8]) -> bool
-    ensures { result ≡ has_name entries.now init name.now }
-{
-    entries
-        .iter()
-        .any(|entry| entry.home() == init && entry.name() == name)
-}
-
-// Tells for which services a rule leads to no child.
-fn tell_strays(
-    found: &mut Vec<Finding>,
-    alloc: Global,
-    list: &StartList,
-    init: usize,
-    about: About,
-    earlier: &[Rule],
-    rule: &Rule,
-) -> Result<(), AllocError>
-    ensures { OnOk result (found.new.items
-        ≡ found.old.items ++ stray_findings list.now.entries init
-        (part_of list.now.entries about) earlier.now rule.now rule.now.service) }
-{
-    match rule.service() {
-        Some(service) => {
-            let remark = strays(list, init, earlier, rule, service);
-            tell(found, alloc, list, about, remark)
-        }
-        None => tell_all_strays(found, alloc, list, init, about, earlier, rule),
-    }
-}
-
-// Tells for which of the services that there are a rule of any service leads to no child.
-fn tell_all_strays(
-    found: &mut Vec<Finding>,
-    alloc: Global,
-    list: &StartList,
-    init: usize,
-    about: About,
-    earlier: &[Rule],
-    rule: &Rule,
-) -> Result<(), AllocError>
-    ensures { OnOk result (found.new.items
-        ≡ found.old.items ++ stray_findings list.now.entries init
-        (part_of list.now.entries about) earlier.now rule.now None) }
-{
-    let services = SERVICES.as_slice();
-    for place in 0..services.len() {
-        let remark = strays_if_provided(list, init, earlier, rule, services[place]);
-        tell(found, alloc, list, about, remark)?;
-    }
-    Ok(())
-}
-
-// Whether a rule of any service leads to no child for a service that some entry of its list provides.
-#[tactic(auto, using(crate::proofs::RuleLemmas::service_is_named))]
-fn strays_if_provided(
-    list: &StartList,
-    init: usize,
-    earlier: &[Rule],
-    rule: &Rule,
-    service: Service,
-) -> Option<Remark>
-    ensures { result
-        ≡ strays_if_provided list.now.entries init earlier.now rule.now (service_name service) }
-{
-    match Name::read(service.name()) {
-        Some(name) if is_provided(list, init, name.as_bytes()) => {
-            strays(list, init, earlier, rule, &name)
-        }
-        _ => None,
-    }
-}
-
-// Whether a rule decides some wishes for a service, and leads them to no child.
-fn strays(
-    list: &StartList,
-    init: usize,
-    earlier: &[Rule],
-    rule: &Rule,
-    service: &Name,
-) -> Option<Remark>
-    ensures { result ≡ strays list.now.entries init earlier.now rule.now service.now }
-{
-    let asked = service.as_bytes();
-    if decides_some(earlier, rule, asked)
-        && target_child(list, init, rule.target(), asked).is_none()
-    {
-        misled(list, init, rule.target(), service)
-    } else {
-        None
-    }
-}
-
-// Why a target that leads to no child for a service doesn't, unless it is to lead out of the init.
-fn misled(list: &StartList, init: usize, target: &Target, service: &Name) -> Option<Remark>
-    ensures { result ≡ misled list.now.entries init (model_target target.now) service.now }
-{
-    match target {
-        Target::Child(child) => Some(Remark::NotProvided(child.copy(), service.copy())),
-        Target::AnyChild => if is_provided(list, init, service.as_bytes()) {
-            Some(Remark::SeveralProviders(service.copy()))
-        } else {
-            Some(Remark::NoProvider(service.copy()))
-        },
-        Target::Parent => None,
-    }
-}
-
-// Tells something of a part, if there is something.
-fn tell(
+/// Tells something of a part, if there is something.
+pub(crate) fn tell(
     found: &mut Vec<Finding>,
     alloc: Global,
     list: &StartList,

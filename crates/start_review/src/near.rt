@@ -1,11 +1,14 @@
 //! Which word may have been meant by a misspelt one.
 ghost use Rattle.std.specs.Prelude.{◌≡◌, ◌≤◌, IfOk, find, map};
 ghost use Rattle.std.specs.Option.{option_copied};
+ghost use Rattle.start_review.specs.Findings.{case_of, other_case};
 ghost use Rattle.start_review.specs.Near.{is_away, names_in, nearest};
 
+use crate::finding::{Known, Remark};
 use init_core::{Entry, Name};
 use std::alloc::{AllocError, Global};
 use strsim::levenshtein;
+use trade_base::{SERVICES, Service};
 
 /// The name of an entry of an init's list that may be meant by one that none has, if one is near.
 pub(crate) fn near_name(
@@ -83,4 +86,21 @@ fn is_away(alloc: Global, count: usize, written: &str, meant: &str) -> Result<bo
     ensures { IfOk result (λ is. is ≡ is_away count written.now meant.now) }
 {
     Ok(levenshtein(alloc, meant, written)? == count && 2 * count < meant.len())
+}
+
+/// Whether a rule asks for a service in another case.
+pub(crate) fn other_case(service: Option<&Name>) -> Option<Remark>
+    ensures { result ≡ other_case (option_copied service.entry) }
+{
+    let written = service?;
+    let meant = SERVICES.iter().find(|meant| case_of(written, **meant))?;
+    Some(Remark::OtherCase(written.copy(), Known(meant.name())))
+}
+
+// Whether the name of a service differs from this in case alone.
+fn case_of(written: &Name, service: Service) -> bool
+    ensures { result ≡ case_of written.now service }
+{
+    let name = service.name();
+    written.as_str().eq_ignore_ascii_case(name) && written.as_bytes() != name.as_bytes()
 }

@@ -170,8 +170,8 @@ fn is_below(init: &Entry, entry: &Entry) -> bool
         && behind(label, above.len()).starts_with(b" -> ")
 }
 
-// Whether a binary is a server's.
-fn is_server(binary: Binary) -> bool
+/// Whether a binary is a server's.
+pub(crate) fn is_server(binary: Binary) -> bool
     ensures { result ≡ is_server (model_binary binary) }
 {
     match binary {

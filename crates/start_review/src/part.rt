@@ -108,9 +108,11 @@ impl fmt::Display for Steps {
     }
 }
 
-/// A part of a start list. Entries are those of all lists, an init directly before its own. Numbers and places count from 0.
+/// A part of a start list, or a place in its text. Entries are those of all lists, an init directly before its own. Numbers and places count from 0.
 #[derive(Debug, Drop)]
 pub enum Part {
+    /// A place in the text: the line and the column, from 1 on.
+    Text(usize, usize),
     /// The list itself.
     List,
     /// Its machine.
@@ -133,6 +135,7 @@ impl Part {
         ensures { IfOk result (λ part. part ≡ self.now) }
     {
         Ok(match self {
+            Part::Text(line, column) => Part::Text(*line, *column),
             Part::List => Part::List,
             Part::Machine => Part::Machine,
             Part::Entry(number, steps) => Part::Entry(*number, steps.copy(alloc)?),
@@ -149,6 +152,7 @@ impl Part {
 impl fmt::Display for Part {
     fn fmt<W: fmt::Write>(&self, f: &mut fmt::Formatter<W>) -> fmt::Result {
         match self {
+            Part::Text(line, column) => write!(f, "line {line}, column {column}"),
             Part::List => f.write_str("start list"),
             Part::Machine => f.write_str("machine"),
             Part::Entry(_, steps) => write!(f, "{steps}"),

@@ -7,6 +7,8 @@ ghost use Rattle.init_core.specs.StartText.{json_in, list_in, list_of};
 ghost use Rattle.init_core.specs.declared.fault.BootFault.TheVariants.{BadJson, NoMemory};
 ghost use Rattle.start_review.specs.Findings.{findings_of};
 ghost use Rattle.start_review.specs.Places.{IsPlaced, fault_of};
+ghost use Rattle.start_review.specs.Repeated.{repeated_in};
+ghost use Rattle.start_review.specs.Spare.{if_any, spare_of};
 ghost use Rattle.start_review.specs.Unread.{unread_of};
 
 use crate::fault::{Fault, Reason, Whereabouts};
@@ -15,8 +17,10 @@ use crate::findings::tell_findings;
 use crate::flaw::Flaw;
 use crate::graph::Graph;
 use crate::left::first_lack;
+use crate::repeated::tell_repeated;
+use crate::spare::{Advice, Spare, spare_of};
 use crate::tree::Tree;
-use crate::unread::unread;
+use crate::unread::tell_unread;
 use init_core::{BootFault, Field, StartList};
 use serde_json::Value;
 use std::alloc::{AllocError, Global};
@@ -29,6 +33,7 @@ const LONGEST_TEXT: usize = 65_536;
 pub struct Review {
     list: StartList,
     findings: Vec<Finding>,
+    spare: Vec<Spare>,
 }
 
 impl Review {
@@ -42,7 +47,10 @@ impl Review {
         ensures place { IfErr result (λ fault. fault.fault ≢ NoMemory
             → IsPlaced (json_in text.now) fault.fault fault.place) }
         ensures told { IfOk result (λ review. Some review.findings.items
-            ≡ option_map (λ value. unread_of value ++ findings_of review.list) (json_in text.now)) }
+            ≡ option_map
+            (λ value. repeated_in text.now ++ unread_of value ++ findings_of review.list)
+            (json_in text.now)) }
+        ensures advice { IfOk result (λ review. review.spare.items ≡ spare_of review.list) }
     {
         if text.len() > LONGEST_TEXT {
             return Err(Fault {
@@ -61,9 +69,16 @@ impl Review {
                 place: Whereabouts::Budget(lack),
             });
         }
-        let mut findings = unread(alloc, &value)?;
+        let mut findings = Vec::new(alloc);
+        tell_repeated(&mut findings, alloc, text)?;
+        tell_unread(&mut findings, alloc, &value)?;
         tell_findings(&mut findings, alloc, &list)?;
-        Ok(Review { list, findings })
+        let spare = spare_of(alloc, &list)?;
+        Ok(Review {
+            list,
+            findings,
+            spare,
+        })
     }
 
     /// The list.
@@ -73,12 +88,25 @@ impl Review {
         &self.list
     }
 
-    /// What it says that its writer can hardly have meant: members that nothing reads, and then the rest, each in the order of
-    /// its parts.
+    /// What it says that its writer can hardly have meant: members that are given twice, in the order of its text, then members
+    /// that nothing reads, and then the rest, each in the order of its parts.
     pub fn findings(&self) -> &[Finding]
         ensures { result.now ≡ self.now.findings.items }
     {
         self.findings.as_slice()
+    }
+
+    /// What its servers have that nothing uses, if they have something.
+    pub fn advice(&self) -> Option<Advice<'_>>
+        ensures { option_map (λ advice. advice.servers.now) result ≡ if_any self.now.spare.items }
+    {
+        if self.spare.is_empty() {
+            None
+        } else {
+            Some(Advice {
+                servers: self.spare.as_slice(),
+            })
+        }
     }
 
     /// Its components, and where their wishes lead, as text. An error is want of memory.

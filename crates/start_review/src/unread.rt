@@ -1,5 +1,5 @@
 //! The members of a start list's objects that nothing reads.
-ghost use Rattle.std.specs.Prelude.{◌≡◌, ◌++◌, [], IfOk, OnOk};
+ghost use Rattle.std.specs.Prelude.{◌≡◌, ◌++◌, [], OnOk};
 ghost use Rattle.std.specs.Option.{option_and_then, option_map};
 ghost use Rattle.serde_json.specs.Find.{as_object};
 ghost use Rattle.serde_json.specs.View.{members_view, view};
@@ -14,17 +14,20 @@ use crate::values::{EntryValue, elements, find_entries, member, runs};
 use serde_json::{Map, Value};
 use std::alloc::{AllocError, Global};
 
-/// The members that nothing reads of the value that a list was read of, in the order of its parts.
-pub(crate) fn unread(alloc: Global, list: &Value) -> Result<Vec<Finding>, AllocError>
-    ensures { IfOk result (λ found. found.items ≡ unread_of (view list.now)) }
+/// Tells the members that nothing reads of the value that a list was read of, in the order of its parts.
+pub(crate) fn tell_unread(
+    found: &mut Vec<Finding>,
+    alloc: Global,
+    list: &Value,
+) -> Result<(), AllocError>
+    ensures { OnOk result (found.new.items ≡ found.old.items ++ unread_of (view list.now)) }
 {
-    let mut found = Vec::new(alloc);
-    tell_members(&mut found, alloc, Table::List, &Part::List, Some(list))?;
+    tell_members(found, alloc, Table::List, &Part::List, Some(list))?;
     let machine = list.get("machine");
-    tell_members(&mut found, alloc, Table::Machine, &Part::Machine, machine)?;
+    tell_members(found, alloc, Table::Machine, &Part::Machine, machine)?;
     let rules = list.get("default-route");
     tell_rules(
-        &mut found,
+        found,
         alloc,
         Owner::Default,
         &Steps::none(alloc),
@@ -32,9 +35,9 @@ pub(crate) fn unread(alloc: Global, list: &Value) -> Result<Vec<Finding>, AllocE
     )?;
     let entries = find_entries(alloc, list)?;
     for (number, entry) in entries.iter().enumerate() {
-        tell_entry(&mut found, alloc, number, entry)?;
+        tell_entry(found, alloc, number, entry)?;
     }
-    Ok(found)
+    Ok(())
 }
 
 // Tells those of an entry, of its own route, and of what it starts if it is an init.

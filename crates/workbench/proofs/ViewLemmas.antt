@@ -20,7 +20,7 @@ use Rattle.workbench.specs.Turns.Deed.{TooLong, Unnamed, Follows, Says}
 use Rattle.workbench.specs.Writes.{Closes, IsPlayedFrom, WritesAfter, list_behind, run_tells, shown_of}
 use Rattle.workbench.specs.declared.accounting.Accounting.{Accounting}
 use Rattle.workbench.specs.declared.ending.Ending.{Ending}
-use Rattle.workbench.specs.declared.ending.PlayFault.{PlayFault}
+use Rattle.scenario.specs.declared.play_fault.PlayFault.{PlayFault}
 use Rattle.workbench.specs.declared.stand.Stand.{Stand}
 use Rattle.workbench.proofs.ListLemmas.{text_is}
 use Rattle.workbench.proofs.PlayedLemmas.{told_as_engine}

@@ -6,18 +6,20 @@ ghost use Rattle.own_model.specs.StartList.{entries_of};
 ghost use Rattle.init_core.specs.declared.fault.BootFault.TheVariants.{NoMemory};
 ghost use Rattle.scenario.specs.Program.{boot_fault};
 ghost use Rattle.scenario.specs.Runs.{HasCause};
+ghost use Rattle.scenario.specs.Faults.{is_write_fault};
 ghost use Rattle.scenario.specs.Stops.{AppendsPart, is_write_fault as is_writing};
 ghost use Rattle.scenario.specs.declared.running.RunFault.TheVariants.{WriteFault};
-ghost use Rattle.workbench.specs.Faults.{fault_before, is_write_fault, unplayed};
 ghost use Rattle.workbench.specs.Accounting.{OfSessions, SeesAccounts, accounts_behind, accounts_text, text_kept};
+ghost use Rattle.workbench.specs.Faults.{fault_before, unplayed};
 ghost use Rattle.workbench.specs.Played.{calls_answered};
 ghost use Rattle.workbench.specs.Turns.{first_with, turns_of};
 ghost use Rattle.workbench.specs.Writes.{Closes, IsPlayed, IsPlayedFrom, IsUnplayed, nothing_told, turns_on};
-ghost use Rattle.workbench.specs.declared.ending.PlayFault.TheVariants.{NoMemory as NoRoom};
+ghost use Rattle.scenario.specs.declared.play_fault.PlayFault.TheVariants.{NoMemory as NoRoom};
 
 use crate::accounting::Accounting;
+use crate::bench::Bench;
 use crate::closed_lines::write_closed;
-use crate::ending::{Ending, PlayFault};
+use crate::ending::Ending;
 use crate::machine::Play;
 use crate::needs::Needs;
 use crate::notes::Notes;
@@ -25,7 +27,7 @@ use crate::peaks::Peaks;
 use crate::playing::play as play_lines;
 use init_core::{BootFault, StartList, boot};
 use pd_core::{Core, Router};
-use scenario::{MAX_LINES, Run, RunFault, Sink, Source, write_columns};
+use scenario::{MAX_LINES, PlayFault, Run, RunFault, Sink, Source, write_columns};
 use std::alloc::Global;
 
 /// Plays a scenario, and then writes the account list: the account of the machine's init, those of the components with their
@@ -71,16 +73,16 @@ pub fn accounts<S: Source, K: Sink, E: Sink>(
 {
     let list = StartList::read(alloc, play.machine)?;
     let mut core = boot(alloc, &list)?;
-    let mut notes = Notes::new(alloc, play.scenario, play.given)?;
+    let notes = Notes::new(alloc, play.scenario, play.given)?;
     let run = Run {
         list: &list,
         only: None,
     };
     let peaks = Peaks::new(alloc, &core)?;
     let needs = Needs::new(alloc, &core)?;
-    let mut watch = Accounting { peaks, needs };
+    let watch = Accounting { peaks, needs };
     Ok(play_accounting(
-        &run, &mut core, &mut notes, &mut watch, reader, writer, complaints,
+        &run, &mut core, notes, watch, reader, writer, complaints,
     ))
 }
 
@@ -88,21 +90,19 @@ pub fn accounts<S: Source, K: Sink, E: Sink>(
 fn play_accounting<R: Router + Drop, S: Source, K: Sink, E: Sink>(
     run: &Run<'_>,
     core: &mut Core<R>,
-    notes: &mut Notes<'_>,
-    watch: &mut Accounting,
+    notes: Notes<'_>,
+    watch: Accounting,
     reader: &mut S,
     writer: &mut K,
     complaints: &mut E,
 ) -> Ending
     requires listed { core.old.entries ≡ entries_of (start_list_of run.now.list.now) }
     requires all { run.now.only ≡ None }
-    requires first { notes.old.stand.number ≡ 1 }
-    requires ahead { notes.old.buffers.ahead ≡ [] }
-    requires gathered { notes.old.buffers.gathered ≡ [] }
-    requires sees { SeesAccounts watch.old run.now.list.now core.old [] }
+    requires first { notes.stand.number ≡ 1 }
+    requires sees { SeesAccounts watch run.now.list.now core.old [] }
     ensures played { fault_before (S.has_failed reader.old)
         (K.has_failed writer.old || E.has_failed complaints.old) ≡ None →
-        (sessions : OfSessions) × IsPlayedFrom (turns_of None core.old notes.old.stand) (λ _. [])
+        (sessions : OfSessions) × IsPlayedFrom (turns_of None core.old notes.stand) (λ _. [])
         (λ turns. accounts_text sessions run.now.list.now core.old (calls_answered None turns))
         true result (S.remaining reader.old) (S.remaining reader.new)
         (S.has_failed reader.new) (K.contents writer.old) (K.contents writer.new) }
@@ -116,8 +116,22 @@ fn play_accounting<R: Router + Drop, S: Source, K: Sink, E: Sink>(
         × (reader.new ≡ reader.old) × (writer.new ≡ writer.old)
         × (complaints.new ≡ complaints.old)) }
 {
-    let ending = play_lines(run, core, notes, watch, b"", reader, writer, complaints);
-    close_accounting(ending, core, run.list, watch, writer)
+    let mut bench = Bench {
+        run: *run,
+        notes,
+        watch,
+        complaints,
+        complained: 0,
+    };
+    let ending = play_lines(&mut bench, core, b"", reader, writer);
+    let Bench {
+        run: _run,
+        notes: _notes,
+        watch,
+        complaints: _complaints,
+        complained: _complained,
+    } = bench;
+    close_accounting(ending, core, run.list, &watch, writer)
 }
 
 // Writes the list behind a play that came to its end.

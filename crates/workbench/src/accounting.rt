@@ -4,7 +4,6 @@ ghost use Rattle.scenario.specs.Gathered.{TellsUnless};
 ghost use Rattle.workbench.specs.Meters.{needed_in};
 ghost use Rattle.workbench.specs.Needs.{needed_text};
 
-use crate::ending::PlayFault;
 use crate::needs::{Figure, Needs};
 use crate::peaks::Peaks;
 use crate::text::{add, add_number};
@@ -12,7 +11,7 @@ use crate::watch::{Heard, Watch};
 use arrayvec::ArrayVec;
 use init_core::StartList;
 use pd_core::{Core, Router};
-use scenario::{Columns, DeviceFault, Gather, Owner, Sink};
+use scenario::{Columns, DeviceFault, Gather, Owner, PlayFault, Sink};
 
 /// Room for what an account needs.
 const LONGEST_NEED: usize = 80;

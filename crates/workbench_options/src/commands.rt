@@ -116,26 +116,29 @@ fn argument<'a>(alloc: Global, word: Word<'a>) -> Arg<'a>
 
 /// The error of a command line that names no command.
 pub fn needs_command(alloc: Global) -> Result<Error, Error> {
-    Ok(commands(alloc)?.error(
+    refused(
+        alloc,
         ErrorKind::MissingSubcommand,
         "'nethrywel' requires a command: run, record, check, tree, reach, route, trace, accounts, alone, least, test or diff",
-    )?)
+    )
 }
 
 /// The error of `alone` with other words than a component and a scenario, or `--all` and a scenario.
 pub fn alone_takes_a_name_or_all(alloc: Global) -> Result<Error, Error> {
-    Ok(commands(alloc)?.error(
+    refused(
+        alloc,
         ErrorKind::MissingRequiredArgument,
         "'nethrywel alone' takes NAME and SCENARIO, or --all and SCENARIO",
-    )?)
+    )
 }
 
 /// The error of a `--color` that is none of three words.
 pub fn color_is_one_of_three(alloc: Global) -> Result<Error, Error> {
-    Ok(commands(alloc)?.error(
+    refused(
+        alloc,
         ErrorKind::InvalidValue,
         "'--color <WHEN>' takes auto, always or never",
-    )?)
+    )
 }
 
 /// The words that the program was started with. One that isn't UTF-8 is an error of the command line.
@@ -143,9 +146,15 @@ pub fn words_given<R: Env + AllocGlobal>(rt: &R) -> Result<Vec<String>, Error> {
     match env::args(rt) {
         Ok(words) => Ok(words.collect(rt.alloc())?),
         Err(fault) if fault.kind() == io::ErrorKind::OutOfMemory => Err(Error::from(AllocError)),
-        Err(_) => Err(commands(rt.alloc())?.error(
+        Err(_) => Err(refused(
+            rt.alloc(),
             ErrorKind::InvalidValue,
             "invalid UTF-8 was detected in one or more arguments",
         )?),
     }
+}
+
+// The error of a command line for this reason.
+fn refused(alloc: Global, kind: ErrorKind, why: &str) -> Result<Error, Error> {
+    Ok(commands(alloc)?.error(kind, why)?)
 }

@@ -2,7 +2,7 @@
 use crate::help;
 
 /// A command.
-#[derive(Clone, Copy, Debug)]
+#[derive(Clone, Copy)]
 pub(crate) struct Form<'a> {
     /// Its name.
     pub(crate) name: &'a str,
@@ -13,7 +13,7 @@ pub(crate) struct Form<'a> {
 }
 
 /// A word or an option of a command: the name by which it is asked for, the name of its value, and what it is for.
-#[derive(Clone, Copy, Debug)]
+#[derive(Clone, Copy)]
 pub(crate) enum Word<'a> {
     /// An option without a value.
     Flag(&'a str, &'a str),

@@ -5,7 +5,7 @@ use Rattle.trade_base.specs.Word.{word_of}
 use Rattle.page_pool.specs.Pages.{page_bytes}
 use Rattle.dataspace_core.proofs.RunLemmas.{page_in_read, is_taken-held}
 use Rattle.dataspace_core.proofs.WalkLemmas.{word_in_page}
-use Rattle.dataspace_core.proofs.ReadLemmas.{run_word}
+use Rattle.dataspace_core.proofs.ReadLemmas.{run_range}
 use Rattle.dataspace_core.proofs.runs.load_run.Goals as goal
 
 pub load-requires-clause-taken : goal.load-requires-clause-taken
@@ -20,4 +20,4 @@ returns c =
     let page = page_in_read c.args.table.now.items c.args.run.start c.args.run.count _ c.index-page.result.now c.requires.run.within here.below c.index-page.ensures in
     c.load.ensures.word
     ∙ ap (λ p. word_of (slice_range (page_bytes c.args.pool.now p) (c.args.offset % 4096) (c.args.offset % 4096 + 8))) page
-    ∙ ap word_of (run_word c.args.pool.now c.args.table.now.items c.args.run.start c.args.run.count c.args.offset c.requires.run here)
+    ∙ ap word_of (run_range c.args.pool.now c.args.table.now.items c.args.run.start c.args.run.count c.args.offset 8 c.requires.run here)

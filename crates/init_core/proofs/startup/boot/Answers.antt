@@ -16,6 +16,12 @@ loop-place-init c =
     nothing_yet c.root.result c.pages.result c.caps.result _ c.pages.ensures.value c.caps.ensures.value c.in_ok-memory.ensures.fresh
     (omega (arith, c.in_ok-memory.ensures.places, c.count.ensures.value, c.sessions_of.ensures.half)) c.new-components.ensures.items c.root.ensures.key first
 
+pub start-requires-clause-so_far : goal.start-requires-clause-so_far
+start-requires-clause-so_far c = c.loop-place.invariant
+
+pub loop-place-preserved : goal.loop-place-preserved
+loop-place-preserved c = c.in_ok-start.ensures.started
+
 pub from_parts-requires-clause-fresh : goal.from_parts-requires-clause-fresh
 from_parts-requires-clause-fresh c =
     let all : c.loop-place.place ≡ length c.args.list.now.entries = omega (arith, c.loop-place.auto.place-end, c.loop-place-test.false, c.count-place-end.ensures.value) in

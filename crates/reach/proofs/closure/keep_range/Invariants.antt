@@ -5,7 +5,7 @@ use Rattle.reach.proofs.closure.keep_range.Given as goal
 
 abbrev pub invariant-loop-byte : goal.invariant-loop-byte
 invariant-loop-byte l = record {
-  sound : All (IsKept l.wishes.list.now l.wishes.client l.wishes.service.now (length l.label + 1)) l.kept.items;
-  grown : IsGrown l.initial.kept.items l.kept.items;
-  longer : IsLengthened l.wishes.list.now l.wishes.client l.wishes.service.now l.label l.from l.byte l.kept.items;
+  sound : All (IsKept l.wishes.list.now l.wishes.client l.wishes.service.now (length l.label + 1)) l.kept;
+  grown : IsGrown l.initial.kept l.kept;
+  longer : IsLengthened l.wishes.list.now l.wishes.client l.wishes.service.now l.label l.from l.byte l.kept;
 }

@@ -1,8 +1,8 @@
 -- At first nothing is copied, and then a piece more each time.
 use Rattle.std.proofs.Common.{◌+◌, ◌≤◌, length, sym, ap, subst, ◌∙◌, arith}
 use Rattle.std.specs.Prelude.{slice_range}
-use Rattle.dataspace_core.specs.Store.{PartBecomes, part, part_with_bytes, space_at, with_bytes_at}
-use Rattle.dataspace_core.proofs.CopyLemmas.{piece_taken, done_all, copied_none, copied_part, source_there, same_source, target_there, target_long, piece_long, copied_more}
+use Rattle.dataspace_core.specs.Store.{PartBecomes, part, part_with_bytes, space_at}
+use Rattle.dataspace_core.proofs.CopyLemmas.{done_all, copied_none, copied_part, source_there, same_source, target_there, target_long, copied_more}
 use Rattle.dataspace_core.proofs.memory.Memory.copy.Goals as goal
 
 pub loop-done-init : goal.loop-done-init
@@ -13,54 +13,44 @@ loop-done-init c =
       copied = copied_none a.self.now a.from.0 a.to.0 c.requires.apart c.requires.source c.requires.target a.from_offset a.to_offset a.count c.requires.there c.requires.room;
     }
 
-pub read-requires-clause-exists : goal.read-requires-clause-exists
-read-requires-clause-exists c =
-    let a = c.args in
-    let l = c.loop-done in
-    let fits = piece_taken a.count l.done c.min-size.result (a.to_offset + l.done) l.buffer c.loop-done-test.true c.min-size.array_long c.min-size.ensures in
-    source_there a.self.now a.from.0 a.to.0 c.requires.apart c.requires.source c.requires.target a.from_offset a.to_offset a.count c.requires.there c.requires.room
-    l.self l.done c.min-size.result l.invariant.copied fits.0
+pub piece-size-requires : goal.piece-size-requires
+piece-size-requires c = omega arith
 
-pub read-requires-clause-range : goal.read-requires-clause-range
-read-requires-clause-range c =
+pub copy_piece-requires : goal.copy_piece-requires
+copy_piece-requires c =
     let a = c.args in
     let l = c.loop-done in
-    let fits = piece_taken a.count l.done c.min-size.result (a.to_offset + l.done) l.buffer c.loop-done-test.true c.min-size.array_long c.min-size.ensures in
+    let size = c.piece-size.ensures in
+    let fits : l.done + c.piece-size.result ≤ a.count = omega (arith, size.within, c.loop-done-test.true) in
+    let there = source_there a.self.now a.from.0 a.to.0 c.requires.apart c.requires.source c.requires.target a.from_offset a.to_offset a.count c.requires.there c.requires.room
+    l.self l.done c.piece-size.result l.invariant.copied fits in
     let same = ap length (same_source a.self.now a.from.0 a.to.0 c.requires.apart c.requires.source c.requires.target a.from_offset a.to_offset a.count c.requires.there c.requires.room
-    l.self l.done c.min-size.result l.invariant.copied fits.0) in
-    omega (arith, same, fits.0, fits.1, c.requires.there)
-
-pub write-requires-clause-exists : goal.write-requires-clause-exists
-write-requires-clause-exists c =
-    let a = c.args in
-    let l = c.loop-done in
-    let fits = piece_taken a.count l.done c.min-size.result (a.to_offset + l.done) l.buffer c.loop-done-test.true c.min-size.array_long c.min-size.ensures in
-    target_there a.self.now a.from.0 a.to.0 c.requires.apart c.requires.source c.requires.target a.from_offset a.to_offset a.count c.requires.there c.requires.room
-    l.self l.done c.min-size.result l.invariant.copied fits.0
-
-pub write-requires-clause-range : goal.write-requires-clause-range
-write-requires-clause-range c =
-    let a = c.args in
-    let l = c.loop-done in
-    let fits = piece_taken a.count l.done c.min-size.result (a.to_offset + l.done) l.buffer c.loop-done-test.true c.min-size.array_long c.min-size.ensures in
-    let read = ap length (c.read.ensures ∙ ap (λ n. slice_range (space_at l.self a.from.0).bytes (a.from_offset + l.done) (a.from_offset + l.done + n)) fits.1) in
-    let long = piece_long a.self.now a.from.0 a.to.0 c.requires.apart c.requires.source c.requires.target a.from_offset a.to_offset a.count c.requires.there c.requires.room
-    l.self l.done c.min-size.result l.invariant.copied fits.0 in
-    let same = target_long a.self.now a.from.0 a.to.0 c.requires.apart c.requires.source c.requires.target a.from_offset a.to_offset a.count c.requires.there c.requires.room
-    l.self l.done c.min-size.result l.invariant.copied fits.0 in
-    omega (arith, read, long, same, fits.0, c.requires.room)
+    l.self l.done c.piece-size.result l.invariant.copied fits) in
+    let here = target_there a.self.now a.from.0 a.to.0 c.requires.apart c.requires.source c.requires.target a.from_offset a.to_offset a.count c.requires.there c.requires.room
+    l.self l.done c.piece-size.result l.invariant.copied fits in
+    let long = target_long a.self.now a.from.0 a.to.0 c.requires.apart c.requires.source c.requires.target a.from_offset a.to_offset a.count c.requires.there c.requires.room
+    l.self l.done c.piece-size.result l.invariant.copied fits in
+    record {
+      apart = c.requires.apart;
+      source = there;
+      target = here;
+      some = size.some;
+      from_page = size.source;
+      to_page = size.target;
+      there = omega (arith, same, fits, c.requires.there);
+      room = omega (arith, long, fits, c.requires.room);
+    }
 
 pub loop-done-preserved : goal.loop-done-preserved
 loop-done-preserved c =
     let a = c.args in
     let l = c.loop-done in
-    let fits = piece_taken a.count l.done c.min-size.result (a.to_offset + l.done) l.buffer c.loop-done-test.true c.min-size.array_long c.min-size.ensures in
-    let read = c.read.ensures ∙ ap (λ n. slice_range (space_at l.self a.from.0).bytes (a.from_offset + l.done) (a.from_offset + l.done + n)) fits.1 in
+    let fits : l.done + c.piece-size.result ≤ a.count = omega (arith, c.piece-size.ensures.within, c.loop-done-test.true) in
     record {
-      within = fits.0;
-      copied = c.write.ensures.written ∙ ap (with_bytes_at l.self a.to.0 (a.to_offset + l.done)) read
+      within = fits;
+      copied = c.copy_piece.ensures
           ∙ copied_more a.self.now a.from.0 a.to.0 c.requires.apart c.requires.source c.requires.target a.from_offset a.to_offset a.count c.requires.there c.requires.room
-          l.self l.done c.min-size.result l.invariant.copied fits.0;
+          l.self l.done c.piece-size.result l.invariant.copied fits;
     }
 
 pub returns-clause-part : goal.returns-clause-part

@@ -1,5 +1,5 @@
 -- No dataspace is larger than the machine.
-use Rattle.std.proofs.Common.{ap, sym, ◌∙◌, ◌/◌, length, arith}
+use Rattle.std.proofs.Common.{ap, ◌∙◌, ◌/◌, length, arith}
 use Rattle.std.specs.FinMap.{get}
 use Rattle.own_model.proofs.NatMapLemmas.{value_at}
 use Rattle.dataspace_core.specs.Store.{Store, Space, ram_limits_in}
