@@ -1,9 +1,10 @@
 -- What meters have heard, call by call, and what accounts need by that.
-use Rattle.std.proofs.Common.{◌≡◌, ℕ, zero, suc, ◌+◌, ◌<◌, ◌==◌, ◌&&◌, Bool, true, false, true≢false, cond, eqb-true, List, [], ◌∷◌, ◌++◌, length, map, get_or, append-nil, Option, Some, None, refl, sym, ◌∙◌, ap, subst, arith}
+use Rattle.std.proofs.Common.{◌≡◌, ℕ, zero, suc, ◌+◌, ◌<◌, ◌≤◌, ◌==◌, ◌&&◌, Bool, true, false, true≢false, cond, eqb-true, List, [], ◌∷◌, ◌++◌, length, map, get_or, append-nil, Option, Some, None, refl, sym, ◌∙◌, ap, subst, ⊎_elim, arith}
 use Rattle.std.specs.Prelude.{◌≢◌}
-use Rattle.std.proofs.lemmas.Bool.{eq-eqb}
+use Rattle.std.proofs.lemmas.Bool.{cases_lt, eq-eqb}
+use Rattle.std.proofs.Math.ListN.{get_or-append}
 use Rattle.std.proofs.lemmas.Grind.{flat_map-append}
-use Rattle.std.proofs.lemmas.List.{get_or-map, length-map}
+use Rattle.std.proofs.lemmas.List.{get_or-map, get_or_push, length-map}
 use Rattle.own_model.proofs.RunLemmas.{own_part-append, own_run-append}
 use Rattle.own_model.proofs.RunningLemmas.{states_running-at}
 use Rattle.own_model.specs.Account.{Account}
@@ -27,7 +28,7 @@ use Rattle.scenario.specs.Answer.{answered_reply}
 use Rattle.scenario.specs.Program.{world_of}
 use Rattle.scenario.specs.declared.answering.LineAnswer.{LineAnswer}
 use Rattle.scenario.proofs.AccountLemmas.{entries_listed}
-use Rattle.workbench.specs.Meters.{IsFresh, SeesNeeds, meter_at, needed_of}
+use Rattle.workbench.specs.Meters.{IsFresh, SeesNeeds, meter_at, needed_of, no_meter}
 use Rattle.workbench.specs.Needs.{Needed, added, budget_at, counts_below, is_script, lies_below, limits, needed_below, needed_by_calls, needed_running, own_calls, summed}
 use Rattle.workbench.specs.Watching.{IsToldOf}
 use Rattle.workbench.proofs.CallerLemmas.{kind_here}
@@ -130,6 +131,21 @@ module _ (listed : Listed) (place : ℕ) (within : place < length (start_list_of
 
   starts_low : (state_at (start_states (start_list_of listed)) place).heap.shape.growth ≡ 4
   starts_low = ap (λ s. s.heap.shape.growth) starts_as
+
+-- one meter more is that of the next component
+pub fresh_more : (core : World) (meters : List AccountMeter) {meters' : List AccountMeter} (n : ℕ) (meter : AccountMeter) → length meters ≡ n → meters' ≡ meters ++ meter ∷ [] →
+    ((place : ℕ) → place < n → IsFresh (account_at core place) (meter_at meters place)) → IsFresh (account_at core n) meter →
+    (place : ℕ) → place < n + 1 → IsFresh (account_at core place) (meter_at meters' place)
+fresh_more core meters n meter count is fresh last place within =
+    subst (λ ms. IsFresh (account_at core place) (meter_at ms place)) (sym is)
+    (⊎_elim
+    (λ (before : place < n).
+    subst (IsFresh (account_at core place)) (sym (get_or-append meters (meter ∷ []) no_meter place (omega (arith, before, count)))) (fresh place before))
+    (λ (past : n ≤ place).
+    let here : place ≡ n = omega (arith, past, within) in
+    subst (λ p. IsFresh (account_at core p) (meter_at (meters ++ meter ∷ []) p)) (sym here)
+    (subst (IsFresh (account_at core n)) (sym (get_or_push meters meter no_meter n count)) last))
+    (cases_lt place n))
 
 pub sees_begun : {meters : List AccountMeter} {core : World} (listed : Listed) → core ≡ world_of listed → length meters ≡ length core.entries →
     ((place : ℕ) → place < length core.entries → IsFresh (account_at core place) (meter_at meters place)) → SeesNeeds meters core []

@@ -29,8 +29,12 @@ no_meter = record {
 abbrev pub meter_at : List AccountMeter → ℕ → AccountMeter
 meter_at meters place = slice_index_or meters place no_meter
 
+-- what a meter tells
+abbrev pub metered : AccountMeter → Needed
+metered meter = record { need = amounts_of meter.meter.least; gone = meter.is_gone }
+
 abbrev pub needed_of : List AccountMeter → ℕ → Needed
-needed_of meters place = record { need = amounts_of (meter_at meters place).meter.least; gone = (meter_at meters place).is_gone }
+needed_of meters place = metered (meter_at meters place)
 
 -- what a figure says
 abbrev pub needed_in : Figure → Needed

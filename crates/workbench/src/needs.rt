@@ -15,7 +15,7 @@ ghost use Rattle.scenario.specs.Program.{world_of};
 ghost use Rattle.scenario.specs.Read.{IsReadAs};
 ghost use Rattle.budget_meter.specs.Metered.{HasHeard, IsToldBy};
 ghost use Rattle.budget_meter.specs.Needs.{amounts_of};
-ghost use Rattle.workbench.specs.Meters.{IsFresh, SeesNeeds, meter_at, needed_in, needed_of, needs_of_sessions};
+ghost use Rattle.workbench.specs.Meters.{IsFresh, SeesNeeds, meter_at, metered, needed_in, needed_of, needs_of_sessions};
 ghost use Rattle.workbench.specs.Needs.{added, counts_below, lies_below, limits, needed_running, needs_by, summed};
 ghost use Rattle.workbench.specs.Watching.{IsToldOf};
 
@@ -44,6 +44,16 @@ impl Figure {
         Figure {
             need,
             is_gone: false,
+        }
+    }
+
+    // That of whom a meter heard.
+    fn by(meter: &AccountMeter) -> Figure
+        ensures { needed_in result ≡ metered meter.now }
+    {
+        Figure {
+            need: meter.least(),
+            is_gone: meter.is_gone,
         }
     }
 }
@@ -107,10 +117,7 @@ impl Needs {
         ensures { needed_in result ≡ needed_of self.now.meters.items place }
     {
         match self.meters.get(place) {
-            Some(meter) => Figure {
-                need: meter.least(),
-                is_gone: meter.is_gone,
-            },
+            Some(meter) => Figure::by(meter),
             None => Figure::of(Budget { ram: 0, caps: 0 }),
         }
     }
