@@ -35,7 +35,7 @@ states_at : (old new : World) (lines : List (List ℕ)) → new ≡ world_runnin
 states_at old new lines left component = ap (λ w. state_at w.states component) left ∙ states_running-at old.entries old.states lines component
 
 -- after any lines a world has as many own states, and the balance stays
-pub keeps_world : (old new : World) (lines : List (List ℕ)) → new ≡ world_running old lines → KeepsWorld old new
+keeps_world : (old new : World) (lines : List (List ℕ)) → new ≡ world_running old lines → KeepsWorld old new
 keeps_world old new lines left = record {
   entries = ap (λ w. w.entries) left;
   count = ap (λ w. length w.states) left ∙ length-states_running old.entries old.states lines;
@@ -48,19 +48,18 @@ all_answered : (text : List ℕ) (answered left : List (List ℕ)) → lines_of 
 all_answered text answered left parts none = sym (parts ∙ ap (λ l. answered ++ l) none ∙ append-nil answered)
 
 -- where the engine's player is led
-abbrev pub IsLed : Option (List ℕ) → World → World → (List (List ℕ) → Type 0) → (PlayFault → List (List ℕ) → Type 0) → Type 0
-IsLed only old new leads stops =
-    ((lines : List (List ℕ)) → leads lines → new ≡ after_all only old lines)
-    × ((fault : PlayFault) (lines : List (List ℕ)) → stops fault lines → (fault ≡ Unwritten) × (new ≡ after_all only old lines))
+record IsLed (only : Option (List ℕ)) (old new : World) (leads : List (List ℕ) → Type 0) (stops : PlayFault → List (List ℕ) → Type 0) : Type 0 where
+  on : (lines : List (List ℕ)) → leads lines → new ≡ after_all only old lines
+  stopped : (fault : PlayFault) (lines : List (List ℕ)) → stops fault lines → (fault ≡ Unwritten) × (new ≡ after_all only old lines)
 
 -- a run that answers Ok has come to the end of its input
-pub completes : {only : Option (List ℕ)} {leads : List (List ℕ) → Type 0} {stops : PlayFault → List (List ℕ) → Type 0} {count max_lines : ℕ} {old new : World} {input rest : Option (List ℕ)} {failed : Bool} {written now_written : Option (List ℕ)} →
+completes : {only : Option (List ℕ)} {leads : List (List ℕ) → Type 0} {stops : PlayFault → List (List ℕ) → Type 0} {count max_lines : ℕ} {old new : World} {input rest : Option (List ℕ)} {failed : Bool} {written now_written : Option (List ℕ)} →
     IsLed only old new leads stops → PlaysAll (told_of_all only old) leads stops None count max_lines [] input rest failed written now_written →
     IfSome input (λ text. Completes only count old new text written now_written)
 completes {input = None} led plays = tt
 completes {only = only} {count = count} {old = old} {new = new} {input = Some text} {written = written} {now_written = now_written} led plays =
     let all : plays.given ≡ lines_of text = all_answered text plays.given plays.ends.0 plays.ends.1 plays.ends.2.0 in
-    let left : new ≡ world_running old (said_by only (lines_of text)) = led.0 plays.given plays.ends_as ∙ ap (after_all only old) all in
+    let left : new ≡ world_running old (said_by only (lines_of text)) = led.on plays.given plays.ends_as ∙ ap (after_all only old) all in
     record {
       counted = plays.counted ∙ ap length all;
       readable = subst AreReadable all plays.readable;
@@ -84,13 +83,13 @@ cause_for TooManyLines max_lines answered left text rest failed stops = stops
 -- which world is left
 left_at : (fault : RunFault) {only : Option (List ℕ)} {leads : List (List ℕ) → Type 0} {stops : PlayFault → List (List ℕ) → Type 0} {old new : World} (lines : List (List ℕ)) →
     IsLed only old new leads stops → StopsAs leads stops (play_fault fault) lines → new ≡ after_all only old lines
-left_at ReadFault lines led ended = led.0 lines ended
-left_at WriteFault lines led ended = ⊎_elim (λ on. led.0 lines on) (λ stopped. (led.1 Unwritten lines stopped).1) ended
-left_at TooManyLines lines led ended = led.0 lines ended
+left_at ReadFault lines led ended = led.on lines ended
+left_at WriteFault lines led ended = ⊎_elim (λ on. led.on lines on) (λ stopped. (led.stopped Unwritten lines stopped).1) ended
+left_at TooManyLines lines led ended = led.on lines ended
 
 -- a run that stops has answered the first lines
-module _ {only : Option (List ℕ)} {leads : List (List ℕ) → Type 0} {stops : PlayFault → List (List ℕ) → Type 0} {fault : RunFault} {count max_lines : ℕ} {old new : World} where
-  pub stops_at : {input rest : Option (List ℕ)} {failed : Bool} {written now_written : Option (List ℕ)} →
+module _ {only : Option (List ℕ)} {leads : List (List ℕ) → Type 0} {stops : PlayFault → List (List ℕ) → Type 0} (fault : RunFault) {count max_lines : ℕ} {old new : World} where
+  stops_at : {input rest : Option (List ℕ)} {failed : Bool} {written now_written : Option (List ℕ)} →
       IsLed only old new leads stops → PlaysAll (told_of_all only old) leads stops (Some (play_fault fault)) count max_lines [] input rest failed written now_written →
       IfSome input (λ text. Stops only fault max_lines old new text rest failed written now_written)
   stops_at {input = None} led plays = tt
@@ -109,7 +108,6 @@ module _ {only : Option (List ℕ)} {leads : List (List ℕ) → Type 0} {stops 
     world = left_at fault plays.given led plays.ends_as;
   }
 
--- within the bounds, and with no failed device, only want of room is a cause to stop
 -- a first line that is left can be read where all can
 first_readable : (all lines left : List (List ℕ)) → all ≡ lines ++ left → AreReadable all → longest_read < length (slice_index_or left 0 []) → ⊥
 first_readable all lines [] parts short long = omega (arith, long)
@@ -118,6 +116,7 @@ first_readable all lines (line ∷ left) parts short long =
     let at : get_or all (length lines + 0) [] ≡ line = ap (λ xs. get_or xs (length lines + 0) []) parts ∙ get_or-append-add lines (line ∷ left) 0 [] in
     omega (arith, short (length lines + 0) [] within, ap length at, long)
 
+-- within the bounds, and with no failed device, only want of room is a cause to stop
 pub within_bounds : (fault : PlayFault) (max_lines : ℕ) (lines left : List (List ℕ)) (text : List ℕ) (rest : Option (List ℕ)) (failed write_failed : Bool) →
     lines_of text ≡ lines ++ left → StopsAt max_lines fault lines left text rest failed → write_failed ≡ is_unwritten (Some fault) → fault ≢ NoMemory → HasCause text max_lines failed write_failed
 within_bounds Unread max_lines lines left text rest failed write_failed parts cause fails other =
@@ -142,11 +141,11 @@ no_want ReadFault = λ is. cc
 no_want WriteFault = λ is. cc
 no_want TooManyLines = λ is. cc
 
-not_stopped : {only : Option (List ℕ)} {leads : List (List ℕ) → Type 0} {stops : PlayFault → List (List ℕ) → Type 0} {fault : RunFault} {count max_lines : ℕ} {old : World} {input rest : Option (List ℕ)} {failed : Bool} {written now_written : Option (List ℕ)} (write_failed : Bool) →
+not_stopped : (only : Option (List ℕ)) {leads : List (List ℕ) → Type 0} {stops : PlayFault → List (List ℕ) → Type 0} (fault : RunFault) {count max_lines : ℕ} (old : World) {input rest : Option (List ℕ)} {failed : Bool} {written now_written : Option (List ℕ)} (write_failed : Bool) →
     PlaysAll (told_of_all only old) leads stops (Some (play_fault fault)) count max_lines [] input rest failed written now_written → write_failed ≡ is_unwritten (Some (play_fault fault)) →
     IfSome input (λ text. HasCause text max_lines failed write_failed)
-not_stopped {input = None} write_failed plays fails = tt
-not_stopped {fault = fault} {max_lines = max_lines} {input = Some text} {rest = rest} {failed = failed} write_failed plays fails =
+not_stopped only fault old {input = None} write_failed plays fails = tt
+not_stopped only fault {max_lines = max_lines} old {input = Some text} {rest = rest} {failed = failed} write_failed plays fails =
     within_bounds (play_fault fault) max_lines plays.given plays.ends.0 text rest failed write_failed plays.ends.1 plays.ends.2 fails (no_want fault)
 
 -- ---- all that is promised of a run
@@ -167,7 +166,7 @@ module _ {only : Option (List ℕ)} {leads : List (List ℕ) → Type 0} {stops 
       record {
         few = subst (λ n. n ≤ max_lines) (sym ends.1) few;
         done = subst (λ n. IfSome input (λ text. Completes only n old new text written now_written)) (sym ends.1) (completes led at);
-        keeps = keeps_world old new (said_by only at.given) (led.0 at.given at.ends_as);
+        keeps = keeps_world old new (said_by only at.given) (led.on at.given at.ends_as);
         writing = sym (or_first write_failed false refl) ∙ writing ∙ ap is_unwritten ends.0;
         reading = subst (λ (f : Option PlayFault). IfNone f (failed ≡ false)) ends.0 reading;
         stops = tt;
@@ -183,12 +182,12 @@ module _ {only : Option (List ℕ)} {leads : List (List ℕ) → Type 0} {stops 
         keeps = keeps_world old new (said_by only at.given) (left_at stopped at.given led at.ends_as);
         writing = fails ∙ write_told stopped;
         reading = tt;
-        stops = stops_at led at;
-        ok = not_stopped write_failed at fails;
+        stops = stops_at stopped led at;
+        ok = not_stopped only stopped old write_failed at fails;
       }
 
 -- of a play of the engine's player
-module _ {A : Type 0} {only : Option (List ℕ)} {old new : World} {count max_lines : ℕ} {front : List ℕ} {input rest : Option (List ℕ)} {failed write_failed : Bool} {written now_written : Option (List ℕ)} (fault : Option PlayFault)
+module _ {A : Type 0} (only : Option (List ℕ)) (old new : World) {count max_lines : ℕ} {front : List ℕ} {input rest : Option (List ℕ)} {failed : Bool} {written now_written : Option (List ℕ)} (fault : Option PlayFault)
     (plays : PlaysAll (told_of_all only old) (λ lines. A × (new ≡ after_all only old lines)) (λ fault lines. (fault ≡ Unwritten) × (new ≡ after_all only old lines)) fault count max_lines front input rest failed written now_written) where
   abbrev leads_so : List (List ℕ) → Type 0
   leads_so lines = A × (new ≡ after_all only old lines)
@@ -197,10 +196,10 @@ module _ {A : Type 0} {only : Option (List ℕ)} {old new : World} {count max_li
   stops_so f lines = (f ≡ Unwritten) × (new ≡ after_all only old lines)
 
   -- with nothing gathered before
-  pub runs : (result : Result Summary RunFault) → front ≡ [] → EndsWith fault count result →
+  pub runs : (write_failed : Bool) (result : Result Summary RunFault) → front ≡ [] → EndsWith fault count result →
       (write_failed || false) ≡ is_unwritten fault → IfNone fault (failed ≡ false) → count ≤ max_lines → Runs only result max_lines old new input rest failed write_failed written now_written
-  runs result none ends writing reading few =
-      runs_at {leads = leads_so} {stops = stops_so} (λ lines led. led.1, λ f lines stopped. stopped) fault result ends
+  runs write_failed result none ends writing reading few =
+      runs_at {leads = leads_so} {stops = stops_so} (record { on = λ lines led. led.1; stopped = λ f lines stopped. stopped }) fault result ends
       (subst (λ g. PlaysAll (told_of_all only old) leads_so stops_so fault count max_lines g input rest failed written now_written) none plays) writing reading few
 
   -- it never wants for room
@@ -223,7 +222,7 @@ module _ (only : Option (List ℕ)) (max_lines : ℕ) (world : World) (input wri
   stops_here fault lines = (fault ≡ Unwritten) × (world ≡ after_all only world lines)
 
   led_here : IsLed only world world leads_here stops_here
-  led_here = (λ lines led. led, λ fault lines stopped. stopped)
+  led_here = record { on = λ lines led. led; stopped = λ fault lines stopped. stopped }
 
   unread_run : (fault : RunFault) → StopsAs leads_here stops_here (play_fault fault) [] → WritesTold (Some (play_fault fault)) written written [] →
       ((text : List ℕ) → StopsAt max_lines (play_fault fault) [] (lines_of text) text (Some text) failed) → write_failed ≡ is_unwritten (Some (play_fault fault)) →

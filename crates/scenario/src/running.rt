@@ -124,14 +124,7 @@ pub(crate) fn run_said_by<R: Router + Drop, S: Source, K: Sink>(
     }
     let mut engine = Engine { run: *run, reply };
     let mut buffers = Buffers::new();
-    let played = play(
-        &mut engine,
-        core,
-        &mut buffers,
-        reader,
-        writer,
-        max_lines,
-    );
+    let played = play(&mut engine, core, &mut buffers, reader, writer, max_lines);
     outcome(played)
 }
 

@@ -82,20 +82,24 @@ module _ (only : Option (List ℕ)) (start mid : World) (first stand : Stand) (x
   goes_on : {A : Type 0} (calls : Bool) (seen : List (List ℕ) → Type 0) (last : World) (next : Stand) (judged : Result Bool PlayFault) (write_failed : Bool) → A → last ≡ left_behind only mid stand line →
       OnOk judged (seen (earlier ++ said_by only (call_of stand line))) → OnOk judged (next ≡ next_stand only mid stand line) → Fails judged write_failed (takes_in calls (deed_of stand line)) →
       GoesOn (λ lines. A × LeadsTurns only start last first next seen lines) (λ fault lines. A × StopsTurns calls only start last first fault lines) (xs ++ line ∷ []) (counted judged)
-  goes_on calls seen last next (Ok complained) write_failed a world sees after fails =
-      (a, record {
-        world_is = world_next last world;
-        stands = after ∙ stand_more only start mid first stand xs (line ∷ []) left stands;
-        sees = seen_next seen sees;
-      })
+  goes_on calls seen last next (Ok complained) write_failed a world sees after fails = (
+    a,
+    record {
+      world_is = world_next last world;
+      stands = after ∙ stand_more only start mid first stand xs (line ∷ []) left stands;
+      sees = seen_next seen sees;
+    },
+  )
   goes_on calls seen last next (Err ReadFault) write_failed a world sees after fails = absurd fails
   goes_on calls seen last next (Err WriteFault) write_failed a world sees after fails = (a, record { world_is = world_next last world; takes = tt })
   goes_on calls seen last next (Err TooManyLines) write_failed a world sees after fails = absurd fails
-  goes_on calls seen last next (Err NoMemory) write_failed a world sees after fails =
-      (a, record {
-        world_is = world_next last world;
-        takes = (turns_of only start first xs, turn_of stand line, sym (turns_more only start mid first stand xs (line ∷ []) left stands), fails.1);
-      })
+  goes_on calls seen last next (Err NoMemory) write_failed a world sees after fails = (
+    a,
+    record {
+      world_is = world_next last world;
+      takes = (turns_of only start first xs, turn_of stand line, sym (turns_more only start mid first stand xs (line ∷ []) left stands), fails.1);
+    },
+  )
 
   -- what is told of it is told behind what was told of those, and it leads on
   pub bench_plays : {A : Type 0} (tells : List (List ℕ) → ℕ → List ℕ → List ℕ) (calls : Bool) (seen : List (List ℕ) → Type 0) (last : World) (next : Stand) (judged : Result Bool PlayFault) (write_failed : Bool) (w w' : Option (List ℕ)) (g g' : List ℕ) → A →
@@ -142,7 +146,7 @@ leads_none only world first seen sees = record { world_is = sym (left_none only 
 
 -- ---- the end
 
-module _ {A : Type 0} {calls : Bool} {only : Option (List ℕ)} {old new : World} {first next : Stand} {seen : List (List ℕ) → Type 0} where
+module _ (A : Type 0) (calls : Bool) (only : Option (List ℕ)) (old new : World) (first next : Stand) (seen : List (List ℕ) → Type 0) where
   abbrev leads : List (List ℕ) → Type 0
   leads lines = A × LeadsTurns only old new first next seen lines
 
@@ -158,7 +162,7 @@ module _ {A : Type 0} {calls : Bool} {only : Option (List ℕ)} {old new : World
   ends_at lines (Some TooManyLines) ended = (ended.0, ended.1.world_is, tt, tt)
   ends_at lines (Some NoMemory) ended = (ended.0, ended.1.world_is, ended.1.takes, tt)
 
-  module _ {tells : List (List ℕ) → ℕ → List ℕ → List ℕ} {fault : Option PlayFault} {count : ℕ} {front : List ℕ} {input rest : Option (List ℕ)} {failed : Bool} {w w' : Option (List ℕ)}
+  module _ (tells : List (List ℕ) → ℕ → List ℕ → List ℕ) {fault : Option PlayFault} {count : ℕ} {front : List ℕ} {input rest : Option (List ℕ)} {failed : Bool} {w w' : Option (List ℕ)}
       (plays : PlaysLines (λ lines. told_of_turns tells only [] (turns_of only old first lines)) leads stops fault count most_lines front input rest failed w w') where
     pub remains : A
     remains = (ends_at plays.given fault plays.ends_as).0

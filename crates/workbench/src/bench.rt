@@ -86,10 +86,7 @@ impl<W: Watch, E: Sink> Player for Bench<'_, W, E> {
 }
 
 /// Counts a complaint, if there was one.
-pub(crate) fn count(
-    complained: &mut u64,
-    judged: Result<bool, PlayFault>,
-) -> Result<(), PlayFault>
+pub(crate) fn count(complained: &mut u64, judged: Result<bool, PlayFault>) -> Result<(), PlayFault>
     ensures { result ≡ counted judged }
 {
     match judged {

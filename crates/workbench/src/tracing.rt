@@ -251,9 +251,7 @@ pub fn trace<S: Source, K: Sink, E: Sink>(
         list: &list,
         only: None,
     };
-    Ok(trace_on(
-        &run, &mut core, notes, reader, writer, complaints,
-    ))
+    Ok(trace_on(&run, &mut core, notes, reader, writer, complaints))
 }
 
 // The same on a machine that has booted.

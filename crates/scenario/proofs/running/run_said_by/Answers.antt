@@ -7,16 +7,16 @@ use Rattle.scenario.proofs.running.run_said_by.Goals as goal
 
 pub returns-clause-runs : goal.returns-clause-runs
 returns-clause-runs g c =
-    runs c.play-played.result.fault c.play-played.ensures.plays c.outcome.result c.new-buffers.ensures.gathered c.outcome.ensures c.play-played.ensures.writing c.play-played.ensures.reading c.play-played.ensures.few
+    runs (option_copied c.args.run.now.only) c.args.core.now c.play-played.new.core c.play-played.result.fault c.play-played.ensures.plays _ c.outcome.result c.new-buffers.ensures.gathered c.outcome.ensures c.play-played.ensures.writing c.play-played.ensures.reading c.play-played.ensures.few
 
-pub outcome-requires-clause-room : goal.outcome-requires-clause-room
-outcome-requires-clause-room g c = has_room c.play-played.result.fault c.play-played.ensures.plays
+pub outcome-requires : goal.outcome-requires
+outcome-requires g c = record { room = has_room (option_copied c.args.run.now.only) c.args.core.now c.play-played.new.core c.play-played.result.fault c.play-played.ensures.plays }
 
-pub play-requires-clause-leads : goal.play-requires-clause-leads
-play-requires-clause-leads g c = (refl, sym (left_none (option_copied c.args.run.now.only) c.args.core.now))
+pub play-played-requires-clause-leads : goal.play-played-requires-clause-leads
+play-played-requires-clause-leads g c = (refl, sym (left_none (option_copied c.args.run.now.only) c.args.core.now))
 
-pub play-requires-clause-silent : goal.play-requires-clause-silent
-play-requires-clause-silent g c = told_none (option_copied c.args.run.now.only) c.args.core.now
+pub play-played-requires-clause-silent : goal.play-played-requires-clause-silent
+play-played-requires-clause-silent g c = told_none (option_copied c.args.run.now.only) c.args.core.now
 
 pub returns-then-failed-clause-runs : goal.returns-then-failed-clause-runs
 returns-then-failed-clause-runs g c = runs_unwritten _ _ _ _ _ _ _ (sym c.failed.ensures ∙ c.if-failed.true)

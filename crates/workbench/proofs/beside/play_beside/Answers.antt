@@ -12,5 +12,5 @@ returns-clause-played g c = λ works.
     alone_played name c.play-ending.result c.close_with_sum.result c.play-ending.ensures.few plays
     (c.close_with_sum.ensures.closes (alone_same c.play-ending.result.fault name start _ _ _ _ plays.sees))
 
-pub play-requires-clause-sees : goal.play-requires-clause-sees
-play-requires-clause-sees g c = record { leads = c.requires.same; counted = λ _. refl; alike = refl }
+pub play-ending-requires-clause-sees : goal.play-ending-requires-clause-sees
+play-ending-requires-clause-sees g c = record { leads = c.requires.same; counted = λ _. refl; alike = refl }

@@ -7,11 +7,11 @@ use Rattle.workbench.proofs.PlayLemmas.{closed_on, closed_writing, leads_none, p
 use Rattle.workbench.proofs.WriteLemmas.{front_cut, plays_behind}
 use Rattle.workbench.proofs.playing.play.Goals as goal
 
-pub play-requires-clause-ready : goal.play-requires-clause-ready
-play-requires-clause-ready g c = (c.requires.listed, record { most = low; above = omega arith; within = c.requires.low; below = omega arith })
+pub play-played-requires-clause-ready : goal.play-played-requires-clause-ready
+play-played-requires-clause-ready g c = (c.requires.listed, record { most = low; above = omega arith; within = c.requires.low; below = omega arith })
 
-pub play-requires-clause-leads : goal.play-requires-clause-leads
-play-requires-clause-leads g c = (
+pub play-played-requires-clause-leads : goal.play-played-requires-clause-leads
+play-played-requires-clause-leads g c = (
   record { name_is = refl; run_is = refl; tells_is = refl; holds_is = refl },
   leads_none (option_copied c.args.bench.now.run.only) c.args.core.now c.args.bench.now.notes.stand _ c.requires.sees,
 )
@@ -25,16 +25,16 @@ returns-clause-plays g c = λ works.
     plays_closed c.play-played.result.fault c.close-fault.result _ _ c.close-fault.ensures
     (plays_behind
     (subst (λ (gathered : List ℕ). Tells (g.K.Sink.contents c.args.writer.now) gathered (g.K.Sink.contents c.put.new.sink) c.put.new.self c.args.front.now) c.new-buffers.ensures.gathered c.in-Ok.ensures.told)
-    (turns_played c.play-played.ensures.plays))
+    (turns_played _ _ _ _ _ _ _ _ _ c.play-played.ensures.plays))
 
 pub returns-clause-same_reference : goal.returns-clause-same_reference
-returns-clause-same_reference g c = (remains c.play-played.ensures.plays).name_is
+returns-clause-same_reference g c = (remains _ _ _ _ _ _ _ _ _ c.play-played.ensures.plays).name_is
 
 pub returns-clause-held : goal.returns-clause-held
-returns-clause-held g c = (remains c.play-played.ensures.plays).holds_is
+returns-clause-held g c = (remains _ _ _ _ _ _ _ _ _ c.play-played.ensures.plays).holds_is
 
 pub returns-clause-listed : goal.returns-clause-listed
-returns-clause-listed g c = ap (λ w. w.entries) (world_left c.play-played.ensures.plays)
+returns-clause-listed g c = ap (λ w. w.entries) (world_left _ _ _ _ _ _ _ _ _ c.play-played.ensures.plays)
 
 pub returns-clause-writing : goal.returns-clause-writing
 returns-clause-writing g c = closed_writing c.play-played.result.fault c.close-fault.result _ _ _ c.play-played.ensures.writing c.close-fault.ensures

@@ -13,8 +13,8 @@ use Rattle.workbench.proofs.bench.BenchPlayer.play.Goals as goal
 abbrev Telling : Type 0
 Telling = World → List (List ℕ) → ℕ → List ℕ → List ℕ
 
-pub play_line-requires-clause-low : goal.play_line-requires-clause-low
-play_line-requires-clause-low g c = numbered c.args.self.now.notes.stand _ c.requires.ready.2
+pub play_line-judged-requires-clause-low : goal.play_line-judged-requires-clause-low
+play_line-judged-requires-clause-low g c = numbered c.args.self.now.notes.stand _ c.requires.ready.2
 
 pub returns-clause-played : goal.returns-clause-played
 returns-clause-played g c = λ first start earlier led.
