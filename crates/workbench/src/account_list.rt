@@ -100,7 +100,7 @@ fn play_accounting<R: Router + Drop, S: Source, K: Sink, E: Sink>(
     requires sees { SeesAccounts watch run.now.list.now core.old [] }
     ensures played { fault_before (S.has_failed reader.old)
         (K.has_failed writer.old || E.has_failed complaints.old) ≡ None →
-        (sessions : OfSessions) × IsPlayedFrom (turns_of None core.old notes.stand) (λ _. [])
+        (sessions : OfSessions) × IsPlayedFrom (turns_of None core.old notes.entry.stand) (λ _. [])
         (λ turns. accounts_text sessions run.now.list.now core.old (calls_answered None turns))
         true result (S.remaining reader.old) (S.remaining reader.new)
         (S.has_failed reader.new) (K.contents writer.old) (K.contents writer.new) }
