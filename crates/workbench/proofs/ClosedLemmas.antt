@@ -28,9 +28,9 @@ module _ {X : Type 0} (f : X → List ℕ) (xs : List X) where
 
 -- ---- one text behind another
 
-pub written_both : {T E : Type 0} {w w' w'' : Option (List ℕ)} {xs ys : List ℕ} (r : Result T E) → Appends w w' xs → OnOk r (Appends w' w'' ys) → OnOk r (Appends w w'' (xs ++ ys))
-written_both {w = w} {w' = w'} {w'' = w''} {xs = xs} {ys = ys} (Ok done) first then = Appends-more w w' w'' xs ys (xs ++ ys) first then refl
-written_both (Err fault) first then = tt
+pub written_both : {T E : Type 0} (w w' w'' : Option (List ℕ)) (xs ys : List ℕ) (r : Result T E) → Appends w w' xs → OnOk r (Appends w' w'' ys) → OnOk r (Appends w w'' (xs ++ ys))
+written_both w w' w'' xs ys (Ok done) first then = Appends-more w w' w'' xs ys (xs ++ ys) first then refl
+written_both w w' w'' xs ys (Err fault) first then = tt
 
 pub part_of_first : {w w' : Option (List ℕ)} {xs : List ℕ} (ys : List ℕ) → AppendsPart w w' xs → AppendsPart w w' (xs ++ ys)
 part_of_first ys part = record {
@@ -45,9 +45,9 @@ pub on_err : {T E : Type 0} {P : Type 0} (r : Result T E) → P → OnErr r P
 on_err (Ok done) part = tt
 on_err (Err fault) part = part
 
-pub part_of_both : {T E : Type 0} {w w' w'' : Option (List ℕ)} {xs ys : List ℕ} (r : Result T E) → Appends w w' xs → OnErr r (AppendsPart w' w'' ys) → OnErr r (AppendsPart w w'' (xs ++ ys))
-part_of_both (Ok done) first then = tt
-part_of_both {w = w} {w' = w'} {w'' = w''} {xs = xs} (Err fault) first then = record {
+pub part_of_both : {T E : Type 0} (w w' w'' : Option (List ℕ)) (xs ys : List ℕ) (r : Result T E) → Appends w w' xs → OnErr r (AppendsPart w' w'' ys) → OnErr r (AppendsPart w w'' (xs ++ ys))
+part_of_both w w' w'' xs ys (Ok done) first then = tt
+part_of_both w w' w'' xs ys (Err fault) first then = record {
   part = xs ++ then.part;
   left = then.left;
   parts = ap (λ l. xs ++ l) then.parts ∙ sym (append_assoc xs then.part then.left);

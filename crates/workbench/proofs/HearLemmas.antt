@@ -1,5 +1,5 @@
 -- What the meters have heard once a line more was answered.
-use Rattle.std.proofs.Common.{◌≡◌, ℕ, ◌<◌, List, [], ◌∷◌, ◌++◌, length, Option, Some, None, sym, ◌∙◌, ap, subst, arith}
+use Rattle.std.proofs.Common.{◌≡◌, ℕ, ◌<◌, List, [], ◌∷◌, ◌++◌, length, Option, Some, None, Result, Ok, Err, OnOk, sym, ◌∙◌, ap, subst, arith}
 use Rattle.std.specs.Prelude.{◌≢◌}
 use Rattle.own_model.specs.Call.{Call, Spoken}
 use Rattle.own_model.specs.Listed.{Listed, start_list_of}
@@ -57,3 +57,8 @@ module _ {meters : List AccountMeter} {start : World} {earlier : List (List ℕ)
     where
       here : heard start.entries line ≡ Caller (record { component = component; call = call })
       here = subst (λ es. heard es line ≡ Caller (record { component = component; call = call })) begins is
+
+-- what is so is so of what succeeded
+pub on_ok : {T E : Type 0} {P : Type 0} (r : Result T E) → P → OnOk r P
+on_ok (Ok done) so = so
+on_ok (Err fault) so = tt

@@ -138,7 +138,7 @@ impl Needs {
     }
 
     /// Takes an answer in, with the core after it, and with the peaks before it.
-    #[tactic(auto, using(crate::proofs::HearLemmas::still_sees, crate::proofs::HearLemmas::sees_more))]
+    #[tactic(auto, using(crate::proofs::HearLemmas::still_sees))]
     pub(crate) fn hear<R: Router + Drop>(
         &mut self,
         core: &Core<R>,
