@@ -23,7 +23,7 @@ heard_binary (Server service) false is says component = refl
 heard_binary Init true is says component = refl
 heard_binary Init false is says component = absurd (true≢false is)
 
-pub somebody : ListedEntry
+abbrev pub somebody : ListedEntry
 somebody = record { name = []; path = []; label = []; home = 0; binary = Script; ram = 0; caps = 0; provides = false; route = None; reserve = None; inner_route = [] }
 
 module _ (list : Listed) (component : ℕ) (within : component < length list.entries) where
