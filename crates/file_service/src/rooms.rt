@@ -16,6 +16,7 @@ use dataspace_core::Memory;
 use heap_core::Heap;
 use region_map::RegionMap;
 use sliced_heap::SlicedHeap;
+use std::mem;
 
 /// Two heaps of a session's account.
 #[derive(Drop)]
@@ -40,24 +41,21 @@ impl Rooms {
 
     /// Gives back all nodes' blocks of a session that lends nothing, and credits the account with all that it was charged for
     /// them. The sliced heap is left.
-    pub(crate) fn end(self, memory: &mut Memory, map: &mut RegionMap) -> SlicedHeap
-        requires furnished { AreFurnished self memory.old map.old }
-        requires alone { lent_regions (holding_of self.contents memory.old map.old) ≡ empty }
-        ensures same { result ≡ self.contents }
-        ensures blocks { HasBlocksAlone (holding_of self.contents memory.new map.new) }
-        ensures session { IsSessionHeap self.contents memory.new map.new }
-        ensures ram { (account_in memory.new (payer_of self.contents)).ram_limit
-            ≡ (account_in memory.old (payer_of self.contents)).ram_limit }
-        ensures caps { (account_in memory.new (payer_of self.contents)).caps_limit
-            ≡ (account_in memory.old (payer_of self.contents)).caps_limit }
-        ensures others { KeepsOthers (payer_of self.contents)
+    pub(crate) fn end(&mut self, memory: &mut Memory, map: &mut RegionMap) -> SlicedHeap
+        requires furnished { AreFurnished self.old memory.old map.old }
+        requires alone { lent_regions (holding_of self.old.contents memory.old map.old) ≡ empty }
+        ensures same { result ≡ self.old.contents }
+        ensures blocks { HasBlocksAlone (holding_of self.old.contents memory.new map.new) }
+        ensures session { IsSessionHeap self.old.contents memory.new map.new }
+        ensures ram { (account_in memory.new (payer_of self.old.contents)).ram_limit
+            ≡ (account_in memory.old (payer_of self.old.contents)).ram_limit }
+        ensures caps { (account_in memory.new (payer_of self.old.contents)).caps_limit
+            ≡ (account_in memory.old (payer_of self.old.contents)).caps_limit }
+        ensures others { KeepsOthers (payer_of self.old.contents)
             memory.old memory.new map.old map.new }
     {
-        let Rooms {
-            mut nodes,
-            contents,
-        } = self;
-        nodes.end(memory, map);
-        contents
+        self.nodes.end(memory, map);
+        let account = self.contents.account();
+        mem::replace(&mut self.contents, SlicedHeap::new(account))
     }
 }

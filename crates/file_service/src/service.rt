@@ -87,11 +87,10 @@ impl Service for FileService {
         answer(session, memory, map, request, reply)
     }
 
-    fn end(&self, session: FileSession, memory: &mut Memory, map: &mut RegionMap) -> SlicedHeap {
+    fn end(&self, session: &mut FileSession, memory: &mut Memory, map: &mut RegionMap) -> SlicedHeap {
         map.lies_apart();
-        let FileSession { rooms, buffer, .. } = session;
-        rooms.give_any(memory, map, buffer);
-        rooms.end(memory, map)
+        session.rooms.give_any(memory, map, session.buffer);
+        session.rooms.end(memory, map)
     }
 
     ghost pays = { λ session account share kept. kept.rooms.payer };

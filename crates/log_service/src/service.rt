@@ -82,7 +82,7 @@ impl Service for LogService {
         Effect::Nothing
     }
 
-    fn end(&self, session: LogSession, _memory: &mut Memory, _map: &mut RegionMap) -> SlicedHeap {
+    fn end(&self, session: &mut LogSession, _memory: &mut Memory, _map: &mut RegionMap) -> SlicedHeap {
         session.into_heap()
     }
 

@@ -8,6 +8,7 @@ ghost use Rattle.log_service.specs.Session.{Writes};
 use arrayvec::ArrayVec;
 use server_frame::{LONGEST_LABEL, MOST_LINES, Reply};
 use sliced_heap::SlicedHeap;
+use std::mem;
 use std::marker::Model;
 use text_codec::{decode_hex_from, find_byte};
 
@@ -58,10 +59,11 @@ impl LogSession {
     }
 
     /// Its sliced heap, once it ends.
-    pub(crate) fn into_heap(self) -> SlicedHeap
-        ensures { result ≡ self.heap }
+    pub(crate) fn into_heap(&mut self) -> SlicedHeap
+        ensures { result ≡ self.old.heap }
     {
-        self.heap
+        let account = self.heap.account();
+        mem::replace(&mut self.heap, SlicedHeap::new(account))
     }
 
     /// Writes the bytes that hexadecimal digits stand for. Lines that they finish go to the reply. It stands alone, since who

@@ -219,8 +219,10 @@ impl<S: Service + Drop> Server<S> {
         ensures places { self.new.sessions.capacity ≡ self.old.sessions.capacity }
         ensures machine { ram_limits_in memory.new ≡ ram_limits_in memory.old }
     {
-        let session = self.sessions.remove(id.0);
-        let heap = self.service.end(session.state, memory, &mut self.map);
-        dismiss(memory, &mut self.map, session.account, heap);
+        let session = &mut self.sessions[id.0];
+        let account = session.account;
+        let heap = self.service.end(&mut session.state, memory, &mut self.map);
+        let _gone = self.sessions.remove(id.0);
+        dismiss(memory, &mut self.map, account, heap);
     }
 }
