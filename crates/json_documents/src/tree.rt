@@ -4,8 +4,11 @@ use crate::listing::Listing;
 use std::alloc::{AllocError, Global};
 use trade_base::read_amount;
 
+// The name of RAM, and that of capabilities.
+type Names = (&'static str, &'static str);
+
 /// The names of RAM and of capabilities that a component starts with, has in reserve, and keeps as an init.
-static MEANS: [(&str, &str); 3] = [
+static MEANS: [Names; 3] = [
     ("ram", "caps"),
     ("reserve_ram", "reserve_caps"),
     ("keeps_ram", "keeps_caps"),
@@ -148,21 +151,26 @@ fn add_component<'a>(
     members.push(("binary", text_of(binary)))?;
     let mut names = MEANS[0];
     for part in means.split(", ") {
-        if let Some(service) = part.strip_prefix("provides ") {
-            members.push(("provides", provided(service)))?;
-        } else if part.ends_with(" caps") {
-            members.push((names.1, number_in(part)))?;
-        } else if let Some(ram) = part.strip_prefix("reserve ") {
-            names = MEANS[1];
-            members.push((names.0, number_in(ram)))?;
-        } else if let Some(ram) = part.strip_prefix("keeps ") {
-            names = MEANS[2];
-            members.push((names.0, number_in(ram)))?;
-        } else {
-            members.push((names.0, number_in(part)))?;
-        }
+        let (known, name, field) = means_in(part, names);
+        members.push((name, field))?;
+        names = known;
     }
     listing.add(members.as_slice())
+}
+
+// What a part of the means tells under which name, behind these names of RAM and of capabilities, and the names of the parts to come.
+fn means_in<'a>(part: &'a str, names: Names) -> (Names, &'static str, Field<'a>) {
+    if let Some(service) = part.strip_prefix("provides ") {
+        (names, "provides", provided(service))
+    } else if part.ends_with(" caps") {
+        (names, names.1, number_in(part))
+    } else if let Some(ram) = part.strip_prefix("reserve ") {
+        (MEANS[1], MEANS[1].0, number_in(ram))
+    } else if let Some(ram) = part.strip_prefix("keeps ") {
+        (MEANS[2], MEANS[2].0, number_in(ram))
+    } else {
+        (names, names.0, number_in(part))
+    }
 }
 
 // A service that is provided, or nothing.
