@@ -3,6 +3,8 @@ ghost use Rattle.std.specs.Prelude.{◌≡◌, ◌≢◌, ◌≤◌, ◌∷◌, 
 ghost use Rattle.std.specs.Result.{result_err};
 ghost use Rattle.own_model.specs.Listed.{start_list_of};
 ghost use Rattle.own_model.specs.StartList.{entries_of};
+ghost use Rattle.own_model.specs.World.{start_world};
+ghost use Rattle.init_core.specs.Boot.{quota_fault};
 ghost use Rattle.init_core.specs.declared.fault.BootFault.TheVariants.{NoMemory};
 ghost use Rattle.scenario.specs.Answer.{answer_text};
 ghost use Rattle.scenario.specs.Gathered.{TellsUnless};
@@ -22,7 +24,7 @@ use crate::playing::play as play_lines;
 use crate::text::{add, add_number, put_number, put_three};
 use crate::watch::{Heard, Watch};
 use arrayvec::ArrayVec;
-use init_core::{BootFault, StartList, boot};
+use init_core::{BootFault, RouteTable, StartList, boot};
 use pd_core::{Core, Reply, Router};
 use scenario::{DeviceFault, Gather, LineAnswer, MAX_LINES, Run, Sink, Source};
 use std::alloc::Global;
@@ -200,19 +202,36 @@ pub fn alone<S: Source, K: Sink, E: Sink>(
         list: &list,
         only: None,
     };
-    let second = boot(alloc, &list)?;
-    let reply = Reply::boot(alloc)?;
+    let second = boot_beside(alloc, &list)?;
     Ok(play_beside(
-        &run, &mut core, second, reply, name, &mut notes, reader, writer, complaints,
+        &run, &mut core, second, name, &mut notes, reader, writer, complaints,
     ))
+}
+
+// A machine, and room for what its calls are answered.
+#[derive(Drop)]
+struct Beside<Q: Router + Drop> {
+    core: Core<Q>,
+    reply: Reply,
+}
+
+// A machine of a start list, as it starts.
+fn boot_beside(alloc: Global, list: &StartList) -> Result<Beside<RouteTable<'_>>, BootFault>
+    ensures starts { IfOk result
+        (λ second. second.core ≡ start_world (start_list_of list.now)) }
+    ensures fault { IfErr result
+        (λ fault. fault ≢ NoMemory → quota_fault list.now ≡ Some fault) }
+{
+    let core = boot(alloc, list)?;
+    let reply = Reply::boot(alloc)?;
+    Ok(Beside { core, reply })
 }
 
 // The same on two machines that have booted.
 fn play_beside<R: Router + Drop, Q: Router + Drop, S: Source, K: Sink, E: Sink>(
     run: &Run<'_>,
     core: &mut Core<R>,
-    second: Core<Q>,
-    reply: Reply,
+    second: Beside<Q>,
     name: &[u8],
     notes: &mut Notes<'_>,
     reader: &mut S,
@@ -224,7 +243,7 @@ fn play_beside<R: Router + Drop, Q: Router + Drop, S: Source, K: Sink, E: Sink>(
     requires first { notes.old.stand.number ≡ 1 }
     requires ahead { notes.old.buffers.ahead ≡ [] }
     requires gathered { notes.old.buffers.gathered ≡ [] }
-    requires same { second ≡ core.old }
+    requires same { second.core ≡ core.old }
     ensures played { fault_before (S.has_failed reader.old)
         (K.has_failed writer.old || E.has_failed complaints.old) ≡ None →
         IsPlayedFrom (turns_of None core.old notes.old.stand)
@@ -245,8 +264,8 @@ fn play_beside<R: Router + Drop, Q: Router + Drop, S: Source, K: Sink, E: Sink>(
     let mut watch = SecondMachine {
         list: run.list,
         name,
-        core: second,
-        reply,
+        core: second.core,
+        reply: second.reply,
         lines: 0,
         difference: None,
     };

@@ -6,7 +6,7 @@ use crate::text::put_number;
 use scenario::{DeviceFault, Gather, Sink};
 
 /// Where in a scenario a complaint is about, both from 1 on.
-#[derive(Clone, Copy, Debug, PartialEq, Eq)]
+#[derive(Clone, Copy, PartialEq, Eq)]
 pub(crate) struct Place {
     pub line: u64,
     pub column: usize,

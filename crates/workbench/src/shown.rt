@@ -4,7 +4,7 @@ ghost use Rattle.std.specs.Prelude.{◌≡◌, false, is_err};
 use scenario::{DeviceFault, Gather, Sink};
 
 /// The bytes of a reply, or of what is expected of one: the digits with which it ends, where all they stand for can be shown.
-#[derive(Clone, Copy, Debug)]
+#[derive(Clone, Copy)]
 pub(crate) struct Shown<'a> {
     digits: &'a [u8],
 }

@@ -14,7 +14,7 @@ use pd_core::{Core, Router};
 use scenario::{Gather, LineAnswer, NamedCall, Sink};
 
 /// A call that was answered.
-#[derive(Clone, Copy, Debug)]
+#[derive(Clone, Copy)]
 pub(crate) struct Heard<'a> {
     /// The line of the scenario that it stands in, from 1 on.
     pub number: u64,

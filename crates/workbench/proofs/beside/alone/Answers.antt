@@ -27,9 +27,6 @@ returns-in_err-notes-clause-alike g c = are_alike c.args.name.now
 pub returns-in_err-second-clause-alike : goal.returns-in_err-second-clause-alike
 returns-in_err-second-clause-alike g c = are_alike c.args.name.now
 
-pub returns-in_err-reply-clause-alike : goal.returns-in_err-reply-clause-alike
-returns-in_err-reply-clause-alike g c = are_alike c.args.name.now
-
 pub returns-clause-ok : goal.returns-clause-ok
 returns-clause-ok g c =
     ends_for_cause _ _ _ c.play_beside.ensures.played (unplayed_with c.play_beside.result _ _ _ _ _ (ap g.S.Source.has_failed) c.play_beside.ensures.before) c.play_beside.ensures.writing
