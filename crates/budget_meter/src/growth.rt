@@ -10,7 +10,7 @@ const FIRST_PAGES: u64 = 4;
 const MOST_PAGES: u64 = 64;
 
 /// The growth number of a heap, by what its growths charged.
-#[derive(Clone, Copy, Debug)]
+#[derive(Clone, Copy)]
 pub(crate) struct Growth {
     pages: u64,
 }

@@ -24,7 +24,7 @@ impl Row {
 }
 
 /// An answered line, with the rules that decided its wish.
-#[derive(Clone, Copy, Debug)]
+#[derive(Clone, Copy)]
 pub(crate) struct Answered<'a, 'b> {
     pub line: &'a [u8],
     pub reply: &'a [u8],

@@ -4,7 +4,7 @@ use std::io::IsTerminal;
 use workbench_options::Color;
 
 /// Where lines are coloured.
-#[derive(Clone, Copy, Debug, PartialEq, Eq)]
+#[derive(Clone, Copy, PartialEq, Eq)]
 pub(crate) struct Coloring {
     /// On standard output.
     pub(crate) out: bool,

@@ -29,7 +29,7 @@ pub(crate) fn status_of(rt: &HostRuntime, printed: io::Result<()>) -> u8 {
 }
 
 /// How a play ended, and whether nobody reads what is written.
-#[derive(Debug, Drop)]
+#[derive(Drop)]
 pub(crate) struct Played {
     /// How it ended.
     pub(crate) ended: Result<Ending, BootFault>,

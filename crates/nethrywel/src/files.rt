@@ -24,13 +24,13 @@ pub(crate) fn read_list(rt: &HostRuntime, path: &str) -> Result<Vec<u8>, ConfigF
 }
 
 /// Why the start list of a path isn't there.
-#[derive(Clone, Copy, Debug)]
+#[derive(Clone, Copy)]
 pub(crate) struct NoList<'a> {
     path: &'a str,
     why: Why,
 }
 
-#[derive(Clone, Copy, Debug)]
+#[derive(Clone, Copy)]
 enum Why {
     Unread(ConfigFault),
     Unfilled(UnknownName),

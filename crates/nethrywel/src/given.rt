@@ -4,7 +4,7 @@ use scenario_names::{Known, is_name};
 use std::alloc::{AllocError, Global};
 
 /// The values of names, each `NAME=VALUE`.
-#[derive(Clone, Copy, Debug)]
+#[derive(Clone, Copy)]
 pub(crate) struct Given<'a> {
     words: &'a [&'a str],
 }

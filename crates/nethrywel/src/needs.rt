@@ -31,7 +31,7 @@ static ROWS: [Column; 6] = [
 ];
 
 /// In which form it is told.
-#[derive(Clone, Copy, Debug)]
+#[derive(Clone, Copy)]
 pub(crate) enum Telling {
     /// As text.
     Text,

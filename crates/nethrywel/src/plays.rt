@@ -17,7 +17,7 @@ use workbench::{Ending, Play, Showing, accounts, alone, near_component, run, tra
 const NOBODY: u8 = 3;
 
 /// What is told of a scenario.
-#[derive(Clone, Copy, Debug)]
+#[derive(Clone, Copy)]
 pub(crate) enum Viewing<'a> {
     /// Its transcript.
     Run {

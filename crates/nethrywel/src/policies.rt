@@ -16,7 +16,7 @@ pub(crate) const BROKEN: u8 = 3;
 const LONGEST_POLICY: usize = 65_536;
 
 /// A line of a policy, by its number, and what is told of it.
-#[derive(Debug, Drop)]
+#[derive(Drop)]
 pub(crate) struct Noted {
     /// The number of the line, from 1 on.
     pub(crate) line: usize,
@@ -25,7 +25,7 @@ pub(crate) struct Noted {
 }
 
 /// How a start list stands to a policy.
-#[derive(Debug, Drop)]
+#[derive(Drop)]
 pub(crate) enum Standing {
     /// It breaks these lines: none, where it keeps the policy.
     Held(Vec<Noted>),

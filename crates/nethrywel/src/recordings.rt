@@ -13,7 +13,7 @@ use std::{fs, io};
 const UNREAD_LINES: u8 = 3;
 
 /// What is asked of a recording.
-#[derive(Clone, Copy, Debug)]
+#[derive(Clone, Copy)]
 pub(crate) struct Wanted<'a> {
     /// The path of a start list, or none for the built-in machine.
     pub(crate) machine: Option<&'a str>,

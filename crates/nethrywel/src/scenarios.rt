@@ -9,7 +9,7 @@ use test_report::is_scenario;
 const MOST_FOLDERS: usize = 100_000;
 
 /// Why the scenarios of paths aren't known.
-#[derive(Debug, Drop)]
+#[derive(Drop)]
 pub(crate) enum Unfound {
     /// Nothing stands at this path, or it can't be read.
     Unreadable(String),

@@ -9,7 +9,7 @@ use scenario::LONGEST_LINE;
 use std::alloc::{AllocError, Global};
 
 /// A line of a scenario with its call, and the reply that is expected already, if one is.
-#[derive(Clone, Copy, Debug)]
+#[derive(Clone, Copy)]
 pub(crate) struct Asked<'a> {
     pub line: &'a [u8],
     /// The engine's line.
@@ -18,7 +18,7 @@ pub(crate) struct Asked<'a> {
 }
 
 /// The same once it was answered.
-#[derive(Clone, Copy, Debug)]
+#[derive(Clone, Copy)]
 pub(crate) struct Answered<'a> {
     pub asked: Asked<'a>,
     /// The log lines that are to be expected, each with its newline.

@@ -22,7 +22,7 @@ pub struct Counter<'a> {
 }
 
 // The number of a line, and a round's counter.
-#[derive(Clone, Copy, Debug)]
+#[derive(Clone, Copy)]
 struct Round<'a> {
     line: usize,
     counter: Option<Counter<'a>>,

@@ -33,7 +33,7 @@ impl Default for Hole<'_> {
 pub(crate) type Holes<'a> = ArrayVec<Hole<'a>, MOST_HOLES>;
 
 /// Where names may be bound: before a place of the line; and how much of the filled line stands before what is expected.
-#[derive(Clone, Copy, Debug)]
+#[derive(Clone, Copy)]
 pub(crate) struct Zone {
     pub limit: usize,
     pub start: usize,

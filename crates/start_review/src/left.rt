@@ -20,7 +20,7 @@ use std::marker::Model;
 const MOST_INITS: usize = 33;
 
 /// What an init still has.
-#[derive(Clone, Copy, Debug, Default)]
+#[derive(Clone, Copy, Default)]
 pub(crate) struct Left {
     /// RAM in bytes.
     pub ram: u64,
