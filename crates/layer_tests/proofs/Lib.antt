@@ -1,2 +1,3 @@
 mod HeapLemmas
 mod CellLemmas
+mod MemoryLemmas

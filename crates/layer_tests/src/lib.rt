@@ -17,4 +17,5 @@ mod selectors;
 #[cfg(test)]
 mod texts;
 #[cfg(test)]
+#[tactic(auto, using(crate::proofs::MemoryLemmas::store_laws))]
 mod words;
