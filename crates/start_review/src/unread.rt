@@ -26,13 +26,7 @@ pub(crate) fn tell_unread(
     let machine = list.get("machine");
     tell_members(found, alloc, Table::Machine, &Part::Machine, machine)?;
     let rules = list.get("default-route");
-    tell_rules(
-        found,
-        alloc,
-        Owner::Default,
-        &Steps::none(alloc),
-        rules,
-    )?;
+    tell_rules(found, alloc, Owner::Default, &Steps::none(alloc), rules)?;
     let entries = find_entries(alloc, list)?;
     for (number, entry) in entries.iter().enumerate() {
         tell_entry(found, alloc, number, entry)?;
