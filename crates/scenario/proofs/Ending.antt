@@ -1,5 +1,5 @@
 -- What a run that has ended promises, whether at the end of its input or at a fault.
-use Rattle.std.proofs.Common.{◌≡◌, ℕ, ◌+◌, ◌<◌, ◌≤◌, Bool, true, false, List, [], ◌∷◌, ◌++◌, length, get_or, Option, Some, None, IfSome, Ok, Err, inl, ⊎_elim, arith, refl, sym, ◌∙◌, ap, subst, append-nil, length-append}
+use Rattle.std.proofs.Common.{◌≡◌, ◌≢◌, ◌||◌, ℕ, ◌+◌, ◌<◌, ◌≤◌, Bool, true, false, List, [], ◌∷◌, ◌++◌, length, get_or, slice_index_or, Option, Some, None, IfSome, IfNone, Result, Ok, Err, inl, ⊎_elim, arith, refl, sym, ◌∙◌, ap, subst, append-nil, length-append}
 use Rattle.std.proofs.lemmas.List.{get_or-append-add}
 use Rattle.std.specs.Io.KnownBytes.{Appends}
 use Rattle.own_model.specs.SaidBy.{said_by}
@@ -10,15 +10,20 @@ use Rattle.own_model.proofs.StepBalanceLemmas.{lines_balanced, lines_balanced_fo
 use Rattle.own_model.proofs.RunningLemmas.{Tracks-none, told_after-running, length-states_running, states_running-at}
 use Rattle.scenario.specs.Answered.{told_of_all, after_all}
 use Rattle.scenario.specs.Lines.{longest_read, AreReadable}
-use Rattle.scenario.specs.Runs.{Completes, HasCause, KeepsWorld}
-use Rattle.scenario.specs.Serves.{Serves}
-use Rattle.scenario.proofs.Serving.{left_none, said_none}
-use Rattle.scenario.specs.Stops.{Stops, StopsFor, IsWritten, is_write_fault}
+use Rattle.scenario.specs.Runs.{Completes, EndsWith, HasCause, KeepsWorld, Runs}
+use Rattle.scenario.specs.Faults.{is_write_fault as is_unwritten, play_fault}
+use Rattle.scenario.specs.declared.running.Summary.{Summary}
+use Rattle.scenario.proofs.FaultLemmas.{or_first}
+use Rattle.scenario.specs.Plays.{EndsAs, PlaysAll, StopsAs, StopsAt, WritesTold}
+use Rattle.scenario.proofs.PlayLemmas.{unplayed}
+use Rattle.scenario.proofs.ToldLemmas.{left_none, told_none}
+use Rattle.scenario.specs.Stops.{AppendsPart, Stops, StopsFor, IsWritten, is_write_fault}
 use Rattle.scenario.specs.declared.running.RunFault.{RunFault}
-use Rattle.scenario.proofs.ReachLemmas.{close_as, close_all, keeps_up_as, keeps_up_none}
+use Rattle.scenario.proofs.ReachLemmas.{close_as, keeps_up_as}
 use Rattle.scenario.proofs.GatheredLemmas.{Appends-none}
-use Rattle.std.proofs.lemmas.List.Elements.{All-nil}
 use Rattle.scenario.specs.declared.running.RunFault.TheVariants.{ReadFault, WriteFault, TooManyLines}
+use Rattle.scenario.specs.declared.play_fault.PlayFault.{PlayFault}
+use Rattle.scenario.specs.declared.play_fault.PlayFault.TheVariants.{ReadFault as Unread, WriteFault as Unwritten, TooManyLines as TooMany, NoMemory}
 
 -- what is told of lines by the running states is what is told of them by the history
 told_same : (world : World) (lines : List (List ℕ)) → told_of_all None world lines ≡ told_after world.entries world.states [] lines
@@ -30,7 +35,7 @@ states_at : (old new : World) (lines : List (List ℕ)) → new ≡ world_runnin
 states_at old new lines left component = ap (λ w. state_at w.states component) left ∙ states_running-at old.entries old.states lines component
 
 -- after any lines a world has as many own states, and the balance stays
-pub keeps_world : (old new : World) (lines : List (List ℕ)) → new ≡ world_running old lines → KeepsWorld old new
+keeps_world : (old new : World) (lines : List (List ℕ)) → new ≡ world_running old lines → KeepsWorld old new
 keeps_world old new lines left = record {
   entries = ap (λ w. w.entries) left;
   count = ap (λ w. length w.states) left ∙ length-states_running old.entries old.states lines;
@@ -42,107 +47,84 @@ keeps_world old new lines left = record {
 all_answered : (text : List ℕ) (answered left : List (List ℕ)) → lines_of text ≡ answered ++ left → left ≡ [] → answered ≡ lines_of text
 all_answered text answered left parts none = sym (parts ∙ ap (λ l. answered ++ l) none ∙ append-nil answered)
 
+-- where the engine's player is led
+record IsLed (only : Option (List ℕ)) (old new : World) (leads : List (List ℕ) → Type 0) (stops : PlayFault → List (List ℕ) → Type 0) : Type 0 where
+  on : (lines : List (List ℕ)) → leads lines → new ≡ after_all only old lines
+  stopped : (fault : PlayFault) (lines : List (List ℕ)) → stops fault lines → (fault ≡ Unwritten) × (new ≡ after_all only old lines)
+
 -- a run that answers Ok has come to the end of its input
-pub completes : {only : Option (List ℕ)} {count max_lines : ℕ} {old new : World} {input rest : Option (List ℕ)} {failed : Bool} {written now_written : Option (List ℕ)} →
-    Serves only (Ok count) max_lines old new input rest failed written now_written →
+completes : {only : Option (List ℕ)} {leads : List (List ℕ) → Type 0} {stops : PlayFault → List (List ℕ) → Type 0} {count max_lines : ℕ} {old new : World} {input rest : Option (List ℕ)} {failed : Bool} {written now_written : Option (List ℕ)} →
+    IsLed only old new leads stops → PlaysAll (told_of_all only old) leads stops None count max_lines [] input rest failed written now_written →
     IfSome input (λ text. Completes only count old new text written now_written)
-completes {input = None} serves = tt
-completes {only = only} {count = count} {old = old} {new = new} {input = Some text} {written = written} {now_written = now_written} serves =
-    let all : serves.answered ≡ lines_of text = all_answered text serves.answered serves.lines.0 serves.lines.1 serves.lines.2 in
-    let left : new ≡ world_running old (said_by only (lines_of text)) = serves.world ∙ ap (after_all only old) all in
+completes {input = None} led plays = tt
+completes {only = only} {count = count} {old = old} {new = new} {input = Some text} {written = written} {now_written = now_written} led plays =
+    let all : plays.given ≡ lines_of text = all_answered text plays.given plays.ends.0 plays.ends.1 plays.ends.2.0 in
+    let left : new ≡ world_running old (said_by only (lines_of text)) = led.on plays.given plays.ends_as ∙ ap (after_all only old) all in
     record {
-      counted = sym serves.count.1 ∙ ap length all;
-      readable = subst AreReadable all serves.readable;
-      transcript = subst (Appends written now_written) (told_same old (said_by only serves.answered) ∙ ap (λ lines. told_after old.entries old.states [] (said_by only lines)) all) serves.told;
+      counted = plays.counted ∙ ap length all;
+      readable = subst AreReadable all plays.readable;
+      transcript = subst (Appends written now_written) (told_same old (said_by only plays.given) ∙ ap (λ lines. told_after old.entries old.states [] (said_by only lines)) all) plays.writes;
       states = states_at old new (said_by only (lines_of text)) left;
       world = left;
     }
 
--- what is written at a fault, by the history
-written_same : (fault : RunFault) (written now_written : Option (List ℕ)) (a b : List ℕ) → a ≡ b → IsWritten fault written now_written a → IsWritten fault written now_written b
-written_same fault written now_written a b same told = subst (IsWritten fault written now_written) same told
+-- what is written at a fault, and why it came
+written_for : (fault : RunFault) (written now_written : Option (List ℕ)) (a b : List ℕ) → a ≡ b → WritesTold (Some (play_fault fault)) written now_written a → IsWritten fault written now_written b
+written_for ReadFault written now_written a b same writes = subst (Appends written now_written) same writes
+written_for WriteFault written now_written a b same writes = subst (AppendsPart written now_written) same writes
+written_for TooManyLines written now_written a b same writes = subst (Appends written now_written) same writes
+
+cause_for : (fault : RunFault) (max_lines : ℕ) (answered left : List (List ℕ)) (text : List ℕ) (rest : Option (List ℕ)) (failed : Bool) →
+    StopsAt max_lines (play_fault fault) answered left text rest failed → StopsFor fault answered left max_lines text rest failed
+cause_for ReadFault max_lines answered left text rest failed stops = stops
+cause_for WriteFault max_lines answered left text rest failed stops = stops
+cause_for TooManyLines max_lines answered left text rest failed stops = stops
+
+-- which world is left
+left_at : (fault : RunFault) {only : Option (List ℕ)} {leads : List (List ℕ) → Type 0} {stops : PlayFault → List (List ℕ) → Type 0} {old new : World} (lines : List (List ℕ)) →
+    IsLed only old new leads stops → StopsAs leads stops (play_fault fault) lines → new ≡ after_all only old lines
+left_at ReadFault lines led ended = led.on lines ended
+left_at WriteFault lines led ended = ⊎_elim (λ on. led.on lines on) (λ stopped. (led.stopped Unwritten lines stopped).1) ended
+left_at TooManyLines lines led ended = led.on lines ended
 
 -- a run that stops has answered the first lines
-pub stops_at : {only : Option (List ℕ)} {fault : RunFault} {max_lines : ℕ} {old new : World} {input rest : Option (List ℕ)} {failed : Bool} {written now_written : Option (List ℕ)} →
-    Serves only (Err fault) max_lines old new input rest failed written now_written →
-    IfSome input (λ text. Stops only fault max_lines old new text rest failed written now_written)
-stops_at {input = None} serves = tt
-stops_at {only = only} {fault = fault} {old = old} {new = new} {input = Some text} {written = written} {now_written = now_written} serves = record {
-  answered = serves.answered;
-  left = serves.lines.0;
-  lines = serves.lines.1;
-  cause = serves.lines.2;
-  readable = serves.readable;
-  keeps_up =
-      keeps_up_as (told_of_all only old) (λ lines. told_after old.entries old.states [] (said_by only lines)) (λ lines. told_same old (said_by only lines)) serves.keeps_up;
-  close =
-      close_as (told_of_all only old) (λ lines. told_after old.entries old.states [] (said_by only lines)) (λ lines. told_same old (said_by only lines)) serves.close;
-  told = written_same fault written now_written _ _ (told_same old (said_by only serves.answered)) serves.told;
-  states = states_at old new (said_by only serves.answered) serves.world;
-  world = serves.world;
-}
+module _ {only : Option (List ℕ)} {leads : List (List ℕ) → Type 0} {stops : PlayFault → List (List ℕ) → Type 0} (fault : RunFault) {count max_lines : ℕ} {old new : World} where
+  stops_at : {input rest : Option (List ℕ)} {failed : Bool} {written now_written : Option (List ℕ)} →
+      IsLed only old new leads stops → PlaysAll (told_of_all only old) leads stops (Some (play_fault fault)) count max_lines [] input rest failed written now_written →
+      IfSome input (λ text. Stops only fault max_lines old new text rest failed written now_written)
+  stops_at {input = None} led plays = tt
+  stops_at {input = Some text} {rest = rest} {failed = failed} {written = written} {now_written = now_written} led plays = record {
+    answered = plays.given;
+    left = plays.ends.0;
+    lines = plays.ends.1;
+    cause = cause_for fault max_lines plays.given plays.ends.0 text rest failed plays.ends.2;
+    readable = plays.readable;
+    keeps_up =
+        keeps_up_as (told_of_all only old) (λ lines. told_after old.entries old.states [] (said_by only lines)) (λ lines. told_same old (said_by only lines)) (plays.keeps_up refl);
+    close =
+        close_as (told_of_all only old) (λ lines. told_after old.entries old.states [] (said_by only lines)) (λ lines. told_same old (said_by only lines)) plays.close;
+    told = written_for fault written now_written _ _ (told_same old (said_by only plays.given)) plays.writes;
+    states = states_at old new (said_by only plays.given) (left_at fault plays.given led plays.ends_as);
+    world = left_at fault plays.given led plays.ends_as;
+  }
 
--- or none, where a device had failed before
-stops_unread : (only : Option (List ℕ)) (fault : RunFault) (max_lines : ℕ) (world : World) (input written : Option (List ℕ)) (failed : Bool) →
-    IsWritten fault written written [] → IfSome input (λ text. StopsFor fault [] (lines_of text) max_lines text input failed) →
-    IfSome input (λ text. Stops only fault max_lines world world text input failed written written)
-stops_unread only fault max_lines world None written failed told cause = tt
-stops_unread only fault max_lines world (Some text) written failed told cause = record {
-  answered = [];
-  left = lines_of text;
-  lines = refl;
-  cause = cause;
-  readable = All-nil (λ line. length line ≤ longest_read);
-  keeps_up =
-      keeps_up_none (λ lines. told_after world.entries world.states [] (said_by only lines)) (Some text) written (ap (told_after world.entries world.states []) (said_none only));
-  close =
-      close_all (λ lines. told_after world.entries world.states [] (said_by only lines)) [] written written
-      (subst (Appends written written) (ap (told_after world.entries world.states []) (sym (said_none only))) (Appends-none written));
-  told = subst (IsWritten fault written written) (ap (told_after world.entries world.states []) (sym (said_none only))) told;
-  states = λ component. ap (λ lines. state_after world.entries world.states (calls_of world.entries lines) component) (sym (said_none only));
-  world = sym (left_none only world);
-}
+-- a first line that is left can be read where all can
+first_readable : (all lines left : List (List ℕ)) → all ≡ lines ++ left → AreReadable all → longest_read < length (slice_index_or left 0 []) → ⊥
+first_readable all lines [] parts short long = omega (arith, long)
+first_readable all lines (line ∷ left) parts short long =
+    let within : length lines + 0 < length all = omega (arith, ap length parts, length-append lines (line ∷ left)) in
+    let at : get_or all (length lines + 0) [] ≡ line = ap (λ xs. get_or xs (length lines + 0) []) parts ∙ get_or-append-add lines (line ∷ left) 0 [] in
+    omega (arith, short (length lines + 0) [] within, ap length at, long)
 
--- what is still to come is all of the input
-unread_for : (input : Option (List ℕ)) (P : List ℕ → Option (List ℕ) → Type 0) → ((text : List ℕ) → P text (Some text)) → IfSome input (λ text. P text input)
-unread_for None P all = tt
-unread_for (Some text) P all = all text
-
--- the writer
-pub stops_unwritten : (only : Option (List ℕ)) (max_lines : ℕ) (world : World) (input written : Option (List ℕ)) (failed : Bool) →
-    IfSome input (λ text. Stops only WriteFault max_lines world world text input failed written written)
-stops_unwritten only max_lines world input written failed =
-    stops_unread only WriteFault max_lines world input written failed (record { part = []; left = []; parts = refl; grows = Appends-none written })
-    (unread_for input (λ text rest. StopsFor WriteFault [] (lines_of text) max_lines text rest failed)
-    (λ text. (omega arith, record { read = []; left = text; is_left = refl; parts = refl; whole = inl (omega arith) })))
-
--- or the reader
-pub stops_unreadable : (only : Option (List ℕ)) (max_lines : ℕ) (world : World) (input written : Option (List ℕ)) (failed : Bool) → failed ≡ true →
-    IfSome input (λ text. Stops only ReadFault max_lines world world text input failed written written)
-stops_unreadable only max_lines world input written failed fails =
-    stops_unread only ReadFault max_lines world input written failed (Appends-none written)
-    (unread_for input (λ text rest. StopsFor ReadFault [] (lines_of text) max_lines text rest failed)
-    (λ text. inl (fails, record { read = []; left = text; is_left = refl; parts = refl; ended = inl refl })))
-
--- a first line that is left is among all
-first_inside : (all answered left : List (List ℕ)) (n : ℕ) → all ≡ answered ++ left → n < length (get_or left 0 []) → length answered + 0 < length all
-first_inside all answered [] n parts long = absurd (omega arith)
-first_inside all answered (line ∷ left) n parts long = omega (arith, ap length parts, length-append answered (line ∷ left))
-
--- within the bounds, and with no failed device, there is no cause to stop
-no_cause : (fault : RunFault) (answered left : List (List ℕ)) (max_lines : ℕ) (text : List ℕ) (rest : Option (List ℕ)) (failed write_failed : Bool) →
-    lines_of text ≡ answered ++ left → StopsFor fault answered left max_lines text rest failed → write_failed ≡ is_write_fault {T = ℕ} (Err fault) →
-    failed ≡ false → write_failed ≡ false → AreReadable (lines_of text) → length (lines_of text) ≤ max_lines → ⊥
-no_cause ReadFault answered left max_lines text rest failed write_failed parts cause fails reads writes short few =
-    ⊎_elim (λ cut. let e : failed ≡ true = cut.0 in cc)
-    (λ long.
-    let within : length answered + 0 < length (lines_of text) = first_inside (lines_of text) answered left longest_read parts long in
-    let at : get_or (lines_of text) (length answered + 0) [] ≡ get_or left 0 [] = ap (λ lines. get_or lines (length answered + 0) []) parts ∙ get_or-append-add answered left 0 [] in
-    omega (arith, short (length answered + 0) [] within, ap length at, long))
-    cause
-no_cause WriteFault answered left max_lines text rest failed write_failed parts cause fails reads writes short few = let e : write_failed ≡ true = fails in cc
-no_cause TooManyLines answered left max_lines text rest failed write_failed parts cause fails reads writes short few =
-    omega (arith, cause.0, cause.1, ap length parts, length-append answered left)
+-- within the bounds, and with no failed device, only want of room is a cause to stop
+pub within_bounds : (fault : PlayFault) (max_lines : ℕ) (lines left : List (List ℕ)) (text : List ℕ) (rest : Option (List ℕ)) (failed write_failed : Bool) →
+    lines_of text ≡ lines ++ left → StopsAt max_lines fault lines left text rest failed → write_failed ≡ is_unwritten (Some fault) → fault ≢ NoMemory → HasCause text max_lines failed write_failed
+within_bounds Unread max_lines lines left text rest failed write_failed parts cause fails other =
+    λ reads writes short few. ⊎_elim (λ cut. let e : failed ≡ true = cut.0 in cc) (λ long. first_readable (lines_of text) lines left parts short long) cause
+within_bounds Unwritten max_lines lines left text rest failed write_failed parts cause fails other = λ reads writes short few. let e : write_failed ≡ true = fails in cc
+within_bounds TooMany max_lines lines left text rest failed write_failed parts cause fails other =
+    λ reads writes short few. omega (arith, cause.0, cause.1, ap length parts, length-append lines left)
+within_bounds NoMemory max_lines lines left text rest failed write_failed parts cause fails other = absurd (other refl)
 
 -- a device that had failed before is a cause
 pub cause_unwritten : (input : Option (List ℕ)) (max_lines : ℕ) (failed write_failed : Bool) → write_failed ≡ true → IfSome input (λ text. HasCause text max_lines failed write_failed)
@@ -154,12 +136,110 @@ cause_unread None max_lines failed write_failed fails = tt
 cause_unread (Some text) max_lines failed write_failed fails = λ reads writes short few. cc
 
 -- so it answers Ok
-pub not_stopped : {only : Option (List ℕ)} {fault : RunFault} {max_lines : ℕ} {old new : World} {input rest : Option (List ℕ)} {failed : Bool} {written now_written : Option (List ℕ)} (write_failed : Bool) →
-    Serves only (Err fault) max_lines old new input rest failed written now_written → write_failed ≡ is_write_fault {T = ℕ} (Err fault) →
-    IfSome input (λ text. HasCause text max_lines failed write_failed)
-not_stopped {input = None} write_failed serves fails = tt
-not_stopped {fault = fault} {max_lines = max_lines} {input = Some text} {rest = rest} {failed = failed} write_failed serves fails =
-    no_cause fault serves.answered serves.lines.0 max_lines text rest failed write_failed serves.lines.1 serves.lines.2 fails
+no_want : (fault : RunFault) → play_fault fault ≢ NoMemory
+no_want ReadFault = λ is. cc
+no_want WriteFault = λ is. cc
+no_want TooManyLines = λ is. cc
 
--- what each clause of a run says
-pub ruleset endings = (completes, stops_at)
+not_stopped : (only : Option (List ℕ)) {leads : List (List ℕ) → Type 0} {stops : PlayFault → List (List ℕ) → Type 0} (fault : RunFault) {count max_lines : ℕ} (old : World) {input rest : Option (List ℕ)} {failed : Bool} {written now_written : Option (List ℕ)} (write_failed : Bool) →
+    PlaysAll (told_of_all only old) leads stops (Some (play_fault fault)) count max_lines [] input rest failed written now_written → write_failed ≡ is_unwritten (Some (play_fault fault)) →
+    IfSome input (λ text. HasCause text max_lines failed write_failed)
+not_stopped only fault old {input = None} write_failed plays fails = tt
+not_stopped only fault {max_lines = max_lines} old {input = Some text} {rest = rest} {failed = failed} write_failed plays fails =
+    within_bounds (play_fault fault) max_lines plays.given plays.ends.0 text rest failed write_failed plays.ends.1 plays.ends.2 fails (no_want fault)
+
+-- ---- all that is promised of a run
+
+-- what a failed write is told as
+write_told : (fault : RunFault) → is_unwritten (Some (play_fault fault)) ≡ is_write_fault {T = Summary} (Err fault)
+write_told ReadFault = refl
+write_told WriteFault = refl
+write_told TooManyLines = refl
+
+module _ {only : Option (List ℕ)} {leads : List (List ℕ) → Type 0} {stops : PlayFault → List (List ℕ) → Type 0} {count max_lines : ℕ} {old new : World} {input rest : Option (List ℕ)} {failed write_failed : Bool} {written now_written : Option (List ℕ)}
+    (led : IsLed only old new leads stops) where
+  runs_at : (fault : Option PlayFault) (result : Result Summary RunFault) → EndsWith fault count result → PlaysAll (told_of_all only old) leads stops fault count max_lines [] input rest failed written now_written →
+      (write_failed || false) ≡ is_unwritten fault → IfNone fault (failed ≡ false) → count ≤ max_lines → Runs only result max_lines old new input rest failed write_failed written now_written
+  runs_at fault (Ok summary) ends plays writing reading few =
+      let at : PlaysAll (told_of_all only old) leads stops None count max_lines [] input rest failed written now_written =
+      subst (λ f. PlaysAll (told_of_all only old) leads stops f count max_lines [] input rest failed written now_written) ends.0 plays in
+      record {
+        few = subst (λ n. n ≤ max_lines) (sym ends.1) few;
+        done = subst (λ n. IfSome input (λ text. Completes only n old new text written now_written)) (sym ends.1) (completes led at);
+        keeps = keeps_world old new (said_by only at.given) (led.on at.given at.ends_as);
+        writing = sym (or_first write_failed false refl) ∙ writing ∙ ap is_unwritten ends.0;
+        reading = subst (λ (f : Option PlayFault). IfNone f (failed ≡ false)) ends.0 reading;
+        stops = tt;
+        ok = tt;
+      }
+  runs_at fault (Err stopped) ends plays writing reading few =
+      let at : PlaysAll (told_of_all only old) leads stops (Some (play_fault stopped)) count max_lines [] input rest failed written now_written =
+      subst (λ f. PlaysAll (told_of_all only old) leads stops f count max_lines [] input rest failed written now_written) ends plays in
+      let fails : write_failed ≡ is_unwritten (Some (play_fault stopped)) = sym (or_first write_failed false refl) ∙ writing ∙ ap is_unwritten ends in
+      record {
+        few = tt;
+        done = tt;
+        keeps = keeps_world old new (said_by only at.given) (left_at stopped at.given led at.ends_as);
+        writing = fails ∙ write_told stopped;
+        reading = tt;
+        stops = stops_at stopped led at;
+        ok = not_stopped only stopped old write_failed at fails;
+      }
+
+-- of a play of the engine's player
+module _ {A : Type 0} (only : Option (List ℕ)) (old new : World) {count max_lines : ℕ} {front : List ℕ} {input rest : Option (List ℕ)} {failed : Bool} {written now_written : Option (List ℕ)} (fault : Option PlayFault)
+    (plays : PlaysAll (told_of_all only old) (λ lines. A × (new ≡ after_all only old lines)) (λ fault lines. (fault ≡ Unwritten) × (new ≡ after_all only old lines)) fault count max_lines front input rest failed written now_written) where
+  abbrev leads_so : List (List ℕ) → Type 0
+  leads_so lines = A × (new ≡ after_all only old lines)
+
+  abbrev stops_so : PlayFault → List (List ℕ) → Type 0
+  stops_so f lines = (f ≡ Unwritten) × (new ≡ after_all only old lines)
+
+  -- with nothing gathered before
+  pub runs : (write_failed : Bool) (result : Result Summary RunFault) → front ≡ [] → EndsWith fault count result →
+      (write_failed || false) ≡ is_unwritten fault → IfNone fault (failed ≡ false) → count ≤ max_lines → Runs only result max_lines old new input rest failed write_failed written now_written
+  runs write_failed result none ends writing reading few =
+      runs_at {leads = leads_so} {stops = stops_so} (record { on = λ lines led. led.1; stopped = λ f lines stopped. stopped }) fault result ends
+      (subst (λ g. PlaysAll (told_of_all only old) leads_so stops_so fault count max_lines g input rest failed written now_written) none plays) writing reading few
+
+  -- it never wants for room
+  pub has_room : IfSome fault (λ f. f ≢ NoMemory)
+  has_room = by fault plays.given plays.ends_as
+    where
+      by : (f : Option PlayFault) (lines : List (List ℕ)) → EndsAs leads_so stops_so f lines → IfSome f (λ g. g ≢ NoMemory)
+      by None lines ended = tt
+      by (Some Unread) lines ended = λ is. cc
+      by (Some Unwritten) lines ended = λ is. cc
+      by (Some TooMany) lines ended = λ is. cc
+      by (Some NoMemory) lines ended = λ is. let e : NoMemory ≡ Unwritten = ended.0 in cc
+
+-- where a device had failed before, no line is played
+module _ (only : Option (List ℕ)) (max_lines : ℕ) (world : World) (input written : Option (List ℕ)) (failed write_failed : Bool) where
+  abbrev leads_here : List (List ℕ) → Type 0
+  leads_here lines = world ≡ after_all only world lines
+
+  abbrev stops_here : PlayFault → List (List ℕ) → Type 0
+  stops_here fault lines = (fault ≡ Unwritten) × (world ≡ after_all only world lines)
+
+  led_here : IsLed only world world leads_here stops_here
+  led_here = record { on = λ lines led. led; stopped = λ fault lines stopped. stopped }
+
+  unread_run : (fault : RunFault) → StopsAs leads_here stops_here (play_fault fault) [] → WritesTold (Some (play_fault fault)) written written [] →
+      ((text : List ℕ) → StopsAt max_lines (play_fault fault) [] (lines_of text) text (Some text) failed) → write_failed ≡ is_unwritten (Some (play_fault fault)) →
+      Runs only (Err fault) max_lines world world input input failed write_failed written written
+  unread_run fault ended writes cause fails =
+      runs_at led_here (Some (play_fault fault)) (Err fault) refl
+      (unplayed (told_of_all only world) leads_here stops_here (play_fault fault) max_lines input written failed (told_none only world) ended writes cause)
+      (or_first write_failed false refl ∙ fails) tt (omega arith)
+
+  -- the writer
+  pub runs_unwritten : write_failed ≡ true → Runs only (Err WriteFault) max_lines world world input input failed write_failed written written
+  runs_unwritten fails =
+      unread_run WriteFault (inl (sym (left_none only world))) (record { part = []; left = []; parts = refl; grows = Appends-none written })
+      (λ text. (omega arith, record { read = []; left = text; is_left = refl; parts = refl; whole = inl (omega arith) })) fails
+
+  -- or the reader
+  pub runs_unread : write_failed ≡ false → failed ≡ true → Runs only (Err ReadFault) max_lines world world input input failed write_failed written written
+  runs_unread works fails =
+      unread_run ReadFault (sym (left_none only world)) (Appends-none written)
+      (λ text. inl (fails, record { read = []; left = text; is_left = refl; parts = refl; ended = inl refl })) works

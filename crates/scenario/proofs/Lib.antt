@@ -10,8 +10,10 @@ pub mod FaultLemmas
 pub mod ToCome
 pub mod PassedLines
 pub mod ReachLemmas
-pub mod Serving
+pub mod ToldLemmas
+pub mod PlayLemmas
 pub mod Ending
 pub mod CallerLemmas
 pub mod AnsweringLemmas
+pub mod EngineLemmas
 pub mod TaskLemmas

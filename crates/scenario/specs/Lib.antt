@@ -10,7 +10,8 @@ pub mod Stops
 pub mod Answered
 pub mod Answer
 pub mod Read
-pub mod Serves
+pub mod Faults
+pub mod Plays
 pub mod Runs
 pub mod Program
 pub mod Ending

@@ -101,6 +101,17 @@ pub record BothWork (read_failed write_failed : Bool) : Type 0 where
   pub reads : read_failed ≡ false
   pub writes : write_failed ≡ false
 
+-- what is told can be written, and so can what a player tells besides
+pub record OutputsWork (write_failed own_failed : Bool) : Type 0 where
+  pub writes : write_failed ≡ false
+  pub own : own_failed ≡ false
+
+-- and lines can be read
+pub record AllWork (read_failed write_failed own_failed : Bool) : Type 0 where
+  pub reads : read_failed ≡ false
+  pub writes : write_failed ≡ false
+  pub own : own_failed ≡ false
+
 -- a device has failed where the fault says so, and else none has
 pub record FailsAs {T : Type 0} (result : Result T LineFault) (read_failed write_failed : Bool) : Type 0 where
   pub reading : read_failed ≡ is_read_fault result

@@ -1,13 +1,15 @@
 -- What a run promises, of all lines or of a name's alone.
-use Rattle.std.specs.Prelude.{◌≡◌, ℕ, ◌≤◌, Bool, false, List, [], length, if◌then◌else◌, Option, IfSome, IfOk, IfErr, OnOk, Result, Err}
+use Rattle.std.specs.Prelude.{◌≡◌, ℕ, ◌≤◌, Bool, false, List, [], length, if◌then◌else◌, Option, Some, None, IfSome, IfOk, IfErr, OnOk, Result, Ok, Err}
 use Rattle.std.specs.Io.KnownBytes.{Appends}
 use Rattle.own_model.specs.SaidBy.{said_by}
 use Rattle.own_model.specs.StartList.{StartList}
 use Rattle.own_model.specs.Text.{lines_of}
 use Rattle.own_model.specs.Transcript.{told_after, calls_of, state_at, state_after}
 use Rattle.own_model.specs.World.{World, IsBalanced, IsBalancedFor, world_running}
+use Rattle.scenario.specs.Faults.{play_fault}
 use Rattle.scenario.specs.Lines.{AreReadable}
 use Rattle.scenario.specs.Stops.{Stops, is_write_fault}
+use Rattle.scenario.specs.declared.play_fault.PlayFault.{PlayFault}
 use Rattle.scenario.specs.declared.running.RunFault.{RunFault}
 use Rattle.scenario.specs.declared.running.RunFault.TheVariants.{ReadFault, WriteFault}
 use Rattle.scenario.specs.declared.running.Summary.{Summary}
@@ -45,6 +47,11 @@ HasCause input max_lines read_failed write_failed =
 abbrev pub FaultBefore : Result Summary RunFault → Bool → Bool → Type 0
 FaultBefore result read_failed write_failed =
     result ≡ Err (if write_failed then WriteFault else ReadFault)
+
+-- a run ends as its play of so many lines does
+abbrev pub EndsWith : Option PlayFault → ℕ → Result Summary RunFault → Type 0
+EndsWith fault lines (Ok summary) = (fault ≡ None) × (summary.lines ≡ lines)
+EndsWith fault lines (Err stopped) = fault ≡ Some (play_fault stopped)
 
 -- all lines of an input, or a name's alone, are run to its end or to a fault
 pub record Runs (only : Option (List ℕ)) (result : Result Summary RunFault) (max_lines : ℕ) (old new : World)

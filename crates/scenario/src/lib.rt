@@ -18,6 +18,9 @@ mod line;
 mod lines;
 mod options;
 mod output;
+mod play_fault;
+mod player;
+mod playing;
 mod program;
 mod running;
 
@@ -37,6 +40,9 @@ pub use line::{NamedCall, call_in, read_line};
 pub use lines::{Buffers, LineFault, Next};
 pub use options::{Options, words_given};
 pub use output::Output;
+pub use play_fault::PlayFault;
+pub use player::Player;
+pub use playing::{Played, play};
 pub use program::{
     Failure, MAX_LINES, Stopped, Task, boot_and_run, exit_status, run_bytes, task_of,
 };

@@ -1,22 +1,24 @@
 //! The run: lines are read, answered and written.
-ghost use Rattle.std.specs.Prelude.{◌≡◌, ◌+◌, ◌≤◌, ◌∷◌, [], ◌||◌, true, false, length, take, drop, is_err, IfSome, IfOk, IfErr, OnOk, None, Some};
+ghost use Rattle.std.specs.Prelude.{◌≡◌, ◌≢◌, ◌≤◌, ◌∷◌, ◌||◌, true, false, is_err, IfSome, IfOk, IfErr, OnOk, None, Some};
 ghost use Rattle.std.specs.Option.{option_copied};
 ghost use Rattle.own_model.specs.Listed.{start_list_of};
 ghost use Rattle.own_model.specs.StartList.{entries_of};
 ghost use Rattle.scenario.specs.Answer.{answer_text};
-ghost use Rattle.scenario.specs.Answered.{AnswersNext, ReadsOn, after_all, point, told_of_all, more_unless_failed};
+ghost use Rattle.scenario.specs.Answered.{after_all, told_of_all};
+ghost use Rattle.scenario.specs.Faults.{Fails};
 ghost use Rattle.scenario.specs.Gathered.{TellsUnless};
-ghost use Rattle.scenario.specs.Next.{BothWork, FailsAs};
-ghost use Rattle.scenario.specs.Runs.{Completes, FaultBefore, HasCause, KeepsWorld, Runs};
-ghost use Rattle.scenario.specs.Serves.{Serves, run_fault};
+ghost use Rattle.scenario.specs.Runs.{Completes, EndsWith, FaultBefore, HasCause, KeepsWorld, Runs};
 ghost use Rattle.scenario.specs.Stops.{Stops, is_write_fault};
 ghost use Rattle.scenario.specs.Texts.{run_fault_text};
+ghost use Rattle.scenario.specs.declared.play_fault.PlayFault.TheVariants.{NoMemory as NoRoom, WriteFault as Unwritten};
 
 use crate::answering::{LineAnswer, Run};
-use crate::block::LONGEST_LINE;
-use crate::device::{DeviceFault, Sink, Source};
+use crate::device::{Sink, Source};
 use crate::gather::Gather;
-use crate::lines::{Buffers, LineFault, Next};
+use crate::lines::Buffers;
+use crate::play_fault::PlayFault;
+use crate::player::Player;
+use crate::playing::{Played, play};
 use init_core::StartList;
 use pd_core::{Core, Reply, Router};
 use std::fmt;
@@ -49,17 +51,6 @@ impl Display for RunFault {
             RunFault::ReadFault => f.write_str("Read_fault"),
             RunFault::WriteFault => f.write_str("Write_fault"),
             RunFault::TooManyLines => f.write_str("Too_many_lines"),
-        }
-    }
-}
-
-impl From<LineFault> for RunFault {
-    ghost from_gives = { λ fault result. result ≡ run_fault fault };
-
-    fn from(fault: LineFault) -> RunFault {
-        match fault {
-            LineFault::Read | LineFault::Endless => RunFault::ReadFault,
-            LineFault::Write => RunFault::WriteFault,
         }
     }
 }
@@ -131,99 +122,68 @@ pub(crate) fn run_said_by<R: Router + Drop, S: Source, K: Sink>(
     if reader.failed() {
         return Err(RunFault::ReadFault);
     }
-    match answer_all(run, core, reply, reader, writer, max_lines) {
-        Ok(lines) => Ok(Summary { lines }),
-        Err(fault) => Err(fault),
-    }
-}
-
-// Answers line after line, and tells how many there were, also of those that were skipped.
-fn answer_all<R: Router + Drop, S: Source, K: Sink>(
-    run: &Run<'_>,
-    core: &mut Core<R>,
-    reply: &mut Reply,
-    reader: &mut S,
-    writer: &mut K,
-    max_lines: u64,
-) -> Result<u64, RunFault>
-    requires listed { core.old.entries ≡ entries_of (start_list_of run.now.list.now) }
-    requires works { BothWork (S.has_failed reader.old) (K.has_failed writer.old) }
-    ensures serves { Serves (option_copied run.now.only) result max_lines core.old core.new
-        (S.remaining reader.old) (S.remaining reader.new) (S.has_failed reader.new)
-        (K.contents writer.old) (K.contents writer.new) }
-    ensures reading { OnOk result (S.has_failed reader.new ≡ false) }
-    ensures writing { K.has_failed writer.new ≡ is_write_fault result }
-{
+    let mut engine = Engine { run: *run, reply };
     let mut buffers = Buffers::new();
-    for count in 0..max_lines {
-        buffers.gathered.fits();
-        if !answer_next(run, core, reply, &mut buffers, reader, writer)? {
-            return Ok(count);
-        }
-    }
-    buffers.gathered.fits();
-    if buffers.begins_line(reader, writer)? {
-        return Err(RunFault::TooManyLines);
-    }
-    Ok(max_lines)
+    let played = play(&mut engine, core, &mut buffers, reader, writer, max_lines);
+    outcome(played)
 }
 
-// Answers the next line, or tells that there is none.
-fn answer_next<R: Router + Drop, S: Source, K: Sink>(
-    run: &Run<'_>,
-    core: &mut Core<R>,
-    reply: &mut Reply,
-    buffers: &mut Buffers,
-    reader: &mut S,
-    writer: &mut K,
-) -> Result<bool, LineFault>
-    requires listed { core.old.entries ≡ entries_of (start_list_of run.now.list.now) }
-    requires works { BothWork (S.has_failed reader.old) (K.has_failed writer.old) }
-    ensures next { AnswersNext (option_copied run.now.only) result
-        (point core.old buffers.old (S.remaining reader.old) (K.contents writer.old))
-        (point core.new buffers.new (S.remaining reader.new) (K.contents writer.new)) }
-    ensures behind { ReadsOn
-        (point core.old buffers.old (S.remaining reader.old) (K.contents writer.old))
-        (point core.new buffers.new (S.remaining reader.new) (K.contents writer.new)) }
-    ensures failing { FailsAs result (S.has_failed reader.new) (K.has_failed writer.new) }
+// What a run did, or why it stopped: its player never asks the host for room.
+fn outcome(played: Played) -> Result<Summary, RunFault>
+    requires room { IfSome played.fault (λ fault. fault ≢ NoRoom) }
+    ensures { EndsWith played.fault played.lines result }
 {
-    match buffers.next_line(reader, writer)? {
-        Next::Line(count) => {
-            more_unless_failed(answer_ahead(run, core, reply, buffers, count, writer))
-        }
-        Next::TooLong => {
-            more_unless_failed(tell(run.answer_no_call(), &mut buffers.gathered, writer))
-        }
-        Next::End => Ok(false),
+    match played.fault {
+        None => Ok(Summary {
+            lines: played.lines,
+        }),
+        Some(PlayFault::ReadFault) => Err(RunFault::ReadFault),
+        Some(PlayFault::WriteFault) => Err(RunFault::WriteFault),
+        Some(PlayFault::TooManyLines) => Err(RunFault::TooManyLines),
+        Some(PlayFault::NoMemory) => unreachable!(),
     }
 }
 
-// Answers the line of so many bytes with which the bytes ahead begin, and passes it with its newline.
-fn answer_ahead<R: Router + Drop, K: Sink>(
-    run: &Run<'_>,
-    core: &mut Core<R>,
-    reply: &mut Reply,
-    buffers: &mut Buffers,
-    count: usize,
-    writer: &mut K,
-) -> Result<(), DeviceFault>
-    requires inside { count ≤ length buffers.old.ahead }
-    requires short { count ≤ LONGEST_LINE }
-    requires listed { core.old.entries ≡ entries_of (start_list_of run.now.list.now) }
-    requires writes { K.has_failed writer.old ≡ false }
-    ensures world { core.new ≡ after_all (option_copied run.now.only) core.old
-        (take count buffers.old.ahead ∷ []) }
-    ensures passed { buffers.new.ahead ≡ drop (count + 1) buffers.old.ahead }
-    ensures told { TellsUnless result (K.contents writer.old) buffers.old.gathered
-        (K.contents writer.new) buffers.new.gathered
-        (told_of_all (option_copied run.now.only) core.old (take count buffers.old.ahead ∷ [])) }
-    ensures failing { K.has_failed writer.new ≡ is_err result }
-{
-    let line = &buffers.ahead.ahead()[..count];
-    let answer = run.answer_short(core, line, reply);
-    let told = tell(answer, &mut buffers.gathered, writer);
-    buffers.ahead.pass(count + 1);
-    told
+// Answers each line as it stands, or a name's lines alone.
+#[derive(Drop)]
+struct Engine<'a> {
+    run: Run<'a>,
+    reply: &'a mut Reply,
+}
+
+impl Player for Engine<'_> {
+    ghost told = { λ engine. told_of_all (option_copied engine.run.only) };
+
+    ghost leads = { λ first start engine world lines. (engine.run ≡ first.run)
+        × (world ≡ after_all (option_copied first.run.only) start lines) };
+
+    ghost stops = { λ first start _ world fault lines. (fault ≡ Unwritten)
+        × (world ≡ after_all (option_copied first.run.only) start lines) };
+
+    ghost is_ready = { λ engine world _. world.entries
+        ≡ entries_of (start_list_of engine.run.list.now) };
+
+    #[inline(always)]
+    fn play<R: Router + Drop, K: Sink>(
+        &mut self,
+        core: &mut Core<R>,
+        line: &[u8],
+        gathered: &mut Gather,
+        writer: &mut K,
+    ) -> Result<(), PlayFault> {
+        let answer = self.run.answer_short(core, line, self.reply);
+        tell(answer, gathered, writer)
+    }
+
+    fn play_too_long<R: Router + Drop, K: Sink>(
+        &mut self,
+        _core: &mut Core<R>,
+        gathered: &mut Gather,
+        writer: &mut K,
+    ) -> Result<(), PlayFault> {
+        let run = self.run;
+        tell(run.answer_no_call(), gathered, writer)
+    }
 }
 
 // Gathers an answer: its log lines, and then the reply with the name. Of a line that was skipped nothing is told.
@@ -232,24 +192,14 @@ fn tell<K: Sink>(
     answer: Option<LineAnswer<'_>>,
     gathered: &mut Gather,
     writer: &mut K,
-) -> Result<(), DeviceFault>
+) -> Result<(), PlayFault>
     requires { K.has_failed writer.old ≡ false }
     ensures told { TellsUnless result (K.contents writer.old) gathered.old
         (K.contents writer.new) gathered.new (answer_text answer.entry) }
-    ensures failing { K.has_failed writer.new ≡ is_err result }
+    ensures failing { Fails result (K.has_failed writer.new) false }
 {
-    match answer {
-        Some(answer) => gathered.put_answer(writer, answer.lines, answer.name, answer.reply),
-        None => Ok(()),
+    if let Some(answer) = answer {
+        gathered.put_answer(writer, answer.lines, answer.name, answer.reply)?;
     }
-}
-
-// There may be more lines, unless a write failed.
-fn more_unless_failed(answered: Result<(), DeviceFault>) -> Result<bool, LineFault>
-    ensures { result ≡ more_unless_failed answered }
-{
-    match answered {
-        Ok(()) => Ok(true),
-        Err(DeviceFault) => Err(LineFault::Write),
-    }
+    Ok(())
 }

@@ -19,7 +19,7 @@ use Rattle.scenario.specs.Answer.{AnswersLine, IsAnswer, answer_text, answered_n
 use Rattle.scenario.specs.Answered.{after_all}
 use Rattle.scenario.specs.declared.answering.LineAnswer.{LineAnswer}
 use Rattle.scenario.proofs.AnsweringLemmas.{told_answer}
-use Rattle.scenario.proofs.Serving.{left_by_both, said_by-append}
+use Rattle.scenario.proofs.ToldLemmas.{left_by_both, said_by-append}
 use Rattle.workbench.specs.Alone.{AreAlike, SeesAlone, alone_tells, told_in}
 use Rattle.workbench.specs.Played.{calls_said}
 

@@ -1,27 +1,16 @@
 -- Which faults come, and whether a write has failed then.
 use Rattle.std.proofs.Common.{◌≡◌, Bool, true, false, ◌||◌, List, ℕ, Some, None, Result, Ok, Err, IfErr, IsErrAnd, refl, sym, ◌∙◌, ap}
-use Rattle.std.specs.Result.{result_err}
 use Rattle.friendly_lines.specs.Friendly.{Said, said_of}
 use Rattle.friendly_lines.specs.declared.fault.Fault.{Fault}
-use Rattle.scenario.specs.Next.{is_write_fault as is_unwritten}
-use Rattle.scenario.specs.declared.lines.LineFault.{LineFault}
-use Rattle.scenario.specs.declared.lines.LineFault.TheVariants.{Read, Write, Endless}
-use Rattle.workbench.specs.Devices.{AllWork}
-use Rattle.workbench.specs.Faults.{Fails, fault_before, is_write_fault, line_fault, takes_in, takes_room}
-use Rattle.workbench.specs.Plays.{line_played}
+use Rattle.scenario.specs.Next.{AllWork}
+use Rattle.workbench.specs.Faults.{fault_before, takes_in, takes_room}
+use Rattle.scenario.specs.Faults.{Fails}
+use Rattle.scenario.proofs.FaultLemmas.{or_first}
 use Rattle.scenario_names.specs.Filling.{Filled}
 use Rattle.workbench.specs.Turns.{has_holes}
 use Rattle.workbench.specs.Turns.Deed.{Says}
-use Rattle.workbench.specs.declared.ending.PlayFault.{PlayFault}
-use Rattle.workbench.specs.declared.ending.PlayFault.TheVariants.{ReadFault, WriteFault, TooManyLines, NoMemory}
-
--- with none of two failed one of them is
-pub or_none : (a b : Bool) → a ≡ false → b ≡ false → (a || b) ≡ false
-or_none a b first second = rw (first, second) refl
-
-pub or_first : (a b : Bool) → b ≡ false → (a || b) ≡ a
-or_first true b none = refl
-or_first false b none = none
+use Rattle.scenario.specs.declared.play_fault.PlayFault.{PlayFault}
+use Rattle.scenario.specs.declared.play_fault.PlayFault.TheVariants.{ReadFault, WriteFault, TooManyLines, NoMemory}
 
 -- a fault of the complaints, where the writer works
 pub fails_beside : {T : Type 0} (r : Result T PlayFault) (a b takes more : Bool) → a ≡ false → Fails r b takes → (takes ≡ true → more ≡ true) → Fails r (a || b) more
@@ -65,23 +54,6 @@ pub roomless_on : {T : Type 0} (r : Result T PlayFault) (failed takes : Bool) {e
 roomless_on (Ok done) failed takes is room works more = absurd is
 roomless_on (Err fault) failed takes is room works more = rw (is, room) (works, more)
 
--- a write has failed just where the fault says so
-pub fails_writing : {T : Type 0} (r : Result T PlayFault) (failed takes : Bool) → Fails r failed takes → failed ≡ is_write_fault (result_err r)
-fails_writing (Ok done) failed takes fails = fails
-fails_writing (Err ReadFault) failed takes fails = absurd fails
-fails_writing (Err WriteFault) failed takes fails = fails
-fails_writing (Err TooManyLines) failed takes fails = absurd fails
-fails_writing (Err NoMemory) failed takes fails = fails.0
-
-pub line_writing : (r : Result Bool PlayFault) (failed takes : Bool) → Fails r failed takes → failed ≡ is_write_fault (result_err (line_played r))
-line_writing (Ok done) failed takes fails = fails
-line_writing (Err fault) failed takes fails = fails_writing {T = Bool} (Err fault) failed takes fails
-
-pub fault_writing : (T : Type 0) (fault : LineFault) (a b : Bool) → a ≡ is_unwritten {T = T} (Err fault) → b ≡ false → (a || b) ≡ is_write_fault (Some (line_fault fault))
-fault_writing T Read a b fails works = or_first a b works ∙ fails
-fault_writing T Write a b fails works = or_first a b works ∙ fails
-fault_writing T Endless a b fails works = or_first a b works ∙ fails
-
 -- what a line's reading takes
 or_true : (b : Bool) → (b || true) ≡ true
 or_true true = refl
@@ -96,7 +68,7 @@ holes_take calls f said some = ap (λ b. takes_room calls said || b) some ∙ or
 
 -- devices of which none had failed
 pub all_work : (read_failed write_failed complaint_failed : Bool) → fault_before read_failed (write_failed || complaint_failed) ≡ None → AllWork read_failed write_failed complaint_failed
-all_work false false false none = record { reads = refl; writes = refl; complains = refl }
+all_work false false false none = record { reads = refl; writes = refl; own = refl }
 all_work true false false none = absurd (let e : Some ReadFault ≡ None = none in cc)
 all_work r true c none = absurd (let e : Some WriteFault ≡ None = none in cc)
 all_work r false true none = absurd (let e : Some WriteFault ≡ None = none in cc)

@@ -8,11 +8,11 @@ use Rattle.friendly_lines.specs.declared.fault.Fault.{Fault}
 use Rattle.scenario.specs.Answered.{after_all}
 use Rattle.scenario.specs.Gathered.{Tells, TellsUnless}
 use Rattle.scenario.proofs.GatheredLemmas.{Tells-none}
-use Rattle.scenario.proofs.Serving.{left_none, said_none}
+use Rattle.scenario.proofs.ToldLemmas.{left_none, said_none}
 use Rattle.scenario.specs.Answer.{AnswersLine}
 use Rattle.scenario.specs.declared.answering.LineAnswer.{LineAnswer}
 use Rattle.workbench.specs.Judging.{Awaited, IsJudged, IsJudgedSaid, awaited_after, awaited_said, is_other}
-use Rattle.workbench.specs.declared.ending.PlayFault.{PlayFault}
+use Rattle.scenario.specs.declared.play_fault.PlayFault.{PlayFault}
 use Rattle.workbench.specs.Played.{told_of_calls}
 use Rattle.scenario_names.specs.Filling.{Filled}
 use Rattle.workbench.specs.Turns.{call_in}

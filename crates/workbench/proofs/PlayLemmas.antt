@@ -1,35 +1,25 @@
 -- A play from line to line: what was played, and what it leaves at its end.
-use Rattle.std.proofs.Common.{◌≡◌, ℕ, ◌+◌, ◌<◌, nat_lt, ◌≤◌, List, [], ◌∷◌, ◌++◌, length, Option, Some, None, IfSome, Result, Ok, Err, OnOk, Bool, true, false, inl, inr, ⊎_elim, arith, refl, sym, ◌∙◌, ap, subst, append_assoc, append-nil, length-append, replicate}
-use Rattle.std.proofs.lemmas.Bool.Decides.{nat_tests}
-use Rattle.std.proofs.lemmas.List.{length-replicate}
-use Rattle.std.proofs.lemmas.List.Elements.{All-append, All-cons}
-use Rattle.std.specs.Result.{result_err}
+use Rattle.std.proofs.Common.{◌≡◌, ◌||◌, ℕ, ◌+◌, ◌<◌, ◌≤◌, ◌^◌, List, [], ◌∷◌, ◌++◌, length, Option, Some, None, IfSome, IfNone, Result, Ok, Err, OnOk, Bool, true, false, ⊎_elim, arith, refl, sym, ◌∙◌, ap, subst, append-nil}
 use Rattle.std.specs.Io.KnownBytes.{Appends}
 use Rattle.own_model.specs.SaidBy.{said_by}
-use Rattle.own_model.specs.Text.{lines_of}
-use Rattle.own_model.specs.Transcript.{heard, longest_line}
+use Rattle.own_model.specs.Transcript.{heard}
 use Rattle.own_model.specs.World.{World, world_running}
 use Rattle.scenario.specs.Answer.{AnswersLine, IsAnswer}
-use Rattle.scenario.specs.Answered.{Ended, Point, ReadsOn, after_all}
-use Rattle.scenario.specs.Gathered.{Tells, TellsPart, TellsUnless}
-use Rattle.scenario.specs.Lines.{line_of, longest_read, to_come, AreReadable, HasRead, PassesLines}
-use Rattle.scenario.specs.Next.{PassesLongLine, StopsBefore, TellsAt, is_read_fault}
-use Rattle.scenario.specs.Reach.{ReadsBehind, reach}
-use Rattle.scenario.specs.Stops.{AppendsPart}
+use Rattle.scenario.specs.Answered.{after_all}
+use Rattle.scenario.specs.Faults.{Fails, is_write_fault}
+use Rattle.scenario.specs.Gathered.{TellsUnless}
+use Rattle.scenario.specs.Lines.{AreReadable}
+use Rattle.scenario.specs.Plays.{EndsAs, EndsFor, GoesOn, PlaysAll as PlaysLines, PlaysLine, StopsAs, WritesTold}
 use Rattle.scenario.specs.declared.answering.LineAnswer.{LineAnswer}
-use Rattle.scenario.specs.declared.lines.LineFault.{LineFault}
-use Rattle.scenario.specs.declared.lines.LineFault.TheVariants.{Read, Write, Endless}
-use Rattle.scenario.proofs.GatheredLemmas.{Tells-more, Tells-none}
-use Rattle.scenario.proofs.LineLemmas.{length-line_of, line_length-le, lines_of-cons}
-use Rattle.scenario.proofs.PassedLines.{has_passed, has_read_more, passes_line, passes_more, passes_none, read_to}
-use Rattle.scenario.proofs.Serving.{left_none, none_readable, said_none, world_running-append}
-use Rattle.workbench.specs.Faults.{Fails, line_fault, takes_in}
-use Rattle.workbench.specs.Played.{calls_answered, told_of_calls, told_of_turns}
-use Rattle.workbench.specs.Plays.{AreWhole, Breaks, BreaksFor, EndsFor, Plays, PlaysAll, PlaysNext, StopsAt, TakesRoom, TellsTo, WritesTold, line_played, most_lines}
-use Rattle.workbench.specs.Turns.{Turn, call_of, deed_of, left_behind, next_stand, turn_of, turns_of}
+use Rattle.scenario.specs.declared.play_fault.PlayFault.{PlayFault}
+use Rattle.scenario.specs.declared.play_fault.PlayFault.TheVariants.{ReadFault, WriteFault, TooManyLines, NoMemory}
+use Rattle.scenario.proofs.FaultLemmas.{none_of, or_none}
+use Rattle.scenario.proofs.ToldLemmas.{left_none, said_none, world_running-append}
+use Rattle.workbench.specs.Faults.{takes_in}
+use Rattle.workbench.specs.Played.{calls_answered, calls_said, told_of_calls, told_of_turns}
+use Rattle.workbench.specs.Plays.{ClosesAs, LeadsTurns, PlaysAll, Remains, StopsTurns, TakesRoom, TakesRoomFor, counted, most_lines}
+use Rattle.workbench.specs.Turns.{StaysBelow, StaysLow, Turn, call_of, deed_of, left_behind, low, next_stand, stand_behind, turn_of, turns_of}
 use Rattle.workbench.specs.Watching.{IsToldOf, Watches}
-use Rattle.workbench.specs.declared.ending.PlayFault.{PlayFault}
-use Rattle.workbench.specs.declared.ending.PlayFault.TheVariants.{ReadFault, WriteFault, TooManyLines, NoMemory}
 use Rattle.workbench.specs.declared.stand.Stand.{Stand}
 use Rattle.workbench.proofs.PlayedLemmas.{answered_more, answered-one, calls_said-one, left_more, stand_more, told_more, told_of_turns-one, turns_more}
 
@@ -55,320 +45,177 @@ pub watches_none : {seen : World → List (List ℕ) → Type 0} {start world : 
 watches_none {seen = seen} {start = start} {world = world} {earlier = earlier} calls none watches =
     subst (λ c. Watches seen start c world) (sym (append-nil earlier) ∙ ap (λ c. earlier ++ c) (sym none)) watches
 
--- ---- lines that are passed
+-- ---- one line behind others
 
--- with no line nothing is passed
-passes_same : (come : Option (List ℕ)) → IfSome come (λ text. PassesLines text come [])
-passes_same None = tt
-passes_same (Some text) = passes_none text
+-- what a line fails for, once it is counted
+pub counted_fails : (judged : Result Bool PlayFault) (failed takes : Bool) → Fails judged failed takes → Fails (counted judged) failed true
+counted_fails (Ok complained) failed takes fails = fails
+counted_fails (Err ReadFault) failed takes fails = fails
+counted_fails (Err WriteFault) failed takes fails = fails
+counted_fails (Err TooManyLines) failed takes fails = fails
+counted_fails (Err NoMemory) failed takes fails = (fails.0, refl)
 
--- there are lines that are too long
-long_line : (n : ℕ) (come : Option (List ℕ)) → longest_line < n → n ≤ longest_read →
-    (line : List ℕ) × (longest_line < length line) × IfSome None (λ text. PassesLines text come (line ∷ [])) × (length line ≤ longest_read)
-long_line n come long short = (replicate n 0, omega (arith, long, length-replicate {A = ℕ} n 0), tt, omega (arith, short, length-replicate {A = ℕ} n 0))
+-- one line less can be numbered
+pub below_next : (stand next : Stand) (more : ℕ) → StaysBelow stand (more + 1) → StaysLow stand next → StaysBelow next more
+below_next stand next more below stays =
+    record { most = below.most + 1; above = omega (arith, below.above); within = stays below.most below.above below.within; below = omega (arith, below.below) }
 
--- a line that was too long is passed
-pub passes_long : (old come : Option (List ℕ)) → IfSome old (λ before. PassesLongLine before come) →
-    (line : List ℕ) × (longest_line < length line) × IfSome old (λ text. PassesLines text come (line ∷ [])) × (length line ≤ longest_read)
-passes_long None come long = long_line 8193 come (omega arith) (omega arith)
-passes_long (Some text) come long = (
-  line_of text,
-  omega (arith, long.long, length-line_of text),
-  passes_line text come (omega (arith, long.long, line_length-le text)) long.after,
-  omega (arith, long.ends, length-line_of text),
-)
+pub numbered : (stand : Stand) (more : ℕ) → StaysBelow stand more → stand.number < 2 ^ 63
+numbered stand more below = omega (arith, below.within, below.below)
 
--- lines that were passed were read whole
-whole_behind : (old rest : Option (List ℕ)) (ahead : List ℕ) (xs : List (List ℕ)) → IfSome old (λ text. PassesLines text (to_come ahead rest) xs) →
-    IfSome old (λ text. AreWhole xs text rest)
-whole_behind None rest ahead xs passes = tt
-whole_behind (Some text) rest ahead xs passes = (lines_of passes.rest, passes.first, has_passed text ahead rest xs passes)
+pub ready_next : {A : Type 0} (judged : Result Bool PlayFault) (stand next : Stand) (more : ℕ) → A → StaysBelow stand (more + 1) → OnOk judged (StaysLow stand next) → OnOk (counted judged) (A × StaysBelow next more)
+ready_next (Ok complained) stand next more a below stays = (a, below_next stand next more below stays)
+ready_next (Err fault) stand next more a below stays = tt
 
--- one line that can be read
-one_readable : (line : List ℕ) → length line ≤ longest_read → AreReadable (line ∷ [])
-one_readable line short = All-cons (λ line. length line ≤ longest_read) line [] short none_readable
+module _ (only : Option (List ℕ)) (start mid : World) (first stand : Stand) (xs : List (List ℕ)) (line : List ℕ)
+    (left : mid ≡ after_all only start (calls_said (turns_of only start first xs))) (stands : stand ≡ stand_behind only start first xs) where
+  abbrev earlier : List (List ℕ)
+  earlier = calls_answered only (turns_of only start first xs)
 
--- all is written where no line is left
-written_all : {w w' : Option (List ℕ)} {g told : List ℕ} → Tells w g w' [] told → Appends w w' (g ++ told)
-written_all {w = w} {w' = w'} tells = subst (Appends w w') (sym (append-nil tells.out) ∙ tells.parts) tells.grows
+  world_next : (last : World) → last ≡ left_behind only mid stand line → last ≡ after_all only start (calls_said (turns_of only start first (xs ++ line ∷ [])))
+  world_next last then = left_more only start mid first stand xs (line ∷ []) left stands last (then ∙ ap (after_all only mid) (sym (calls_said-one (turn_of stand line))))
 
--- or a part
-written_part : {w w' : Option (List ℕ)} {g told : List ℕ} → TellsPart w g w' told → AppendsPart w w' (g ++ told)
-written_part tells = record { part = tells.1.out; left = tells.0; parts = sym tells.1.parts; grows = tells.1.grows }
+  seen_next : (seen : List (List ℕ) → Type 0) → seen (earlier ++ said_by only (call_of stand line)) → seen (calls_answered only (turns_of only start first (xs ++ line ∷ [])))
+  seen_next seen sees =
+      subst seen (ap (λ calls. earlier ++ calls) (sym (answered-one only (turn_of stand line))) ∙ answered_more only start mid first stand xs (line ∷ []) left stands []) sees
 
--- what is told up to a fault is written, or a part of it
-written_to : (fault : PlayFault) (w : Option (List ℕ)) (g : List ℕ) (w' : Option (List ℕ)) (told : List ℕ) → TellsTo fault w g w' told → WritesTold (Some fault) w w' (g ++ told)
-written_to ReadFault w g w' told tells = written_all tells
-written_to WriteFault w g w' told tells = written_part tells
-written_to TooManyLines w g w' told tells = written_all tells
-written_to NoMemory w g w' told tells = written_part tells
-
--- and behind what was told before
-told_to : (fault : PlayFault) {w w' : Option (List ℕ)} {g g' xs : List ℕ} (w'' : Option (List ℕ)) (ys : List ℕ) → Tells w g w' g' xs → TellsTo fault w' g' w'' ys → TellsTo fault w g w'' (xs ++ ys)
-told_to ReadFault w'' ys first then = Tells-more first then
-told_to WriteFault w'' ys first then = (then.0, Tells-more first then.1)
-told_to TooManyLines w'' ys first then = Tells-more first then
-told_to NoMemory w'' ys first then = (then.0, Tells-more first then.1)
-
--- a line is played, unless a fault comes
-module _ (tells : List (List ℕ) → ℕ → List ℕ → List ℕ) (calls : Bool) (seen : List (List ℕ) → Type 0) (only : Option (List ℕ)) (stand next : Stand) (earlier : List (List ℕ)) (failed : Bool)
-    (p q : Point) (written : Option (List ℕ)) (gathered line : List ℕ) (before : Tells p.written p.gathered written gathered [])
-    (world : q.world ≡ left_behind only p.world stand line) (passes : IfSome (to_come p.ahead p.rest) (λ text. PassesLines text (to_come q.ahead q.rest) (line ∷ [])))
-    (short : length line ≤ longest_read) where
-  abbrev told : List ℕ
-  told = told_of_calls tells earlier stand.number (said_by only (call_of stand line))
-
-  abbrev here : List Turn
-  here = turn_of stand line ∷ []
-
-  part_told : TellsPart written gathered q.written told → TellsPart p.written p.gathered q.written (told_of_turns tells only earlier here)
-  part_told part = (part.0, Tells-more before (subst (Tells written gathered q.written part.0) (told_of_turns-one only tells earlier (turn_of stand line)) part.1))
-
-  -- it is played, but that isn't told whole
-  breaks_at : (fault : PlayFault) → TellsTo fault p.written p.gathered q.written (told_of_turns tells only earlier here) →
-      IfSome (to_come p.ahead p.rest) (λ text. BreaksFor fault (line ∷ []) text q.rest failed) → TakesRoom calls fault here → Breaks tells calls only fault stand earlier failed p q
-  breaks_at fault part whole takes = record {
-    given = line ∷ [];
-    one = omega arith;
-    readable = one_readable line short;
-    world = world ∙ ap (after_all only p.world) (sym (calls_said-one (turn_of stand line)));
-    told = part;
-    stops = whole;
-    takes = takes;
-  }
-
-  pub played_line : (judged : Result Bool PlayFault) (write_failed : Bool) → TellsUnless judged written gathered q.written q.gathered told →
-      OnOk judged (seen (earlier ++ said_by only (call_of stand line))) → OnOk judged (next ≡ next_stand only p.world stand line) → Fails judged write_failed (takes_in calls (deed_of stand line)) →
-      PlaysNext tells calls seen only stand next earlier (line_played judged) failed p q
-  played_line (Ok complained) write_failed tells_on sees stands fails = (
-    line,
+  goes_on : {A : Type 0} (calls : Bool) (seen : List (List ℕ) → Type 0) (last : World) (next : Stand) (judged : Result Bool PlayFault) (write_failed : Bool) → A → last ≡ left_behind only mid stand line →
+      OnOk judged (seen (earlier ++ said_by only (call_of stand line))) → OnOk judged (next ≡ next_stand only mid stand line) → Fails judged write_failed (takes_in calls (deed_of stand line)) →
+      GoesOn (λ lines. A × LeadsTurns only start last first next seen lines) (λ fault lines. A × StopsTurns calls only start last first fault lines) (xs ++ line ∷ []) (counted judged)
+  goes_on calls seen last next (Ok complained) write_failed a world sees after fails = (
+    a,
     record {
-      world = world ∙ ap (after_all only p.world) (sym (calls_said-one (turn_of stand line)));
-      stands = stands;
-      told = Tells-more before (subst (Tells written gathered q.written q.gathered) (told_of_turns-one only tells earlier (turn_of stand line)) tells_on);
-      passes = passes;
-      readable = one_readable line short;
-      sees = subst (λ calls. seen (earlier ++ calls)) (sym (answered-one only (turn_of stand line))) sees;
+      world_is = world_next last world;
+      stands = after ∙ stand_more only start mid first stand xs (line ∷ []) left stands;
+      sees = seen_next seen sees;
     },
   )
-  played_line (Err ReadFault) write_failed part sees stands fails = absurd fails
-  played_line (Err WriteFault) write_failed part sees stands fails = breaks_at WriteFault (part_told part) (whole_behind (to_come p.ahead p.rest) q.rest q.ahead (line ∷ []) passes) tt
-  played_line (Err TooManyLines) write_failed part sees stands fails = absurd fails
-  played_line (Err NoMemory) write_failed part sees stands fails =
-      breaks_at NoMemory (part_told part) (whole_behind (to_come p.ahead p.rest) q.rest q.ahead (line ∷ []) passes) ([], turn_of stand line, refl, fails.1)
+  goes_on calls seen last next (Err ReadFault) write_failed a world sees after fails = absurd fails
+  goes_on calls seen last next (Err WriteFault) write_failed a world sees after fails = (a, record { world_is = world_next last world; takes = tt })
+  goes_on calls seen last next (Err TooManyLines) write_failed a world sees after fails = absurd fails
+  goes_on calls seen last next (Err NoMemory) write_failed a world sees after fails = (
+    a,
+    record {
+      world_is = world_next last world;
+      takes = (turns_of only start first xs, turn_of stand line, sym (turns_more only start mid first stand xs (line ∷ []) left stands), fails.1);
+    },
+  )
 
-module _ {tells : List (List ℕ) → ℕ → List ℕ → List ℕ} {only : Option (List ℕ)} where
-  -- no line is played at first
-  pub plays_none : {seen : List (List ℕ) → Type 0} (first : Stand) (p : Point) → seen [] → Plays tells seen only first first [] [] p p
-  plays_none {seen = seen} first p sees = record {
-    world = sym (left_none only p.world);
-    stands = refl;
-    told = Tells-none p.written p.gathered;
-    passes = passes_same (to_come p.ahead p.rest);
-    readable = none_readable;
-    sees = subst seen (sym (said_none only)) sees;
+  -- what is told of it is told behind what was told of those, and it leads on
+  pub bench_plays : {A : Type 0} (tells : List (List ℕ) → ℕ → List ℕ → List ℕ) (calls : Bool) (seen : List (List ℕ) → Type 0) (last : World) (next : Stand) (judged : Result Bool PlayFault) (write_failed : Bool) (w w' : Option (List ℕ)) (g g' : List ℕ) → A →
+      last ≡ left_behind only mid stand line → TellsUnless judged w g w' g' (told_of_calls tells earlier stand.number (said_by only (call_of stand line))) →
+      OnOk judged (seen (earlier ++ said_by only (call_of stand line))) → OnOk judged (next ≡ next_stand only mid stand line) → Fails judged write_failed (takes_in calls (deed_of stand line)) →
+      PlaysLine (λ lines. told_of_turns tells only [] (turns_of only start first lines)) (λ lines. A × LeadsTurns only start last first next seen lines) (λ fault lines. A × StopsTurns calls only start last first fault lines) xs line (counted judged) w g w' g'
+  bench_plays tells calls seen last next judged write_failed w w' g g' a world told sees after fails = record {
+    piece = told_of_turns tells only earlier (turn_of stand line ∷ []);
+    more = sym (told_more only tells start mid first stand [] xs (line ∷ []) left stands);
+    tells = tells_counted judged (subst (TellsUnless judged w g w' g') (told_of_turns-one only tells earlier (turn_of stand line)) told);
+    goes_on = goes_on calls seen last next judged write_failed a world sees after fails;
   }
+    where
+      tells_counted : {text : List ℕ} (r : Result Bool PlayFault) → TellsUnless r w g w' g' text → TellsUnless (counted r) w g w' g' text
+      tells_counted (Ok complained) told = told
+      tells_counted (Err fault) told = told
 
-  -- lines are played after lines
-  pub plays_more : {before seen : List (List ℕ) → Type 0} {p q r : Point} {stand mid next : Stand} {earlier xs ys : List (List ℕ)} →
-      Plays tells before only stand mid earlier xs p q → Plays tells seen only mid next (earlier ++ calls_answered only (turns_of only p.world stand xs)) ys q r →
-      Plays tells seen only stand next earlier (xs ++ ys) p r
-  plays_more {seen = seen} {p = p} {q = q} {r = r} {stand = stand} {mid = mid} {earlier = earlier} {xs = xs} {ys = ys} first then = record {
-    world = left_more only p.world q.world stand mid xs ys first.world first.stands r.world then.world;
-    stands = then.stands ∙ stand_more only p.world q.world stand mid xs ys first.world first.stands;
-    told = subst (Tells p.written p.gathered r.written r.gathered) (told_more only tells p.world q.world stand mid earlier xs ys first.world first.stands) (Tells-more first.told then.told);
-    passes = passes_more (to_come p.ahead p.rest) (to_come q.ahead q.rest) (to_come r.ahead r.rest) xs ys first.passes then.passes;
-    readable = All-append (λ line. length line ≤ longest_read) xs ys first.readable then.readable;
-    sees = subst seen (answered_more only p.world q.world stand mid xs ys first.world first.stands earlier) then.sees;
-  }
+-- the same for a player that is the one that began
+pub bench_line : {R N T : Type 0} (only_of : R → Option (List ℕ)) (seen_old seen_new : R → List (List ℕ) → Type 0) {name now_name : N} {at run : R} {telling now_telling : T} {holds now_holds : List ℕ} (start mid last : World) (first stand next : Stand) (xs : List (List ℕ)) (line : List ℕ)
+    (tells : List (List ℕ) → ℕ → List ℕ → List ℕ) (calls : Bool) (judged : Result Bool PlayFault) (write_failed : Bool) (w w' : Option (List ℕ)) (g g' : List ℕ) →
+    Remains name now_name at run telling now_telling holds now_holds → LeadsTurns (only_of at) start mid first stand (seen_old at) xs →
+    (LeadsTurns (only_of run) start mid first stand (seen_old run) xs →
+    (last ≡ left_behind (only_of run) mid stand line)
+    × TellsUnless judged w g w' g' (told_of_calls tells (calls_answered (only_of run) (turns_of (only_of run) start first xs)) stand.number (said_by (only_of run) (call_of stand line)))
+    × OnOk judged (seen_new run (calls_answered (only_of run) (turns_of (only_of run) start first xs) ++ said_by (only_of run) (call_of stand line)))
+    × OnOk judged (next ≡ next_stand (only_of run) mid stand line)) →
+    Fails judged write_failed (takes_in calls (deed_of stand line)) →
+    PlaysLine (λ lines. told_of_turns tells (only_of at) [] (turns_of (only_of at) start first lines))
+    (λ lines. Remains name now_name at run telling now_telling holds now_holds × LeadsTurns (only_of at) start last first next (seen_new at) lines)
+    (λ fault lines. Remains name now_name at run telling now_telling holds now_holds × StopsTurns calls (only_of at) start last first fault lines) xs line (counted judged) w g w' g'
+bench_line only_of seen_old seen_new {name} {now_name} {at} {run} {telling} {now_telling} {holds} {now_holds} start mid last first stand next xs line tells calls judged write_failed w w' g g' remains led facts fails =
+    subst (λ r. Remains name now_name r run telling now_telling holds now_holds → LeadsTurns (only_of r) start mid first stand (seen_old r) xs →
+    PlaysLine (λ lines. told_of_turns tells (only_of r) [] (turns_of (only_of r) start first lines))
+    (λ lines. Remains name now_name r run telling now_telling holds now_holds × LeadsTurns (only_of r) start last first next (seen_new r) lines)
+    (λ fault lines. Remains name now_name r run telling now_telling holds now_holds × StopsTurns calls (only_of r) start last first fault lines) xs line (counted judged) w g w' g')
+    remains.run_is
+    (λ kept here. let f = facts here in
+    bench_plays (only_of run) start mid first stand xs line here.world_is here.stands tells calls (seen_new run) last next judged write_failed w w' g g' kept f.0 f.1 f.2 f.3 fails)
+    remains led
 
--- ---- why it stops
-
--- a fault before any line is one of none
-pub stops_before : (T : Type 0) (fault : LineFault) (old rest : Option (List ℕ)) (failed : Bool) → failed ≡ is_read_fault {T = T} (Err fault) → IfSome old (λ before. StopsBefore fault before rest) →
-    IfSome old (λ text. BreaksFor (line_fault fault) [] text rest failed)
-stops_before T fault None rest failed fails stops = tt
-stops_before T Read (Some text) rest failed fails stops = (refl, inl (fails, stops))
-stops_before T Write (Some text) rest failed fails stops = (lines_of text, refl, stops)
-stops_before T Endless (Some text) rest failed fails stops = (refl, inr stops)
-
-pub told_before : (fault : LineFault) (w : Option (List ℕ)) (g : List ℕ) (w' : Option (List ℕ)) → TellsAt fault w g w' [] → TellsTo (line_fault fault) w g w' []
-told_before Read w g w' tells = tells
-told_before Write w g w' tells = tells
-told_before Endless w g w' tells = tells
-
-pub no_room : (calls : Bool) (fault : LineFault) (turns : List Turn) → TakesRoom calls (line_fault fault) turns
-no_room calls Read turns = tt
-no_room calls Write turns = tt
-no_room calls Endless turns = tt
-
--- a fault comes before a line
-abbrev pub breaks_before : {tells : List (List ℕ) → ℕ → List ℕ → List ℕ} {calls : Bool} {only : Option (List ℕ)} (T : Type 0) (stand : Stand) (earlier : List (List ℕ)) (fault : LineFault) {failed : Bool} (p q : Point) →
-    q.world ≡ p.world → TellsAt fault p.written p.gathered q.written [] → failed ≡ is_read_fault {T = T} (Err fault) → IfSome (to_come p.ahead p.rest) (λ before. StopsBefore fault before q.rest) →
-    Breaks tells calls only (line_fault fault) stand earlier failed p q
-breaks_before {calls = calls} {only = only} T stand earlier fault {failed = failed} p q world tells fails stops = record {
-  given = [];
-  one = omega arith;
-  readable = none_readable;
-  world = world ∙ sym (left_none only p.world);
-  told = told_before fault p.written p.gathered q.written tells;
-  stops = stops_before T fault (to_come p.ahead p.rest) q.rest failed fails stops;
-  takes = no_room calls fault [];
-}
-
--- what is known of the bytes to come is known of those behind the lines that were passed
-behind : (old come : Option (List ℕ)) (xs : List (List ℕ)) (P Q : List ℕ → Type 0) → IfSome old (λ text. PassesLines text come xs) → IfSome come P →
-    ((text : List ℕ) → (p : PassesLines text come xs) → P p.rest → Q text) → IfSome old Q
-behind None come xs P Q passes holds then = tt
-behind (Some text) come xs P Q passes holds then = then text passes (subst (λ (m : Option (List ℕ)). IfSome m P) passes.is_rest holds)
-
--- lines behind others were read whole
-whole_more : (text : List ℕ) (come rest : Option (List ℕ)) (xs ys : List (List ℕ)) (p : PassesLines text come xs) → length (xs ++ ys) ≤ most_lines → (whole : AreWhole ys p.rest rest) →
-    (left : List (List ℕ)) × (lines_of text ≡ (xs ++ ys) ++ left) × ((length (xs ++ ys) ≤ most_lines) × HasRead (length (xs ++ ys)) text rest)
-whole_more text come rest xs ys p few whole = (
-  whole.0,
-  p.first ∙ ap (λ lines. xs ++ lines) whole.1 ∙ sym (append_assoc xs ys whole.0),
-  (few, subst (λ n. HasRead n text rest) (sym (length-append xs ys)) (has_read_more text come rest xs (length ys) p whole.2)),
-)
-
--- why the play stops, where a fault comes behind the lines that were played
-stops_at : (fault : PlayFault) (text : List ℕ) (come rest : Option (List ℕ)) (xs ys : List (List ℕ)) (failed : Bool) (p : PassesLines text come xs) → length (xs ++ ys) ≤ most_lines →
-    BreaksFor fault ys p.rest rest failed → (left : List (List ℕ)) × (lines_of text ≡ (xs ++ ys) ++ left) × StopsAt fault (xs ++ ys) left text rest failed
-stops_at ReadFault text come rest xs ys failed p few breaks =
-    rw (breaks.0, append-nil xs) (
-      lines_of p.rest,
-      p.first,
-      ⊎_elim (λ cut. inl (cut.0, read_to text come rest xs (cut.1.0) p (cut.1.1)))
-          (λ long. inr (rw (lines_of-cons p.rest (omega (arith, long, line_length-le p.rest))) (omega (arith, long, length-line_of p.rest))))
-          breaks.1,
-    )
-stops_at WriteFault text come rest xs ys failed p few breaks = whole_more text come rest xs ys p few breaks
-stops_at TooManyLines text come rest xs ys failed p few breaks = absurd breaks
-stops_at NoMemory text come rest xs ys failed p few breaks = whole_more text come rest xs ys p few breaks
-
--- the last line is the last behind others
-takes_more : (calls : Bool) (fault : PlayFault) (xs ys : List Turn) → TakesRoom calls fault ys → TakesRoom calls fault (xs ++ ys)
-takes_more calls ReadFault xs ys takes = tt
-takes_more calls WriteFault xs ys takes = tt
-takes_more calls TooManyLines xs ys takes = tt
-takes_more calls NoMemory xs ys takes =
-    (xs ++ takes.0, takes.1, ap (λ turns. xs ++ turns) takes.2 ∙ sym (append_assoc xs takes.0 (takes.1 ∷ [])), takes.3)
-
--- with nothing ahead what comes is what the reader has left
-pub come_fresh : (ahead : List ℕ) (rest : Option (List ℕ)) → ahead ≡ [] → to_come ahead rest ≡ rest
-come_fresh ahead None none = refl
-come_fresh ahead (Some text) none = ap (λ a. Some (a ++ text)) none
-
--- what is read on leaves a rest
-pub read_on : (most : List ℕ → ℕ) (ahead : List ℕ) (rest rest' written written' : Option (List ℕ)) (gathered : List ℕ) → ReadsBehind most (to_come ahead rest) gathered written rest written' rest' →
-    IfSome (to_come ahead rest) (λ text. HasRead 0 text rest')
-read_on most ahead None rest' written written' gathered on = tt
-read_on most ahead (Some ys) rest' written written' gathered on =
-    ⊎_elim (λ same. rw same (record { read = ahead; left = ys; is_left = refl; parts = refl; whole = inl (omega arith) }))
-    (λ more. record { read = more.1.read; left = more.1.left; is_left = more.1.is_left; parts = more.1.parts; whole = inl (omega arith) })
-    on
-
--- all lines were played, and then a write failed
-pub cut_behind : (input rest : Option (List ℕ)) (lines : List (List ℕ)) (failed : Bool) → length lines ≤ most_lines → EndsFor None lines input rest failed → EndsFor (Some WriteFault) lines input rest failed
-cut_behind None rest lines failed few ends = tt
-cut_behind (Some text) rest lines failed few ends = (ends.0, ends.1, (few, ends.2.1))
+-- at first no line is
+pub leads_none : (only : Option (List ℕ)) (world : World) (first : Stand) (seen : List (List ℕ) → Type 0) → seen [] → LeadsTurns only world world first first seen []
+leads_none only world first seen sees = record { world_is = sym (left_none only world); stands = refl; sees = subst seen (sym (said_none only)) sees }
 
 -- ---- the end
 
-module _ {tells : List (List ℕ) → ℕ → List ℕ → List ℕ} {only : Option (List ℕ)} {before : List (List ℕ) → Type 0} {first mid : Stand} {p q : Point} {xs : List (List ℕ)}
-    (input : Option (List ℕ)) (is : to_come p.ahead p.rest ≡ input) (plays : Plays tells before only first mid [] xs p q) where
-  abbrev turns : List Turn
-  turns = turns_of only p.world first xs
+module _ (A : Type 0) (calls : Bool) (only : Option (List ℕ)) (old new : World) (first next : Stand) (seen : List (List ℕ) → Type 0) where
+  abbrev leads : List (List ℕ) → Type 0
+  leads lines = A × LeadsTurns only old new first next seen lines
 
-  -- what is known of the bytes to come behind the lines that were played is known of the scenario
-  of_input : (P Q : List ℕ → Type 0) → IfSome (to_come q.ahead q.rest) P → ((text : List ℕ) → (passed : PassesLines text (to_come q.ahead q.rest) xs) → P passed.rest → Q text) → IfSome input Q
-  of_input P Q holds then = subst (λ (o : Option (List ℕ)). IfSome o Q) is (behind (to_come p.ahead p.rest) (to_come q.ahead q.rest) xs P Q plays.passes holds then)
+  abbrev stops : PlayFault → List (List ℕ) → Type 0
+  stops fault lines = A × StopsTurns calls only old new first fault lines
 
-  -- all that was told, where what is still gathered is written
-  all_told : (r : Point) → Tells q.written q.gathered r.written [] [] → Tells p.written p.gathered r.written [] (told_of_turns tells only [] turns)
-  all_told r tells_on = subst (Tells p.written p.gathered r.written []) (append-nil (told_of_turns tells only [] turns)) (Tells-more plays.told tells_on)
+  -- what is known however it ends
+  ends_at : (lines : List (List ℕ)) (fault : Option PlayFault) → EndsAs leads stops fault lines →
+      A × (new ≡ after_all only old (calls_said (turns_of only old first lines))) × TakesRoomFor calls fault (turns_of only old first lines) × IfNone fault (seen (calls_answered only (turns_of only old first lines)))
+  ends_at lines None ended = (ended.0, ended.1.world_is, tt, ended.1.sees)
+  ends_at lines (Some ReadFault) ended = (ended.0, ended.1.world_is, tt, tt)
+  ends_at lines (Some WriteFault) ended = ⊎_elim (λ on. (on.0, on.1.world_is, tt, tt)) (λ stopped. (stopped.0, stopped.1.world_is, tt, tt)) ended
+  ends_at lines (Some TooManyLines) ended = (ended.0, ended.1.world_is, tt, tt)
+  ends_at lines (Some NoMemory) ended = (ended.0, ended.1.world_is, ended.1.takes, tt)
 
-  -- no line is left
-  all_ended : (r : Point) (failed : Bool) → Ended q r → ReadsOn q r → EndsFor None xs input r.rest failed
-  all_ended r failed ended on = of_input (λ text. (text ≡ []) × HasRead 0 text r.rest) _ (both (to_come q.ahead q.rest) (λ text. text ≡ []) (λ text. HasRead 0 text r.rest) ended.none (read_on reach q.ahead q.rest r.rest q.written r.written q.gathered on))
-      (λ text passed left. (lines_of passed.rest, passed.first, (ap lines_of left.0, subst (λ n. HasRead n text r.rest) (omega arith) (has_read_more text _ r.rest xs 0 passed left.1))))
-    where
-      both : (o : Option (List ℕ)) (P Q : List ℕ → Type 0) → IfSome o P → IfSome o Q → IfSome o (λ text. P text × Q text)
-      both None P Q one other = tt
-      both (Some text) P Q one other = (one, other)
+  module _ (tells : List (List ℕ) → ℕ → List ℕ → List ℕ) {fault : Option PlayFault} {count : ℕ} {front : List ℕ} {input rest : Option (List ℕ)} {failed : Bool} {w w' : Option (List ℕ)}
+      (plays : PlaysLines (λ lines. told_of_turns tells only [] (turns_of only old first lines)) leads stops fault count most_lines front input rest failed w w') where
+    pub remains : A
+    remains = (ends_at plays.given fault plays.ends_as).0
 
-  module _ {calls : Bool} {seen : List (List ℕ) → Type 0} (r : Point) (count : ℕ) (failed : Bool) where
-    -- a fault comes behind the lines that were played
-    pub plays_to_fault : (fault : PlayFault) → (breaks : Breaks tells calls only fault mid (calls_answered only turns) failed q r) → length xs + length breaks.given ≤ most_lines →
-        PlaysAll tells calls seen only first (Some fault) count p.world r.world p.gathered input r.rest failed p.written r.written
-    plays_to_fault fault breaks few =
-        let fit : length (xs ++ breaks.given) ≤ most_lines = omega (arith, few, length-append xs breaks.given) in
-        let all = turns_more only p.world q.world first mid xs breaks.given plays.world plays.stands in
-        record {
-          given = xs ++ breaks.given;
-          readable = All-append (λ line. length line ≤ longest_read) xs breaks.given plays.readable breaks.readable;
-          world = left_more only p.world q.world first mid xs breaks.given plays.world plays.stands r.world breaks.world;
-          told =
-              written_to fault p.written p.gathered r.written _
-              (subst (TellsTo fault p.written p.gathered r.written) (told_more only tells p.world q.world first mid [] xs breaks.given plays.world plays.stands)
-              (told_to fault r.written _ plays.told breaks.told));
-          ends = of_input (λ text. BreaksFor fault breaks.given text r.rest failed) _ breaks.stops (λ text passed for. stops_at fault text _ r.rest xs breaks.given failed passed fit for);
-          takes = subst (TakesRoom calls fault) all (takes_more calls fault turns (turns_of only q.world mid breaks.given) breaks.takes);
-          counted = tt;
-          few = fit;
-          sees = tt;
-        }
+    pub world_left : new ≡ after_all only old (calls_said (turns_of only old first plays.given))
+    world_left = (ends_at plays.given fault plays.ends_as).1
 
-    -- no line is left
-    pub plays_to_end : Ended q r → ReadsOn q r → length xs ≤ most_lines → count ≡ length xs → seen (calls_answered only turns) →
-        PlaysAll tells calls seen only first None count p.world r.world p.gathered input r.rest failed p.written r.written
-    plays_to_end ended on few counted sees = record {
-      given = xs;
+    -- the turns of the lines were played
+    pub turns_played : PlaysAll tells calls seen only first fault count old new front input rest failed w w'
+    turns_played = record {
+      given = plays.given;
       readable = plays.readable;
-      world = ended.world ∙ plays.world;
-      told = written_all (all_told r ended.tells);
-      ends = all_ended r failed ended on;
-      takes = tt;
-      counted = counted;
-      few = few;
-      sees = sees;
+      world = world_left;
+      told = plays.writes;
+      ends = plays.ends;
+      takes = (ends_at plays.given fault plays.ends_as).2;
+      counted = plays.counted;
+      few = plays.few;
+      sees = (ends_at plays.given fault plays.ends_as).3;
     }
 
-    -- what is complained of then may not be told
-    plays_uncomplained : Ended q r → ReadsOn q r → length xs ≤ most_lines → PlaysAll tells calls seen only first (Some WriteFault) count p.world r.world p.gathered input r.rest failed p.written r.written
-    plays_uncomplained ended on few = record {
-      given = xs;
+-- all lines were played, and then a write failed
+pub cut_behind : (input rest : Option (List ℕ)) (lines : List (List ℕ)) (failed : Bool) → length lines ≤ most_lines → EndsFor most_lines None lines input rest failed → EndsFor most_lines (Some WriteFault) lines input rest failed
+cut_behind None rest lines failed few ends = tt
+cut_behind (Some text) rest lines failed few ends = (ends.0, ends.1, (few, ends.2.1))
+
+-- what is complained of then may not be told
+pub plays_closed : {tells : List (List ℕ) → ℕ → List ℕ → List ℕ} {calls : Bool} {seen : List (List ℕ) → Type 0} {only : Option (List ℕ)} {first : Stand} {count : ℕ} {old new : World} {front : List ℕ} {input rest : Option (List ℕ)} {failed : Bool} {w w' : Option (List ℕ)}
+    (fault ended : Option PlayFault) (a b : Bool) → ClosesAs fault ended a b → PlaysAll tells calls seen only first fault count old new front input rest failed w w' →
+    PlaysAll tells calls seen only first ended count old new front input rest failed w w'
+plays_closed None None a b closes plays = plays
+plays_closed {input = input} {rest = rest} {failed = failed} None (Some fault) a b closes plays =
+    rw closes.0 (record {
+      given = plays.given;
       readable = plays.readable;
-      world = ended.world ∙ plays.world;
-      told = written_part ([], all_told r ended.tells);
-      ends = cut_behind input r.rest xs failed few (all_ended r failed ended on);
+      world = plays.world;
+      told = record { part = _; left = []; parts = sym (append-nil _); grows = plays.told };
+      ends = cut_behind input rest plays.given failed plays.few plays.ends;
       takes = tt;
       counted = tt;
-      few = few;
+      few = plays.few;
       sees = tt;
-    }
+    })
+plays_closed (Some fault) ended a b closes plays = rw closes.0 plays
 
-    pub plays_closed : {T : Type 0} (closed : Result T PlayFault) (write_failed : Bool) → Ended q r → ReadsOn q r → length xs ≤ most_lines → Fails closed write_failed false → count ≡ length xs → seen (calls_answered only turns) →
-        PlaysAll tells calls seen only first (result_err closed) count p.world r.world p.gathered input r.rest failed p.written r.written
-    plays_closed (Ok done) write_failed ended on few fails counted sees = plays_to_end ended on few counted sees
-    plays_closed (Err ReadFault) write_failed ended on few fails counted sees = absurd fails
-    plays_closed (Err WriteFault) write_failed ended on few fails counted sees = plays_uncomplained ended on few
-    plays_closed (Err TooManyLines) write_failed ended on few fails counted sees = absurd fails
-    plays_closed (Err NoMemory) write_failed ended on few fails counted sees = absurd (let e : false ≡ true = fails.1 in cc)
+-- whether a write failed
+pub closed_writing : (fault ended : Option PlayFault) (k a b : Bool) → (k || a) ≡ is_write_fault fault → ClosesAs fault ended a b → (k || b) ≡ is_write_fault ended
+closed_writing None None k a b writing closes = or_none k b (none_of k a writing).0 closes
+closed_writing None (Some fault) k a b writing closes = rw (closes.0, closes.1, (none_of k a writing).0) refl
+closed_writing (Some fault) ended k a b writing closes = rw (closes.0, closes.1) writing
 
-    -- there are more lines than are allowed
-    pub plays_too_many : length xs ≡ most_lines → r.world ≡ q.world → Tells q.written q.gathered r.written [] [] → IfSome (to_come q.ahead q.rest) (λ text. true ≡ nat_lt 0 (length text)) →
-        PlaysAll tells calls seen only first (Some TooManyLines) count p.world r.world p.gathered input r.rest failed p.written r.written
-    plays_too_many full same tells_on more = record {
-      given = xs;
-      readable = plays.readable;
-      world = same ∙ plays.world;
-      told = written_all (all_told r tells_on);
-      ends = of_input (λ text. true ≡ nat_lt 0 (length text)) _ more (λ text passed some.
-          let begun : 0 < length passed.rest = grind (arith, nat_tests) in
-          (lines_of passed.rest, passed.first, (full, omega (arith, ap length (lines_of-cons passed.rest begun)))));
-      takes = tt;
-      counted = tt;
-      few = omega (arith, full);
-      sees = tt;
-    }
+-- whether a read failed, and what was kept
+pub closed_on : (P : Type 0) (fault ended : Option PlayFault) (a b : Bool) → ClosesAs fault ended a b → IfNone fault P → IfNone ended P
+closed_on P None None a b closes holds = holds
+closed_on P None (Some fault) a b closes holds = tt
+closed_on P (Some fault) ended a b closes holds = rw closes.0 tt

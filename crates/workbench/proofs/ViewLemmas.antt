@@ -22,7 +22,7 @@ use Rattle.workbench.specs.Turns.{Deed, Turn, call_in, calls_in, left_behind, ne
 use Rattle.workbench.specs.Turns.Deed.{TooLong, Unnamed, Follows, Says}
 use Rattle.workbench.specs.Writes.{Closes, IsPlayedFrom, WritesAfter, list_behind, run_tells, shown_of}
 use Rattle.workbench.specs.declared.ending.Ending.{Ending}
-use Rattle.workbench.specs.declared.ending.PlayFault.{PlayFault}
+use Rattle.scenario.specs.declared.play_fault.PlayFault.{PlayFault}
 use Rattle.workbench.specs.declared.peaks.Peak.{Peak}
 use Rattle.workbench.specs.declared.peaks.Session.{Session}
 use Rattle.workbench.specs.declared.stand.Stand.{Stand}

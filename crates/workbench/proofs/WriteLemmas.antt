@@ -12,18 +12,21 @@ use Rattle.scenario.specs.Lines.{AreReadable, longest_read}
 use Rattle.scenario.specs.Program.{world_of}
 use Rattle.scenario.specs.Runs.{HasCause}
 use Rattle.scenario.specs.Stops.{AppendsPart}
-use Rattle.scenario.proofs.Ending.{cause_unread, cause_unwritten}
+use Rattle.scenario.proofs.Ending.{cause_unread, cause_unwritten, within_bounds}
 use Rattle.scenario.proofs.GatheredLemmas.{Appends-more, Tells-gathered}
-use Rattle.scenario.proofs.Serving.{left_none, none_readable}
+use Rattle.scenario.proofs.ToldLemmas.{left_none}
+use Rattle.scenario.proofs.PlayLemmas.{none_readable}
 use Rattle.workbench.proofs.PlayLemmas.{cut_behind}
-use Rattle.workbench.specs.Faults.{fault_before, is_write_fault, unplayed}
+use Rattle.workbench.specs.Faults.{fault_before, unplayed}
+use Rattle.scenario.specs.Faults.{is_write_fault}
 use Rattle.workbench.specs.Played.{told_of_turns}
-use Rattle.workbench.specs.Plays.{EndsFor, PlaysAll, StopsAt, TakesRoomFor, WritesTold, most_lines}
+use Rattle.workbench.specs.Plays.{PlaysAll, TakesRoomFor, most_lines}
+use Rattle.scenario.specs.Plays.{EndsFor, StopsAt, WritesTold}
 use Rattle.workbench.specs.Turns.{Turn, turns_of}
 use Rattle.workbench.specs.Writes.{AreAll, Closes, IsPlayed, IsPlayedFrom, IsUnplayed, IsWrittenBy, WritesAfter, WritesBoth, turns_on}
 use Rattle.workbench.specs.declared.ending.Ending.{Ending}
-use Rattle.workbench.specs.declared.ending.PlayFault.{PlayFault}
-use Rattle.workbench.specs.declared.ending.PlayFault.TheVariants.{ReadFault, WriteFault, TooManyLines, NoMemory}
+use Rattle.scenario.specs.declared.play_fault.PlayFault.{PlayFault}
+use Rattle.scenario.specs.declared.play_fault.PlayFault.TheVariants.{ReadFault, WriteFault, TooManyLines, NoMemory}
 use Rattle.workbench.specs.declared.stand.Stand.{Stand}
 
 -- behind a text that is written a part of another is
@@ -72,7 +75,7 @@ plays_behind {fault = fault} {w'' = w''} begun plays = record {
 }
 
 -- of all lines of a text none is answered yet
-unplayed_all : (input : Option (List ℕ)) (failed : Bool) → EndsFor (Some WriteFault) [] input input failed
+unplayed_all : (input : Option (List ℕ)) (failed : Bool) → EndsFor most_lines (Some WriteFault) [] input input failed
 unplayed_all None failed = tt
 unplayed_all (Some text) failed = (lines_of text, refl, (omega arith, record { read = []; left = text; is_left = refl; parts = refl; whole = inl (omega arith) }))
 
@@ -112,7 +115,7 @@ closes_alone ending w = record { lines = refl; writes = alone ending.fault w }
     alone (Some fault) o = (refl, refl)
 
 -- all lines were played
-all_lines : (input rest : Option (List ℕ)) (lines : List (List ℕ)) (failed : Bool) → EndsFor None lines input rest failed → IfSome input (AreAll lines)
+all_lines : (input rest : Option (List ℕ)) (lines : List (List ℕ)) (failed : Bool) → EndsFor most_lines None lines input rest failed → IfSome input (AreAll lines)
 all_lines None rest lines failed ends = tt
 all_lines (Some text) rest lines failed ends = ends.1 ∙ ap (λ left. lines ++ left) ends.2.0 ∙ append-nil lines
 
@@ -124,7 +127,7 @@ writes_alone TooManyLines input lines w w' told behind first = first
 writes_alone NoMemory input lines w w' told behind first = first
 
 writes_both : (f f' : Option PlayFault) (input rest : Option (List ℕ)) (lines : List (List ℕ)) (failed : Bool) (w w' w'' : Option (List ℕ)) (told behind : List ℕ) →
-    EndsFor f lines input rest failed → WritesTold f w w' told → WritesAfter f f' w' w'' behind → WritesBoth f' input lines w w'' told behind
+    EndsFor most_lines f lines input rest failed → WritesTold f w w' told → WritesAfter f f' w' w'' behind → WritesBoth f' input lines w w'' told behind
 writes_both None None input rest lines failed w w' w'' told behind ends first then = Appends-more w w' w'' told behind (told ++ behind) first then refl
 writes_both None (Some fault) input rest lines failed w w' w'' told behind ends first then =
     rw then.0 (inr (all_lines input rest lines failed ends, part_behind w w' w'' told behind first then.1))
@@ -132,7 +135,7 @@ writes_both (Some fault) f' input rest lines failed w w' w'' told behind ends fi
 
 -- why it ended
 ends_both : (f f' : Option PlayFault) (input rest : Option (List ℕ)) (lines : List (List ℕ)) (failed : Bool) (w w' : Option (List ℕ)) (behind : List ℕ) → length lines ≤ most_lines →
-    EndsFor f lines input rest failed → WritesAfter f f' w w' behind → EndsFor f' lines input rest failed
+    EndsFor most_lines f lines input rest failed → WritesAfter f f' w w' behind → EndsFor most_lines f' lines input rest failed
 ends_both None None input rest lines failed w w' behind few ends after = ends
 ends_both None (Some fault) input rest lines failed w w' behind few ends after = rw after.0 (cut_behind input rest lines failed few ends)
 ends_both (Some fault) f' input rest lines failed w w' behind few ends after = rw after.0 ends
@@ -186,32 +189,15 @@ is_unplayed : {text : List ℕ} {listed : Listed} (ending : Ending) (fault : Pla
 is_unplayed {listed = listed} ending fault reads boots is = record { listed = listed; machine = record { reads = reads; boots = boots }; ending = is }
 
 -- ---- within the bounds, and with no failed device, only want of room is a cause to stop
--- a first line that is left can be read where all can
-first_readable : (all lines left : List (List ℕ)) → all ≡ lines ++ left → AreReadable all → longest_read < length (slice_index_or left 0 []) → ⊥
-first_readable all lines [] parts short long = omega (arith, long)
-first_readable all lines (line ∷ left) parts short long =
-    let within : length lines + 0 < length all = omega (arith, ap length parts, length-append lines (line ∷ left)) in
-    let at : get_or all (length lines + 0) [] ≡ line = ap (λ xs. get_or xs (length lines + 0) []) parts ∙ get_or-append-add lines (line ∷ left) 0 [] in
-    omega (arith, short (length lines + 0) [] within, ap length at, long)
-
-within_bounds : (fault : PlayFault) (lines left : List (List ℕ)) (text : List ℕ) (rest : Option (List ℕ)) (failed write_failed : Bool) →
-    lines_of text ≡ lines ++ left → StopsAt fault lines left text rest failed → write_failed ≡ is_write_fault (Some fault) → fault ≢ NoMemory → HasCause text most_lines failed write_failed
-within_bounds ReadFault lines left text rest failed write_failed parts cause fails other =
-    λ reads writes short few. ⊎_elim (λ cut. let e : failed ≡ true = cut.0 in cc) (λ long. first_readable (lines_of text) lines left parts short long) cause
-within_bounds WriteFault lines left text rest failed write_failed parts cause fails other = λ reads writes short few. let e : write_failed ≡ true = fails in cc
-within_bounds TooManyLines lines left text rest failed write_failed parts cause fails other =
-    λ reads writes short few. omega (arith, cause.0, cause.1, ap length parts, length-append lines left)
-within_bounds NoMemory lines left text rest failed write_failed parts cause fails other = absurd (other refl)
-
 pub caused : {turns : List (List ℕ) → List Turn} {told behind : List Turn → List ℕ} {calls : Bool} {ending : Ending} {input rest : Option (List ℕ)} {failed : Bool} {w w' : Option (List ℕ)} (write_failed : Bool) →
     IsPlayedFrom turns told behind calls ending input rest failed w w' → write_failed ≡ is_write_fault ending.fault →
     IfSome ending.fault (λ fault. fault ≢ NoMemory → IfSome input (λ text. HasCause text most_lines failed write_failed))
 caused {ending = ending} {input = input} {rest = rest} {failed = failed} write_failed played fails = of ending.fault input played.ends fails
   where
-    of : (f : Option PlayFault) (o : Option (List ℕ)) → EndsFor f played.given o rest failed → write_failed ≡ is_write_fault f → IfSome f (λ fault. fault ≢ NoMemory → IfSome o (λ text. HasCause text most_lines failed write_failed))
+    of : (f : Option PlayFault) (o : Option (List ℕ)) → EndsFor most_lines f played.given o rest failed → write_failed ≡ is_write_fault f → IfSome f (λ fault. fault ≢ NoMemory → IfSome o (λ text. HasCause text most_lines failed write_failed))
     of None o ends is = tt
     of (Some fault) None ends is = λ other. tt
-    of (Some fault) (Some text) ends is = λ other. within_bounds fault played.given ends.0 text rest failed write_failed ends.1 ends.2 is other
+    of (Some fault) (Some text) ends is = λ other. within_bounds fault most_lines played.given ends.0 text rest failed write_failed ends.1 ends.2 is other
 
 -- or a device had failed before
 pub ends_for_cause : {turns : List (List ℕ) → List Turn} {told behind : List Turn → List ℕ} {calls : Bool} {ending : Ending} {input rest : Option (List ℕ)} {failed : Bool} {w w' : Option (List ℕ)} (read_before write_before write_failed : Bool) →

@@ -1,4 +1,3 @@
-pub mod Devices
 pub mod Said
 pub mod Ending
 pub mod Turns

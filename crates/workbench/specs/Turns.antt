@@ -1,5 +1,5 @@
 -- The turns of a play: what each line of a scenario is, when its turn comes.
-use Rattle.std.specs.Prelude.{◌≡◌, ℕ, ◌+◌, ◌≤◌, Bool, true, false, ⊤, List, [], ◌∷◌, length, min, nat_le, nat_lt, if◌then◌else◌, Option, Some, None, Result, Ok, Err}
+use Rattle.std.specs.Prelude.{◌≡◌, ℕ, ◌+◌, ◌<◌, ◌≤◌, ◌^◌, Bool, true, false, ⊤, List, [], ◌∷◌, length, min, nat_le, nat_lt, if◌then◌else◌, Option, Some, None, Result, Ok, Err}
 use Rattle.std.specs.Option.{unwrap_or}
 use Rattle.own_model.specs.Reply.{reply_text}
 use Rattle.own_model.specs.SaidBy.{said_by}
@@ -79,6 +79,13 @@ low = 4294967296
 
 abbrev pub StaysLow : Stand → Stand → Type 0
 StaysLow old new = (n : ℕ) → low ≤ n → old.number ≤ n → new.number ≤ n + 1
+
+-- so many lines more can be numbered
+pub record StaysBelow (stand : Stand) (more : ℕ) : Type 0 where
+  pub most : ℕ
+  pub above : low ≤ most
+  pub within : stand.number ≤ most
+  pub below : most + more < 2 ^ 63
 
 -- the number of the next line, where a directive tells it
 abbrev pub line_told : Directive → Option ℕ

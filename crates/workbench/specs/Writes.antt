@@ -12,11 +12,12 @@ use Rattle.scenario.specs.Program.{IsMachine, accounts_for, world_of}
 use Rattle.scenario.specs.Stops.{AppendsPart}
 use Rattle.workbench.specs.Faults.{unplayed}
 use Rattle.workbench.specs.Played.{calls_answered, calls_said, engine_tells, told_of_turns}
-use Rattle.workbench.specs.Plays.{EndsFor, TakesRoomFor}
+use Rattle.workbench.specs.Plays.{TakesRoomFor, most_lines}
+use Rattle.scenario.specs.Plays.{EndsFor}
 use Rattle.workbench.specs.Turns.{Turn, turns_of}
 use Rattle.workbench.specs.declared.ending.Ending.{Ending}
-use Rattle.workbench.specs.declared.ending.PlayFault.{PlayFault}
-use Rattle.workbench.specs.declared.ending.PlayFault.TheVariants.{ReadFault, WriteFault, TooManyLines, NoMemory}
+use Rattle.scenario.specs.declared.play_fault.PlayFault.{PlayFault}
+use Rattle.scenario.specs.declared.play_fault.PlayFault.TheVariants.{ReadFault, WriteFault, TooManyLines, NoMemory}
 use Rattle.workbench.specs.declared.stand.Stand.{Stand}
 use Rattle.workbench.specs.declared.transcript.Showing.{Showing}
 
@@ -42,7 +43,7 @@ pub record IsPlayedFrom (turns : List (List ℕ) → List Turn) (told behind : L
     (input rest : Option (List ℕ)) (failed : Bool) (written now_written : Option (List ℕ)) : Type 0 where
   pub given : List (List ℕ)
   pub readable : AreReadable given
-  pub ends : EndsFor ending.fault given input rest failed
+  pub ends : EndsFor most_lines ending.fault given input rest failed
   pub takes : TakesRoomFor calls ending.fault (turns given)
   pub counted : IfNone ending.fault (ending.lines ≡ length given)
   pub writes : WritesBoth ending.fault input given written now_written (told (turns given)) (behind (turns given))

@@ -6,22 +6,24 @@ ghost use Rattle.init_core.specs.declared.fault.BootFault.TheVariants.{NoMemory}
 ghost use Rattle.scenario.specs.Accounts.{list_with};
 ghost use Rattle.scenario.specs.Program.{boot_fault};
 ghost use Rattle.scenario.specs.Runs.{HasCause};
-ghost use Rattle.workbench.specs.Faults.{fault_before, is_write_fault, unplayed};
+ghost use Rattle.workbench.specs.Faults.{fault_before, unplayed};
+ghost use Rattle.scenario.specs.Faults.{is_write_fault};
 ghost use Rattle.workbench.specs.Kept.{SeesPeaks, found, peak_at, peaked};
 ghost use Rattle.workbench.specs.PeakList.{accounts_behind, peaks_beside, peaks_text};
 ghost use Rattle.workbench.specs.Played.{calls_answered};
 ghost use Rattle.workbench.specs.Turns.{first_with, turns_of};
 ghost use Rattle.workbench.specs.Writes.{Closes, IsPlayed, IsPlayedFrom, IsUnplayed, nothing_told, turns_on};
-ghost use Rattle.workbench.specs.declared.ending.PlayFault.TheVariants.{NoMemory as NoRoom};
+ghost use Rattle.scenario.specs.declared.play_fault.PlayFault.TheVariants.{NoMemory as NoRoom};
 
-use crate::ending::{Ending, PlayFault};
+use crate::bench::Bench;
+use crate::ending::Ending;
 use crate::machine::Play;
 use crate::notes::Notes;
 use crate::peaks::Peaks;
 use crate::playing::play as play_lines;
 use init_core::{BootFault, StartList, boot};
 use pd_core::{Core, Router};
-use scenario::{MAX_LINES, Run, Sink, Source, write_columns};
+use scenario::{MAX_LINES, PlayFault, Run, Sink, Source, write_columns};
 use std::alloc::Global;
 
 /// Plays a scenario, and then writes the account list: the account of the machine's init, those of the components with their
@@ -66,37 +68,33 @@ pub fn accounts<S: Source, K: Sink, E: Sink>(
 {
     let list = StartList::read(alloc, play.machine)?;
     let mut core = boot(alloc, &list)?;
-    let mut notes = Notes::new(alloc, play.scenario, play.given)?;
+    let notes = Notes::new(alloc, play.scenario, play.given)?;
     let run = Run {
         list: &list,
         only: None,
     };
-    let mut peaks = Peaks::new(alloc, &core)?;
-    Ok(play_with_peaks(
-        &run, &mut core, &mut notes, &mut peaks, reader, writer, complaints,
-    ))
+    let peaks = Peaks::new(alloc, &core)?;
+    Ok(play_with_peaks(&run, &mut core, notes, peaks, reader, writer, complaints))
 }
 
 // The same on a machine that has booted, with the peaks of its accounts.
 fn play_with_peaks<R: Router + Drop, S: Source, K: Sink, E: Sink>(
     run: &Run<'_>,
     core: &mut Core<R>,
-    notes: &mut Notes<'_>,
-    peaks: &mut Peaks,
+    notes: Notes<'_>,
+    peaks: Peaks,
     reader: &mut S,
     writer: &mut K,
     complaints: &mut E,
 ) -> Ending
     requires listed { core.old.entries ≡ entries_of (start_list_of run.now.list.now) }
     requires all { run.now.only ≡ None }
-    requires first { notes.old.stand.number ≡ 1 }
-    requires ahead { notes.old.buffers.ahead ≡ [] }
-    requires gathered { notes.old.buffers.gathered ≡ [] }
-    requires sees { SeesPeaks (peaked peaks.old.init) peaks.old.components.items
-        peaks.old.sessions.items run.now.list.now core.old [] }
+    requires first { notes.stand.number ≡ 1 }
+    requires sees { SeesPeaks (peaked peaks.init) peaks.components.items
+        peaks.sessions.items run.now.list.now core.old [] }
     ensures played { fault_before (S.has_failed reader.old)
         (K.has_failed writer.old || E.has_failed complaints.old) ≡ None →
-        IsPlayedFrom (turns_of None core.old notes.old.stand) (λ _. [])
+        IsPlayedFrom (turns_of None core.old notes.stand) (λ _. [])
         (λ turns. peaks_text run.now.list.now core.old (calls_answered None turns))
         true result (S.remaining reader.old) (S.remaining reader.new)
         (S.has_failed reader.new) (K.contents writer.old) (K.contents writer.new) }
@@ -110,8 +108,22 @@ fn play_with_peaks<R: Router + Drop, S: Source, K: Sink, E: Sink>(
         × (reader.new ≡ reader.old) × (writer.new ≡ writer.old)
         × (complaints.new ≡ complaints.old)) }
 {
-    let ending = play_lines(run, core, notes, peaks, b"", reader, writer, complaints);
-    close_with_peaks(ending, core, run.list, peaks, writer)
+    let mut bench = Bench {
+        run: *run,
+        notes,
+        watch: peaks,
+        complaints,
+        complained: 0,
+    };
+    let ending = play_lines(&mut bench, core, b"", reader, writer);
+    let Bench {
+        run: _run,
+        notes: _notes,
+        watch: peaks,
+        complaints: _complaints,
+        complained: _complained,
+    } = bench;
+    close_with_peaks(ending, core, run.list, &peaks, writer)
 }
 
 // Writes the list behind a play that came to its end.

@@ -8,14 +8,16 @@ ghost use Rattle.scenario.specs.Answer.{answer_text};
 ghost use Rattle.scenario.specs.Gathered.{TellsUnless};
 ghost use Rattle.scenario.specs.Program.{boot_fault};
 ghost use Rattle.scenario.specs.Runs.{HasCause};
-ghost use Rattle.workbench.specs.Faults.{fault_before, is_write_fault, unplayed};
+ghost use Rattle.workbench.specs.Faults.{fault_before, unplayed};
+ghost use Rattle.scenario.specs.Faults.{is_write_fault};
 ghost use Rattle.workbench.specs.Alone.{AreAlike, SeesAlone, alone_behind, alone_sum, alone_tells, alone_told};
 ghost use Rattle.workbench.specs.Played.{calls_answered, told_of_turns};
 ghost use Rattle.workbench.specs.Turns.{first_with, turns_of};
 ghost use Rattle.workbench.specs.Writes.{Closes, IsPlayed, IsPlayedFrom, IsUnplayed, IsWrittenBy, turns_on};
-ghost use Rattle.workbench.specs.declared.ending.PlayFault.TheVariants.{NoMemory as NoRoom};
+ghost use Rattle.scenario.specs.declared.play_fault.PlayFault.TheVariants.{NoMemory as NoRoom};
 
-use crate::ending::{Ending, PlayFault};
+use crate::bench::Bench;
+use crate::ending::Ending;
 use crate::machine::Play;
 use crate::notes::Notes;
 use crate::playing::play as play_lines;
@@ -24,7 +26,7 @@ use crate::watch::{Heard, Watch};
 use arrayvec::ArrayVec;
 use init_core::{BootFault, StartList, boot};
 use pd_core::{Core, Reply, Router};
-use scenario::{DeviceFault, Gather, LineAnswer, MAX_LINES, Run, Sink, Source};
+use scenario::{DeviceFault, Gather, LineAnswer, MAX_LINES, PlayFault, Run, Sink, Source};
 use std::alloc::Global;
 
 /// Room for a number with the words behind it.
@@ -195,7 +197,7 @@ pub fn alone<S: Source, K: Sink, E: Sink>(
 {
     let list = StartList::read(alloc, play.machine)?;
     let mut core = boot(alloc, &list)?;
-    let mut notes = Notes::new(alloc, play.scenario, play.given)?;
+    let notes = Notes::new(alloc, play.scenario, play.given)?;
     let run = Run {
         list: &list,
         only: None,
@@ -203,7 +205,7 @@ pub fn alone<S: Source, K: Sink, E: Sink>(
     let second = boot(alloc, &list)?;
     let reply = Reply::boot(alloc)?;
     Ok(play_beside(
-        &run, &mut core, second, reply, name, &mut notes, reader, writer, complaints,
+        &run, &mut core, second, reply, name, notes, reader, writer, complaints,
     ))
 }
 
@@ -214,20 +216,18 @@ fn play_beside<R: Router + Drop, Q: Router + Drop, S: Source, K: Sink, E: Sink>(
     second: Core<Q>,
     reply: Reply,
     name: &[u8],
-    notes: &mut Notes<'_>,
+    notes: Notes<'_>,
     reader: &mut S,
     writer: &mut K,
     complaints: &mut E,
 ) -> Ending
     requires listed { core.old.entries ≡ entries_of (start_list_of run.now.list.now) }
     requires all { run.now.only ≡ None }
-    requires first { notes.old.stand.number ≡ 1 }
-    requires ahead { notes.old.buffers.ahead ≡ [] }
-    requires gathered { notes.old.buffers.gathered ≡ [] }
+    requires first { notes.stand.number ≡ 1 }
     requires same { second ≡ core.old }
     ensures played { fault_before (S.has_failed reader.old)
         (K.has_failed writer.old || E.has_failed complaints.old) ≡ None →
-        IsPlayedFrom (turns_of None core.old notes.old.stand)
+        IsPlayedFrom (turns_of None core.old notes.stand)
         (λ turns. told_of_turns (alone_tells name.now core.old) None [] turns)
         (λ turns. alone_sum name.now (length (calls_answered (Some name.now) turns)))
         false result (S.remaining reader.old) (S.remaining reader.new)
@@ -242,7 +242,7 @@ fn play_beside<R: Router + Drop, Q: Router + Drop, S: Source, K: Sink, E: Sink>(
         × (reader.new ≡ reader.old) × (writer.new ≡ writer.old)
         × (complaints.new ≡ complaints.old)) }
 {
-    let mut watch = SecondMachine {
+    let watch = SecondMachine {
         list: run.list,
         name,
         core: second,
@@ -250,9 +250,21 @@ fn play_beside<R: Router + Drop, Q: Router + Drop, S: Source, K: Sink, E: Sink>(
         lines: 0,
         difference: None,
     };
-    let ending = play_lines(
-        run, core, notes, &mut watch, b"", reader, writer, complaints,
-    );
+    let mut bench = Bench {
+        run: *run,
+        notes,
+        watch,
+        complaints,
+        complained: 0,
+    };
+    let ending = play_lines(&mut bench, core, b"", reader, writer);
+    let Bench {
+        run: _run,
+        notes: _notes,
+        watch,
+        complaints: _complaints,
+        complained: _complained,
+    } = bench;
     close_with_sum(ending, name, watch.lines, watch.difference, writer)
 }
 

@@ -1,77 +1,9 @@
 //! How a play ends.
 ghost use Rattle.std.specs.Prelude.{◌≡◌};
 ghost use Rattle.workbench.specs.Ending.{status_of};
-ghost use Rattle.workbench.specs.Faults.{line_fault, run_fault};
-ghost use Rattle.workbench.specs.declared.ending.PlayFault.TheVariants.{NoMemory as NoRoom, WriteFault as Unwritten};
 
 use init_core::BootFault;
-use scenario::{DeviceFault, LineFault, RunFault};
-use std::alloc::{AllocError, AllocFailed};
-use thiserror::Error;
-
-/// Why a play stopped before the end of its scenario.
-#[derive(Clone, Copy, Debug, PartialEq, Eq, Error)]
-pub enum PlayFault {
-    /// A read failed, or a line was too long to be read to its end.
-    #[error("Read_fault")]
-    ReadFault,
-    /// A write failed, of what is told or of a complaint.
-    #[error("Write_fault")]
-    WriteFault,
-    /// A line came after the last one allowed.
-    #[error("Too_many_lines")]
-    TooManyLines,
-    /// The host has no room for what is kept between lines.
-    #[error("No_memory")]
-    NoMemory,
-}
-
-impl From<LineFault> for PlayFault {
-    ghost from_gives = { λ fault result. result ≡ line_fault fault };
-
-    fn from(fault: LineFault) -> PlayFault {
-        match fault {
-            LineFault::Read | LineFault::Endless => PlayFault::ReadFault,
-            LineFault::Write => PlayFault::WriteFault,
-        }
-    }
-}
-
-impl From<RunFault> for PlayFault {
-    ghost from_gives = { λ fault result. result ≡ run_fault fault };
-
-    fn from(fault: RunFault) -> PlayFault {
-        match fault {
-            RunFault::ReadFault => PlayFault::ReadFault,
-            RunFault::WriteFault => PlayFault::WriteFault,
-            RunFault::TooManyLines => PlayFault::TooManyLines,
-        }
-    }
-}
-
-impl From<DeviceFault> for PlayFault {
-    ghost from_gives = { λ _ result. result ≡ Unwritten };
-
-    fn from(_fault: DeviceFault) -> PlayFault {
-        PlayFault::WriteFault
-    }
-}
-
-impl From<AllocError> for PlayFault {
-    ghost from_gives = { λ _ result. result ≡ NoRoom };
-
-    fn from(_want: AllocError) -> PlayFault {
-        PlayFault::NoMemory
-    }
-}
-
-impl<T: Drop> From<AllocFailed<T>> for PlayFault {
-    ghost from_gives = { λ _ result. result ≡ NoRoom };
-
-    fn from(_want: AllocFailed<T>) -> PlayFault {
-        PlayFault::NoMemory
-    }
-}
+use scenario::PlayFault;
 
 /// How a play ended.
 #[derive(Clone, Copy, Debug, PartialEq, Eq)]

@@ -3,6 +3,7 @@
 #![tactic(auto)]
 
 mod account_list;
+mod bench;
 mod beside;
 mod complaint;
 mod critic;
@@ -27,9 +28,10 @@ mod watch;
 
 pub use account_list::accounts;
 pub use beside::alone;
-pub use ending::{Ending, PlayFault, exit_status};
+pub use ending::{Ending, exit_status};
 pub use laws::bare_lines_stand;
 pub use machine::Play;
 pub use near::near_component;
+pub use scenario::PlayFault;
 pub use tracing::trace;
 pub use transcript::{Showing, run};

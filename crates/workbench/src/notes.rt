@@ -1,12 +1,11 @@
 //! What is kept of a play from line to line.
-ghost use Rattle.std.specs.Prelude.{◌≡◌, [], IfOk};
+ghost use Rattle.std.specs.Prelude.{◌≡◌, IfOk};
 ghost use Rattle.workbench.specs.Turns.{first_with};
 
 use crate::critic::Critic;
 use crate::stand::Stand;
 use friendly_lines::Line;
 use pd_core::Reply;
-use scenario::Buffers;
 use scenario_names::Known;
 use std::alloc::Global;
 use trade_base::NoMemory;
@@ -16,8 +15,6 @@ use trade_base::NoMemory;
 pub(crate) struct Notes<'a> {
     /// Where the play is.
     pub stand: Stand,
-    /// What was read and not yet passed, and what was told and not yet written.
-    pub buffers: Buffers,
     /// What a line is read and judged with.
     pub desk: Desk<'a>,
 }
@@ -50,12 +47,9 @@ impl<'a> Notes<'a> {
         given: Known,
     ) -> Result<Notes<'a>, NoMemory>
         ensures stand { IfOk result (λ notes. notes.stand ≡ first_with given) }
-        ensures ahead { IfOk result (λ notes. notes.buffers.ahead ≡ []) }
-        ensures gathered { IfOk result (λ notes. notes.buffers.gathered ≡ []) }
     {
         Ok(Notes {
             stand: Stand::new(given),
-            buffers: Buffers::new(),
             desk: Desk {
                 sheet: Line::new(),
                 tools: Tools {

@@ -11,12 +11,11 @@ ghost use Rattle.scenario.specs.Read.{IsReadAs};
 ghost use Rattle.workbench.specs.Kept.{begun_by, begun_with, found, grown, in_use, is_kept_at, noted_in, noted_more, peak_at, peaked, raised_in};
 ghost use Rattle.workbench.specs.Peaks.{session_at};
 
-use crate::ending::PlayFault;
 use crate::text::{caller_of, said_in};
 use crate::watch::{Heard, Watch};
 use init_core::{StartList, route};
 use pd_core::{Call, Core, Quotas, Router};
-use scenario::{Gather, NamedCall, Sink};
+use scenario::{Gather, NamedCall, PlayFault, Sink};
 use session_proto::SessionArgs;
 use std::alloc::{AllocError, Global};
 use std::mem;

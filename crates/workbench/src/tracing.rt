@@ -11,14 +11,16 @@ ghost use Rattle.scenario.specs.Gathered.{TellsUnless};
 ghost use Rattle.scenario.specs.Program.{boot_fault};
 ghost use Rattle.scenario.specs.Read.{IsReadAs};
 ghost use Rattle.scenario.specs.Runs.{HasCause};
-ghost use Rattle.workbench.specs.Faults.{fault_before, is_write_fault, unplayed};
+ghost use Rattle.workbench.specs.Faults.{fault_before, unplayed};
+ghost use Rattle.scenario.specs.Faults.{is_write_fault};
 ghost use Rattle.workbench.specs.Played.{told_of_turns};
 ghost use Rattle.workbench.specs.Tracing.{call_text, caller_cells, cell_text, figures, session_cells, session_of, stranger_cells, trace_header, trace_tells, trace_told};
 ghost use Rattle.workbench.specs.Turns.{first_with, turns_of};
 ghost use Rattle.workbench.specs.Writes.{IsPlayed, IsPlayedFrom, IsUnplayed, nothing_told, turns_on};
-ghost use Rattle.workbench.specs.declared.ending.PlayFault.TheVariants.{NoMemory as NoRoom};
+ghost use Rattle.scenario.specs.declared.play_fault.PlayFault.TheVariants.{NoMemory as NoRoom};
 
-use crate::ending::{Ending, PlayFault};
+use crate::bench::Bench;
+use crate::ending::Ending;
 use crate::machine::Play;
 use crate::notes::Notes;
 use crate::playing::play as play_lines;
@@ -28,7 +30,7 @@ use crate::watch::{Heard, Watch};
 use arrayvec::ArrayVec;
 use init_core::{BootFault, StartList, boot};
 use pd_core::{Call, Core, Router};
-use scenario::{DeviceFault, Gather, MAX_LINES, NamedCall, Run, Sink, Source};
+use scenario::{DeviceFault, Gather, MAX_LINES, NamedCall, PlayFault, Run, Sink, Source};
 use std::alloc::Global;
 
 /// The names of the columns.
@@ -244,35 +246,29 @@ pub fn trace<S: Source, K: Sink, E: Sink>(
 {
     let list = StartList::read(alloc, play.machine)?;
     let mut core = boot(alloc, &list)?;
-    let mut notes = Notes::new(alloc, play.scenario, play.given)?;
+    let notes = Notes::new(alloc, play.scenario, play.given)?;
     let run = Run {
         list: &list,
         only: None,
     };
-    let mut watch = Tracer;
-    Ok(trace_on(
-        &run, &mut core, &mut notes, &mut watch, reader, writer, complaints,
-    ))
+    Ok(trace_on(&run, &mut core, notes, reader, writer, complaints))
 }
 
 // The same on a machine that has booted.
 fn trace_on<R: Router + Drop, S: Source, K: Sink, E: Sink>(
     run: &Run<'_>,
     core: &mut Core<R>,
-    notes: &mut Notes<'_>,
-    watch: &mut Tracer,
+    notes: Notes<'_>,
     reader: &mut S,
     writer: &mut K,
     complaints: &mut E,
 ) -> Ending
     requires listed { core.old.entries ≡ entries_of (start_list_of run.now.list.now) }
     requires all { run.now.only ≡ None }
-    requires first { notes.old.stand.number ≡ 1 }
-    requires ahead { notes.old.buffers.ahead ≡ [] }
-    requires gathered { notes.old.buffers.gathered ≡ [] }
+    requires first { notes.stand.number ≡ 1 }
     ensures played { fault_before (S.has_failed reader.old)
         (K.has_failed writer.old || E.has_failed complaints.old) ≡ None →
-        IsPlayedFrom (turns_of None core.old notes.old.stand)
+        IsPlayedFrom (turns_of None core.old notes.stand)
         (λ turns. trace_header ++ told_of_turns (trace_tells core.old) None [] turns) (λ _. [])
         false result (S.remaining reader.old) (S.remaining reader.new)
         (S.has_failed reader.new) (K.contents writer.old) (K.contents writer.new) }
@@ -286,5 +282,20 @@ fn trace_on<R: Router + Drop, S: Source, K: Sink, E: Sink>(
         × (reader.new ≡ reader.old) × (writer.new ≡ writer.old)
         × (complaints.new ≡ complaints.old)) }
 {
-    play_lines(run, core, notes, watch, HEADER, reader, writer, complaints)
+    let mut bench = Bench {
+        run: *run,
+        notes,
+        watch: Tracer,
+        complaints,
+        complained: 0,
+    };
+    let ending = play_lines(&mut bench, core, HEADER, reader, writer);
+    let Bench {
+        run: _run,
+        notes: _notes,
+        watch: _watch,
+        complaints: _complaints,
+        complained: _complained,
+    } = bench;
+    ending
 }

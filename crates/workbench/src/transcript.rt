@@ -9,12 +9,14 @@ ghost use Rattle.scenario.specs.Answer.{answer_text};
 ghost use Rattle.scenario.specs.Gathered.{TellsUnless};
 ghost use Rattle.scenario.specs.Program.{boot_fault};
 ghost use Rattle.scenario.specs.Runs.{HasCause};
-ghost use Rattle.workbench.specs.Faults.{fault_before, is_write_fault, unplayed};
+ghost use Rattle.workbench.specs.Faults.{fault_before, unplayed};
+ghost use Rattle.scenario.specs.Faults.{is_write_fault};
 ghost use Rattle.workbench.specs.Turns.{first_with, turns_of};
 ghost use Rattle.workbench.specs.Writes.{Closes, IsPlayed, IsPlayedFrom, IsUnplayed, list_behind, number_before, run_behind, run_tells, run_told, shown_of, turns_on};
-ghost use Rattle.workbench.specs.declared.ending.PlayFault.TheVariants.{NoMemory as NoRoom};
+ghost use Rattle.scenario.specs.declared.play_fault.PlayFault.TheVariants.{NoMemory as NoRoom};
 
-use crate::ending::{Ending, PlayFault};
+use crate::bench::Bench;
+use crate::ending::Ending;
 use crate::machine::Play;
 use crate::notes::Notes;
 use crate::playing::play as play_lines;
@@ -22,7 +24,7 @@ use crate::text::put_number;
 use crate::watch::{Heard, Watch};
 use init_core::{BootFault, StartList, boot};
 use pd_core::{Core, Router};
-use scenario::{DeviceFault, Gather, MAX_LINES, Run, Sink, Source, write_accounts};
+use scenario::{DeviceFault, Gather, MAX_LINES, PlayFault, Run, Sink, Source, write_accounts};
 use std::alloc::Global;
 
 /// What of a play is told.
@@ -145,33 +147,29 @@ pub fn run<S: Source, K: Sink, E: Sink>(
 {
     let list = StartList::read(alloc, play.machine)?;
     let mut core = boot(alloc, &list)?;
-    let mut notes = Notes::new(alloc, play.scenario, play.given)?;
+    let notes = Notes::new(alloc, play.scenario, play.given)?;
     let run = Run {
         list: &list,
         only: showing.only,
     };
-    Ok(run_on(
-        &run, &mut core, &mut notes, showing, reader, writer, complaints,
-    ))
+    Ok(run_on(&run, &mut core, notes, showing, reader, writer, complaints))
 }
 
 // The same on a machine that has booted.
 fn run_on<R: Router + Drop, S: Source, K: Sink, E: Sink>(
     run: &Run<'_>,
     core: &mut Core<R>,
-    notes: &mut Notes<'_>,
+    notes: Notes<'_>,
     showing: Showing<'_>,
     reader: &mut S,
     writer: &mut K,
     complaints: &mut E,
 ) -> Ending
     requires listed { core.old.entries ≡ entries_of (start_list_of run.now.list.now) }
-    requires first { notes.old.stand.number ≡ 1 }
-    requires ahead { notes.old.buffers.ahead ≡ [] }
-    requires gathered { notes.old.buffers.gathered ≡ [] }
+    requires first { notes.stand.number ≡ 1 }
     ensures played { fault_before (S.has_failed reader.old)
         (K.has_failed writer.old || E.has_failed complaints.old) ≡ None →
-        IsPlayedFrom (turns_of (option_copied run.now.only) core.old notes.old.stand)
+        IsPlayedFrom (turns_of (option_copied run.now.only) core.old notes.stand)
         (shown_of showing.entry.numbers (option_copied run.now.only) core.old)
         (list_behind showing.entry.accounts (option_copied run.now.only) run.now.list.now core.old)
         false result
@@ -187,12 +185,23 @@ fn run_on<R: Router + Drop, S: Source, K: Sink, E: Sink>(
         × (reader.new ≡ reader.old) × (writer.new ≡ writer.old)
         × (complaints.new ≡ complaints.old)) }
 {
-    let mut watch = Transcript {
-        numbers: showing.numbers,
+    let mut bench = Bench {
+        run: *run,
+        notes,
+        watch: Transcript {
+            numbers: showing.numbers,
+        },
+        complaints,
+        complained: 0,
     };
-    let ending = play_lines(
-        run, core, notes, &mut watch, b"", reader, writer, complaints,
-    );
+    let ending = play_lines(&mut bench, core, b"", reader, writer);
+    let Bench {
+        run: _run,
+        notes: _notes,
+        watch: _watch,
+        complaints: _complaints,
+        complained: _complained,
+    } = bench;
     let accounts = showing.accounts;
     if accounts {
         close_with_list(ending, core, run.list, writer)

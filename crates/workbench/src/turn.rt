@@ -12,8 +12,9 @@ ghost use Rattle.scenario.specs.Answered.{after_all};
 ghost use Rattle.scenario.specs.Gathered.{TellsUnless};
 ghost use Rattle.scenario.specs.Read.{IsReadAs, Reads};
 ghost use Rattle.scenario_names.specs.Views.{directive_view, filled_view};
-ghost use Rattle.workbench.specs.Devices.{OutputsWork};
-ghost use Rattle.workbench.specs.Faults.{Fails, takes_in};
+ghost use Rattle.scenario.specs.Next.{OutputsWork};
+ghost use Rattle.workbench.specs.Faults.{takes_in};
+ghost use Rattle.scenario.specs.Faults.{Fails};
 ghost use Rattle.workbench.specs.Judging.{IsJudged, IsJudgedSaid, awaited_after, is_other, nothing_awaited};
 ghost use Rattle.workbench.specs.Played.{told_of_calls};
 ghost use Rattle.workbench.specs.Turns.{StaysLow, call_in, call_of, deed_of, followed_by, has_holes, is_misplaced, learnt_by, learnt_from, left_behind, low, next_stand};
@@ -21,7 +22,6 @@ ghost use Rattle.workbench.specs.Turns.Deed.{Says};
 ghost use Rattle.workbench.specs.Watching.{Watches};
 
 use crate::critic::Critic;
-use crate::ending::PlayFault;
 use crate::given::{Asked, Given};
 use crate::notes::{Desk, Tools};
 use crate::stand::{Stand, learn, misplaced};
@@ -29,7 +29,7 @@ use crate::watch::{Heard, Watch};
 use friendly_lines::{Said, plain_call, read_friendly};
 use init_core::StartList;
 use pd_core::{Core, Reply, Router};
-use scenario::{Gather, LONGEST_LINE, LineAnswer, NamedCall, Run, Sink};
+use scenario::{Gather, LONGEST_LINE, LineAnswer, NamedCall, PlayFault, Run, Sink};
 use scenario_names::{Directive, Filled, Known, directive_of, fill};
 
 /// Plays a line that isn't too long, and tells whether there was a complaint. Most are calls as they stand.

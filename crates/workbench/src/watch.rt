@@ -5,13 +5,12 @@ ghost use Rattle.own_model.specs.StartList.{entries_of};
 ghost use Rattle.own_model.specs.World.{World};
 ghost use Rattle.scenario.specs.Gathered.{TellsUnless};
 ghost use Rattle.scenario.specs.Read.{IsReadAs};
-ghost use Rattle.workbench.specs.Faults.{Fails};
+ghost use Rattle.scenario.specs.Faults.{Fails};
 ghost use Rattle.workbench.specs.Watching.{IsToldOf};
 
-use crate::ending::PlayFault;
 use init_core::StartList;
 use pd_core::{Core, Router};
-use scenario::{Gather, LineAnswer, NamedCall, Sink};
+use scenario::{Gather, LineAnswer, NamedCall, PlayFault, Sink};
 
 /// A call that was answered.
 #[derive(Clone, Copy, Debug)]

@@ -8,7 +8,9 @@ pub returns-clause-played : goal.returns-clause-played
 returns-clause-played g c = λ works.
     let name = c.args.name.now in
     let start = c.args.core.now in
-    let at_first : SeesAlone name c.args.second 0 None start [] = record { leads = c.requires.same; counted = λ _. refl; alike = refl } in
-    let plays = rw c.play-ending.ensures.held at (rw c.requires.all at (c.play-ending.ensures.plays works at_first)) in
+    let plays = rw c.play-ending.ensures.held at (rw c.requires.all at (c.play-ending.ensures.plays works)) in
     alone_played name c.play-ending.result c.close_with_sum.result c.play-ending.ensures.few plays
     (c.close_with_sum.ensures.closes (alone_same c.play-ending.result.fault name start _ _ _ _ plays.sees))
+
+pub play-ending-requires-clause-sees : goal.play-ending-requires-clause-sees
+play-ending-requires-clause-sees g c = record { leads = c.requires.same; counted = λ _. refl; alike = refl }

@@ -2,13 +2,14 @@
 use Rattle.std.proofs.Common.{Bool, false, refl, Result, Ok, Err, ap, sym, ◌∙◌}
 use Rattle.std.specs.Option.{option_copied}
 use Rattle.friendly_lines.specs.Says.{says}
-use Rattle.workbench.specs.declared.ending.PlayFault.{PlayFault}
+use Rattle.scenario.specs.declared.play_fault.PlayFault.{PlayFault}
 use Rattle.friendly_lines.specs.Friendly.{said_of}
 use Rattle.scenario_names.specs.Views.{filled_view}
 use Rattle.workbench.specs.Turns.{call_in}
 use Rattle.workbench.proofs.LineLemmas.{call_in-said, expects_by, judged_call, judged_log, judged_nothing, judged_told, judged_unread, on_ok, seen_said, seen_silent, told_said, told_silent}
 use Rattle.workbench.proofs.TurnLemmas.{learns_said, learns_silent}
-use Rattle.workbench.proofs.FailLemmas.{fails_before, fails_beside, fails_for_room, holes_take, line_takes, or_none}
+use Rattle.workbench.proofs.FailLemmas.{fails_before, fails_beside, fails_for_room, holes_take, line_takes}
+use Rattle.scenario.proofs.FaultLemmas.{or_none}
 use Rattle.workbench.proofs.turn.play_filled.Goals as goal
 
 abbrev silent_ok : Result Bool PlayFault
@@ -64,11 +65,11 @@ returns-in-Err-clause-seen g c = λ start earlier watches.
 
 -- which faults come of it
 pub returns-in-Ok-Nothing-clause-failing : goal.returns-in-Ok-Nothing-clause-failing
-returns-in-Ok-Nothing-clause-failing g c = or_none _ _ c.requires.works.writes c.requires.works.complains
+returns-in-Ok-Nothing-clause-failing g c = or_none _ _ c.requires.works.writes c.requires.works.own
 
 pub returns-in-Ok-Log-clause-failing : goal.returns-in-Ok-Log-clause-failing
 returns-in-Ok-Log-clause-failing g c =
-    fails_for_room c.expect_line.result _ _ (or_none _ _ c.requires.works.writes c.requires.works.complains)
+    fails_for_room c.expect_line.result _ _ (or_none _ _ c.requires.works.writes c.requires.works.own)
     (line_takes g.W.Watch.takes (filled_view c.args.filled.now) c.args.filled.now.line.now _ (ap (λ s. says (Ok s)) (sym c.in-Ok-Log.field-0-is) ∙ c.in-Ok-Log.ensures.value) refl) c.expect_line.ensures.fault
 
 pub returns-in-Ok-clause-failing : goal.returns-in-Ok-clause-failing
@@ -76,7 +77,7 @@ returns-in-Ok-clause-failing g c = fails_beside c.take_in.result _ _ _ _ c.in-Ok
 
 pub returns-in-Err-answer_call-clause-failing : goal.returns-in-Err-answer_call-clause-failing
 returns-in-Err-answer_call-clause-failing g c =
-    fails_before (failed c.in-Err-answer_call.fault) _ _ g.W.Watch.takes _ c.requires.works.complains c.in-Err-answer_call.ensures.failing
+    fails_before (failed c.in-Err-answer_call.fault) _ _ g.W.Watch.takes _ c.requires.works.own c.in-Err-answer_call.ensures.failing
     (λ takes. line_takes g.W.Watch.takes (filled_view c.args.filled.now) c.args.filled.now.line.now _ (ap (λ s. says (Ok s)) (sym c.in-Ok-Call.field-0-is) ∙ c.in-Ok-Call.ensures.value) takes)
 
 pub returns-in-Err-clause-failing : goal.returns-in-Err-clause-failing
