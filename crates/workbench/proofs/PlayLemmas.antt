@@ -1,6 +1,7 @@
 -- A play from line to line: what was played, and what it leaves at its end.
 use Rattle.std.proofs.Common.{◌≡◌, ◌||◌, ℕ, ◌+◌, ◌<◌, ◌≤◌, ◌^◌, List, [], ◌∷◌, ◌++◌, length, Option, Some, None, IfSome, IfNone, Result, Ok, Err, OnOk, Bool, true, false, ⊎_elim, arith, refl, sym, ◌∙◌, ap, subst, append-nil}
 use Rattle.std.specs.Io.KnownBytes.{Appends}
+use Rattle.std.specs.Result.{result_err}
 use Rattle.own_model.specs.SaidBy.{said_by}
 use Rattle.own_model.specs.Transcript.{heard}
 use Rattle.own_model.specs.World.{World, world_running}
@@ -109,13 +110,13 @@ module _ (only : Option (List ℕ)) (start mid : World) (first stand : Stand) (x
   bench_plays tells calls seen last next judged write_failed w w' g g' a world told sees after fails = record {
     piece = told_of_turns tells only earlier (turn_of stand line ∷ []);
     more = sym (told_more only tells start mid first stand [] xs (line ∷ []) left stands);
-    tells = tells_counted judged (subst (TellsUnless judged w g w' g') (told_of_turns-one only tells earlier (turn_of stand line)) told);
+    tells = tells_counted _ judged (subst (TellsUnless judged w g w' g') (told_of_turns-one only tells earlier (turn_of stand line)) told);
     goes_on = goes_on calls seen last next judged write_failed a world sees after fails;
   }
     where
-      tells_counted : {text : List ℕ} (r : Result Bool PlayFault) → TellsUnless r w g w' g' text → TellsUnless (counted r) w g w' g' text
-      tells_counted (Ok complained) told = told
-      tells_counted (Err fault) told = told
+      tells_counted : (text : List ℕ) (r : Result Bool PlayFault) → TellsUnless r w g w' g' text → TellsUnless (counted r) w g w' g' text
+      tells_counted text (Ok complained) told = told
+      tells_counted text (Err fault) told = told
 
 -- the same for a player that is the one that began
 pub bench_line : {R N T : Type 0} (only_of : R → Option (List ℕ)) (seen_old seen_new : R → List (List ℕ) → Type 0) {name now_name : N} {at run : R} {telling now_telling : T} {holds now_holds : List ℕ} (start mid last : World) (first stand next : Stand) (xs : List (List ℕ)) (line : List ℕ)
@@ -188,6 +189,19 @@ module _ (A : Type 0) (calls : Bool) (only : Option (List ℕ)) (old new : World
 pub cut_behind : (input rest : Option (List ℕ)) (lines : List (List ℕ)) (failed : Bool) → length lines ≤ most_lines → EndsFor most_lines None lines input rest failed → EndsFor most_lines (Some WriteFault) lines input rest failed
 cut_behind None rest lines failed few ends = tt
 cut_behind (Some text) rest lines failed few ends = (ends.0, ends.1, (few, ends.2.1))
+
+-- what is complained of then comes as a fault, where it can't be told
+pub closes_as : (judged : Result Bool PlayFault) (a b : Bool) → Fails judged b false → ClosesAs None (result_err (counted judged)) a b
+closes_as (Ok complained) a b fails = fails
+closes_as (Err ReadFault) a b fails = absurd fails
+closes_as (Err WriteFault) a b fails = (refl, fails)
+closes_as (Err TooManyLines) a b fails = absurd fails
+closes_as (Err NoMemory) a b fails = absurd (let e : false ≡ true = fails.1 in cc)
+
+-- complaints can be told where no fault came
+pub complaints_work : (fault : Option PlayFault) (k a : Bool) → (k || a) ≡ is_write_fault fault → IfNone fault (a ≡ false)
+complaints_work None k a writing = (none_of k a writing).1
+complaints_work (Some fault) k a writing = tt
 
 -- what is complained of then may not be told
 pub plays_closed : {tells : List (List ℕ) → ℕ → List ℕ → List ℕ} {calls : Bool} {seen : List (List ℕ) → Type 0} {only : Option (List ℕ)} {first : Stand} {count : ℕ} {old new : World} {front : List ℕ} {input rest : Option (List ℕ)} {failed : Bool} {w w' : Option (List ℕ)}

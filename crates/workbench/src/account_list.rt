@@ -68,33 +68,33 @@ pub fn accounts<S: Source, K: Sink, E: Sink>(
 {
     let list = StartList::read(alloc, play.machine)?;
     let mut core = boot(alloc, &list)?;
-    let notes = Notes::new(alloc, play.scenario, play.given)?;
+    let mut notes = Notes::new(alloc, play.scenario, play.given)?;
     let run = Run {
         list: &list,
         only: None,
     };
-    let peaks = Peaks::new(alloc, &core)?;
-    Ok(play_with_peaks(&run, &mut core, notes, peaks, reader, writer, complaints))
+    let mut peaks = Peaks::new(alloc, &core)?;
+    Ok(play_with_peaks(&run, &mut core, &mut notes, &mut peaks, reader, writer, complaints))
 }
 
 // The same on a machine that has booted, with the peaks of its accounts.
 fn play_with_peaks<R: Router + Drop, S: Source, K: Sink, E: Sink>(
     run: &Run<'_>,
     core: &mut Core<R>,
-    notes: Notes<'_>,
-    peaks: Peaks,
+    notes: &mut Notes<'_>,
+    peaks: &mut Peaks,
     reader: &mut S,
     writer: &mut K,
     complaints: &mut E,
 ) -> Ending
     requires listed { core.old.entries ≡ entries_of (start_list_of run.now.list.now) }
     requires all { run.now.only ≡ None }
-    requires first { notes.stand.number ≡ 1 }
-    requires sees { SeesPeaks (peaked peaks.init) peaks.components.items
-        peaks.sessions.items run.now.list.now core.old [] }
+    requires first { notes.old.stand.number ≡ 1 }
+    requires sees { SeesPeaks (peaked peaks.old.init) peaks.old.components.items
+        peaks.old.sessions.items run.now.list.now core.old [] }
     ensures played { fault_before (S.has_failed reader.old)
         (K.has_failed writer.old || E.has_failed complaints.old) ≡ None →
-        IsPlayedFrom (turns_of None core.old notes.stand) (λ _. [])
+        IsPlayedFrom (turns_of None core.old notes.old.stand) (λ _. [])
         (λ turns. peaks_text run.now.list.now core.old (calls_answered None turns))
         true result (S.remaining reader.old) (S.remaining reader.new)
         (S.has_failed reader.new) (K.contents writer.old) (K.contents writer.new) }
@@ -109,21 +109,14 @@ fn play_with_peaks<R: Router + Drop, S: Source, K: Sink, E: Sink>(
         × (complaints.new ≡ complaints.old)) }
 {
     let mut bench = Bench {
-        run: *run,
+        complaints,
+        run: &*run,
         notes,
         watch: peaks,
-        complaints,
         complained: 0,
     };
     let ending = play_lines(&mut bench, core, b"", reader, writer);
-    let Bench {
-        run: _run,
-        notes: _notes,
-        watch: peaks,
-        complaints: _complaints,
-        complained: _complained,
-    } = bench;
-    close_with_peaks(ending, core, run.list, &peaks, writer)
+    close_with_peaks(ending, core, run.list, &*bench.watch, writer)
 }
 
 // Writes the list behind a play that came to its end.

@@ -14,39 +14,54 @@ use pd_core::{Core, Router};
 use scenario::{Gather, PlayFault, Player, Run, Sink};
 
 /// Plays lines of the friendly form: each call is answered, told to a watch, and held against what is expected.
-pub(crate) struct Bench<'a, W: Watch, E: Sink> {
-    /// Who is called by which name, and whose lines are answered.
-    pub run: Run<'a>,
-    /// What is kept from line to line.
-    pub notes: Notes<'a>,
-    /// Who is told of each call.
-    pub watch: W,
+pub(crate) struct Bench<'e, 'r, 'l, 'n, 's, 'w, W: Watch, E: Sink> {
     /// Where complaints are written.
-    pub complaints: &'a mut E,
+    pub complaints: &'e mut E,
+    /// Who is called by which name, and whose lines are answered.
+    pub run: &'r Run<'l>,
+    /// What is kept from line to line.
+    pub notes: &'n mut Notes<'s>,
+    /// Who is told of each call.
+    pub watch: &'w mut W,
     /// How many complaints there were.
     pub complained: u64,
 }
 
-impl<W: Watch, E: Sink> Player for Bench<'_, W, E> {
-    ghost told = { λ bench start lines. told_of_turns (W.tells bench.watch start)
-        (option_copied bench.run.only) []
-        (turns_of (option_copied bench.run.only) start bench.notes.stand lines) };
+impl<W: Watch, E: Sink> Drop for Bench<'_, '_, '_, '_, '_, '_, W, E> {
+    // Where complaints were written goes back as it is.
+    fn drop(self)
+        ensures { self.exit.0.now ≡ self.entry.complaints.now }
+    {
+        let Bench {
+            complaints: _complaints,
+            run: _run,
+            notes: _notes,
+            watch: _watch,
+            complained: _complained,
+        } = self;
+    }
+}
+
+impl<W: Watch, E: Sink> Player for Bench<'_, '_, '_, '_, '_, '_, W, E> {
+    ghost told = { λ bench start lines. told_of_turns (W.tells bench.watch.now start)
+        (option_copied bench.run.now.only) []
+        (turns_of (option_copied bench.run.now.only) start bench.notes.now.stand lines) };
 
     ghost leads = { λ first start bench world lines.
-        Remains first.complaints.ghost_name bench.complaints.ghost_name first.run bench.run
-        (W.tells first.watch) (W.tells bench.watch) (W.holds first.watch) (W.holds bench.watch)
-        × LeadsTurns (option_copied first.run.only) start world first.notes.stand
-        bench.notes.stand (W.sees bench.watch first.run.list.now start) lines };
+        Remains first.complaints.ghost_name bench.complaints.ghost_name first.run.now bench.run.now
+        (W.tells first.watch.now) (W.tells bench.watch.now) (W.holds first.watch.now) (W.holds bench.watch.now)
+        × LeadsTurns (option_copied first.run.now.only) start world first.notes.now.stand
+        bench.notes.now.stand (W.sees bench.watch.now first.run.now.list.now start) lines };
 
     ghost stops = { λ first start bench world fault lines.
-        Remains first.complaints.ghost_name bench.complaints.ghost_name first.run bench.run
-        (W.tells first.watch) (W.tells bench.watch) (W.holds first.watch) (W.holds bench.watch)
-        × StopsTurns W.takes (option_copied first.run.only) start world first.notes.stand
+        Remains first.complaints.ghost_name bench.complaints.ghost_name first.run.now bench.run.now
+        (W.tells first.watch.now) (W.tells bench.watch.now) (W.holds first.watch.now) (W.holds bench.watch.now)
+        × StopsTurns W.takes (option_copied first.run.now.only) start world first.notes.now.stand
         fault lines };
 
     ghost is_ready = { λ bench world more.
-        (world.entries ≡ entries_of (start_list_of bench.run.list.now))
-        × StaysBelow bench.notes.stand more };
+        (world.entries ≡ entries_of (start_list_of bench.run.now.list.now))
+        × StaysBelow bench.notes.now.stand more };
 
     ghost has_failed = { λ bench. E.has_failed bench.complaints.now };
 
@@ -57,13 +72,14 @@ impl<W: Watch, E: Sink> Player for Bench<'_, W, E> {
         gathered: &mut Gather,
         writer: &mut K,
     ) -> Result<(), PlayFault> {
+        let notes = &mut *self.notes;
         let judged = play_line(
-            &self.run,
+            self.run,
             core,
-            &mut self.notes.stand,
+            &mut notes.stand,
             line,
-            &mut self.notes.desk,
-            &mut self.watch,
+            &mut notes.desk,
+            self.watch,
             gathered,
             writer,
             self.complaints,

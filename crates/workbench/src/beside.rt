@@ -197,7 +197,7 @@ pub fn alone<S: Source, K: Sink, E: Sink>(
 {
     let list = StartList::read(alloc, play.machine)?;
     let mut core = boot(alloc, &list)?;
-    let notes = Notes::new(alloc, play.scenario, play.given)?;
+    let mut notes = Notes::new(alloc, play.scenario, play.given)?;
     let run = Run {
         list: &list,
         only: None,
@@ -205,29 +205,29 @@ pub fn alone<S: Source, K: Sink, E: Sink>(
     let second = boot(alloc, &list)?;
     let reply = Reply::boot(alloc)?;
     Ok(play_beside(
-        &run, &mut core, second, reply, name, notes, reader, writer, complaints,
+        &run, &mut core, second, reply, name, &mut notes, reader, writer, complaints,
     ))
 }
 
 // The same on two machines that have booted.
-fn play_beside<R: Router + Drop, Q: Router + Drop, S: Source, K: Sink, E: Sink>(
-    run: &Run<'_>,
+fn play_beside<'a, R: Router + Drop, Q: Router + Drop, S: Source, K: Sink, E: Sink>(
+    run: &Run<'a>,
     core: &mut Core<R>,
     second: Core<Q>,
     reply: Reply,
-    name: &[u8],
-    notes: Notes<'_>,
+    name: &'a [u8],
+    notes: &mut Notes<'_>,
     reader: &mut S,
     writer: &mut K,
     complaints: &mut E,
 ) -> Ending
     requires listed { core.old.entries ≡ entries_of (start_list_of run.now.list.now) }
     requires all { run.now.only ≡ None }
-    requires first { notes.stand.number ≡ 1 }
+    requires first { notes.old.stand.number ≡ 1 }
     requires same { second ≡ core.old }
     ensures played { fault_before (S.has_failed reader.old)
         (K.has_failed writer.old || E.has_failed complaints.old) ≡ None →
-        IsPlayedFrom (turns_of None core.old notes.stand)
+        IsPlayedFrom (turns_of None core.old notes.old.stand)
         (λ turns. told_of_turns (alone_tells name.now core.old) None [] turns)
         (λ turns. alone_sum name.now (length (calls_answered (Some name.now) turns)))
         false result (S.remaining reader.old) (S.remaining reader.new)
@@ -242,7 +242,7 @@ fn play_beside<R: Router + Drop, Q: Router + Drop, S: Source, K: Sink, E: Sink>(
         × (reader.new ≡ reader.old) × (writer.new ≡ writer.old)
         × (complaints.new ≡ complaints.old)) }
 {
-    let watch = SecondMachine {
+    let mut watch = SecondMachine {
         list: run.list,
         name,
         core: second,
@@ -251,21 +251,20 @@ fn play_beside<R: Router + Drop, Q: Router + Drop, S: Source, K: Sink, E: Sink>(
         difference: None,
     };
     let mut bench = Bench {
-        run: *run,
-        notes,
-        watch,
         complaints,
+        run: &*run,
+        notes,
+        watch: &mut watch,
         complained: 0,
     };
     let ending = play_lines(&mut bench, core, b"", reader, writer);
-    let Bench {
-        run: _run,
-        notes: _notes,
-        watch,
-        complaints: _complaints,
-        complained: _complained,
-    } = bench;
-    close_with_sum(ending, name, watch.lines, watch.difference, writer)
+    close_with_sum(
+        ending,
+        name,
+        bench.watch.lines,
+        bench.watch.difference,
+        writer,
+    )
 }
 
 // Writes behind a play that came to its end how many lines there were, and whether the answers are the same.

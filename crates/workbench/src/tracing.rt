@@ -246,29 +246,29 @@ pub fn trace<S: Source, K: Sink, E: Sink>(
 {
     let list = StartList::read(alloc, play.machine)?;
     let mut core = boot(alloc, &list)?;
-    let notes = Notes::new(alloc, play.scenario, play.given)?;
+    let mut notes = Notes::new(alloc, play.scenario, play.given)?;
     let run = Run {
         list: &list,
         only: None,
     };
-    Ok(trace_on(&run, &mut core, notes, reader, writer, complaints))
+    Ok(trace_on(&run, &mut core, &mut notes, reader, writer, complaints))
 }
 
 // The same on a machine that has booted.
 fn trace_on<R: Router + Drop, S: Source, K: Sink, E: Sink>(
     run: &Run<'_>,
     core: &mut Core<R>,
-    notes: Notes<'_>,
+    notes: &mut Notes<'_>,
     reader: &mut S,
     writer: &mut K,
     complaints: &mut E,
 ) -> Ending
     requires listed { core.old.entries ≡ entries_of (start_list_of run.now.list.now) }
     requires all { run.now.only ≡ None }
-    requires first { notes.stand.number ≡ 1 }
+    requires first { notes.old.stand.number ≡ 1 }
     ensures played { fault_before (S.has_failed reader.old)
         (K.has_failed writer.old || E.has_failed complaints.old) ≡ None →
-        IsPlayedFrom (turns_of None core.old notes.stand)
+        IsPlayedFrom (turns_of None core.old notes.old.stand)
         (λ turns. trace_header ++ told_of_turns (trace_tells core.old) None [] turns) (λ _. [])
         false result (S.remaining reader.old) (S.remaining reader.new)
         (S.has_failed reader.new) (K.contents writer.old) (K.contents writer.new) }
@@ -282,20 +282,13 @@ fn trace_on<R: Router + Drop, S: Source, K: Sink, E: Sink>(
         × (reader.new ≡ reader.old) × (writer.new ≡ writer.old)
         × (complaints.new ≡ complaints.old)) }
 {
+    let mut watch = Tracer;
     let mut bench = Bench {
-        run: *run,
-        notes,
-        watch: Tracer,
         complaints,
+        run: &*run,
+        notes,
+        watch: &mut watch,
         complained: 0,
     };
-    let ending = play_lines(&mut bench, core, HEADER, reader, writer);
-    let Bench {
-        run: _run,
-        notes: _notes,
-        watch: _watch,
-        complaints: _complaints,
-        complained: _complained,
-    } = bench;
-    ending
+    play_lines(&mut bench, core, HEADER, reader, writer)
 }

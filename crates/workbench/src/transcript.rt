@@ -147,29 +147,29 @@ pub fn run<S: Source, K: Sink, E: Sink>(
 {
     let list = StartList::read(alloc, play.machine)?;
     let mut core = boot(alloc, &list)?;
-    let notes = Notes::new(alloc, play.scenario, play.given)?;
+    let mut notes = Notes::new(alloc, play.scenario, play.given)?;
     let run = Run {
         list: &list,
         only: showing.only,
     };
-    Ok(run_on(&run, &mut core, notes, showing, reader, writer, complaints))
+    Ok(run_on(&run, &mut core, &mut notes, showing, reader, writer, complaints))
 }
 
 // The same on a machine that has booted.
 fn run_on<R: Router + Drop, S: Source, K: Sink, E: Sink>(
     run: &Run<'_>,
     core: &mut Core<R>,
-    notes: Notes<'_>,
+    notes: &mut Notes<'_>,
     showing: Showing<'_>,
     reader: &mut S,
     writer: &mut K,
     complaints: &mut E,
 ) -> Ending
     requires listed { core.old.entries ≡ entries_of (start_list_of run.now.list.now) }
-    requires first { notes.stand.number ≡ 1 }
+    requires first { notes.old.stand.number ≡ 1 }
     ensures played { fault_before (S.has_failed reader.old)
         (K.has_failed writer.old || E.has_failed complaints.old) ≡ None →
-        IsPlayedFrom (turns_of (option_copied run.now.only) core.old notes.stand)
+        IsPlayedFrom (turns_of (option_copied run.now.only) core.old notes.old.stand)
         (shown_of showing.entry.numbers (option_copied run.now.only) core.old)
         (list_behind showing.entry.accounts (option_copied run.now.only) run.now.list.now core.old)
         false result
@@ -185,23 +185,17 @@ fn run_on<R: Router + Drop, S: Source, K: Sink, E: Sink>(
         × (reader.new ≡ reader.old) × (writer.new ≡ writer.old)
         × (complaints.new ≡ complaints.old)) }
 {
+    let mut watch = Transcript {
+        numbers: showing.numbers,
+    };
     let mut bench = Bench {
-        run: *run,
-        notes,
-        watch: Transcript {
-            numbers: showing.numbers,
-        },
         complaints,
+        run: &*run,
+        notes,
+        watch: &mut watch,
         complained: 0,
     };
     let ending = play_lines(&mut bench, core, b"", reader, writer);
-    let Bench {
-        run: _run,
-        notes: _notes,
-        watch: _watch,
-        complaints: _complaints,
-        complained: _complained,
-    } = bench;
     let accounts = showing.accounts;
     if accounts {
         close_with_list(ending, core, run.list, writer)

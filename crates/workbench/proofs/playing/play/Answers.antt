@@ -3,7 +3,7 @@ use Rattle.std.proofs.Common.{ℕ, List, [], arith, refl, sym, subst, ap, ◌∙
 use Rattle.std.specs.Option.{option_copied}
 use Rattle.scenario.specs.Gathered.{Tells, TellsPart}
 use Rattle.workbench.specs.Turns.{low}
-use Rattle.workbench.proofs.PlayLemmas.{closed_on, closed_writing, leads_none, plays_closed, remains, turns_played, world_left}
+use Rattle.workbench.proofs.PlayLemmas.{closed_on, closed_writing, complaints_work, leads_none, plays_closed, remains, turns_played, world_left}
 use Rattle.workbench.proofs.WriteLemmas.{front_cut, plays_behind}
 use Rattle.workbench.proofs.playing.play.Goals as goal
 
@@ -13,12 +13,15 @@ play-played-requires-clause-ready g c = (c.requires.listed, record { most = low;
 pub play-played-requires-clause-leads : goal.play-played-requires-clause-leads
 play-played-requires-clause-leads g c = (
   record { name_is = refl; run_is = refl; tells_is = refl; holds_is = refl },
-  leads_none (option_copied c.args.bench.now.run.only) c.args.core.now c.args.bench.now.notes.stand _ c.requires.sees,
+  leads_none (option_copied c.args.bench.now.run.now.only) c.args.core.now c.args.bench.now.notes.now.stand _ c.requires.sees,
 )
+
+pub close-fault-requires : goal.close-fault-requires
+close-fault-requires g c = record { works = complaints_work c.play-played.result.fault _ _ c.play-played.ensures.writing }
 
 pub returns-in-Err-clause-plays : goal.returns-in-Err-clause-plays
 returns-in-Err-clause-plays g c = λ works.
-    front_cut c.args.bench.now.notes.stand 0 c.args.core.now (g.S.Source.remaining c.args.reader.now) (g.S.Source.has_failed c.args.reader.now) c.new-buffers.ensures.gathered c.in-Err.ensures.told
+    front_cut c.args.bench.now.notes.now.stand 0 c.args.core.now (g.S.Source.remaining c.args.reader.now) (g.S.Source.has_failed c.args.reader.now) c.new-buffers.ensures.gathered c.in-Err.ensures.told
 
 pub returns-clause-plays : goal.returns-clause-plays
 returns-clause-plays g c = λ works.

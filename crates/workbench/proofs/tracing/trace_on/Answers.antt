@@ -3,4 +3,4 @@ use Rattle.workbench.proofs.ViewLemmas.{trace_played}
 use Rattle.workbench.proofs.tracing.trace_on.Goals as goal
 
 pub returns-clause-played : goal.returns-clause-played
-returns-clause-played g c = λ works. trace_played c.play-ending.result (rw c.requires.all at (c.play-ending.ensures.plays works))
+returns-clause-played g c = λ works. trace_played c.play.result (rw c.requires.all at (c.play.ensures.plays works))

@@ -13,18 +13,18 @@ use Rattle.workbench.proofs.bench.BenchPlayer.play_too_long.Goals as goal
 pub returns-clause-played : goal.returns-clause-played
 returns-clause-played g c = λ first start earlier line long led.
     let now = c.args.self.now in
-    let stand = now.notes.stand in
-    let only = option_copied now.run.only in
-    let calls = calls_answered only (turns_of only start first.notes.stand earlier) in
+    let stand = now.notes.now.stand in
+    let only = option_copied now.run.now.only in
+    let calls = calls_answered only (turns_of only start first.notes.now.stand earlier) in
     let deed = deed_of-long stand line long in
     let silent = ap calls_in deed in
-    rw c.count.ensures (bench_line (λ run. option_copied run.only) (λ run. g.W.Watch.sees now.watch run.list.now start) (λ run. g.W.Watch.sees now.watch run.list.now start)
-    start c.args._core.now c.args._core.now first.notes.stand stand (passed stand) earlier line (g.W.Watch.tells first.watch start) g.W.Watch.takes c.tell_too_long-judged.result _ _ _ _ _
+    rw c.count.ensures (bench_line (λ run. option_copied run.only) (λ run. g.W.Watch.sees now.watch.now run.list.now start) (λ run. g.W.Watch.sees now.watch.now run.list.now start)
+    start c.args._core.now c.args._core.now first.notes.now.stand stand (passed stand) earlier line (g.W.Watch.tells first.watch.now start) g.W.Watch.takes c.tell_too_long-judged.result _ _ _ _ _
     (record { name_is = led.0.name_is; run_is = led.0.run_is; tells_is = led.0.tells_is; holds_is = led.0.holds_is }) led.1
     (λ here. (
       left_silent only (call_of stand line) silent c.args._core.now,
-      told_silent only (call_of stand line) silent c.tell_too_long-judged.result (g.W.Watch.tells first.watch start) calls stand.number (g.K.Sink.contents c.args._writer.now) c.args._gathered.now,
-      sees_on c.tell_too_long-judged.result (g.W.Watch.sees now.watch now.run.list.now) start c.args._core.now (calls ++ said_by only (call_of stand line)) (seen_silent only (call_of stand line) silent c.tell_too_long-judged.result (record { leads = here.world_is; sees = here.sees })),
+      told_silent only (call_of stand line) silent c.tell_too_long-judged.result (g.W.Watch.tells first.watch.now start) calls stand.number (g.K.Sink.contents c.args._writer.now) c.args._gathered.now,
+      sees_on c.tell_too_long-judged.result (g.W.Watch.sees now.watch.now now.run.now.list.now) start c.args._core.now (calls ++ said_by only (call_of stand line)) (seen_silent only (call_of stand line) silent c.tell_too_long-judged.result (record { leads = here.world_is; sees = here.sees })),
       on_ok c.tell_too_long-judged.result (ap (stand_after only c.args._core.now (passed stand)) (sym deed)),
     ))
     (fails_wider c.tell_too_long-judged.result _ _ c.tell_too_long-judged.ensures.failing))
@@ -35,4 +35,4 @@ returns-clause-failing g c =
 
 pub returns-clause-ready : goal.returns-clause-ready
 returns-clause-ready g c = λ more ready.
-    rw c.count.ensures (ready_next c.tell_too_long-judged.result c.args.self.now.notes.stand (passed c.args.self.now.notes.stand) more ready.0 ready.1 (on_ok c.tell_too_long-judged.result (λ n above within. omega (arith, within))))
+    rw c.count.ensures (ready_next c.tell_too_long-judged.result c.args.self.now.notes.now.stand (passed c.args.self.now.notes.now.stand) more ready.0 ready.1 (on_ok c.tell_too_long-judged.result (λ n above within. omega (arith, within))))
