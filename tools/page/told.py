@@ -81,11 +81,11 @@ def policy_of(text, status, broken, rules):
 # --- of a scenario
 
 def accounts_of(told):
-    """Reads the account list with peaks; the reserve of a script stands with its account."""
+    """Reads the account list with needs and peaks; the reserve of a script stands with its account."""
     accounts = []
     for line in told.splitlines():
         found = re.match(
-            r"(account|session) (\S+)(?: (\d+))? ram (\d+)/(\d+) caps (\d+)/(\d+) peak ram (\d+) caps (\d+)(?: server (\S+) label (.*))?",
+            r"(account|session) (\S+)(?: (\d+))? ram (\d+)/(\d+) caps (\d+)/(\d+)(?: gone)? need ram \d+ caps \d+ peak ram (\d+) caps (\d+)(?: server (\S+) label (.*))?",
             line,
         )
         reserve = re.match(r"reserve (\S+) ram (\d+) caps (\d+)", line)

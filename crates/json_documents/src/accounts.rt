@@ -1,13 +1,13 @@
-//! The account list with peaks, as documents.
+//! The account list with needs and peaks, as documents.
 use crate::column::Column;
 use crate::document::Document;
 use crate::rows::listed;
 use std::alloc::{AllocError, Global};
 
 /// How many pieces a line has at most: what stands behind the word `label` is one.
-const PIECES: usize = 16;
+const PIECES: usize = 21;
 
-/// A list with a document for each line of the account list with peaks.
+/// A list with a document for each line of the account list with needs and peaks.
 pub fn account_documents(alloc: Global, lines: &[u8]) -> Result<Vec<u8>, AllocError> {
     let mut documents = Vec::new(alloc);
     for line in lines.split(|byte| *byte == b'\n') {
@@ -23,7 +23,7 @@ pub fn account_documents(alloc: Global, lines: &[u8]) -> Result<Vec<u8>, AllocEr
 // The document of a line.
 fn document_of(alloc: Global, line: &[u8]) -> Result<Vec<u8>, AllocError> {
     let mut pieces: Vec<&[u8]> = Vec::new(alloc);
-    for piece in line.splitn(PIECES, |byte| *byte == b' ') {
+    for piece in line.splitn(most_pieces(line), |byte| *byte == b' ') {
         pieces.push(piece)?;
     }
     let mut members = Members {
@@ -40,9 +40,7 @@ fn document_of(alloc: Global, line: &[u8]) -> Result<Vec<u8>, AllocError> {
         b"session" => {
             members.add(Column::Text("name"), 1)?;
             members.add(Column::Number("session"), 2)?;
-            members.add_account(4)?;
-            members.add(Column::Text("server"), 13)?;
-            members.add(Column::Text("label"), 15)?;
+            members.add_session()?;
         }
         b"reserve" => {
             members.add(Column::Text("name"), 1)?;
@@ -51,6 +49,16 @@ fn document_of(alloc: Global, line: &[u8]) -> Result<Vec<u8>, AllocError> {
         _ => members.add_two(2)?,
     }
     members.document.into_text(alloc)
+}
+
+// How many pieces a line has at most: that of a session that was closed has neither use nor limits.
+fn most_pieces(line: &[u8]) -> usize {
+    for (place, piece) in line.splitn(5, |byte| *byte == b' ').enumerate() {
+        if place == 3 && piece == b"closed".as_slice() {
+            return PIECES - 3;
+        }
+    }
+    PIECES
 }
 
 // The members of a line's document, by the line's pieces.
@@ -79,12 +87,39 @@ impl<'a> Members<'a> {
         self.add(Column::Number("caps"), place.saturating_add(2))
     }
 
-    // Use, limit and peak of RAM and of capabilities, of which the first stands at this place.
+    // Use, limit, need and peak of RAM and of capabilities, of which the first stands at this place; and whether the component is
+    // gone.
     fn add_account(&mut self, place: usize) -> Result<(), AllocError> {
         self.add_use("ram_used", "ram_limit", place)?;
         self.add_use("caps_used", "caps_limit", place.saturating_add(2))?;
-        self.add(Column::Number("ram_peak"), place.saturating_add(5))?;
-        self.add(Column::Number("caps_peak"), place.saturating_add(7))
+        let mut word = place.saturating_add(3);
+        if self.piece(word) == b"gone".as_slice() {
+            self.add(Column::Text("state"), word)?;
+            word = word.saturating_add(1);
+        }
+        self.add_need(word)
+    }
+
+    // What stands behind the selector of a session, which is open or was closed.
+    fn add_session(&mut self) -> Result<(), AllocError> {
+        let mut server = 18;
+        if self.piece(3) == b"closed".as_slice() {
+            self.add(Column::Text("state"), 3)?;
+            self.add_need(4)?;
+            server = 15;
+        } else {
+            self.add_account(4)?;
+        }
+        self.add(Column::Text("server"), server)?;
+        self.add(Column::Text("label"), server.saturating_add(2))
+    }
+
+    // Need and peak, of which the first word stands at this place.
+    fn add_need(&mut self, word: usize) -> Result<(), AllocError> {
+        self.add(Column::Number("ram_need"), word.saturating_add(2))?;
+        self.add(Column::Number("caps_need"), word.saturating_add(4))?;
+        self.add(Column::Number("ram_peak"), word.saturating_add(7))?;
+        self.add(Column::Number("caps_peak"), word.saturating_add(9))
     }
 
     // What is used, and behind `/` the limit.

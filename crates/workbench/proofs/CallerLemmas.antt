@@ -23,14 +23,14 @@ heard_binary (Server service) false is says component = refl
 heard_binary Init true is says component = refl
 heard_binary Init false is says component = absurd (true≢false is)
 
-somebody : ListedEntry
+abbrev pub somebody : ListedEntry
 somebody = record { name = []; path = []; label = []; home = 0; binary = Script; ram = 0; caps = 0; provides = false; route = None; reserve = None; inner_route = [] }
 
 module _ (list : Listed) (component : ℕ) (within : component < length list.entries) where
   abbrev here : ListedEntry
   here = get_or list.entries component somebody
 
-  kind_here : (entry_at (entries_of (start_list_of list)) component).kind ≡ kind_of here.binary
+  pub kind_here : (entry_at (entries_of (start_list_of list)) component).kind ≡ kind_of here.binary
   kind_here =
       ap (λ (e : Entry). e.kind)
       (get_or-map (λ (start : StartEntry). start.entry) (map (start_of list) list.entries) component (start_of list somebody) nobody (omega (arith, within, length-map list.entries (start_of list)))

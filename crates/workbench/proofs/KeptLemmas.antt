@@ -161,7 +161,7 @@ begun_there (Some x) account server label is = let same : account ≡ x.account 
 -- ---- what a line opens
 
 -- a line is heard as what it says
-heard_said : (entries : List Entry) (line : List ℕ) → heard entries line ≡ heard_spoken entries (said_in line)
+pub heard_said : (entries : List Entry) (line : List ℕ) → heard entries line ≡ heard_spoken entries (said_in line)
 heard_said entries line =
     elim (nat_le (length line) longest_line) as (λ b. cond b (heard_spoken entries (spoken line)) NoCall ≡ heard_spoken entries (cond b (spoken line) None)) [ true ↦ refl | false ↦ refl ]
 

@@ -12,5 +12,9 @@ pub mod NotedLemmas
 pub mod KeptLemmas
 pub mod CallerLemmas
 pub mod SaidLemmas
+pub mod NeedLemmas
+pub mod HearLemmas
+pub mod ClosedLemmas
+pub mod AccountingLemmas
 pub mod ListLemmas
 pub mod RowLemmas

@@ -3,30 +3,26 @@ use Rattle.std.proofs.Common.{◌≡◌, ℕ, ◌≤◌, List, [], ◌∷◌, �
 use Rattle.std.proofs.lemmas.Bool.Decides.{nat_tests}
 use Rattle.std.specs.List.{filter}
 use Rattle.own_model.specs.SaidBy.{is_said_by, said_by}
-use Rattle.own_model.specs.Amounts.{Amounts}
 use Rattle.own_model.specs.Listed.{Listed, start_list_of}
 use Rattle.own_model.specs.StartList.{entries_of}
 use Rattle.own_model.specs.World.{World}
 use Rattle.friendly_lines.specs.Friendly.{Said}
 use Rattle.friendly_lines.specs.Friendly.Said.{Nothing, Log, Call}
 use Rattle.friendly_lines.specs.declared.fault.Fault.{Fault}
-use Rattle.scenario.specs.Accounts.{list_with}
 use Rattle.scenario.specs.Program.{accounts_for}
 use Rattle.workbench.specs.Alone.{SeesAlone, alone_sum, alone_tells}
-use Rattle.workbench.specs.Kept.{SeesPeaks, found, peak_at}
-use Rattle.workbench.specs.PeakList.{peaks_beside, peaks_text}
+use Rattle.workbench.specs.Accounting.{SeesAccounts, accounts_text, sessions_kept, text_kept}
 use Rattle.workbench.specs.Played.{calls_answered, calls_said, told_of_calls, told_of_turns}
 use Rattle.workbench.specs.Plays.{PlaysAll}
 use Rattle.workbench.specs.Tracing.{trace_header, trace_tells}
 use Rattle.workbench.specs.Turns.{Deed, Turn, call_in, calls_in, left_behind, next_stand, turns_of}
 use Rattle.workbench.specs.Turns.Deed.{TooLong, Unnamed, Follows, Says}
 use Rattle.workbench.specs.Writes.{Closes, IsPlayedFrom, WritesAfter, list_behind, run_tells, shown_of}
+use Rattle.workbench.specs.declared.accounting.Accounting.{Accounting}
 use Rattle.workbench.specs.declared.ending.Ending.{Ending}
 use Rattle.scenario.specs.declared.play_fault.PlayFault.{PlayFault}
-use Rattle.workbench.specs.declared.peaks.Peak.{Peak}
-use Rattle.workbench.specs.declared.peaks.Session.{Session}
 use Rattle.workbench.specs.declared.stand.Stand.{Stand}
-use Rattle.workbench.proofs.ListLemmas.{list_is}
+use Rattle.workbench.proofs.ListLemmas.{text_is}
 use Rattle.workbench.proofs.PlayedLemmas.{told_as_engine}
 use Rattle.workbench.proofs.WriteLemmas.{closes_alone, played_from}
 
@@ -108,7 +104,7 @@ pub alone_same : (fault : Option PlayFault) (name : List ℕ) (start core : Worl
 alone_same None name start core count difference lines sees = sees.alike
 alone_same (Some fault) name start core count difference lines sees = tt
 
--- ---- the account list with peaks
+-- ---- the account list with needs and peaks
 
 -- nothing is told of lines
 silent_calls : (earlier : List (List ℕ)) (number : ℕ) (calls : List (List ℕ)) → told_of_calls (λ _ _ _. []) earlier number calls ≡ []
@@ -121,18 +117,16 @@ silent_turns only earlier (turn ∷ turns) =
     ap (λ text. text ++ told_of_turns (λ _ _ _. []) only (earlier ++ said_by only (calls_in turn.deed)) turns) (silent_calls earlier turn.number (said_by only (calls_in turn.deed)))
     ∙ silent_turns only (earlier ++ said_by only (calls_in turn.deed)) turns
 
-pub accounts_played : (listed : Listed) {init : Amounts} {components : List Peak} {sessions : List Session} {first : Stand} {start last : World} {input rest w w' w'' : Option (List ℕ)} {failed : Bool} (played ended : Ending) →
-    start.entries ≡ entries_of (start_list_of listed) →
-    PlaysAll (λ _ _ _. []) true (SeesPeaks init components sessions listed start) None first played.fault played.lines start last [] input rest failed w w' →
-    Closes played ended w' w'' (list_with listed last (peaks_beside (entries_of (start_list_of listed)) init (peak_at components) (found sessions))) →
-    IsPlayedFrom (turns_of None start first) (λ _. []) (λ turns. peaks_text listed start (calls_answered None turns)) true ended input rest failed w w''
-accounts_played listed {init = init} {components = components} {sessions = sessions} {first = first} {start = start} {last = last} {w' = w'} {w'' = w''} played ended entries plays closes =
+pub accounts_played : (watch : Accounting) (listed : Listed) {first : Stand} {start last : World} {input rest w w' w'' : Option (List ℕ)} {failed : Bool} (played ended : Ending) → start.entries ≡ entries_of (start_list_of listed) →
+    PlaysAll (λ _ _ _. []) true (SeesAccounts watch listed start) None first played.fault played.lines start last [] input rest failed w w' → Closes played ended w' w'' (text_kept watch listed last) →
+    IsPlayedFrom (turns_of None start first) (λ _. []) (λ turns. accounts_text (sessions_kept watch) listed start (calls_answered None turns)) true ended input rest failed w w''
+accounts_played watch listed {first = first} {start = start} {last = last} {w' = w'} {w'' = w''} played ended entries plays closes =
     played_from played ended plays (silent_turns None [] turns) (closes_as played ended w' w'' _ _ (same played.fault plays.sees) closes)
   where
     turns : List Turn
     turns = turns_of None start first plays.given
 
-    same : (f : Option PlayFault) → IfNone f (SeesPeaks init components sessions listed start (calls_answered None turns)) →
-        IfNone f (list_with listed last (peaks_beside (entries_of (start_list_of listed)) init (peak_at components) (found sessions)) ≡ peaks_text listed start (calls_answered None turns))
-    same None sees = list_is sees plays.world entries
+    same : (f : Option PlayFault) → IfNone f (SeesAccounts watch listed start (calls_answered None turns)) →
+        IfNone f (text_kept watch listed last ≡ accounts_text (sessions_kept watch) listed start (calls_answered None turns))
+    same None sees = text_is watch listed sees entries plays.world
     same (Some fault) sees = tt

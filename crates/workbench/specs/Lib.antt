@@ -12,3 +12,6 @@ pub mod Alone
 pub mod Peaks
 pub mod Kept
 pub mod PeakList
+pub mod Needs
+pub mod Meters
+pub mod Accounting

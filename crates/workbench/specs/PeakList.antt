@@ -1,17 +1,14 @@
--- The account list with peaks, servers and labels.
+-- Peaks, servers and labels, as they stand beside accounts.
 use Rattle.std.specs.Prelude.{ℕ, ◌++◌, List, [], length, nat_lt, codes, if◌then◌else◌, Option, Some, None}
 use Rattle.own_model.specs.Amounts.{Amounts}
 use Rattle.own_model.specs.Listed.{Listed, start_list_of}
 use Rattle.own_model.specs.Reply.{amounts_text}
 use Rattle.own_model.specs.StartList.{Entry, entries_of}
 use Rattle.own_model.specs.Transcript.{entry_at}
-use Rattle.own_model.specs.World.{World, account_at, machine_init, world_running}
-use Rattle.scenario.specs.Accounts.{Beside, list_with}
-use Rattle.scenario.specs.Program.{world_of}
+use Rattle.own_model.specs.World.{World, account_at, machine_init}
+use Rattle.scenario.specs.Accounts.{Beside}
 use Rattle.scenario.specs.declared.columns.Owner.TheVariants.{Init, Component, Session}
 use Rattle.workbench.specs.Peaks.{Noted, noted_of, peak_of, worlds}
-use Rattle.workbench.specs.Played.{calls_answered}
-use Rattle.workbench.specs.Turns.{Turn}
 
 -- a peak, as it stands beside an account
 abbrev pub peak_text : Amounts → List ℕ
@@ -45,10 +42,3 @@ beside_after listed start calls =
     peaks_beside (entries_of (start_list_of listed)) (peak_of machine_init (worlds start calls))
     (λ place. peak_of (λ w. account_at w place) (worlds start calls))
     (λ place selector. Some (noted_of listed start calls place selector))
-
--- the account list with all that
-abbrev pub peaks_text : Listed → World → List (List ℕ) → List ℕ
-peaks_text listed start calls = list_with listed (world_running start calls) (beside_after listed start calls)
-
-abbrev pub accounts_behind : Listed → List Turn → List ℕ
-accounts_behind listed turns = peaks_text listed (world_of listed) (calls_answered None turns)

@@ -3,8 +3,10 @@
 #![tactic(auto)]
 
 mod account_list;
+mod accounting;
 mod bench;
 mod beside;
+mod closed_lines;
 mod complaint;
 mod critic;
 mod ending;
@@ -12,7 +14,9 @@ mod expected;
 mod given;
 mod laws;
 mod machine;
+mod metered;
 mod near;
+mod needs;
 mod notes;
 mod peak_columns;
 mod peaks;

@@ -59,8 +59,8 @@ fn put_peak<K: Sink>(peak: Peak, gathered: &mut Gather, sink: &mut K) -> Result<
     gathered.put(sink, text.as_slice())
 }
 
-// Gathers the peak of a session, its server and its label.
-fn put_session<K: Sink>(
+/// Gathers the peak of a session, its server and its label.
+pub(crate) fn put_session<K: Sink>(
     list: &StartList,
     session: &Session,
     gathered: &mut Gather,
@@ -94,8 +94,8 @@ fn put_server<K: Sink>(
     put_three(b" server ", name, b" label ", gathered, sink)
 }
 
-// The name of the component at a place, or `?` where there is none.
-fn name_at(list: &StartList, place: Option<usize>) -> &[u8]
+/// The name of the component at a place, or `?` where there is none.
+pub(crate) fn name_at(list: &StartList, place: Option<usize>) -> &[u8]
     ensures { result.now ≡ name_at (entries_of (start_list_of list.now)) place }
 {
     match place {

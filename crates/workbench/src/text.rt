@@ -1,10 +1,11 @@
 //! Pieces of text.
-ghost use Rattle.std.specs.Prelude.{◌≡◌, ◌+◌, ◌<◌, ◌≤◌, ◌++◌, length, false, is_err, IfSome, IfNone, Some, None};
+ghost use Rattle.std.specs.Prelude.{◌≡◌, ◌+◌, ◌<◌, ◌≤◌, ◌++◌, [], length, false, is_err, IfSome, IfNone, Some, None};
 ghost use Rattle.arrayvec.specs.ArrayVec.{array_vec_len};
 ghost use Rattle.own_model.specs.Call.{Call as Said};
 ghost use Rattle.own_model.specs.Listed.{start_list_of};
 ghost use Rattle.own_model.specs.StartList.{entries_of};
-ghost use Rattle.own_model.specs.Transcript.{heard_spoken};
+ghost use Rattle.own_model.specs.Transcript.{calls_in, heard, heard_spoken};
+ghost use Rattle.own_model.specs.Transcript.Heard.{Caller};
 ghost use Rattle.pd_core.specs.Call.{model_call};
 ghost use Rattle.scenario.specs.Gathered.{TellsUnless};
 ghost use Rattle.scenario.specs.Read.{IsReadAs};
@@ -83,6 +84,25 @@ pub(crate) fn said_in<'a>(line: &[u8], call: Option<NamedCall<'a>>) -> Option<(&
         Some(said) => Some((said.name, said.call)),
         None => None,
     }
+}
+
+/// The component that a line calls of which this was read, with its call, if it calls one.
+#[tactic(auto, using(crate::proofs::HearLemmas::calls_none, crate::proofs::HearLemmas::calls_nobody, crate::proofs::HearLemmas::calls_one))]
+pub(crate) fn made_in<'a>(
+    list: &StartList,
+    line: &[u8],
+    call: Option<NamedCall<'a>>,
+) -> Option<(usize, Call<'a>)>
+    requires { IsReadAs line.now call }
+    ensures some { IfSome result (λ made. heard (entries_of (start_list_of list.now)) line.now
+        ≡ Caller (record { component = made.0; call = model_call made.1 })) }
+    ensures none { IfNone result
+        (calls_in (heard (entries_of (start_list_of list.now)) line.now) ≡ []) }
+    ensures inside { IfSome result (λ made. made.0 < length list.now.entries) }
+{
+    let (name, call) = said_in(line, call)?;
+    let component = caller_of(list, name)?;
+    Some((component, call))
 }
 
 /// The component that a call under a name is heard of: none where nobody has the name, or an init, which makes no calls.

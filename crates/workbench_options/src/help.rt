@@ -62,7 +62,7 @@ pub(crate) const ROUTE: &str =
 pub(crate) const TRACE: &str = "Write a table (CSV) of all lines with what each left in use";
 
 pub(crate) const ACCOUNTS: &str =
-    "Tell all accounts after a scenario, with each session's server and each peak";
+    "Tell all accounts after a scenario, with each need and peak and each session's server";
 
 pub(crate) const ALONE: &str =
     "Show side by side what NAME, or with --all each script, is told among the others and alone";

@@ -1,6 +1,6 @@
 -- On the machine of the text.
 use Rattle.std.proofs.Common.{ap, [], None}
-use Rattle.workbench.specs.PeakList.{peaks_text}
+use Rattle.workbench.specs.Accounting.{accounts_text}
 use Rattle.workbench.specs.Played.{calls_answered}
 use Rattle.workbench.specs.Turns.{first_with}
 use Rattle.workbench.proofs.KeptLemmas.{sees_first}
@@ -9,16 +9,23 @@ use Rattle.workbench.proofs.account_list.accounts.Goals as goal
 
 pub returns-clause-played : goal.returns-clause-played
 returns-clause-played g c = λ works.
-    is_played None (first_with c.args.play.given) (λ _ _. []) (λ listed start turns. peaks_text listed start (calls_answered None turns)) c.play_with_peaks.result _ _ _ _ _
-    c.in_ok-list.ensures.ok c.in_ok-core.ensures.covered c.in_ok-core.ensures.started c.in_ok-notes.ensures.stand (c.play_with_peaks.ensures.played works)
+    let played = c.play_accounting.ensures.played works in (
+      played.0,
+      is_played None (first_with c.args.play.given) (λ _ _. []) (λ listed start turns. accounts_text played.0 listed start (calls_answered None turns)) c.play_accounting.result _ _ _ _ _
+          c.in_ok-list.ensures.ok c.in_ok-core.ensures.covered c.in_ok-core.ensures.started c.in_ok-notes.ensures.stand played.1,
+    )
 
-pub play_with_peaks-requires-clause-sees : goal.play_with_peaks-requires-clause-sees
-play_with_peaks-requires-clause-sees g c =
-    sees_first c.in_ok-list.list c.in_ok-core.ensures.started c.in_ok-peaks.ensures.init c.in_ok-peaks.ensures.count c.in_ok-peaks.ensures.components c.in_ok-peaks.ensures.sessions
+pub play_accounting-requires-clause-sees : goal.play_accounting-requires-clause-sees
+play_accounting-requires-clause-sees g c = record {
+  peaks =
+      sees_first c.in_ok-list.list c.in_ok-core.ensures.started c.in_ok-peaks.ensures.init c.in_ok-peaks.ensures.count c.in_ok-peaks.ensures.components c.in_ok-peaks.ensures.sessions;
+  needs = c.in_ok-needs.ensures c.in_ok-list.list c.in_ok-core.ensures.started;
+}
 
 pub returns-clause-ok : goal.returns-clause-ok
 returns-clause-ok g c =
-    ends_for_cause _ _ _ c.play_with_peaks.ensures.played (unplayed_with c.play_with_peaks.result _ _ _ _ _ (ap g.S.Source.has_failed) c.play_with_peaks.ensures.before) c.play_with_peaks.ensures.writing
+    ends_for_cause _ _ _ (λ works. (c.play_accounting.ensures.played works).1)
+    (unplayed_with c.play_accounting.result _ _ _ _ _ (ap g.S.Source.has_failed) c.play_accounting.ensures.before) c.play_accounting.ensures.writing
 
 pub returns-clause-before : goal.returns-clause-before
-returns-clause-before g c = unplayed_on _ c.play_with_peaks.result _ _ _ _ c.in_ok-list.ensures.ok c.in_ok-core.ensures.covered c.play_with_peaks.ensures.before
+returns-clause-before g c = unplayed_on _ c.play_accounting.result _ _ _ _ c.in_ok-list.ensures.ok c.in_ok-core.ensures.covered c.play_accounting.ensures.before

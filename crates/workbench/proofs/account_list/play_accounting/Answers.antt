@@ -1,0 +1,11 @@
+-- The list behind what the play writes, which is nothing.
+use Rattle.workbench.specs.Accounting.{sessions_kept}
+use Rattle.workbench.proofs.ViewLemmas.{accounts_played}
+use Rattle.workbench.proofs.account_list.play_accounting.Goals as goal
+
+pub returns-clause-played : goal.returns-clause-played
+returns-clause-played g c = λ works. (
+  sessions_kept c.play-ending.new.bench.watch,
+  accounts_played c.play-ending.new.bench.watch c.args.run.now.list.now c.play-ending.result c.close_accounting.result c.requires.listed
+      (rw c.requires.all at (c.play-ending.ensures.plays works)) c.close_accounting.ensures.closes,
+)
