@@ -122,27 +122,27 @@ fn play_accounting<R: Router + Drop, S: Source, K: Sink, E: Sink>(
         complained: 0,
     };
     let ending = play_lines(&mut bench, core, b"", reader, writer);
-    close_accounting(ending, core, run.list, &*bench.watch, writer)
+    close_accounting(ending, core, run.list, &bench, writer)
 }
 
 // Writes the list behind a play that came to its end.
-fn close_accounting<R: Router + Drop, K: Sink>(
+fn close_accounting<R: Router + Drop, K: Sink, E: Sink>(
     ending: Ending,
     core: &Core<R>,
     list: &StartList,
-    watch: &Accounting,
+    bench: &Bench<'_, '_, '_, '_, '_, '_, Accounting, E>,
     writer: &mut K,
 ) -> Ending
     requires listed { core.now.entries ≡ entries_of (start_list_of list.now) }
     ensures closes { Closes ending result (K.contents writer.old) (K.contents writer.new)
-        (text_kept watch.now list.now core.now) }
+        (text_kept bench.now.watch.now list.now core.now) }
     ensures failing { IfNone ending.fault (K.has_failed writer.new ≡ is_write_fault result.fault) }
     ensures stopped { IfSome ending.fault (λ _. (result ≡ ending) × (writer.new ≡ writer.old)) }
 {
     if ending.fault.is_some() {
         return ending;
     }
-    match write_accounts(core, list, watch, writer) {
+    match write_accounts(core, list, bench.watch, writer) {
         Ok(()) => ending,
         Err(fault) => ending.stopped_by(PlayFault::from(fault)),
     }
