@@ -1,0 +1,16 @@
+-- A write that fails in one part loses the parts after it.
+use Rattle.scenario.proofs.GatheredLemmas.{Tells-more, Tells-front, told_err, told_more}
+use Rattle.workbench.proofs.beside.put_heard.Goals as goal
+
+pub returns-in_err-put_line-clause-told : goal.returns-in_err-put_line-clause-told
+returns-in_err-put_line-clause-told g c =
+    told_err _ _ _ c.from_residual.ensures.1
+    (_, Tells-front _ (Tells-front _ (c.in_err-put_line.ensures.told.1)))
+
+pub returns-in_err-put_text_behind-clause-told : goal.returns-in_err-put_text_behind-clause-told
+returns-in_err-put_text_behind-clause-told g c =
+    told_err _ _ _ c.from_residual-in_err-put_text_behind.ensures.1
+    (_, Tells-front _ (Tells-more c.in_ok-put_line.ensures.told (c.in_err-put_text_behind.ensures.told.1)))
+
+pub returns-clause-told : goal.returns-clause-told
+returns-clause-told g c = told_more _ _ _ _ (Tells-more c.in_ok-put_line.ensures.told c.in_ok-put_text_behind.ensures.told) c.put.ensures.told
