@@ -42,6 +42,17 @@ shown_found (b ∷ bs) hex is all =
     let count = bytes_of_digits (b ∷ bs) (hex_bytes hex) some in
     sym (ap (λ (o : Option (List ℕ)). shown_text (unwrap_or o [])) some ∙ some_shown (hex_bytes hex) (length bs) (omega (arith, count)) all)
 
+some_not : (bytes : List ℕ) → list_all is_shown bytes ≡ false → None ≡ shown_text bytes
+some_not [] all = refl
+some_not (b ∷ bytes) all = ap (λ (t : Bool). cond t (Some (signs_text (b ∷ bytes))) None) (sym all)
+
+-- and nothing of bytes that can't
+pub shown_missing : (text hex : List ℕ) → Some (hex_bytes hex) ≡ some_bytes_of_hex text → list_all is_shown (hex_bytes hex) ≡ false → None ≡ shown_text (hex_bytes text)
+shown_missing [] hex is all = refl
+shown_missing (b ∷ bs) hex is all =
+    let some : bytes_of_hex (b ∷ bs) ≡ Some (hex_bytes hex) = let_through (nat_lt 0 (length (b ∷ bs))) (bytes_of_hex (b ∷ bs)) (hex_bytes hex) is in
+    some_not (hex_bytes hex) all ∙ sym (ap (λ (o : Option (List ℕ)). shown_text (unwrap_or o [])) some)
+
 -- ---- byte by byte
 
 -- the byte at a place is the first from there on
