@@ -122,8 +122,8 @@ fn a_read_that_fails_ends_each_play(rt: HostRuntime) -> Result<(), Fail> {
         (
             Kind::Trace,
             b"line,component,call,reply,ram_used,ram_limit,caps_used,caps_limit,session,\
-              session_ram_used,session_ram_limit,session_caps_used,session_caps_limit\n\
-              1,alice,alloc 4096,cap 1,4096,65536,1,16,,,,,\n",
+              session_ram_used,session_ram_limit,session_caps_used,session_caps_limit,text\n\
+              1,alice,alloc 4096,cap 1,4096,65536,1,16,,,,,,\n",
         ),
         (Kind::Accounts, b""),
         (

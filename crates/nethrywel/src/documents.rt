@@ -8,7 +8,7 @@ use std::io::{ErrorKind, Write};
 use workbench::{Ending, Play, PlayFault, accounts, trace};
 
 /// The columns of a trace.
-static TRACE: [Column; 13] = [
+static TRACE: [Column; 14] = [
     Column::Number("line"),
     Column::Text("component"),
     Column::Text("call"),
@@ -22,6 +22,7 @@ static TRACE: [Column; 13] = [
     Column::Number("session_ram_limit"),
     Column::Number("session_caps_used"),
     Column::Number("session_caps_limit"),
+    Column::Filled("text"),
 ];
 
 /// Plays a scenario, and tells a document for each row of its trace, a line each.

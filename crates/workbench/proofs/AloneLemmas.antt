@@ -5,6 +5,7 @@ use Rattle.std.proofs.lemmas.Slice.Eq.{bytes_eq-Decides}
 use Rattle.own_model.specs.Call.{Spoken, spoken}
 use Rattle.own_model.specs.OwnStep.{own_step}
 use Rattle.std.specs.List.{flat_map}
+use Rattle.std.specs.Option.{option_map_or}
 use Rattle.own_model.specs.Reply.{log_text, reply_text}
 use Rattle.own_model.specs.SaidBy.{component_of, is_said_by, is_under, said_by}
 use Rattle.own_model.specs.StartList.{Entry, Kind}
@@ -22,6 +23,7 @@ use Rattle.scenario.proofs.AnsweringLemmas.{told_answer}
 use Rattle.scenario.proofs.ToldLemmas.{left_by_both, said_by-append}
 use Rattle.workbench.specs.Alone.{AreAlike, SeesAlone, alone_tells, told_in}
 use Rattle.workbench.specs.Played.{calls_said}
+use Rattle.workbench.specs.Texts.{in_brackets, line_text}
 
 -- a call that was heard is the name's
 abbrev IsOf : List ℕ → List Entry → Heard → Type 0
@@ -119,7 +121,7 @@ told_none_of name start earlier number call none = rw (not_said name call (is_sa
 -- of the name's both answers
 pub told_both_of : (name : List ℕ) (start core : World) (earlier : List (List ℕ)) (number : ℕ) (call : List ℕ) (whole alone : LineAnswer) → core ≡ after_all (Some name) start earlier →
     IsAnswer (world_running start earlier) (heard start.entries call) whole → AnswersLine (Some name) core call (Some alone) →
-    (decimal number ++ codes ": " ++ call ++ 10 ∷ []) ++ (codes "  whole: " ++ answer_text (Some whole)) ++ (codes "  alone: " ++ answer_text (Some alone)) ≡ alone_tells name start earlier number call
+    (decimal number ++ codes ": " ++ call ++ option_map_or in_brackets (line_text call) [] ++ 10 ∷ []) ++ (codes "  whole: " ++ answer_text (Some whole)) ++ (codes "  alone: " ++ answer_text (Some alone)) ≡ alone_tells name start earlier number call
 told_both_of name start core earlier number call whole alone leads in_whole in_alone =
     let here : IsAnswer (after_all (Some name) start earlier) (heard start.entries call) alone = subst (λ (w : World). IsAnswer w (heard w.entries call) alone) leads in_alone.1 in
     rw (

@@ -18,3 +18,4 @@ pub mod ClosedLemmas
 pub mod AccountingLemmas
 pub mod ListLemmas
 pub mod RowLemmas
+pub mod ShownLemmas

@@ -4,7 +4,7 @@ use Rattle.std.specs.Prelude.{decimal}
 use Rattle.std.specs.Char.{is_ascii_digit}
 use Rattle.std.specs.List.{list_any}
 use Rattle.std.specs.Str.{all_ascii_digits}
-use Rattle.std.specs.Option.{option_map}
+use Rattle.std.specs.Option.{option_map, unwrap_or}
 use Rattle.std.proofs.Math.Seq.{take-suc}
 use Rattle.std.proofs.lemmas.Bool.Decides.{nat_tests}
 use Rattle.std.proofs.lemmas.Fmt.{digits_decimal}
@@ -18,6 +18,7 @@ use Rattle.own_model.specs.Transcript.{heard}
 use Rattle.own_model.specs.World.{World, world_running}
 use Rattle.scenario.specs.declared.answering.LineAnswer.{LineAnswer}
 use Rattle.scenario.proofs.ToldLemmas.{world_running-append}
+use Rattle.workbench.specs.Texts.{line_text}
 use Rattle.workbench.specs.Tracing.{account_cells, call_text, cell_text, cells_of, figures, open_cells, stranger_cells, trace_row, trace_tells}
 use Rattle.workbench.specs.Watching.{IsToldOf}
 
@@ -85,6 +86,10 @@ cells_more [] ys = refl
 cells_more (x ∷ xs) ys =
     ap (λ text. cell_text x ++ text) (cells_more xs ys) ∙ sym (append_assoc (cell_text x) (fields_text default_writer xs) (fields_text default_writer ys))
 
+-- one cell behind cells
+last_cell : (xs : List (List ℕ)) (x : List ℕ) → fields_text default_writer xs ++ cell_text x ≡ fields_text default_writer (xs ++ x ∷ [])
+last_cell xs x = sym (cells_more xs (x ∷ []) ∙ cell_then (fields_text default_writer xs) x [] ∙ none_then (fields_text default_writer xs ++ cell_text x))
+
 -- ---- a text in quotes
 
 byte_escaped : (b : ℕ) → escaped default_writer (b ∷ []) ≡ (if b == 34 then 34 ∷ b ∷ [] else b ∷ [])
@@ -103,7 +108,7 @@ escaped-none : (ys : List ℕ) → escaped default_writer ys ≡ escaped default
 unfolding escaped
 escaped-none ys = refl
 
-escaped-append : (xs ys : List ℕ) → escaped default_writer (xs ++ ys) ≡ escaped default_writer xs ++ escaped default_writer ys
+pub escaped-append : (xs ys : List ℕ) → escaped default_writer (xs ++ ys) ≡ escaped default_writer xs ++ escaped default_writer ys
 escaped-append [] ys = escaped-none ys
 escaped-append (b ∷ bs) ys =
     escaped-cons b (bs ++ ys) ∙ ap (λ text. escaped default_writer (b ∷ []) ++ text) (escaped-append bs ys)
@@ -137,10 +142,10 @@ unquoted_cell text needs = ap (λ (q : Bool). 44 ∷ cond q (quoted default_writ
 
 -- the row of a call that was told of, by its cells
 pub row_told : {start : World} {earlier : List (List ℕ)} {call : List ℕ} {core : World} {answer : LineAnswer} (number : ℕ) → IsToldOf start earlier call core answer →
-    decimal number ∷ answer.name.now ∷ call_text call ∷ answer.reply.now ∷ figures core (heard core.entries call) ≡ trace_row (world_running start earlier) number call
+    decimal number ∷ answer.name.now ∷ call_text call ∷ answer.reply.now ∷ (figures core (heard core.entries call) ++ unwrap_or (line_text call) [] ∷ []) ≡ trace_row (world_running start earlier) number call
 row_told {start} {earlier} {call} {core} {answer} number told =
     let left : core ≡ world_running (world_running start earlier) (call ∷ []) = told.leaves ∙ sym (world_running-append start earlier (call ∷ [])) in
-    λ i. decimal number ∷ told.answers.name i ∷ call_text call ∷ told.answers.reply i ∷ figures (left i) (heard (left i).entries call)
+    λ i. decimal number ∷ told.answers.name i ∷ call_text call ∷ told.answers.reply i ∷ (figures (left i) (heard (left i).entries call) ++ unwrap_or (line_text call) [] ∷ [])
 
 -- a row is its number, three cells and the others
 pub row_whole : (number : ℕ) (name call reply : List ℕ) (cells : List (List ℕ)) → number < 2 ^ 64 →
@@ -161,13 +166,18 @@ to_right : (a b c d e : List ℕ) → (((a ++ b) ++ c) ++ d) ++ e ≡ a ++ (b ++
 to_right a b c d e = append_assoc ((a ++ b) ++ c) d e ∙ append_assoc (a ++ b) c (d ++ e) ∙ append_assoc a b (c ++ (d ++ e))
 
 -- so what is put together is what is told of a call
-pub row_written : {start : World} {earlier : List (List ℕ)} {call : List ℕ} {core : World} {answer : LineAnswer} (number : ℕ) (says ends : List ℕ) → number < 2 ^ 64 → IsToldOf start earlier call core answer →
-    says ≡ call_text call → ends ≡ fields_text default_writer (figures core (heard core.entries call)) ++ 10 ∷ [] →
-    (((decimal number ++ cell_text answer.name.now) ++ cell_text says) ++ cell_text answer.reply.now) ++ ends ≡ trace_tells start earlier number call
-row_written {call = call} {core = core} {answer = answer} number says ends small told is_call is_ends =
-    (λ i. (((decimal number ++ cell_text answer.name.now) ++ cell_text (is_call i)) ++ cell_text answer.reply.now) ++ is_ends i)
+pub row_written : {start : World} {earlier : List (List ℕ)} {call : List ℕ} {core : World} {answer : LineAnswer} (number : ℕ) (says cells : List ℕ) (text : Option (List ℕ)) → number < 2 ^ 64 →
+    IsToldOf start earlier call core answer → says ≡ call_text call → cells ≡ fields_text default_writer (figures core (heard core.entries call)) → text ≡ line_text call →
+    decimal number ++ cell_text answer.name.now ++ cell_text says ++ cell_text answer.reply.now ++ cells ++ cell_text (unwrap_or text []) ++ 10 ∷ [] ≡ trace_tells start earlier number call
+row_written {call = call} {core = core} {answer = answer} number says cells text small told is_call is_cells is_text =
+    let front = decimal number ++ cell_text answer.name.now ++ cell_text (call_text call) ++ cell_text answer.reply.now in
+    let behind = figures core (heard core.entries call) in
+    let shown = unwrap_or (line_text call) [] in
+    (λ i. decimal number ++ cell_text answer.name.now ++ cell_text (is_call i) ++ cell_text answer.reply.now ++ is_cells i ++ cell_text (unwrap_or (is_text i) []) ++ 10 ∷ [])
+    ∙ ap (λ line. line ++ 10 ∷ []) (append_assoc front (fields_text default_writer behind) (cell_text shown) ∙ ap (λ more. front ++ more) (last_cell behind shown))
+    ∙ append_assoc front (fields_text default_writer (behind ++ shown ∷ [])) (10 ∷ [])
     ∙ to_right (decimal number) (cell_text answer.name.now) (cell_text (call_text call)) (cell_text answer.reply.now) _
-    ∙ row_whole number answer.name.now (call_text call) answer.reply.now (figures core (heard core.entries call)) small
+    ∙ row_whole number answer.name.now (call_text call) answer.reply.now (behind ++ shown ∷ []) small
     ∙ ap (row_text default_writer) (row_told number told)
 
 -- ---- the session that a call names, where it is there

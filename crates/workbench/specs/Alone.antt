@@ -1,11 +1,13 @@
 -- What one component is told in the whole run, and alone.
 use Rattle.std.specs.Prelude.{◌≡◌, ℕ, ◌<◌, ◌^◌, ◌==◌, true, List, [], ◌∷◌, ◌++◌, length, codes, decimal, if◌then◌else◌, Option, Some, None}
+use Rattle.std.specs.Option.{option_map_or}
 use Rattle.own_model.specs.Listed.{Listed}
 use Rattle.own_model.specs.SaidBy.{is_said_by, joined, pieces, pieces_for, said_by}
 use Rattle.own_model.specs.World.{World, world_running}
 use Rattle.scenario.specs.Answered.{after_all, told_of_all}
 use Rattle.workbench.specs.Played.{calls_answered, calls_said, told_of_turns}
 use Rattle.scenario.specs.Program.{world_of}
+use Rattle.workbench.specs.Texts.{in_brackets, line_text}
 use Rattle.workbench.specs.Turns.{Turn}
 use Rattle.workbench.specs.Writes.{transcript_of}
 
@@ -13,10 +15,11 @@ use Rattle.workbench.specs.Writes.{transcript_of}
 abbrev pub told_in : World → List ℕ → List ℕ
 told_in world call = told_of_all None world (call ∷ [])
 
--- a call in a line of this number, what it is told in one world, and what in another
+-- a call in a line of this number, behind it the text of its bytes, what it is told in one world, and what in another
 abbrev pub told_in_both : World → World → ℕ → List ℕ → List ℕ
 told_in_both whole alone number call =
-    (decimal number ++ codes ": " ++ call ++ 10 ∷ []) ++ (codes "  whole: " ++ told_in whole call)
+    (decimal number ++ codes ": " ++ call ++ option_map_or in_brackets (line_text call) [] ++ 10 ∷ [])
+    ++ (codes "  whole: " ++ told_in whole call)
     ++ (codes "  alone: " ++ told_in alone call)
 
 -- of a call of a name: what it is told after all calls before it, and what after the name's alone

@@ -7,6 +7,7 @@ pub mod Played
 pub mod Plays
 pub mod Watching
 pub mod Writes
+pub mod Texts
 pub mod Tracing
 pub mod Alone
 pub mod Peaks

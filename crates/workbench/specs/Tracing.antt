@@ -1,6 +1,7 @@
 -- The rows of a trace.
 use Rattle.std.specs.Prelude.{ℕ, ◌+◌, List, [], ◌∷◌, ◌++◌, length, drop, codes, decimal, Option, Some, None}
 use Rattle.std.specs.FinMap.{get}
+use Rattle.std.specs.Option.{unwrap_or}
 use Rattle.csv.specs.Writing.{comma, default_writer, field_text, row_text}
 use Rattle.own_model.specs.Account.{Account}
 use Rattle.own_model.specs.Call.{Call, Spoken}
@@ -15,6 +16,7 @@ use Rattle.own_model.specs.World.{World, account_at, world_running}
 use Rattle.scenario.specs.Answer.{answered_name, answered_reply}
 use Rattle.workbench.specs.Played.{told_of_turns}
 use Rattle.workbench.specs.Said.{said_in}
+use Rattle.workbench.specs.Texts.{line_text}
 use Rattle.workbench.specs.Turns.{Turn}
 use Rattle.scenario.specs.Program.{world_of}
 
@@ -64,12 +66,12 @@ figures world NoCall = stranger_cells
 figures world (Stranger name) = stranger_cells
 figures world (Caller made) = caller_cells world made.component made.call
 
--- the row of a call: the number of its line, who called, what, the reply, and the figures after it
+-- the row of a call: the number of its line, who called, what, the reply, the figures after it, and the text of its bytes
 abbrev pub trace_row : World → ℕ → List ℕ → List (List ℕ)
 trace_row before number call =
     let what = heard before.entries call in
     decimal number ∷ answered_name before what ∷ call_text call ∷ reply_text (answered_reply before what)
-    ∷ figures (world_running before (call ∷ [])) what
+    ∷ (figures (world_running before (call ∷ [])) what ++ unwrap_or (line_text call) [] ∷ [])
 
 -- a cell as it stands behind another
 abbrev pub cell_text : List ℕ → List ℕ
@@ -82,7 +84,7 @@ trace_tells start earlier number call = row_text default_writer (trace_row (worl
 -- the names of the columns
 abbrev pub trace_header : List ℕ
 trace_header =
-    codes "line,component,call,reply,ram_used,ram_limit,caps_used,caps_limit,session,session_ram_used,session_ram_limit,session_caps_used,session_caps_limit"
+    codes "line,component,call,reply,ram_used,ram_limit,caps_used,caps_limit,session,session_ram_used,session_ram_limit,session_caps_used,session_caps_limit,text"
     ++ 10 ∷ []
 
 -- a trace: the names of the columns, and a row for each call

@@ -1,5 +1,6 @@
 //! What one component is told in the whole run, and in a run of its own lines alone.
 ghost use Rattle.std.specs.Prelude.{◌≡◌, ◌≢◌, ◌≤◌, ◌∷◌, ◌++◌, ◌||◌, [], ℕ, List, codes, decimal, length, false, true, is_err, IfOk, IfErr, IfNone, IfSome, OnErr, None, Some};
+ghost use Rattle.std.specs.Option.{option_map_or};
 ghost use Rattle.std.specs.Result.{result_err};
 ghost use Rattle.own_model.specs.Listed.{start_list_of};
 ghost use Rattle.own_model.specs.StartList.{entries_of};
@@ -7,11 +8,13 @@ ghost use Rattle.init_core.specs.declared.fault.BootFault.TheVariants.{NoMemory}
 ghost use Rattle.scenario.specs.Answer.{answer_text};
 ghost use Rattle.scenario.specs.Gathered.{TellsUnless};
 ghost use Rattle.scenario.specs.Program.{boot_fault};
+ghost use Rattle.scenario.specs.Read.{IsReadAs};
 ghost use Rattle.scenario.specs.Runs.{HasCause};
 ghost use Rattle.workbench.specs.Faults.{fault_before, unplayed};
 ghost use Rattle.scenario.specs.Faults.{is_write_fault};
 ghost use Rattle.workbench.specs.Alone.{AreAlike, SeesAlone, alone_behind, alone_sum, alone_tells, alone_told};
 ghost use Rattle.workbench.specs.Played.{calls_answered, told_of_turns};
+ghost use Rattle.workbench.specs.Texts.{in_brackets, line_text};
 ghost use Rattle.workbench.specs.Turns.{first_with, turns_of};
 ghost use Rattle.workbench.specs.Writes.{Closes, IsPlayed, IsPlayedFrom, IsUnplayed, IsWrittenBy, turns_on};
 ghost use Rattle.scenario.specs.declared.play_fault.PlayFault.TheVariants.{NoMemory as NoRoom};
@@ -22,6 +25,7 @@ use crate::machine::Play;
 use crate::notes::Notes;
 use crate::playing::play as play_lines;
 use crate::text::{add, add_number, put_number, put_three};
+use crate::texts::{put_text_behind, shown_in};
 use crate::watch::{Heard, Watch};
 use arrayvec::ArrayVec;
 use init_core::{BootFault, StartList, boot};
@@ -97,28 +101,49 @@ fn first_difference(difference: Option<u64>, alike: bool, number: u64) -> Option
     }
 }
 
-// Gathers a line, its answer in the whole run, and the one alone.
+// Gathers a line with the text of its bytes, its answer in the whole run, and the one alone.
 fn put_both<K: Sink>(
     heard: &Heard<'_>,
     alone: &LineAnswer<'_>,
     gathered: &mut Gather,
     writer: &mut K,
 ) -> Result<(), DeviceFault>
-    requires { K.has_failed writer.old ≡ false }
+    requires works { K.has_failed writer.old ≡ false }
+    requires read { IsReadAs heard.now.line.now heard.now.call }
     ensures told { TellsUnless result (K.contents writer.old) gathered.old
         (K.contents writer.new) gathered.new
-        ((decimal heard.now.number ++ codes ": " ++ heard.now.line.now ++ 10 ∷ [])
+        ((decimal heard.now.number ++ codes ": " ++ heard.now.line.now
+        ++ option_map_or in_brackets (line_text heard.now.line.now) [] ++ 10 ∷ [])
         ++ (codes "  whole: " ++ answer_text (Some heard.now.answer))
         ++ (codes "  alone: " ++ answer_text (Some alone.now))) }
     ensures failing { K.has_failed writer.new ≡ is_err result }
 {
-    put_heard(heard.number, heard.line, gathered, writer)?;
+    put_heard(heard, gathered, writer)?;
     put_side(b"  whole: ", &heard.answer, gathered, writer)?;
     put_side(b"  alone: ", alone, gathered, writer)
 }
 
-// Gathers a line behind its number.
+// Gathers a line behind its number, and the text of its bytes behind it.
 fn put_heard<K: Sink>(
+    heard: &Heard<'_>,
+    gathered: &mut Gather,
+    writer: &mut K,
+) -> Result<(), DeviceFault>
+    requires works { K.has_failed writer.old ≡ false }
+    requires read { IsReadAs heard.now.line.now heard.now.call }
+    ensures told { TellsUnless result (K.contents writer.old) gathered.old
+        (K.contents writer.new) gathered.new
+        (decimal heard.now.number ++ codes ": " ++ heard.now.line.now
+        ++ option_map_or in_brackets (line_text heard.now.line.now) [] ++ 10 ∷ []) }
+    ensures failing { K.has_failed writer.new ≡ is_err result }
+{
+    put_line(heard.number, heard.line, gathered, writer)?;
+    put_text_behind(shown_in(heard.line, heard.call), gathered, writer)?;
+    gathered.put(writer, b"\n")
+}
+
+// Gathers a line behind its number.
+fn put_line<K: Sink>(
     number: u64,
     line: &[u8],
     gathered: &mut Gather,
@@ -126,14 +151,12 @@ fn put_heard<K: Sink>(
 ) -> Result<(), DeviceFault>
     requires { K.has_failed writer.old ≡ false }
     ensures told { TellsUnless result (K.contents writer.old) gathered.old
-        (K.contents writer.new) gathered.new
-        (decimal number ++ codes ": " ++ line.now ++ 10 ∷ []) }
+        (K.contents writer.new) gathered.new (decimal number ++ codes ": " ++ line.now) }
     ensures failing { K.has_failed writer.new ≡ is_err result }
 {
-    let mut front: ArrayVec<u8, LONGEST_NUMBER> = ArrayVec::new();
-    add_number(&mut front, number);
-    add(&mut front, b": ");
-    put_three(front.as_slice(), line, b"\n", gathered, writer)
+    put_number(number, gathered, writer)?;
+    gathered.put(writer, b": ")?;
+    gathered.put(writer, line)
 }
 
 // Gathers an answer behind the name of its side.
@@ -154,9 +177,9 @@ fn put_side<K: Sink>(
 }
 
 /// Plays a scenario on a machine, and the lines of one name alone on a second machine beside it. It writes of each of those
-/// lines its number, the line, and its answer in the whole run and the one alone; and last how many these are, and that they
-/// are the same; or that there are none, which counts as a complaint. They always are the same: each component's answers are
-/// those of its own run. Complaints are written as they come.
+/// lines its number, the line with the text of the bytes that it tells, and its answer in the whole run and the one alone; and
+/// last how many these are, and that they are the same; or that there are none, which counts as a complaint. They always are the
+/// same: each component's answers are those of its own run. Complaints are written as they come.
 ///
 /// At a fault what was told by then is written, or where a write failed or the host has no room a part of it, from the front. It
 /// stops as `run` does.

@@ -3,6 +3,7 @@ ghost use Rattle.std.specs.Prelude.{◌≡◌, false, is_err};
 
 use crate::shown::Shown;
 use crate::text::put_number;
+use crate::texts::put_text_behind;
 use scenario::{DeviceFault, Gather, Sink};
 
 /// Where in a scenario a complaint is about, both from 1 on.
@@ -77,10 +78,7 @@ impl<'a> Complaints<'a> {
     {
         self.gathered.put(sink, text)?;
         self.gathered.put(sink, b"`")?;
-        match Shown::of(text, is_text) {
-            Some(shown) => shown.put(&mut self.gathered, sink),
-            None => Ok(()),
-        }
+        put_text_behind(Shown::in_reply(text, is_text), &mut self.gathered, sink)
     }
 
     // Gathers where two texts part, and the end of the line.

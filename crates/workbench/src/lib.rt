@@ -25,6 +25,7 @@ mod row;
 mod shown;
 mod stand;
 mod text;
+mod texts;
 mod tracing;
 mod transcript;
 mod turn;

@@ -38,8 +38,8 @@ fn needs_quotes(text: &[u8]) -> bool
     text.iter().any(|byte| needs_byte(*byte))
 }
 
-// Whether a byte calls for quotes.
-fn needs_byte(byte: u8) -> bool
+/// Whether a byte calls for quotes.
+pub(crate) fn needs_byte(byte: u8) -> bool
     ensures { result ≡ needs_byte default_writer byte }
 {
     byte == b',' || byte == b'"' || byte == b'\r' || byte == b'\n'

@@ -1,41 +1,79 @@
-//! The bytes that a reply tells in hexadecimal digits, as text.
-ghost use Rattle.std.specs.Prelude.{◌≡◌, false, is_err};
+//! Bytes that a text tells in hexadecimal digits, as text.
+ghost use Rattle.std.specs.Prelude.{◌≡◌, ◌/◌, ◌<◌, false, get_or, is_err, length, Some};
+ghost use Rattle.std.specs.List.{list_all};
+ghost use Rattle.std.specs.Option.{option_map};
+ghost use Rattle.csv.specs.Writing.{default_writer, needs_quotes, quoted};
+ghost use Rattle.own_model.specs.Text.{bytes_of_hex, hex_bytes};
+ghost use Rattle.scenario.specs.Gathered.{TellsUnless};
+ghost use Rattle.workbench.specs.Texts.{in_brackets, is_shown, shown_text, sign_text, signs_text, written_in};
+ghost use Rattle.workbench.specs.Tracing.{cell_text};
 
+use crate::row::needs_byte;
 use scenario::{DeviceFault, Gather, Sink};
+use text_codec::{decode_hex_from, read_hex};
 
-/// The bytes of a reply, or of what is expected of one: the digits with which it ends, where all they stand for can be shown.
+/// Digits of one or more bytes that can all be shown.
 #[derive(Clone, Copy, Debug)]
 pub(crate) struct Shown<'a> {
-    digits: &'a [u8],
+    hex: &'a [u8],
+    ghost formed: { bytes_of_hex hex.now ≡ Some (hex_bytes hex.now) },
 }
 
 impl<'a> Shown<'a> {
-    /// Those of a text, if it has some: of what `peek` replies, and where text is expected.
-    pub(crate) fn of(text: &'a [u8], is_text_expected: bool) -> Option<Shown<'a>> {
-        if !is_text_expected && !text.starts_with(b"data ") {
-            return None;
+    /// A text, where it is such digits.
+    pub(crate) fn of(text: &'a [u8]) -> Option<Shown<'a>>
+        ensures { option_map (λ shown. signs_text (hex_bytes shown.hex.now)) result
+            ≡ shown_text (hex_bytes text.now) }
+    {
+        let hex = read_hex(text)?;
+        if are_shown(hex) {
+            Some(Shown { hex })
+        } else {
+            None
         }
-        let digits = last_word(text);
-        if digits.is_empty() || digits.len() % 2 != 0 {
-            return None;
-        }
-        if digits.chunks_exact(2).all(|pair| is_shown(byte_of(pair))) {
-            Some(Shown { digits })
+    }
+
+    /// The last word of a reply or of what is expected of one, if it is such digits and tells bytes: in what `peek` replies, and
+    /// where text is expected.
+    pub(crate) fn in_reply(reply: &'a [u8], is_text_expected: bool) -> Option<Shown<'a>> {
+        if is_text_expected || reply.starts_with(b"data ") {
+            Shown::of(last_word(reply))
         } else {
             None
         }
     }
 
     /// Gathers ` ("TEXT")`, with the escapes of the friendly form.
-    pub(crate) fn put<E: Sink>(self, gathered: &mut Gather, sink: &mut E) -> Result<(), DeviceFault>
-        requires { E.has_failed sink.old ≡ false }
-        ensures failing { E.has_failed sink.new ≡ is_err result }
+    pub(crate) fn put<K: Sink>(self, gathered: &mut Gather, sink: &mut K) -> Result<(), DeviceFault>
+        requires { K.has_failed sink.old ≡ false }
+        ensures told { TellsUnless result (K.contents sink.old) gathered.old
+            (K.contents sink.new) gathered.new
+            (in_brackets (signs_text (hex_bytes self.entry.hex.now))) }
+        ensures failing { K.has_failed sink.new ≡ is_err result }
     {
         gathered.put(sink, b" (\"")?;
-        for pair in self.digits.chunks_exact(2) {
-            put_byte(byte_of(pair), gathered, sink)?;
-        }
+        put_signs(self.hex, false, gathered, sink)?;
         gathered.put(sink, b"\")")
+    }
+
+    /// Gathers the text as a cell more, in quotes where it needs them.
+    pub(crate) fn put_cell<K: Sink>(
+        self,
+        gathered: &mut Gather,
+        sink: &mut K,
+    ) -> Result<(), DeviceFault>
+        requires { K.has_failed sink.old ≡ false }
+        ensures told { TellsUnless result (K.contents sink.old) gathered.old
+            (K.contents sink.new) gathered.new
+            (cell_text (signs_text (hex_bytes self.entry.hex.now))) }
+        ensures failing { K.has_failed sink.new ≡ is_err result }
+    {
+        gathered.put(sink, b",")?;
+        if need_quotes(self.hex) {
+            put_quoted(self.hex, gathered, sink)
+        } else {
+            put_signs(self.hex, false, gathered, sink)
+        }
     }
 }
 
@@ -47,48 +85,110 @@ fn last_word(text: &[u8]) -> &[u8] {
     }
 }
 
-// The byte of two digits, or none.
-fn byte_of(pair: &[u8]) -> Option<u8> {
-    let [high, low] = pair else {
-        return None;
-    };
-    let high = digit_of(*high)?;
-    let low = digit_of(*low)?;
-    high.checked_mul(16)?.checked_add(low)
+// The byte at a place of those that digits stand for.
+fn byte_at(hex: &[u8], place: usize) -> u8
+    requires formed { bytes_of_hex hex.now ≡ Some (hex_bytes hex.now) }
+    requires within { place < length hex.now / 2 }
+    ensures { result ≡ get_or (hex_bytes hex.now) place 0 }
+{
+    let mut byte = [0];
+    decode_hex_from(hex, place, &mut byte);
+    byte[0]
 }
 
-// The value of a digit.
-fn digit_of(byte: u8) -> Option<u8> {
-    match byte {
-        b'0'..=b'9' => byte.checked_sub(b'0'),
-        b'a'..=b'f' => byte.checked_sub(b'a' - 10),
-        _ => None,
+// Whether all bytes that digits stand for can be shown.
+fn are_shown(hex: &[u8]) -> bool
+    requires { bytes_of_hex hex.now ≡ Some (hex_bytes hex.now) }
+    ensures { result ≡ list_all is_shown (hex_bytes hex.now) }
+{
+    for place in 0..hex.len() / 2 {
+        if !is_shown(byte_at(hex, place)) {
+            return false;
+        }
     }
+    true
 }
 
-// Whether a byte can be shown: it is printed, or has an escape of its own.
-fn is_shown(byte: Option<u8>) -> bool {
-    match byte {
-        Some(byte) => byte == b'\n' || byte == b'\t' || (b' '..=b'~').contains(&byte),
-        None => false,
+// Whether a byte can be shown.
+fn is_shown(byte: u8) -> bool
+    ensures { result ≡ is_shown byte }
+{
+    byte == b'\n' || byte == b'\t' || (b' '..=b'~').contains(&byte)
+}
+
+// Whether the text of these bytes calls for quotes.
+fn need_quotes(hex: &[u8]) -> bool
+    requires { bytes_of_hex hex.now ≡ Some (hex_bytes hex.now) }
+    ensures { result ≡ needs_quotes default_writer (signs_text (hex_bytes hex.now)) }
+{
+    for place in 0..hex.len() / 2 {
+        if needs_quotes(byte_at(hex, place)) {
+            return true;
+        }
     }
+    false
 }
 
-// Gathers a byte, behind a backslash where it is a quote or one itself.
-fn put_byte<E: Sink>(
-    byte: Option<u8>,
+// Whether a byte's text does.
+fn needs_quotes(byte: u8) -> bool
+    ensures { result ≡ needs_quotes default_writer (sign_text byte) }
+{
+    byte != b'\n' && needs_byte(byte)
+}
+
+// Gathers the text of these bytes in quotes, with each quote in it twice.
+fn put_quoted<K: Sink>(hex: &[u8], gathered: &mut Gather, sink: &mut K) -> Result<(), DeviceFault>
+    requires formed { bytes_of_hex hex.now ≡ Some (hex_bytes hex.now) }
+    requires works { K.has_failed sink.old ≡ false }
+    ensures told { TellsUnless result (K.contents sink.old) gathered.old
+        (K.contents sink.new) gathered.new
+        (quoted default_writer (signs_text (hex_bytes hex.now))) }
+    ensures failing { K.has_failed sink.new ≡ is_err result }
+{
+    gathered.put(sink, b"\"")?;
+    put_signs(hex, true, gathered, sink)?;
+    gathered.put(sink, b"\"")
+}
+
+// Gathers the text of these bytes, as it stands or within the quotes of a cell.
+fn put_signs<K: Sink>(
+    hex: &[u8],
+    in_cell: bool,
     gathered: &mut Gather,
-    sink: &mut E,
+    sink: &mut K,
 ) -> Result<(), DeviceFault>
-    requires { E.has_failed sink.old ≡ false }
-    ensures failing { E.has_failed sink.new ≡ is_err result }
+    requires formed { bytes_of_hex hex.now ≡ Some (hex_bytes hex.now) }
+    requires works { K.has_failed sink.old ≡ false }
+    ensures told { TellsUnless result (K.contents sink.old) gathered.old
+        (K.contents sink.new) gathered.new
+        (written_in in_cell (signs_text (hex_bytes hex.now))) }
+    ensures failing { K.has_failed sink.new ≡ is_err result }
+{
+    for place in 0..hex.len() / 2 {
+        put_sign(byte_at(hex, place), in_cell, gathered, sink)?;
+    }
+    Ok(())
+}
+
+// Gathers the text of a byte.
+#[tactic(auto, unfolding(csv::specs::Writing::escaped))]
+fn put_sign<K: Sink>(
+    byte: u8,
+    in_cell: bool,
+    gathered: &mut Gather,
+    sink: &mut K,
+) -> Result<(), DeviceFault>
+    requires { K.has_failed sink.old ≡ false }
+    ensures told { TellsUnless result (K.contents sink.old) gathered.old
+        (K.contents sink.new) gathered.new
+        (written_in in_cell (sign_text byte)) }
+    ensures failing { K.has_failed sink.new ≡ is_err result }
 {
     match byte {
-        Some(b'\n') => gathered.put(sink, b"\\n"),
-        Some(b'\t') => gathered.put(sink, b"\\t"),
-        Some(b'"') => gathered.put(sink, b"\\\""),
-        Some(b'\\') => gathered.put(sink, b"\\\\"),
-        Some(byte) => gathered.put(sink, &[byte]),
-        None => Ok(()),
+        b'\n' => gathered.put(sink, b"\\n"),
+        b'\t' => gathered.put(sink, b"\\t"),
+        b'"' if in_cell => gathered.put(sink, b"\\\"\""),
+        b'"' | b'\\' => gathered.put(sink, &[b'\\', byte]),
+        _ => gathered.put(sink, &[byte]),
     }
 }

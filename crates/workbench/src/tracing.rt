@@ -1,9 +1,11 @@
 //! The trace of a scenario: a row of figures for each call.
 ghost use Rattle.std.specs.Prelude.{◌≡◌, ◌≢◌, ◌+◌, ◌^◌, ◌<◌, ◌≤◌, ◌∷◌, ◌++◌, ◌||◌, [], ⊤, length, decimal, false, is_err, IfOk, IfErr, IfSome, OnErr, IfNone, None, Some, drop};
+ghost use Rattle.std.specs.Option.{option_map, unwrap_or};
 ghost use Rattle.arrayvec.specs.ArrayVec.{array_vec_len};
 ghost use Rattle.csv.specs.Writing.{default_writer, fields_text};
 ghost use Rattle.own_model.specs.Listed.{start_list_of};
 ghost use Rattle.own_model.specs.StartList.{entries_of};
+ghost use Rattle.own_model.specs.Text.{hex_bytes};
 ghost use Rattle.own_model.specs.Transcript.{heard, heard_spoken, state_at};
 ghost use Rattle.init_core.specs.declared.fault.BootFault.TheVariants.{NoMemory};
 ghost use Rattle.pd_core.specs.Call.{model_call};
@@ -14,6 +16,7 @@ ghost use Rattle.scenario.specs.Runs.{HasCause};
 ghost use Rattle.workbench.specs.Faults.{fault_before, unplayed};
 ghost use Rattle.scenario.specs.Faults.{is_write_fault};
 ghost use Rattle.workbench.specs.Played.{told_of_turns};
+ghost use Rattle.workbench.specs.Texts.{signs_text};
 ghost use Rattle.workbench.specs.Tracing.{call_text, caller_cells, cell_text, figures, session_cells, session_of, stranger_cells, trace_header, trace_tells, trace_told};
 ghost use Rattle.workbench.specs.Turns.{first_with, turns_of};
 ghost use Rattle.workbench.specs.Writes.{IsPlayed, IsPlayedFrom, IsUnplayed, nothing_told, turns_on};
@@ -25,7 +28,9 @@ use crate::machine::Play;
 use crate::notes::Notes;
 use crate::playing::play as play_lines;
 use crate::row::{add_account, add_cell, put_cell};
+use crate::shown::Shown;
 use crate::text::{add, caller_of, put_number, said_in};
+use crate::texts::{put_text_cell, shown_in};
 use crate::watch::{Heard, Watch};
 use arrayvec::ArrayVec;
 use init_core::{BootFault, StartList, boot};
@@ -35,9 +40,9 @@ use std::alloc::Global;
 
 /// The names of the columns.
 const HEADER: &[u8] =
-    b"line,component,call,reply,ram_used,ram_limit,caps_used,caps_limit,session,session_ram_used,session_ram_limit,session_caps_used,session_caps_limit\n";
+    b"line,component,call,reply,ram_used,ram_limit,caps_used,caps_limit,session,session_ram_used,session_ram_limit,session_caps_used,session_caps_limit,text\n";
 
-/// Room for the figures of a row, with its newline.
+/// Room for the figures of a row.
 const LONGEST_FIGURES: usize = 200;
 
 /// Tells the figures after each call.
@@ -64,7 +69,8 @@ impl Watch for Tracer {
             call,
             reply: heard.answer.reply,
         };
-        put_row(front, figures.as_slice(), gathered, writer)?;
+        let text = shown_in(heard.line, heard.call);
+        put_row(front, figures.as_slice(), text, gathered, writer)?;
         Ok(())
     }
 }
@@ -78,10 +84,11 @@ struct Front<'a> {
     reply: &'a [u8],
 }
 
-// Gathers a row by what stands before its figures, and these.
+// Gathers a row by what stands before its figures, these, and the text of the call's bytes.
 fn put_row<K: Sink>(
     front: Front<'_>,
     figures: &[u8],
+    text: Option<Shown<'_>>,
     gathered: &mut Gather,
     writer: &mut K,
 ) -> Result<(), DeviceFault>
@@ -89,18 +96,38 @@ fn put_row<K: Sink>(
     ensures told { TellsUnless result (K.contents writer.old) gathered.old
         (K.contents writer.new) gathered.new
         (decimal front.entry.number ++ cell_text front.entry.name.now
-        ++ cell_text front.entry.call.now ++ cell_text front.entry.reply.now ++ figures.now) }
+        ++ cell_text front.entry.call.now ++ cell_text front.entry.reply.now ++ figures.now
+        ++ cell_text (unwrap_or (option_map (λ it. signs_text (hex_bytes it.hex.now)) text.entry) [])
+        ++ 10 ∷ []) }
     ensures failing { K.has_failed writer.new ≡ is_err result }
     ensures fits { front.entry.number < 2 ^ 64 }
+{
+    put_front(front, gathered, writer)?;
+    gathered.put(writer, figures)?;
+    put_text_cell(text, gathered, writer)?;
+    gathered.put(writer, b"\n")
+}
+
+// Gathers what stands in a row before its figures.
+fn put_front<K: Sink>(
+    front: Front<'_>,
+    gathered: &mut Gather,
+    writer: &mut K,
+) -> Result<(), DeviceFault>
+    requires { K.has_failed writer.old ≡ false }
+    ensures told { TellsUnless result (K.contents writer.old) gathered.old
+        (K.contents writer.new) gathered.new
+        (decimal front.entry.number ++ cell_text front.entry.name.now
+        ++ cell_text front.entry.call.now ++ cell_text front.entry.reply.now) }
+    ensures failing { K.has_failed writer.new ≡ is_err result }
 {
     put_number(front.number, gathered, writer)?;
     put_cell(front.name, gathered, writer)?;
     put_cell(front.call, gathered, writer)?;
-    put_cell(front.reply, gathered, writer)?;
-    gathered.put(writer, figures)
+    put_cell(front.reply, gathered, writer)
 }
 
-// What a line says as a call, and the figures after it as they end a row.
+// What a line says as a call, and the figures after it.
 fn told_of<'a, R: Router + Drop>(
     core: &Core<R>,
     list: &StartList,
@@ -111,8 +138,7 @@ fn told_of<'a, R: Router + Drop>(
     requires read { IsReadAs line.now call }
     ensures call { result.0.now ≡ call_text line.now }
     ensures figures { result.1.items
-        ≡ fields_text default_writer (figures core.now (heard core.now.entries line.now))
-        ++ 10 ∷ [] }
+        ≡ fields_text default_writer (figures core.now (heard core.now.entries line.now)) }
 {
     let mut text = ArrayVec::new();
     match said_in(line, call) {
@@ -121,12 +147,10 @@ fn told_of<'a, R: Router + Drop>(
                 Some(component) => add_caller(&mut text, core, component, call),
                 None => add_stranger(&mut text),
             }
-            add(&mut text, b"\n");
             (text_behind(name, line), text)
         }
         None => {
             add_stranger(&mut text);
-            add(&mut text, b"\n");
             (line, text)
         }
     }
@@ -207,7 +231,7 @@ fn session_of(call: Call<'_>) -> Option<u64>
 
 /// Plays a scenario, and writes as comma-separated values the names of the columns and a row for each call that is answered:
 /// its line, the component, the call, the reply, and use and limit of RAM and of capabilities after it, of the component and of
-/// the session that the call names. Complaints are written as they come.
+/// the session that the call names; and the text of the bytes that the call tells. Complaints are written as they come.
 ///
 /// The figures are those of the own state that the call leaves its caller. At a fault the rows of the lines that were
 /// played are written, or where a write failed or the host has no room a part of them, from the front. It stops as `run` does.
