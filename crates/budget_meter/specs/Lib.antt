@@ -1,3 +1,4 @@
+pub mod Sizes
 pub mod Needs
 pub mod Asked
 pub mod Metered

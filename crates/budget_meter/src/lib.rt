@@ -7,6 +7,7 @@ mod budget;
 mod growth;
 mod meter;
 mod session;
+mod sizes;
 
 pub use account::{AccountMeter, is_in_want, is_insufficient};
 pub use asked::{
