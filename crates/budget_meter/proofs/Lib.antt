@@ -3,3 +3,4 @@ pub mod GrowthLemmas
 pub mod HeardLemmas
 pub mod RunLemmas
 pub mod SizeLemmas
+pub mod ReachedLemmas

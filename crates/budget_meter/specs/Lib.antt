@@ -3,3 +3,4 @@ pub mod Needs
 pub mod Asked
 pub mod Metered
 pub mod Run
+pub mod Reached
