@@ -1,9 +1,11 @@
 -- What reaches a session, under two donations, each up to its first want.
-use Rattle.std.proofs.Common.{arith, ◌≡◌, ◌<◌, ◌≤◌, ◌⊎◌, inl, inr, Bool, true, false, cond, List, [], ◌∷◌, ◌++◌, suc, nat_lt, refl, sym, ap, ◌∙◌, subst, ◌||◌}
+use Rattle.std.proofs.lemmas.Bool.Decides.{nat_tests}
+use Rattle.std.proofs.Common.{arith, true≢false, ◌≡◌, ◌<◌, ◌≤◌, ◌⊎◌, inl, inr, Bool, true, false, cond, List, [], ◌∷◌, ◌++◌, suc, nat_lt, refl, sym, ap, ◌∙◌, subst, ◌||◌}
 use Rattle.std.specs.List.{AllByRecursion}
-use Rattle.std.specs.Prelude.{ℕ, Option, None}
+use Rattle.std.specs.Prelude.{ℕ, Option, Some, None, is_some}
+use Rattle.trade_base.specs.declared.refusal.Refusal.TheVariants.{InsufficientRamQuota, InsufficientCapQuota}
 use Rattle.own_model.specs.Amounts.{Amounts}
-use Rattle.own_model.specs.Session.{Session, served}
+use Rattle.own_model.specs.Session.{Session, served, session_ram, session_caps}
 use Rattle.budget_laws.proofs.CellLemmas.{Leads}
 use Rattle.budget_laws.proofs.EachLemmas.{of_first, of_second, of_both}
 use Rattle.budget_laws.proofs.SessionRunLemmas.{Donated, EachAlike, session_alike, session_moved, session_decides, first_donated}
@@ -12,7 +14,7 @@ use Rattle.budget_laws.proofs.WantLemmas.{or_left, or_right, within_by, below_by
 use Rattle.budget_laws.specs.Need.{Need, HasRam, IsBelow, ComesOutAlike, cell_by, greatest_choice}
 use Rattle.budget_laws.specs.Request.{donating}
 use Rattle.budget_laws.specs.RequestLaws.{Reaches, session_after, needs_of_one, session_needs, OneAlike, one_in_want, session_in_want}
-use Rattle.budget_meter.specs.Reached.{Sent, reaches, buffer_after, reaching_to_want, run_needs, run_in_want, SessionRunsAreExact}
+use Rattle.budget_meter.specs.Reached.{Sent, reaches, buffer_after, reaching_to_want, run_needs, run_in_want, opens_none, opening_need, opened_needs, opened_in_want, SessionRunsAreExact}
 use Rattle.budget_meter.specs.Reached.Sent.{Asks, Raises}
 
 or_none : (a : Bool) → (a || false) ≡ a
@@ -92,6 +94,33 @@ module _ (one other : Amounts) where
             ] here.want each
       ]
 
+-- ---- the opening
+
+small_by : (a b : Bool) → is_some (cond a (Some InsufficientRamQuota) (cond b (Some InsufficientCapQuota) None)) ≡ (a || b)
+small_by true b = refl
+small_by false true = refl
+small_by false false = refl
+
+small_is : (donation : Amounts) → opens_none donation ≡ (nat_lt donation.ram session_ram || nat_lt donation.caps session_caps)
+small_is donation = small_by (nat_lt donation.ram session_ram) (nat_lt donation.caps session_caps)
+
+module _ (one other : Amounts) where
+  small_alike : ComesOutAlike one other (opening_need one) → opens_none other ≡ opens_none one
+  small_alike same =
+      let ram = same.ram in
+      let caps = same.caps in
+      small_is other ∙ grind (arith, nat_tests, ram, caps) ∙ sym (small_is one)
+
+  -- a donation that opens the session passes what leads to it
+  opens_both : Leads one other (opening_need one) → opens_none other ≡ false → ComesOutAlike one other (opening_need one) × (opens_none one ≡ false)
+  opens_both led is =
+      let fails = led.fails in
+      let caps = led.caps in
+      let opens : (nat_lt other.ram session_ram || nat_lt other.caps session_caps) ≡ false = sym (small_is other) ∙ is in (
+        record { ram = grind (arith, nat_tests, fails, opens); caps = λ passes. grind (arith, nat_tests, caps, passes, opens) },
+        small_is one ∙ grind (arith, nat_tests, fails, caps, opens),
+      )
+
 module _ (sents : List Sent) (session : Session) (one other : Amounts) where
   abbrev each : List Need
   each = run_needs sents session one
@@ -111,13 +140,54 @@ module _ (sents : List Sent) (session : Session) (one other : Amounts) where
   decides : AllByRecursion (Leads one other) each → AllByRecursion (ComesOutAlike one other) each ⊎ (there ≡ true)
   decides led = reaching_decides one other sents None (donating one session) (donating other session) (first_donated one other session) led
 
-  within : IsBelow other.caps (cell_by one each).caps_below → HasRam (cell_by one each) other.ram → there ≡ (here || nat_lt other.caps (cell_by one each).caps_from)
-  within few has = within_by one other each here there alike decides few has
+  -- ---- with the opening
 
-  below : IsBelow other.caps (cell_by one each).caps_below → other.ram < (cell_by one each).ram_from → greatest_choice one each ≤ other.ram → there ≡ true
-  below few less chosen = below_by one other each here there alike decides few less chosen
+  abbrev none_here : Bool
+  none_here = opens_none one
+
+  abbrev none_there : Bool
+  none_there = opens_none other
+
+  abbrev behind : Bool → List Need
+  behind none = cond none [] each
+
+  opened_alike : AllByRecursion (ComesOutAlike one other) (opened_needs sents session one) → opened_in_want sents session other ≡ opened_in_want sents session one
+  opened_alike same =
+      ap (λ b. b || there) (small_alike one other same.0)
+      ∙ elim none_here as (λ b. AllByRecursion (ComesOutAlike one other) (behind b) → (b || there) ≡ (b || here)) [
+        | true ↦ λ _. refl
+        | false ↦ alike
+      ] same.1
+
+  opened_decides : AllByRecursion (Leads one other) (opened_needs sents session one) →
+      AllByRecursion (ComesOutAlike one other) (opened_needs sents session one) ⊎ (opened_in_want sents session other ≡ true)
+  opened_decides led =
+      elim none_there as (λ b. none_there ≡ b → AllByRecursion (ComesOutAlike one other) (opened_needs sents session one) ⊎ ((b || there) ≡ true)) [
+        | true ↦ λ _. inr refl
+        | false ↦ λ is.
+            let both = opens_both one other led.0 is in
+            elim none_here as (λ b. none_here ≡ b → AllByRecursion (Leads one other) (behind b) →
+            (ComesOutAlike one other (opening_need one) × AllByRecursion (ComesOutAlike one other) (behind b)) ⊎ (there ≡ true)) [
+              | true ↦ λ no _. absurd (true≢false (sym no ∙ both.1))
+              | false ↦ λ _ more. elim (decides more) [
+                | inl same ↦ inl (both.0, same)
+                | inr short ↦ inr short
+              ]
+            ] refl led.1
+      ] refl
+
+  abbrev all : List Need
+  all = opened_needs sents session one
+
+  within : IsBelow other.caps (cell_by one all).caps_below → HasRam (cell_by one all) other.ram →
+      opened_in_want sents session other ≡ (opened_in_want sents session one || nat_lt other.caps (cell_by one all).caps_from)
+  within few has = within_by one other all (opened_in_want sents session one) (opened_in_want sents session other) opened_alike opened_decides few has
+
+  below : IsBelow other.caps (cell_by one all).caps_below → other.ram < (cell_by one all).ram_from → greatest_choice one all ≤ other.ram →
+      opened_in_want sents session other ≡ true
+  below few less chosen = below_by one other all (opened_in_want sents session one) (opened_in_want sents session other) opened_alike opened_decides few less chosen
 
 pub runs_exact : SessionRunsAreExact
 runs_exact sents session caps top donation few up =
-    exact (run_needs sents session) (run_in_want sents session) (λ one other. within sents session one other) (λ one other. below sents session one other)
+    exact (opened_needs sents session) (opened_in_want sents session) (λ one other. within sents session one other) (λ one other. below sents session one other)
     caps donation few (suc top) top (omega arith) up

@@ -1,12 +1,14 @@
 -- What a client asks of a session and donates for it, from one donation or another.
-use Rattle.std.specs.Prelude.{◌≡◌, ℕ, ◌≤◌, Bool, not, List, [], ◌∷◌, suc, if◌then◌else◌, Option, None}
+use Rattle.std.specs.Prelude.{◌≡◌, ℕ, ◌≤◌, ◌||◌, Bool, not, List, [], ◌∷◌, suc, if◌then◌else◌, Option, None, is_some}
 use Rattle.own_model.specs.Amounts.{Amounts}
-use Rattle.own_model.specs.Session.{Session, served}
-use Rattle.budget_laws.specs.Need.{Need}
+use Rattle.own_model.specs.Account.{opened}
+use Rattle.own_model.specs.Session.{Session, served, session_ram, session_caps, too_small}
+use Rattle.budget_laws.specs.Need.{Need, need_of}
 use Rattle.budget_laws.specs.Request.{donating}
 use Rattle.budget_laws.specs.RequestLaws.{Reaches, session_after, session_needs, one_in_want, session_in_want}
 use Rattle.budget_laws.specs.RequestLaws.Reaches.{Asked, Raised}
 use Rattle.budget_laws.specs.Stretches.{is_covered, stretches}
+use Rattle.budget_laws.specs.Test.{test_of}
 
 -- a request, or more of a donation, which the client covers
 pub data Sent : Type 0 where
@@ -40,10 +42,28 @@ abbrev pub run_in_want : List Sent → Session → Amounts → Bool
 run_in_want sent session donation =
     session_in_want (reaching_to_want sent None (donating donation session)) (donating donation session)
 
--- a donation of no more bytes and capabilities than these is covered by the stretches of a few such runs exactly where its own run is
--- in no want
+-- ---- with its opening
+
+-- a donation that is too small opens none
+abbrev pub opens_none : Amounts → Bool
+opens_none donation = is_some (too_small donation.ram donation.caps)
+
+-- what the opening tests of it
+abbrev pub opening_need : Amounts → Need
+opening_need donation = need_of donation (opened donation.ram donation.caps) (test_of session_ram session_caps)
+
+-- the run of a session that is opened with a donation
+abbrev pub opened_needs : List Sent → Session → Amounts → List Need
+opened_needs sent session donation =
+    opening_need donation ∷ (if opens_none donation then [] else run_needs sent session donation)
+
+abbrev pub opened_in_want : List Sent → Session → Amounts → Bool
+opened_in_want sent session donation = opens_none donation || run_in_want sent session donation
+
+-- a donation of no more bytes and capabilities than these is covered by the stretches of a few such runs exactly where it opens the
+-- session and its own run is in no want
 abbrev pub SessionRunsAreExact : Type 0
 SessionRunsAreExact =
     (sent : List Sent) (session : Session) (caps top : ℕ) (donation : Amounts) → donation.caps ≤ caps → donation.ram ≤ top →
-    is_covered (stretches (run_needs sent session) (run_in_want sent session) caps (suc top) top) donation
-    ≡ not (run_in_want sent session donation)
+    is_covered (stretches (opened_needs sent session) (opened_in_want sent session) caps (suc top) top) donation
+    ≡ not (opened_in_want sent session donation)
