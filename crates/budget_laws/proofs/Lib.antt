@@ -1,12 +1,12 @@
-mod EachLemmas
+pub mod EachLemmas
 pub mod CellLemmas
-mod WantLemmas
+pub mod WantLemmas
 mod TestLemmas
 mod StepLemmas
 mod DecideLemmas
 mod RunLemmas
 mod ServeLemmas
-mod SessionRunLemmas
+pub mod SessionRunLemmas
 mod SelectorLemmas
 mod CarryLemmas
 mod ClientLemmas

@@ -1,4 +1,6 @@
+pub mod Sizes
 pub mod Needs
 pub mod Asked
 pub mod Metered
 pub mod Run
+pub mod Reached

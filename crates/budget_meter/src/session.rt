@@ -4,16 +4,10 @@ use crate::asked::{NODE, asked_by_request, file_written};
 use crate::budget::Budget;
 use crate::growth::Growth;
 use crate::meter::{Meter, charged, limits_of};
+use crate::sizes::Sizes;
 use pd_core::Quotas;
 use session_proto::FileRequest;
 use std::alloc::{AllocError, Global};
-
-// A file of a session.
-#[derive(Drop)]
-struct File {
-    name: Vec<u8>,
-    size: u64,
-}
 
 /// The least opening donation that passes all tests which a session's account passed so far.
 #[derive(Drop)]
@@ -23,7 +17,7 @@ pub struct SessionMeter {
     /// The account after the last line.
     account: Quotas,
     growth: Growth,
-    files: Vec<File>,
+    sizes: Sizes,
 }
 
 impl SessionMeter {
@@ -36,7 +30,7 @@ impl SessionMeter {
             meter,
             account,
             growth: Growth::new(),
-            files: Vec::new(alloc),
+            sizes: Sizes::new(alloc),
         }
     }
 
@@ -93,9 +87,7 @@ impl SessionMeter {
         match request {
             FileRequest::Create(file) => {
                 self.growth.grow(NODE, charged(self.account, after));
-                let mut name = Vec::new(self.alloc);
-                name.extend_from_slice(file)?;
-                self.files.push(File { name, size: 0 })?;
+                self.sizes.add(self.alloc, file)?;
             }
             FileRequest::Write { file, offset, hex } => {
                 self.lengthen(file, offset.saturating_add(hex.len() as u64 / 2));
@@ -106,52 +98,25 @@ impl SessionMeter {
                 len,
                 ..
             } => self.lengthen(file, offset.saturating_add(len)),
-            FileRequest::Clear(file) => {
-                if let Some(place) = self.place(file) {
-                    if let Some(kept) = self.files.get_mut(place) {
-                        kept.size = 0;
-                    }
-                }
-            }
-            FileRequest::Drop(file) => {
-                if let Some(place) = self.place(file) {
-                    if place < self.files.len() {
-                        let _ = self.files.swap_remove(place);
-                    }
-                }
-            }
+            FileRequest::Clear(file) => self.sizes.resize(file, 0),
+            FileRequest::Drop(file) => self.sizes.remove(file),
             _ => (),
         }
         Ok(())
     }
 
-    // Where a file is kept.
-    fn place(&self, name: &[u8]) -> Option<usize> {
-        self.files
-            .iter()
-            .position(|file| file.name.as_slice() == name)
-    }
-
     // The size of the file that a request writes, or 0.
     fn size_written(&self, request: FileRequest<'_>) -> u64 {
-        let Some(name) = file_written(request) else {
-            return 0;
-        };
-        match self.place(name) {
-            Some(place) => match self.files.get(place) {
-                Some(file) => file.size,
-                None => 0,
-            },
+        match file_written(request) {
+            Some(name) => self.sizes.size(name).unwrap_or(0),
             None => 0,
         }
     }
 
     // Makes a file at least so long.
     fn lengthen(&mut self, name: &[u8], end: u64) {
-        if let Some(place) = self.place(name) {
-            if let Some(file) = self.files.get_mut(place) {
-                file.size = file.size.max(end);
-            }
+        if let Some(size) = self.sizes.size(name) {
+            self.sizes.resize(name, size.max(end));
         }
     }
 }
