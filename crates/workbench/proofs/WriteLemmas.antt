@@ -1,5 +1,6 @@
 -- What is written of a play, from what the play itself promises.
 use Rattle.std.proofs.Common.{◌≡◌, ◌≢◌, ℕ, ◌+◌, ◌<◌, ◌≤◌, Bool, true, false, List, [], ◌∷◌, ◌++◌, length, get_or, slice_index_or, Option, Some, None, IfSome, IfNone, Result, Ok, Err, IsErrAnd, inl, inr, ⊎_elim, arith, refl, sym, ◌∙◌, ap, subst, append_assoc, append-nil, length-append}
+use Rattle.std.specs.Prelude.{⊤}
 use Rattle.std.proofs.lemmas.List.{get_or-append-add}
 use Rattle.std.specs.Io.KnownBytes.{Appends}
 use Rattle.own_model.specs.Listed.{Listed, start_list_of}
@@ -200,15 +201,23 @@ caused {ending = ending} {input = input} {rest = rest} {failed = failed} write_f
     of (Some fault) (Some text) ends is = λ other. within_bounds fault most_lines played.given ends.0 text rest failed write_failed ends.1 ends.2 is other
 
 -- or a device had failed before
+pub ends_for_some_cause : {X : Type 0} {turns : List (List ℕ) → List Turn} {told : List Turn → List ℕ} {behind : X → List Turn → List ℕ} {calls : Bool} {ending : Ending} {input rest : Option (List ℕ)} {failed : Bool} {w w' : Option (List ℕ)} (read_before write_before write_failed : Bool) →
+    (fault_before read_before write_before ≡ None → (x : X) × IsPlayedFrom turns told (behind x) calls ending input rest failed w w') →
+    IfSome (fault_before read_before write_before) (λ fault. (ending ≡ unplayed fault) × (failed ≡ read_before)) → write_failed ≡ is_write_fault ending.fault →
+    IfSome ending.fault (λ fault. fault ≢ NoMemory → IfSome input (λ text. HasCause text most_lines failed write_failed))
+ends_for_some_cause false false write_failed played before fails = caused write_failed (played refl).1 fails
+ends_for_some_cause {input = input} {failed = failed} true false write_failed played before fails = rw before.0 (λ other. cause_unread input most_lines failed write_failed before.1)
+ends_for_some_cause {input = input} {failed = failed} read_before true write_failed played before fails =
+    let is : write_failed ≡ true = fails ∙ ap (λ (e : Ending). is_write_fault e.fault) before.0 in
+    rw before.0 (λ other. cause_unwritten input most_lines failed write_failed is)
+
+-- where what stands behind it is known
 pub ends_for_cause : {turns : List (List ℕ) → List Turn} {told behind : List Turn → List ℕ} {calls : Bool} {ending : Ending} {input rest : Option (List ℕ)} {failed : Bool} {w w' : Option (List ℕ)} (read_before write_before write_failed : Bool) →
     (fault_before read_before write_before ≡ None → IsPlayedFrom turns told behind calls ending input rest failed w w') →
     IfSome (fault_before read_before write_before) (λ fault. (ending ≡ unplayed fault) × (failed ≡ read_before)) → write_failed ≡ is_write_fault ending.fault →
     IfSome ending.fault (λ fault. fault ≢ NoMemory → IfSome input (λ text. HasCause text most_lines failed write_failed))
-ends_for_cause false false write_failed played before fails = caused write_failed (played refl) fails
-ends_for_cause {input = input} {failed = failed} true false write_failed played before fails = rw before.0 (λ other. cause_unread input most_lines failed write_failed before.1)
-ends_for_cause {input = input} {failed = failed} read_before true write_failed played before fails =
-    let is : write_failed ≡ true = fails ∙ ap (λ (e : Ending). is_write_fault e.fault) before.0 in
-    rw before.0 (λ other. cause_unwritten input most_lines failed write_failed is)
+ends_for_cause {behind = behind} read_before write_before write_failed played =
+    ends_for_some_cause {X = ⊤} {behind = λ _. behind} read_before write_before write_failed (λ works. (tt, played works))
 
 -- what is known of that by one device
 pub unplayed_with : (ending : Ending) (B C D E : Type 0) (o : Option PlayFault) → (B → E) → IfSome o (λ fault. (ending ≡ unplayed fault) × B × C × D) → IfSome o (λ fault. (ending ≡ unplayed fault) × E)

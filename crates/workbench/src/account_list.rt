@@ -81,7 +81,9 @@ pub fn accounts<S: Source, K: Sink, E: Sink>(
     let peaks = Peaks::new(alloc, &core)?;
     let needs = Needs::new(alloc, &core)?;
     let mut watch = Accounting { peaks, needs };
-    Ok(play_accounting(&run, &mut core, &mut notes, &mut watch, reader, writer, complaints))
+    Ok(play_accounting(
+        &run, &mut core, &mut notes, &mut watch, reader, writer, complaints,
+    ))
 }
 
 // The same on a machine that has booted, with the peaks and needs of its accounts.

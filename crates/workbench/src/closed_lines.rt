@@ -38,11 +38,7 @@ pub(crate) fn write_closed<K: Sink>(
 }
 
 // Gathers them and writes them out.
-fn put_all<K: Sink>(
-    list: &StartList,
-    sessions: &[Closed],
-    sink: &mut K,
-) -> Result<(), DeviceFault>
+fn put_all<K: Sink>(list: &StartList, sessions: &[Closed], sink: &mut K) -> Result<(), DeviceFault>
     requires { K.has_failed sink.old ≡ false }
     ensures told { OnOk result (Appends (K.contents sink.old) (K.contents sink.new)
         (closed_lines (entries_of (start_list_of list.now)) sessions.now)) }

@@ -152,7 +152,9 @@ pub fn run<S: Source, K: Sink, E: Sink>(
         list: &list,
         only: showing.only,
     };
-    Ok(run_on(&run, &mut core, &mut notes, showing, reader, writer, complaints))
+    Ok(run_on(
+        &run, &mut core, &mut notes, showing, reader, writer, complaints,
+    ))
 }
 
 // The same on a machine that has booted.

@@ -4,7 +4,7 @@ use Rattle.workbench.specs.Accounting.{accounts_text}
 use Rattle.workbench.specs.Played.{calls_answered}
 use Rattle.workbench.specs.Turns.{first_with}
 use Rattle.workbench.proofs.KeptLemmas.{sees_first}
-use Rattle.workbench.proofs.WriteLemmas.{ends_for_cause, is_played, unplayed_on, unplayed_with}
+use Rattle.workbench.proofs.WriteLemmas.{ends_for_some_cause, is_played, unplayed_on, unplayed_with}
 use Rattle.workbench.proofs.account_list.accounts.Goals as goal
 
 pub returns-clause-played : goal.returns-clause-played
@@ -24,7 +24,7 @@ play_accounting-requires-clause-sees g c = record {
 
 pub returns-clause-ok : goal.returns-clause-ok
 returns-clause-ok g c =
-    ends_for_cause _ _ _ (λ works. (c.play_accounting.ensures.played works).1)
+    ends_for_some_cause _ _ _ c.play_accounting.ensures.played
     (unplayed_with c.play_accounting.result _ _ _ _ _ (ap g.S.Source.has_failed) c.play_accounting.ensures.before) c.play_accounting.ensures.writing
 
 pub returns-clause-before : goal.returns-clause-before
