@@ -1,224 +1,129 @@
 //! Command lines that are taken: the command that each asks for.
+use std::process::Abort;
 use std::test::Fail;
 use workbench_options::{Color, Command, Request};
 
-#[test]
-fn each_command_is_read(rt: HostRuntime) -> Result<(), Fail> {
-    let alloc = rt.alloc();
-    let lines: [(&[&str], Command<'_>); 19] = [
-        (
-            &["nethrywel", "run", "a.txt"],
-            Command::Run {
-                machine: None,
-                only: None,
-                accounts: false,
-                numbers: false,
-                color: Color::Auto,
-                scenario: "a.txt",
-            },
-        ),
-        (
-            &[
-                "nethrywel",
-                "run",
-                "--accounts",
-                "--machine",
-                "m.json",
-                "-",
-                "--only=bob",
-            ],
-            Command::Run {
-                machine: Some("m.json"),
-                only: Some("bob"),
-                accounts: true,
-                numbers: false,
-                color: Color::Auto,
-                scenario: "-",
-            },
-        ),
-        (
-            &["nethrywel", "run", "--", "--accounts"],
-            Command::Run {
-                machine: None,
-                only: None,
-                accounts: false,
-                numbers: false,
-                color: Color::Auto,
-                scenario: "--accounts",
-            },
-        ),
-        (
-            &["nethrywel", "check", "m.json"],
-            Command::Check {
-                strict: false,
-                json: false,
-                policy: None,
-                list: "m.json",
-            },
-        ),
-        (
-            &[
-                "nethrywel",
-                "check",
-                "-",
-                "--strict",
-                "--json",
-                "--policy=p",
-            ],
-            Command::Check {
-                strict: true,
-                json: true,
-                policy: Some("p"),
-                list: "-",
-            },
-        ),
-        (
-            &["nethrywel", "tree", ""],
-            Command::Tree {
-                dot: false,
-                json: false,
-                list: "",
-            },
-        ),
-        (
-            &["nethrywel", "tree", "--dot", "check"],
-            Command::Tree {
-                dot: true,
-                json: false,
-                list: "check",
-            },
-        ),
-        (
-            &["nethrywel", "trace", "run"],
-            Command::Trace {
-                machine: None,
-                json: false,
-                scenario: "run",
-            },
-        ),
-        (
-            &["", "trace", "--machine=", "--json", "a"],
-            Command::Trace {
-                machine: Some(""),
-                json: true,
-                scenario: "a",
-            },
-        ),
-        (
-            &["nethrywel", "accounts", "a"],
-            Command::Accounts {
-                machine: None,
-                json: false,
-                scenario: "a",
-            },
-        ),
-        (
-            &["nethrywel", "accounts", "--json", "a", "--machine", "b"],
-            Command::Accounts {
-                machine: Some("b"),
-                json: true,
-                scenario: "a",
-            },
-        ),
-        (
-            &["nethrywel", "alone", "bob", "a"],
-            Command::Alone {
-                machine: None,
-                all: false,
-                summary: false,
-                name: "bob",
-                scenario: Some("a"),
-            },
-        ),
-        (
-            &["nethrywel", "alone", "bob", "--machine", "b", "a"],
-            Command::Alone {
-                machine: Some("b"),
-                all: false,
-                summary: false,
-                name: "bob",
-                scenario: Some("a"),
-            },
-        ),
-        (
-            &["nethrywel", "alone", "", "größe"],
-            Command::Alone {
-                machine: None,
-                all: false,
-                summary: false,
-                name: "",
-                scenario: Some("größe"),
-            },
-        ),
-        (
-            &["nethrywel", "alone", "--all", "a", "--summary"],
-            Command::Alone {
-                machine: None,
-                all: true,
-                summary: true,
-                name: "a",
-                scenario: None,
-            },
-        ),
-        (
-            &["nethrywel", "diff", "a", "b"],
-            Command::Diff {
-                json: false,
-                before: "a",
-                after: "b",
-                scenario: None,
-            },
-        ),
-        (
-            &["nethrywel", "diff", "a", "--json", "b", "c"],
-            Command::Diff {
-                json: true,
-                before: "a",
-                after: "b",
-                scenario: Some("c"),
-            },
-        ),
-        (
-            &[
-                "nethrywel",
-                "test",
-                "a",
-                "--junit",
-                "b",
-                "c",
-                "--machine",
-                "d",
-                "e",
-            ],
-            Command::Test {
-                machine: Some("d"),
-                junit: Some("b"),
-                coverage: false,
-                json: false,
-                color: Color::Auto,
-                paths: vec![in alloc; "a", "c", "e"]?,
-            },
-        ),
-        (
-            &["nethrywel", "test", "--json", "a", "--coverage"],
-            Command::Test {
-                machine: None,
-                junit: None,
-                coverage: true,
-                json: true,
-                color: Color::Auto,
-                paths: vec![in alloc; "a"]?,
-            },
-        ),
-    ];
-    for (words, command) in lines {
-        let Some(request) = Request::read(alloc, words)? else {
-            return Err(Fail::new("no request"));
-        };
-        assert!(rt; request.command == command, "{words:?}");
-        assert!(rt; request.given.is_empty(), "{words:?}");
+/// Words, and the command that they ask for as it is told for debugging.
+const COMMANDS: &[(&[&str], &str)] = &[
+    (
+        &["nethrywel", "run", "a.txt"],
+        r#"Run { machine: None, only: None, accounts: false, numbers: false, color: Auto, scenario: "a.txt" }"#,
+    ),
+    (
+        &[
+            "nethrywel",
+            "run",
+            "--accounts",
+            "--machine",
+            "m.json",
+            "-",
+            "--only=bob",
+        ],
+        r#"Run { machine: Some("m.json"), only: Some("bob"), accounts: true, numbers: false, color: Auto, scenario: "-" }"#,
+    ),
+    (
+        &["nethrywel", "run", "--", "--accounts"],
+        r#"Run { machine: None, only: None, accounts: false, numbers: false, color: Auto, scenario: "--accounts" }"#,
+    ),
+    (
+        &["nethrywel", "check", "m.json"],
+        r#"Check { strict: false, json: false, policy: None, list: "m.json" }"#,
+    ),
+    (
+        &[
+            "nethrywel",
+            "check",
+            "-",
+            "--strict",
+            "--json",
+            "--policy=p",
+        ],
+        r#"Check { strict: true, json: true, policy: Some("p"), list: "-" }"#,
+    ),
+    (
+        &["nethrywel", "tree", ""],
+        r#"Tree { dot: false, json: false, list: "" }"#,
+    ),
+    (
+        &["nethrywel", "tree", "--dot", "check"],
+        r#"Tree { dot: true, json: false, list: "check" }"#,
+    ),
+    (
+        &["nethrywel", "trace", "run"],
+        r#"Trace { machine: None, json: false, scenario: "run" }"#,
+    ),
+    (
+        &["", "trace", "--machine=", "--json", "a"],
+        r#"Trace { machine: Some(""), json: true, scenario: "a" }"#,
+    ),
+    (
+        &["nethrywel", "accounts", "a"],
+        r#"Accounts { machine: None, json: false, scenario: "a" }"#,
+    ),
+    (
+        &["nethrywel", "accounts", "--json", "a", "--machine", "b"],
+        r#"Accounts { machine: Some("b"), json: true, scenario: "a" }"#,
+    ),
+    (
+        &["nethrywel", "alone", "bob", "a"],
+        r#"Alone { machine: None, all: false, summary: false, name: "bob", scenario: Some("a") }"#,
+    ),
+    (
+        &["nethrywel", "alone", "bob", "--machine", "b", "a"],
+        r#"Alone { machine: Some("b"), all: false, summary: false, name: "bob", scenario: Some("a") }"#,
+    ),
+    (
+        &["nethrywel", "alone", "", "größe"],
+        r#"Alone { machine: None, all: false, summary: false, name: "", scenario: Some("größe") }"#,
+    ),
+    (
+        &["nethrywel", "alone", "--all", "a", "--summary"],
+        r#"Alone { machine: None, all: true, summary: true, name: "a", scenario: None }"#,
+    ),
+    (
+        &["nethrywel", "diff", "a", "b"],
+        r#"Diff { json: false, before: "a", after: "b", scenario: None }"#,
+    ),
+    (
+        &["nethrywel", "diff", "a", "--json", "b", "c"],
+        r#"Diff { json: true, before: "a", after: "b", scenario: Some("c") }"#,
+    ),
+    (
+        &[
+            "nethrywel",
+            "test",
+            "a",
+            "--junit",
+            "b",
+            "c",
+            "--machine",
+            "d",
+            "e",
+        ],
+        r#"Test { machine: Some("d"), junit: Some("b"), coverage: false, json: false, color: Auto, paths: ["a", "c", "e"] }"#,
+    ),
+    (
+        &["nethrywel", "test", "--json", "a", "--coverage"],
+        r#"Test { machine: None, junit: None, coverage: true, json: true, color: Auto, paths: ["a"] }"#,
+    ),
+];
+
+// Each row of words asks for its command, and for no values of names.
+fn check_all<R: Abort + AllocGlobal>(rt: &R, rows: &[(&[&str], &str)]) -> Result<(), Fail> {
+    for (words, command) in rows {
+        let request = Request::read(rt.alloc(), words)?.ok_or("a request")?;
+        let told = format!(in rt.alloc(); "{:?}", request.command)?;
+        assert!(rt;
+            told.as_str() == *command && request.given.is_empty(),
+            "{words:?}: {told}"
+        );
     }
     Ok(())
+}
+
+#[test]
+fn each_command_is_read(rt: HostRuntime) -> Result<(), Fail> {
+    check_all(&rt, COMMANDS)
 }
 
 #[test]

@@ -3,7 +3,7 @@ use init_core::{BootFault, MACHINE_A};
 use scenario::{DeviceFault, Output, Sink, Source};
 use scenario_names::Known;
 use std::alloc::Global;
-use std::test::Fail;
+use std::process::Abort;
 use workbench::{Ending, Play, PlayFault, Showing, accounts, alone, exit_status, run, trace};
 
 /// All lines, with the account list behind the transcript.
@@ -115,39 +115,64 @@ fn played<S: Source, K: Sink, E: Sink>(
     .ok()
 }
 
-#[test]
-fn a_read_that_fails_ends_each_play(rt: HostRuntime) -> Result<(), Fail> {
-    let rows: [(Kind, &[u8]); 4] = [
-        (Kind::Run, b"alice: cap 1\n"),
-        (
-            Kind::Trace,
-            b"line,component,call,reply,ram_used,ram_limit,caps_used,caps_limit,session,\
-              session_ram_used,session_ram_limit,session_caps_used,session_caps_limit,text\n\
-              1,alice,alloc 4096,cap 1,4096,65536,1,16,,,,,,\n",
-        ),
-        (Kind::Accounts, b""),
-        (
-            Kind::Alone,
-            b"1: alice alloc 4096\n  whole: alice: cap 1\n  alone: alice: cap 1\n",
-        ),
-    ];
+/// Each play, and what it has written when the second of two lines can't be read.
+const BROKEN: &[(Kind, &[u8])] = &[
+    (Kind::Run, b"alice: cap 1\n"),
+    (
+        Kind::Trace,
+        b"line,component,call,reply,ram_used,ram_limit,caps_used,caps_limit,session,\
+          session_ram_used,session_ram_limit,session_caps_used,session_caps_limit,text\n\
+          1,alice,alloc 4096,cap 1,4096,65536,1,16,,,,,,\n",
+    ),
+    (Kind::Accounts, b""),
+    (
+        Kind::Alone,
+        b"1: alice alloc 4096\n  whole: alice: cap 1\n  alone: alice: cap 1\n",
+    ),
+];
+
+// A play whose reader fails in its second line has written this.
+fn check_broken<R: Abort + AllocGlobal>(rt: &R, kind: Kind, want: &[u8]) {
+    let mut reader = Breaking {
+        bytes: b"alice alloc 4K\nalice quo",
+        failed: false,
+    };
+    let mut writer = Output::new(Vec::new(rt.alloc()));
+    let mut complaints = Output::new(Vec::new(rt.alloc()));
+    let ended = played(rt.alloc(), kind, &mut reader, &mut writer, &mut complaints);
+    assert!(rt; ended == stopped(1, 0, PlayFault::ReadFault), "{kind:?}");
+    assert!(rt; writer.into_inner().as_slice() == want, "{kind:?}");
+    assert!(rt; complaints.into_inner().is_empty(), "{kind:?}");
+}
+
+// Each play of a table.
+fn check_all_broken<R: Abort + AllocGlobal>(rt: &R, rows: &[(Kind, &[u8])]) {
     for (kind, want) in rows {
-        let mut reader = Breaking {
-            bytes: b"alice alloc 4K\nalice quo",
-            failed: false,
-        };
-        let mut writer = Output::new(Vec::new(rt.alloc()));
-        let mut complaints = Output::new(Vec::new(rt.alloc()));
-        let ended = played(rt.alloc(), kind, &mut reader, &mut writer, &mut complaints);
-        assert_eq!(rt; ended, stopped(1, 0, PlayFault::ReadFault));
-        assert_eq!(rt; writer.into_inner().as_slice(), want);
-        assert_eq!(rt; complaints.into_inner().as_slice(), b"".as_slice());
+        check_broken(rt, *kind, want);
     }
-    Ok(())
 }
 
 #[test]
-fn a_writer_that_fails_is_not_tried_again(rt: HostRuntime) -> Result<(), Fail> {
+fn a_read_that_fails_ends_each_play(rt: HostRuntime) {
+    check_all_broken(&rt, BROKEN);
+}
+
+/// All plays.
+const KINDS: &[Kind] = &[Kind::Run, Kind::Trace, Kind::Accounts, Kind::Alone];
+
+// A writer that has failed isn't asked again by any play.
+fn check_refused<R: Abort + AllocGlobal>(rt: &R, kinds: &[Kind], writer: &mut Refuser) {
+    for kind in kinds {
+        let mut rest = b"alice quota\n".as_slice();
+        let mut complaints = Output::new(Vec::new(rt.alloc()));
+        let again = played(rt.alloc(), *kind, &mut rest, writer, &mut complaints);
+        assert!(rt; again == stopped(0, 0, PlayFault::WriteFault), "{kind:?}");
+        assert!(rt; writer.writes == 1, "{kind:?}");
+    }
+}
+
+#[test]
+fn a_writer_that_fails_is_not_tried_again(rt: HostRuntime) {
     let mut reader = b"alice alloc 4K\nalice quot\n".as_slice();
     let mut writer = Refuser::new();
     let mut complaints = Output::new(Vec::new(rt.alloc()));
@@ -158,19 +183,12 @@ fn a_writer_that_fails_is_not_tried_again(rt: HostRuntime) -> Result<(), Fail> {
         &mut writer,
         &mut complaints,
     );
-    assert_eq!(rt; ended, stopped(2, 1, PlayFault::WriteFault));
-    assert_eq!(rt; writer.writes, 1);
-    for kind in [Kind::Run, Kind::Trace, Kind::Accounts, Kind::Alone] {
-        let mut rest = b"alice quota\n".as_slice();
-        let again = played(rt.alloc(), kind, &mut rest, &mut writer, &mut complaints);
-        assert_eq!(rt; again, stopped(0, 0, PlayFault::WriteFault));
-        assert_eq!(rt; writer.writes, 1);
-    }
-    Ok(())
+    assert!(rt; ended == stopped(2, 1, PlayFault::WriteFault) && writer.writes == 1);
+    check_refused(&rt, KINDS, &mut writer);
 }
 
 #[test]
-fn complaints_that_fail_end_the_run(rt: HostRuntime) -> Result<(), Fail> {
+fn complaints_that_fail_end_the_run(rt: HostRuntime) {
     let mut reader = b"alice alloc 4K\nalice quot\nalice quot\n".as_slice();
     let mut writer = Output::new(Vec::new(rt.alloc()));
     let mut complaints = Refuser::new();
@@ -181,26 +199,36 @@ fn complaints_that_fail_end_the_run(rt: HostRuntime) -> Result<(), Fail> {
         &mut writer,
         &mut complaints,
     );
-    assert_eq!(rt; ended, stopped(1, 0, PlayFault::WriteFault));
-    assert_eq!(rt; complaints.writes, 1);
-    Ok(())
+    assert!(rt; ended == stopped(1, 0, PlayFault::WriteFault) && complaints.writes == 1);
+}
+
+/// How many complaints there are, the fault, and the status of that.
+const STATUSES: &[(u64, Option<PlayFault>, u8)] = &[
+    (0, None, 0),
+    (2, None, 3),
+    (0, Some(PlayFault::TooManyLines), 1),
+    (2, Some(PlayFault::NoMemory), 1),
+];
+
+// Each ending of a table has its status.
+fn check_statuses(rt: &impl Abort, rows: &[(u64, Option<PlayFault>, u8)]) {
+    for (complaints, fault, status) in rows {
+        let ending = Ending {
+            lines: 7,
+            complaints: *complaints,
+            fault: *fault,
+        };
+        assert!(rt; exit_status(&Ok(ending)) == *status, "{complaints}");
+    }
 }
 
 #[test]
-fn endings_have_statuses(rt: HostRuntime) -> Result<(), Fail> {
-    for (complaints, fault, status) in [
-        (0, None, 0),
-        (2, None, 3),
-        (0, Some(PlayFault::TooManyLines), 1),
-        (2, Some(PlayFault::NoMemory), 1),
-    ] {
-        let ending = Ending {
-            lines: 7,
-            complaints,
-            fault,
-        };
-        assert_eq!(rt; exit_status(&Ok(ending)), status);
-    }
+fn endings_have_statuses(rt: HostRuntime) {
+    check_statuses(&rt, STATUSES);
+}
+
+#[test]
+fn a_list_that_is_none_is_refused(rt: HostRuntime) {
     let mut reader = b"alice quota\n".as_slice();
     let mut writer = Output::new(Vec::new(rt.alloc()));
     let mut complaints = Output::new(Vec::new(rt.alloc()));
@@ -212,13 +240,11 @@ fn endings_have_statuses(rt: HostRuntime) -> Result<(), Fail> {
         &mut writer,
         &mut complaints,
     );
-    assert_eq!(rt; exit_status(&unbooted), 2);
-    assert_eq!(rt; reader, b"alice quota\n".as_slice());
-    Ok(())
+    assert!(rt; exit_status(&unbooted) == 2 && reader == b"alice quota\n".as_slice());
 }
 
 #[test]
-fn lines_and_complaints_are_counted(rt: HostRuntime) -> Result<(), Fail> {
+fn lines_and_complaints_are_counted(rt: HostRuntime) {
     let mut reader = b"# a comment\n\nalice quot\nalice quota => ok\n".as_slice();
     let mut writer = Output::new(Vec::new(rt.alloc()));
     let mut complaints = Output::new(Vec::new(rt.alloc()));
@@ -234,6 +260,5 @@ fn lines_and_complaints_are_counted(rt: HostRuntime) -> Result<(), Fail> {
         complaints: 2,
         fault: None,
     };
-    assert_eq!(rt; ended, Some(ending));
-    Ok(())
+    assert!(rt; ended == Some(ending));
 }

@@ -190,144 +190,172 @@ fn texts_and_sizes_are_translated(rt: HostRuntime) -> Result<(), Fail> {
     Ok(())
 }
 
-#[test]
-fn lines_of_the_engine_pass(rt: HostRuntime) -> Result<(), Fail> {
-    for line in [
-        b"alice quota".as_slice(),
-        b"alice alloc 5000",
-        b"alice alloc 00018446744073709551615",
-        b"alice attach_at 1 0x10000000",
-        b"alice poke 0x10000000 00fF",
-        b"alice peek 0x10000000 16",
-        b"alice open LOG",
-        b"alice open LOG ",
-        b"alice open LOG  ram_quota=4K, cap_quota=2, label=\"a => b\"",
-        b"alice upgrade 1 ram_quota=4K ",
-        b"alice call 1 WRITE 68690a",
-        b"alice call 1 ",
-        b"alice call 1 WRITE a 0 \"x\"y",
-        b"alice call 1 SAY \"x\"",
-        b"alice exit",
-        b"sub/carol quota",
-        b"a/b/c/d open LOG ram_quota=4K, cap_quota=2",
-        // arguments are never translated
-        b"alice open LOG \"\\q\"",
-        b"alice upgrade 1 \"hi\"",
-        b"alice open LOG ram_quota=4K",
-        b"alice request ram_quota=4K,  label=\"a  b\"",
-        b"alice yield  cap_quota=1 ",
-        b"alice request ",
-        b"alice call 1 BUFFER  8K",
-        b"alice call 1 NAME 1K",
-        b"alice call 1 READ f 4k 0",
-        b"alice call 1 WRITE 4K 1",
-    ] {
-        check_calls(&rt, &[(line, line, None)]);
+/// Lines of the engine, which pass as they are.
+const PASSING: &[&[u8]] = &[
+    b"alice quota",
+    b"alice alloc 5000",
+    b"alice alloc 00018446744073709551615",
+    b"alice attach_at 1 0x10000000",
+    b"alice poke 0x10000000 00fF",
+    b"alice peek 0x10000000 16",
+    b"alice open LOG",
+    b"alice open LOG ",
+    b"alice open LOG  ram_quota=4K, cap_quota=2, label=\"a => b\"",
+    b"alice upgrade 1 ram_quota=4K ",
+    b"alice call 1 WRITE 68690a",
+    b"alice call 1 ",
+    b"alice call 1 WRITE a 0 \"x\"y",
+    b"alice call 1 SAY \"x\"",
+    b"alice exit",
+    b"sub/carol quota",
+    b"a/b/c/d open LOG ram_quota=4K, cap_quota=2",
+    // arguments are never translated
+    b"alice open LOG \"\\q\"",
+    b"alice upgrade 1 \"hi\"",
+    b"alice open LOG ram_quota=4K",
+    b"alice request ram_quota=4K,  label=\"a  b\"",
+    b"alice yield  cap_quota=1 ",
+    b"alice request ",
+    b"alice call 1 BUFFER  8K",
+    b"alice call 1 NAME 1K",
+    b"alice call 1 READ f 4k 0",
+    b"alice call 1 WRITE 4K 1",
+];
+
+// Checks that each line passes.
+fn check_passing<R: Abort>(rt: &R, lines: &[&[u8]]) {
+    for line in lines {
+        assert!(rt; is_call(read_friendly(line, &mut Line::new()), line, None));
     }
-    Ok(())
 }
 
 #[test]
-fn lines_have_faults(rt: HostRuntime) -> Result<(), Fail> {
-    let rows: [(&[u8], Reason, usize); 29] = [
-        (b"alice quota\r ", Reason::Misspelt(Form::Quota), 7),
-        (b"alice call 1 WRITE \"hi", Reason::OpenQuote, 20),
-        (
-            b"  alice open LOG label=\"a\", \"b => x",
-            Reason::OpenQuote,
-            29,
-        ),
-        (b"alice call 1 WRITE \"hi\\\"", Reason::OpenQuote, 20),
-        (b"alice poke 0x10 \"\"", Reason::NoHex, 17),
-        (b"alice poke 0x10 \"a\"b", Reason::NoHex, 17),
-        (b"alice poke 0x10 123", Reason::NoHex, 17),
-        (b"alice poke 0x10 \"ab\\q\"", Reason::BadEscape, 20),
-        (b" alice call 1 WRITE \"\\x4\"", Reason::BadEscape, 22),
-        (
-            b"alice call 1 WRITE f 0 \"\\xg0\" => OK 1",
-            Reason::BadEscape,
-            25,
-        ),
-        (b"alice alloc 4k", Reason::SmallUnit, 13),
-        (b"alice free 4K", Reason::NoNumber, 12),
-        (b"alice alloc 17179869184G", Reason::NoSize, 13),
-        (b"alice alloc K", Reason::NoSize, 13),
-        (b"=>", Reason::NoName, 1),
-        (b"al!ce quota", Reason::NoName, 1),
-        (b"  alice frob", Reason::UnknownCall, 9),
-        (b"alice aloc 4K => ok", Reason::Misspelt(Form::Alloc), 7),
-        (b"alice alloc 1 2", Reason::TooMany(Form::Alloc), 15),
-        (b"alice attach_at  1", Reason::Missing(Form::AttachAt), 19),
-        (b"alice detach 0x12345678901234567", Reason::LongAddress, 14),
-        (b"alice peek 10 4", Reason::NoAddress, 12),
-        (b"alice open LOG! x", Reason::NoService, 12),
-        (b"\t\"", Reason::OpenQuote, 2),
-        (b"alice quota => OK \"\\q\"", Reason::BadEscape, 20),
-        (b"alice quota => \"\\q", Reason::OpenQuote, 16),
-        (b"alice quota => #", Reason::TooMany(Form::Quota), 13),
-        (b"\xef\xbb\xbf frob # x", Reason::NoForm, 9),
-        (b"\xef\xbb\xbf al ice", Reason::UnknownCall, 8),
-    ];
+fn lines_of_the_engine_pass(rt: HostRuntime) {
+    check_passing(&rt, PASSING);
+}
+
+/// Lines with a fault, why it is one, and where.
+const FAULTS: &[(&[u8], Reason, usize)] = &[
+    (b"alice quota\r ", Reason::Misspelt(Form::Quota), 7),
+    (b"alice call 1 WRITE \"hi", Reason::OpenQuote, 20),
+    (
+        b"  alice open LOG label=\"a\", \"b => x",
+        Reason::OpenQuote,
+        29,
+    ),
+    (b"alice call 1 WRITE \"hi\\\"", Reason::OpenQuote, 20),
+    (b"alice poke 0x10 \"\"", Reason::NoHex, 17),
+    (b"alice poke 0x10 \"a\"b", Reason::NoHex, 17),
+    (b"alice poke 0x10 123", Reason::NoHex, 17),
+    (b"alice poke 0x10 \"ab\\q\"", Reason::BadEscape, 20),
+    (b" alice call 1 WRITE \"\\x4\"", Reason::BadEscape, 22),
+    (
+        b"alice call 1 WRITE f 0 \"\\xg0\" => OK 1",
+        Reason::BadEscape,
+        25,
+    ),
+    (b"alice alloc 4k", Reason::SmallUnit, 13),
+    (b"alice free 4K", Reason::NoNumber, 12),
+    (b"alice alloc 17179869184G", Reason::NoSize, 13),
+    (b"alice alloc K", Reason::NoSize, 13),
+    (b"=>", Reason::NoName, 1),
+    (b"al!ce quota", Reason::NoName, 1),
+    (b"  alice frob", Reason::UnknownCall, 9),
+    (b"alice aloc 4K => ok", Reason::Misspelt(Form::Alloc), 7),
+    (b"alice alloc 1 2", Reason::TooMany(Form::Alloc), 15),
+    (b"alice attach_at  1", Reason::Missing(Form::AttachAt), 19),
+    (b"alice detach 0x12345678901234567", Reason::LongAddress, 14),
+    (b"alice peek 10 4", Reason::NoAddress, 12),
+    (b"alice open LOG! x", Reason::NoService, 12),
+    (b"\t\"", Reason::OpenQuote, 2),
+    (b"alice quota => OK \"\\q\"", Reason::BadEscape, 20),
+    (b"alice quota => \"\\q", Reason::OpenQuote, 16),
+    (b"alice quota => #", Reason::TooMany(Form::Quota), 13),
+    (b"\xef\xbb\xbf frob # x", Reason::NoForm, 9),
+    (b"\xef\xbb\xbf al ice", Reason::UnknownCall, 8),
+];
+
+// Checks that each line has its fault.
+fn check_faults<R: Abort>(rt: &R, rows: &[(&[u8], Reason, usize)]) {
     for (line, reason, column) in rows {
-        let fault = Fault { reason, column };
+        let fault = Fault {
+            reason: *reason,
+            column: *column,
+        };
         assert!(rt; is_fault(read_friendly(line, &mut Line::new()), fault));
     }
-    Ok(())
 }
 
 #[test]
-fn replies_meet_what_is_expected(rt: HostRuntime) -> Result<(), Fail> {
-    let rows: [(&[u8], &[u8], bool); 25] = [
-        (b"cap 1", b"cap 1", true),
-        (b"cap 1", b"cap 1 ", false),
-        (b"cap 1", b"cap", false),
-        (b"cap 1", b"granted", true),
-        (b"ok", b"granted", true),
-        (b"OK", b"granted", true),
-        (b"OK 4", b"refused", false),
-        (b"Out_of_ram", b"granted", false),
-        (b"Gone", b"refused", true),
-        (b"ERR EXISTS", b"refused", true),
-        (b"ERR EXISTS", b"*", true),
-        (b"cap 12", b"cap *", true),
-        (b"cap 12", b"cap *2", false),
-        (b"ram 0/65536 caps 0/16", b"ram */65536 caps *", true),
-        (b"ram 0/65537 caps 0/16", b"ram */65536 caps *", false),
-        (b"ram 0/65536 caps 0/16", b"ram *", false),
-        (b"ram 0/65536 caps 0/16", b"* * * *", true),
-        (b"cap ", b"cap *", false),
-        (b"OK 6869", b"OK \"hi\"", true),
-        (b"OK 6869", b"* \"hi\"  ", true),
-        (b"OK 68692a", b"OK \"hi*\"", true),
-        (b"OK 686900", b"OK \"hi\"", false),
-        (b"OK 68", b"OK \"hi\"", false),
-        (b"data ", b"data \"\"", true),
-        (b"granted", b"granted!", false),
-    ];
+fn lines_have_faults(rt: HostRuntime) {
+    check_faults(&rt, FAULTS);
+}
+
+/// Replies, what is expected, and whether they meet it.
+const REPLIES: &[(&[u8], &[u8], bool)] = &[
+    (b"cap 1", b"cap 1", true),
+    (b"cap 1", b"cap 1 ", false),
+    (b"cap 1", b"cap", false),
+    (b"cap 1", b"granted", true),
+    (b"ok", b"granted", true),
+    (b"OK", b"granted", true),
+    (b"OK 4", b"refused", false),
+    (b"Out_of_ram", b"granted", false),
+    (b"Gone", b"refused", true),
+    (b"ERR EXISTS", b"refused", true),
+    (b"ERR EXISTS", b"*", true),
+    (b"cap 12", b"cap *", true),
+    (b"cap 12", b"cap *2", false),
+    (b"ram 0/65536 caps 0/16", b"ram */65536 caps *", true),
+    (b"ram 0/65537 caps 0/16", b"ram */65536 caps *", false),
+    (b"ram 0/65536 caps 0/16", b"ram *", false),
+    (b"ram 0/65536 caps 0/16", b"* * * *", true),
+    (b"cap ", b"cap *", false),
+    (b"OK 6869", b"OK \"hi\"", true),
+    (b"OK 6869", b"* \"hi\"  ", true),
+    (b"OK 68692a", b"OK \"hi*\"", true),
+    (b"OK 686900", b"OK \"hi\"", false),
+    (b"OK 68", b"OK \"hi\"", false),
+    (b"data ", b"data \"\"", true),
+    (b"granted", b"granted!", false),
+];
+
+// Checks that each reply meets what is expected, or doesn't.
+fn check_replies<R: Abort>(rt: &R, rows: &[(&[u8], &[u8], bool)]) {
     for (reply, expected, met) in rows {
-        assert!(rt; meets(reply, expected) == met);
+        assert!(rt; meets(reply, expected) == *met);
     }
-    Ok(())
 }
 
 #[test]
-fn lines_say_nothing_or_a_log_line(rt: HostRuntime) -> Result<(), Fail> {
-    let rows: [(&[u8], Option<&[u8]>); 10] = [
-        (b"", None),
-        (b" ", None),
-        (b"\t \t", None),
-        (b"\r", None),
-        (b"  \r", None),
-        (b"# alice quota", None),
-        (b" \t# \" not closed", None),
-        (b"#\r", None),
-        (b"=> [alice] \"hi", Some(b"[alice] \"hi")),
-        (b" \t=> \r", Some(b"")),
-    ];
+fn replies_meet_what_is_expected(rt: HostRuntime) {
+    check_replies(&rt, REPLIES);
+}
+
+/// Lines that say nothing, or a log line.
+const LOGS: &[(&[u8], Option<&[u8]>)] = &[
+    (b"", None),
+    (b" ", None),
+    (b"\t \t", None),
+    (b"\r", None),
+    (b"  \r", None),
+    (b"# alice quota", None),
+    (b" \t# \" not closed", None),
+    (b"#\r", None),
+    (b"=> [alice] \"hi", Some(b"[alice] \"hi")),
+    (b" \t=> \r", Some(b"")),
+];
+
+// Checks that each line says nothing, or its log line.
+fn check_logs<R: Abort>(rt: &R, rows: &[(&[u8], Option<&[u8]>)]) {
     for (line, log) in rows {
-        assert!(rt; is_log(read_friendly(line, &mut Line::new()), log));
+        assert!(rt; is_log(read_friendly(line, &mut Line::new()), *log));
     }
-    Ok(())
+}
+
+#[test]
+fn lines_say_nothing_or_a_log_line(rt: HostRuntime) {
+    check_logs(&rt, LOGS);
 }
 
 #[test]

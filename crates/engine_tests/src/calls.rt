@@ -38,16 +38,25 @@ impl Write for CallsCounted {
     }
 }
 
+// Whether a read that fails is one call of the device.
+fn reads_once(fault: io::ErrorKind) -> bool {
+    let mut input = Input::new(CallsCounted { calls: 0, fault });
+    let failed = input.read(&mut [0; 4]) == Err(DeviceFault) && input.failed();
+    input.into_inner().calls == 1 && failed
+}
+
+// The same of a write.
+fn writes_once(fault: io::ErrorKind) -> bool {
+    let mut output = Output::new(CallsCounted { calls: 0, fault });
+    let failed = output.write(b"text") == Err(DeviceFault) && output.failed();
+    output.into_inner().calls == 1 && failed
+}
+
 // The device answers after its first call, but it isn't called a second time.
 #[test]
 fn a_device_is_called_once_a_call(rt: HostRuntime) {
     for fault in [io::ErrorKind::Interrupted, io::ErrorKind::Other] {
-        let mut input = Input::new(CallsCounted { calls: 0, fault });
-        assert!(rt; input.read(&mut [0; 4]) == Err(DeviceFault) && input.failed());
-        assert_eq!(rt; input.into_inner().calls, 1);
-        let mut output = Output::new(CallsCounted { calls: 0, fault });
-        assert!(rt; output.write(b"text") == Err(DeviceFault) && output.failed());
-        assert_eq!(rt; output.into_inner().calls, 1);
+        assert!(rt; reads_once(fault) && writes_once(fault));
     }
 }
 

@@ -40,14 +40,12 @@ fn check_length<R: Abort + AllocGlobal>(rt: &R, length: usize, size: usize) -> R
     let expected = length.min(LONGEST_CONFIG_READ);
     let mut source = Input::new(Reader::new(&bytes, size));
     let text = read_config(rt.alloc(), &mut source)?;
+    let is_front = bytes.starts_with(text.as_slice()) && text.len() == expected;
+    let (failed, left) = (source.failed(), source.into_inner().bytes.len());
     assert!(rt;
-        bytes.starts_with(text.as_slice()),
+        is_front && !failed && left == length - expected,
         "{length} bytes by {size}"
     );
-    assert!(rt; text.len() == expected, "how many of {length} bytes");
-    assert!(rt; !source.failed());
-    let left = source.into_inner().bytes.len();
-    assert!(rt; left == length - expected, "what {length} bytes leave");
     Ok(())
 }
 
@@ -73,33 +71,35 @@ const FAILING: &[(usize, ErrorKind)] = &[
     (1, ErrorKind::Other),
 ];
 
-// A read of these bytes, a thousand at a time, fails and is the last one.
-fn check_failing<R: Abort + AllocGlobal>(
-    rt: &R,
-    bytes: &[u8],
-    failing: &[(usize, ErrorKind)],
-) -> Result<(), Fail> {
+// Whether a read of these bytes, a thousand at a time, fails and is the last one.
+fn is_last_read(alloc: Global, bytes: &[u8], failing: usize, kind: ErrorKind) -> bool {
+    let mut source = Input::new(Reader {
+        failing,
+        kind,
+        ..Reader::new(bytes, 1000)
+    });
+    let is_unreadable = matches!(
+        read_config(alloc, &mut source),
+        Err(ConfigFault::Unreadable)
+    );
+    is_unreadable && source.failed() && source.into_inner().reads == failing
+}
+
+// The same of each read of a table.
+fn check_failing<R: Abort + AllocGlobal>(rt: &R, bytes: &[u8], failing: &[(usize, ErrorKind)]) {
     for (failing, kind) in failing {
-        let mut source = Input::new(Reader {
-            failing: *failing,
-            kind: *kind,
-            ..Reader::new(bytes, 1000)
-        });
-        let read = read_config(rt.alloc(), &mut source);
         assert!(rt;
-            matches!(read, Err(ConfigFault::Unreadable)),
+            is_last_read(rt.alloc(), bytes, *failing, *kind),
             "read {failing}"
         );
-        assert!(rt; source.failed());
-        assert!(rt; source.into_inner().reads == *failing, "read {failing}");
     }
-    Ok(())
 }
 
 #[test]
 fn a_read_that_fails_is_not_tried_again(rt: HostRuntime) -> Result<(), Fail> {
     let bytes = bytes_of(rt.alloc(), 10_000)?;
-    check_failing(&rt, &bytes, FAILING)
+    check_failing(&rt, &bytes, FAILING);
+    Ok(())
 }
 
 #[test]

@@ -1,9 +1,13 @@
 //! Runs over readers and writers that fail, or take and give little at a time.
+ghost use Rattle.std.specs.Prelude.{◌≡◌};
+ghost use Rattle.own_model.specs.Listed.{start_list_of};
+ghost use Rattle.own_model.specs.StartList.{entries_of};
+
 use crate::devices::{Reader, Writer};
 use crate::rows::repeat;
 use crate::rows::sessions::{DONATION, DONATION_ANSWERED};
 use init_core::{MACHINE_A, StartList, boot};
-use pd_core::Reply;
+use pd_core::{Core, Reply, Router};
 use scenario::{Failure, Input, Output, RunFault, Sink, Source, Summary, run, run_only};
 use std::alloc::Global;
 use std::io::ErrorKind;
@@ -27,6 +31,13 @@ struct Outcome<'a> {
     left: Vec<u8>,
 }
 
+impl Outcome<'_> {
+    // Whether the run ended with this fault, and this was written by then.
+    fn has_written(&self, fault: RunFault, written: &[u8]) -> bool {
+        self.ended == Err(fault) && self.writer.bytes.as_slice() == written
+    }
+}
+
 // Runs all lines, or those of one name, on the built-in machine, at most so many.
 fn outcome_of<'a>(
     alloc: Global,
@@ -40,38 +51,58 @@ fn outcome_of<'a>(
     let mut reply = Reply::boot(alloc)?;
     let mut source = Input::new(reader);
     let mut sink = Output::new(writer);
-    let ended = match only {
-        None => run(
-            &mut core,
-            &list,
-            &mut reply,
-            &mut source,
-            &mut sink,
-            max_lines,
-        ),
-        Some(name) => {
-            run_only(
-                &mut core,
-                &list,
-                &mut reply,
-                name,
-                &mut source,
-                &mut sink,
-                max_lines,
-            )
-        }
-    };
-    let mut quota = Input::new(Reader::new(b"alice quota\n", 100));
-    let mut told = Output::new(Writer::new(alloc));
-    let _ = run(&mut core, &list, &mut reply, &mut quota, &mut told, 1);
+    let ended = run_some(
+        &mut core,
+        &list,
+        &mut reply,
+        only,
+        &mut source,
+        &mut sink,
+        max_lines,
+    );
+    let left = left_of(alloc, &mut core, &list, &mut reply);
     Ok(Outcome {
         ended,
         read_failed: source.failed(),
         write_failed: sink.failed(),
         reader: source.into_inner(),
         writer: sink.into_inner(),
-        left: told.into_inner().bytes,
+        left,
     })
+}
+
+// Runs all lines, or those of one name, over these devices.
+fn run_some<R: Router + Drop, S: Source, K: Sink>(
+    core: &mut Core<R>,
+    list: &StartList,
+    reply: &mut Reply,
+    only: Option<&[u8]>,
+    reader: &mut S,
+    writer: &mut K,
+    max_lines: u64,
+) -> Result<Summary, RunFault>
+    requires { core.old.entries ≡ entries_of (start_list_of list.now) }
+    ensures { core.new.entries ≡ core.old.entries }
+{
+    match only {
+        None => run(core, list, reply, reader, writer, max_lines),
+        Some(name) => run_only(core, list, reply, name, reader, writer, max_lines),
+    }
+}
+
+// What alice is told of her account.
+fn left_of<R: Router + Drop>(
+    alloc: Global,
+    core: &mut Core<R>,
+    list: &StartList,
+    reply: &mut Reply,
+) -> Vec<u8>
+    requires { core.old.entries ≡ entries_of (start_list_of list.now) }
+{
+    let mut quota = Input::new(Reader::new(b"alice quota\n", 100));
+    let mut told = Output::new(Writer::new(alloc));
+    let _ = run(core, list, reply, &mut quota, &mut told, 1);
+    told.into_inner().bytes
 }
 
 /// A run whose reader gives so many bytes at a time and fails at one read, and whose writer takes so many at a time and
@@ -317,31 +348,21 @@ fn check<R: Abort + AllocGlobal>(rt: &R, case: &Case) -> Result<(), Fail> {
         ..Writer::new(rt.alloc())
     };
     let ran = outcome_of(rt.alloc(), case.only, reader, writer, case.max_lines)?;
-    assert!(rt; ran.ended == case.ended, "{}", case.shows);
-    assert!(rt;
-        ran.read_failed == (ran.ended == Err(RunFault::ReadFault)),
-        "{}",
-        case.shows
-    );
-    assert!(rt;
-        ran.write_failed == (ran.ended == Err(RunFault::WriteFault)),
-        "{}",
-        case.shows
-    );
-    assert!(rt;
-        ran.writer.bytes.as_slice() == case.written,
-        "{}",
-        case.shows
-    );
-    assert!(rt; ran.reader.reads == case.reads, "{}", case.shows);
-    assert!(rt; ran.writer.writes == case.writes, "{}", case.shows);
-    assert!(rt;
-        ran.left
-            .ends_with(&[b' ', case.caps, b'/', b'1', b'6', b'\n']),
-        "{}",
-        case.shows
-    );
+    assert!(rt; is_so(&ran, case), "{}", case.shows);
     Ok(())
+}
+
+// Whether a run ended so.
+fn is_so(ran: &Outcome<'_>, case: &Case) -> bool {
+    ran.ended == case.ended
+        && ran.read_failed == (ran.ended == Err(RunFault::ReadFault))
+        && ran.write_failed == (ran.ended == Err(RunFault::WriteFault))
+        && ran.writer.bytes.as_slice() == case.written
+        && ran.reader.reads == case.reads
+        && ran.writer.writes == case.writes
+        && ran
+            .left
+            .ends_with(&[b' ', case.caps, b'/', b'1', b'6', b'\n'])
 }
 
 // Each run of a table.
@@ -368,9 +389,8 @@ fn each_read_fails_in_turn(rt: HostRuntime) -> Result<(), Fail> {
             ..Reader::new(DONATION, 1)
         };
         let ran = outcome_of(rt.alloc(), None, reader, Writer::new(rt.alloc()), 10)?;
-        assert!(rt; ran.ended == Err(RunFault::ReadFault), "read {end}");
         assert!(rt;
-            ran.writer.bytes.as_slice() == answered.as_slice(),
+            ran.has_written(RunFault::ReadFault, &answered),
             "read {end}"
         );
         if DONATION[end] == b'\n' {
@@ -393,17 +413,22 @@ fn each_write_fails_in_turn(rt: HostRuntime) -> Result<(), Fail> {
             };
             let ran = outcome_of(rt.alloc(), None, Reader::new(DONATION, size), writer, 10)?;
             assert!(rt;
-                ran.ended == Err(RunFault::WriteFault),
-                "after {room} bytes"
-            );
-            let written = &DONATION_ANSWERED[..room];
-            assert!(rt;
-                ran.writer.bytes.as_slice() == written,
+                ran.has_written(RunFault::WriteFault, &DONATION_ANSWERED[..room]),
                 "after {room} bytes"
             );
         }
     }
     Ok(())
+}
+
+// Whether a hundred bytes were written in three writes, and not a fourth was tried, and no line was answered after that.
+fn is_cut(writer: &Writer, left: &[u8]) -> bool {
+    writer.writes == 3
+        && writer.bytes.len() == 100
+        && writer
+            .bytes
+            .starts_with(b"alice: cap 1\nalice: ram 0/65536 caps 1/16\nalice: ram")
+        && left == b"alice: ram 0/65536 caps 1/16\n".as_slice()
 }
 
 // The replies of a block fill more than is gathered at once, so a line is answered whose reply is cut; and none after it.
@@ -425,23 +450,19 @@ fn writer_fails_while_more_is_gathered(rt: HostRuntime) -> Result<(), Fail> {
         1000,
     )?;
     assert!(rt; ran.ended == Err(RunFault::WriteFault));
-    assert!(rt; ran.writer.writes == 3, "and not a fourth");
-    assert!(rt; ran.writer.bytes.len() == 100);
-    assert!(rt;
-        ran.writer
-            .bytes
-            .starts_with(b"alice: cap 1\nalice: ram 0/65536 caps 1/16\nalice: ram")
-    );
-    assert!(rt; ran.left.as_slice() == b"alice: ram 0/65536 caps 1/16\n".as_slice());
+    assert!(rt; is_cut(&ran.writer, &ran.left));
     Ok(())
 }
 
 // With a device that had failed before, neither is touched; the writer is told first.
-#[test]
-fn failed_devices_are_not_tried(rt: HostRuntime) -> Result<(), Fail> {
-    let list = StartList::read(rt.alloc(), MACHINE_A.as_bytes())?;
-    let mut core = boot(rt.alloc(), &list)?;
-    let mut reply = Reply::boot(rt.alloc())?;
+fn check_failed<A: Abort + AllocGlobal, R: Router + Drop>(
+    rt: &A,
+    core: &mut Core<R>,
+    list: &StartList,
+    reply: &mut Reply,
+)
+    requires { core.old.entries ≡ entries_of (start_list_of list.now) }
+{
     let mut source = Input::new(Reader {
         failing: 1,
         ..Reader::new(b"alice quota\n", 100)
@@ -452,30 +473,25 @@ fn failed_devices_are_not_tried(rt: HostRuntime) -> Result<(), Fail> {
         ..Writer::new(rt.alloc())
     });
     let mut quota = Input::new(Reader::new(b"alice quota\n", 100));
-    let mut ended = [Ok(Summary { lines: 0 }); 4];
-    ended[0] = run(&mut core, &list, &mut reply, &mut source, &mut sink, 10);
-    ended[1] = run(&mut core, &list, &mut reply, &mut source, &mut sink, 10);
-    ended[2] = run(
-        &mut core,
-        &list,
-        &mut reply,
-        &mut quota,
-        &mut unwritable,
-        10,
-    );
-    ended[3] = run(
-        &mut core,
-        &list,
-        &mut reply,
-        &mut source,
-        &mut unwritable,
-        10,
-    );
+    let ended = [
+        run(core, list, reply, &mut source, &mut sink, 10),
+        run(core, list, reply, &mut source, &mut sink, 10),
+        run(core, list, reply, &mut quota, &mut unwritable, 10),
+        run(core, list, reply, &mut source, &mut unwritable, 10),
+    ];
     let read = Err(RunFault::ReadFault);
     let write = Err(RunFault::WriteFault);
     assert!(rt; ended == [read, read, write, write]);
     assert!(rt; source.into_inner().reads == 1);
     assert!(rt; sink.into_inner().bytes.is_empty());
     assert!(rt; unwritable.into_inner().writes == 1);
+}
+
+#[test]
+fn failed_devices_are_not_tried(rt: HostRuntime) -> Result<(), Fail> {
+    let list = StartList::read(rt.alloc(), MACHINE_A.as_bytes())?;
+    let mut core = boot(rt.alloc(), &list)?;
+    let mut reply = Reply::boot(rt.alloc())?;
+    check_failed(&rt, &mut core, &list, &mut reply);
     Ok(())
 }

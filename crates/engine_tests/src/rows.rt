@@ -8,7 +8,7 @@ pub mod sessions;
 use crate::devices::{Reader, Writer};
 use init_core::MACHINE_A;
 use scenario::{Input, Output, Task, boot_and_run, exit_status, run_bytes};
-use std::alloc::AllocError;
+use std::alloc::{AllocError, Global};
 use std::process::Abort;
 use std::test::Fail;
 
@@ -45,21 +45,21 @@ pub struct Row<'a> {
     pub transcript: &'a [u8],
 }
 
+// Whether a row is answered so where its scenario comes in pieces of this size.
+fn is_answered(alloc: Global, row: &Row<'_>, size: usize) -> bool {
+    let mut source = Input::new(Reader::new(row.scenario, size));
+    let mut sink = Output::new(Writer::new(alloc));
+    let ended = boot_and_run(alloc, row.list.as_bytes(), row.task, &mut source, &mut sink);
+    let writer = sink.into_inner();
+    exit_status(&ended) == 0 && writer.bytes.as_slice() == row.transcript
+}
+
 // A row is answered so however its scenario comes, and from bytes to bytes.
 fn check<R: Abort + AllocGlobal>(rt: &R, row: &Row<'_>) -> Result<(), Fail> {
-    let text = row.list.as_bytes();
     for size in [1, 7, 100_000] {
-        let mut source = Input::new(Reader::new(row.scenario, size));
-        let mut sink = Output::new(Writer::new(rt.alloc()));
-        let ended = boot_and_run(rt.alloc(), text, row.task, &mut source, &mut sink);
-        assert!(rt; exit_status(&ended) == 0, "{}", row.shows);
-        assert!(rt;
-            sink.into_inner().bytes.as_slice() == row.transcript,
-            "{}",
-            row.shows
-        );
+        assert!(rt; is_answered(rt.alloc(), row, size), "{}", row.shows);
     }
-    let written = run_bytes(rt.alloc(), text, row.task, row.scenario)
+    let written = run_bytes(rt.alloc(), row.list.as_bytes(), row.task, row.scenario)
         .ok()
         .ok_or(row.shows)?;
     assert!(rt; written.as_slice() == row.transcript, "{}", row.shows);

@@ -19,15 +19,17 @@ fn limits_at_their_largest_move(rt: HostRuntime) {
     let other = books
         .open(root, Ram(5), Caps(5))
         .expect(&rt, "the root has it");
-    assert_eq!(rt;
-        books.raise(root, one, Ram(u64::MAX - 6), Caps(u32::MAX - 6)),
-        Ok(())
+    assert!(rt;
+        books
+            .raise(root, one, Ram(u64::MAX - 6), Caps(u32::MAX - 6))
+            .is_ok()
     );
-    assert_eq!(rt;
-        books.shift(one, other, Ram(u64::MAX - 5), Caps(u32::MAX - 5)),
-        Ok(())
+    assert!(rt;
+        books
+            .shift(one, other, Ram(u64::MAX - 5), Caps(u32::MAX - 5))
+            .is_ok()
     );
-    assert_eq!(rt; plain(books.limits(one)), (0, 0));
-    assert_eq!(rt; plain(books.limits(other)), (u64::MAX, u32::MAX));
-    assert_eq!(rt; plain(books.limits(root)), (0, 0));
+    assert!(rt; plain(books.limits(one)) == (0, 0));
+    assert!(rt; plain(books.limits(other)) == (u64::MAX, u32::MAX));
+    assert!(rt; plain(books.limits(root)) == (0, 0));
 }

@@ -1,8 +1,9 @@
 //! Pages: that calls succeed where there is memory, and what a holder of pages sees.
-ghost use Rattle.std.specs.Prelude.{◌≡◌, ◌≢◌, ◌<◌, ℕ, IsTrue, slice_index};
+ghost use Rattle.std.specs.Prelude.{◌≡◌, ◌≢◌, ◌<◌, ◌≤◌, ℕ, IsTrue, slice_index};
 ghost use Rattle.page_pool.specs.Pages.{is_taken};
 
 use page_pool::{PageNo, Pool};
+use std::alloc::Global;
 use std::process::Abort;
 
 /// A page of ones, where the page that was handed out held zeros.
@@ -62,12 +63,19 @@ fn pages_come_back_zero(rt: HostRuntime) {
     assert_eq!(rt; pool.free_pages(), 0);
 }
 
+/// A pool of so many pages has them all.
+fn check_boot(rt: &impl Abort, alloc: Global, pages: usize)
+    requires { pages ≤ 4096 }
+{
+    let mut pool = Pool::boot(alloc, pages).expect(rt, "memory for the pages");
+    assert!(rt; pool.free_pages() == pages);
+    assert!(rt; pool.take().is_some() == (pages > 0));
+}
+
 #[test]
 fn boots_at_its_least_and_most(rt: HostRuntime) {
-    let mut none = Pool::boot(rt.alloc(), 0).expect(&rt, "no pages");
-    assert!(rt; none.take().is_none());
-    let pool = Pool::boot(rt.alloc(), 4096).expect(&rt, "memory for all pages");
-    assert_eq!(rt; pool.free_pages(), 4096);
+    check_boot(&rt, rt.alloc(), 0);
+    check_boot(&rt, rt.alloc(), 4096);
 }
 
 #[test]
@@ -78,6 +86,6 @@ fn words_begin_with_their_lowest_byte(rt: HostRuntime) {
     pool.store(page, 4088, 0x0807060504030201);
     let mut bytes = [9; 10];
     pool.read(page, 4086, &mut bytes);
-    assert_eq!(rt; bytes, [0, 0, 1, 2, 3, 4, 5, 6, 7, 8]);
-    assert_eq!(rt; pool.load(page, 4088), 0x0807060504030201);
+    assert!(rt; bytes == [0, 0, 1, 2, 3, 4, 5, 6, 7, 8]);
+    assert!(rt; pool.load(page, 4088) == 0x0807060504030201);
 }

@@ -49,28 +49,40 @@ fn booted(rt: &impl Abort, alloc: Global) -> RegionMap
     RegionMap::boot(alloc, 128, 64, 64).expect(rt, "memory for the regions")
 }
 
+/// What is found at an address: a region's start, its dataspace and its number.
+type Found = Option<(u64, DsId, u64)>;
+
+/// At each address this is found.
+fn check_found(rt: &impl Abort, map: &RegionMap, rows: &[(u64, Found)]) {
+    for (address, found) in rows {
+        assert!(rt; map.heap_region(*address) == *found, "at {address}");
+    }
+}
+
 #[test]
 fn heap_regions_keep_their_numbers(rt: HostRuntime) {
     let mut map = booted(&rt, rt.alloc());
     let one = attach_block(&mut map, FIRST, 1, 10);
     let two = attach_block(&mut map, SECOND, 2, 20);
     let three = attach_block(&mut map, FIRST, 1, 30);
-    assert_eq!(rt; one, 0x1_0000_0000);
-    assert_eq!(rt; three, 0x1_0000_3000);
+    assert!(rt; one == 0x1_0000_0000 && three == 0x1_0000_3000);
     detach_block(&mut map, two);
-    assert_eq!(rt; map.heap_region(0x1_0000_1000), None);
-    assert_eq!(rt; attach_block(&mut map, SECOND, 1, 50), 0x1_0000_1000);
-    for (address, region) in [
-        (0x1_0000_0fff, (0x1_0000_0000, FIRST, 10)),
-        (0x1_0000_1fff, (0x1_0000_1000, SECOND, 50)),
-        (0x1_0000_3000, (0x1_0000_3000, FIRST, 30)),
-    ] {
-        assert_eq!(rt; map.heap_region(address), Some(region));
-    }
+    check_found(&rt, &map, &[(0x1_0000_1000, None)]);
+    assert!(rt; attach_block(&mut map, SECOND, 1, 50) == 0x1_0000_1000);
+    check_found(
+        &rt,
+        &map,
+        &[
+            (0x1_0000_0fff, Some((0x1_0000_0000, FIRST, 10))),
+            (0x1_0000_1fff, Some((0x1_0000_1000, SECOND, 50))),
+            (0x1_0000_3000, Some((0x1_0000_3000, FIRST, 30))),
+        ],
+    );
     // A region that is no heap's has a number of its own.
-    assert_eq!(rt; map.attach_heap(FIRST, 2), 0x1_0000_4000);
-    assert_eq!(rt;
-        map.heap_region(0x1_0000_5000),
-        Some((0x1_0000_4000, FIRST, 65))
+    assert!(rt; map.attach_heap(FIRST, 2) == 0x1_0000_4000);
+    check_found(
+        &rt,
+        &map,
+        &[(0x1_0000_5000, Some((0x1_0000_4000, FIRST, 65)))],
     );
 }
