@@ -18,9 +18,9 @@ use Rattle.scenario.proofs.FaultLemmas.{none_of, or_none}
 use Rattle.scenario.proofs.ToldLemmas.{left_none, said_none, world_running-append}
 use Rattle.workbench.specs.Faults.{takes_in}
 use Rattle.workbench.specs.Played.{calls_answered, calls_said, told_of_calls, told_of_turns}
-use Rattle.workbench.specs.Plays.{ClosesAs, LeadsTurns, PlaysAll, Remains, StopsTurns, TakesRoom, TakesRoomFor, counted, most_lines}
+use Rattle.workbench.specs.Plays.{ClosesAs, LeadsTurns, PlaysAll, StopsTurns, TakesRoom, TakesRoomFor, counted, most_lines}
 use Rattle.workbench.specs.Turns.{StaysBelow, StaysLow, Turn, call_of, deed_of, left_behind, low, next_stand, stand_behind, turn_of, turns_of}
-use Rattle.workbench.specs.Watching.{IsToldOf, Watches}
+use Rattle.workbench.specs.Watching.{Hears, IsToldOf, Watches}
 use Rattle.workbench.specs.declared.stand.Stand.{Stand}
 use Rattle.workbench.proofs.PlayedLemmas.{answered_more, answered-one, calls_said-one, left_more, stand_more, told_more, told_of_turns-one, turns_more}
 
@@ -118,28 +118,28 @@ module _ (only : Option (List ℕ)) (start mid : World) (first stand : Stand) (x
       tells_counted text (Ok complained) told = told
       tells_counted text (Err fault) told = told
 
+-- what a watch has seen where it watches
+sees_on : {T E : Type 0} (r : Result T E) {seen : World → List (List ℕ) → Type 0} {start world : World} {calls : List (List ℕ)} → OnOk r (Watches seen start calls world) → OnOk r (seen start calls)
+sees_on (Ok x) watches = watches.sees
+sees_on (Err fault) watches = tt
+
 -- the same for a player that is the one that began
-pub bench_line : {R N T : Type 0} (only_of : R → Option (List ℕ)) (seen_old seen_new : R → List (List ℕ) → Type 0) {name now_name : N} {at run : R} {telling now_telling : T} {holds now_holds : List ℕ} (start mid last : World) (first stand next : Stand) (xs : List (List ℕ)) (line : List ℕ)
-    (tells : List (List ℕ) → ℕ → List ℕ → List ℕ) (calls : Bool) (judged : Result Bool PlayFault) (write_failed : Bool) (w w' : Option (List ℕ)) (g g' : List ℕ) →
-    Remains name now_name at run telling now_telling holds now_holds → LeadsTurns (only_of at) start mid first stand (seen_old at) xs →
-    (LeadsTurns (only_of run) start mid first stand (seen_old run) xs →
-    (last ≡ left_behind (only_of run) mid stand line)
-    × TellsUnless judged w g w' g' (told_of_calls tells (calls_answered (only_of run) (turns_of (only_of run) start first xs)) stand.number (said_by (only_of run) (call_of stand line)))
-    × OnOk judged (seen_new run (calls_answered (only_of run) (turns_of (only_of run) start first xs) ++ said_by (only_of run) (call_of stand line)))
-    × OnOk judged (next ≡ next_stand (only_of run) mid stand line)) →
-    Fails judged write_failed (takes_in calls (deed_of stand line)) →
-    PlaysLine (λ lines. told_of_turns tells (only_of at) [] (turns_of (only_of at) start first lines))
-    (λ lines. Remains name now_name at run telling now_telling holds now_holds × LeadsTurns (only_of at) start last first next (seen_new at) lines)
-    (λ fault lines. Remains name now_name at run telling now_telling holds now_holds × StopsTurns calls (only_of at) start last first fault lines) xs line (counted judged) w g w' g'
-bench_line only_of seen_old seen_new {name} {now_name} {at} {run} {telling} {now_telling} {holds} {now_holds} start mid last first stand next xs line tells calls judged write_failed w w' g g' remains led facts fails =
-    subst (λ r. Remains name now_name r run telling now_telling holds now_holds → LeadsTurns (only_of r) start mid first stand (seen_old r) xs →
-    PlaysLine (λ lines. told_of_turns tells (only_of r) [] (turns_of (only_of r) start first lines))
-    (λ lines. Remains name now_name r run telling now_telling holds now_holds × LeadsTurns (only_of r) start last first next (seen_new r) lines)
-    (λ fault lines. Remains name now_name r run telling now_telling holds now_holds × StopsTurns calls (only_of r) start last first fault lines) xs line (counted judged) w g w' g')
-    remains.run_is
-    (λ kept here. let f = facts here in
-    bench_plays (only_of run) start mid first stand xs line here.world_is here.stands tells calls (seen_new run) last next judged write_failed w w' g g' kept f.0 f.1 f.2 f.3 fails)
-    remains led
+pub bench_line : {R A : Type 0} (only_of : R → Option (List ℕ)) (seen_old seen_new : R → World → List (List ℕ) → Type 0) {at run : R} {telling now_telling : World → List (List ℕ) → ℕ → List ℕ → List ℕ} (start : World) {mid last : World} {first stand next : Stand} (xs : List (List ℕ)) (line : List ℕ)
+    (calls : Bool) (judged : Result Bool PlayFault) {write_failed : Bool} {w w' : Option (List ℕ)} {g g' : List ℕ} → A → run ≡ at → now_telling ≡ telling → LeadsTurns (only_of at) start mid first stand (seen_old at start) xs →
+    Hears (only_of run) now_telling (seen_old run) (seen_new run) stand.number (call_of stand line) mid last judged w g w' g' → OnOk judged (next ≡ next_stand (only_of run) mid stand line) → Fails judged write_failed (takes_in calls (deed_of stand line)) →
+    PlaysLine (λ lines. told_of_turns (telling start) (only_of at) [] (turns_of (only_of at) start first lines)) (λ lines. A × LeadsTurns (only_of at) start last first next (seen_new at start) lines)
+    (λ fault lines. A × StopsTurns calls (only_of at) start last first fault lines) xs line (counted judged) w g w' g'
+bench_line only_of seen_old seen_new {at} {run} {telling} {now_telling} start {mid} {last} {first} {stand} {next} xs line calls judged {write_failed} {w} {w'} {g} {g'} kept run_is tells_is led hears stands fails =
+    bench_plays (only_of at) start mid first stand xs line led.world_is led.stands (telling start) calls (seen_new at start) last next judged write_failed w w' g g' kept heard_at.world (heard_at.told start _ here) (sees_on judged (heard_at.sees start _ here))
+    (subst (λ r. OnOk judged (next ≡ next_stand (only_of r) mid stand line)) run_is stands) fails
+  where
+    heard_at : Hears (only_of at) telling (seen_old at) (seen_new at) stand.number (call_of stand line) mid last judged w g w' g'
+    heard_at =
+        subst (λ t. Hears (only_of at) t (seen_old at) (seen_new at) stand.number (call_of stand line) mid last judged w g w' g') tells_is
+        (subst (λ r. Hears (only_of r) now_telling (seen_old r) (seen_new r) stand.number (call_of stand line) mid last judged w g w' g') run_is hears)
+
+    here : Watches (seen_old at) start (calls_answered (only_of at) (turns_of (only_of at) start first xs)) mid
+    here = record { leads = led.world_is; sees = led.sees }
 
 -- at first no line is
 pub leads_none : (only : Option (List ℕ)) (world : World) (first : Stand) (seen : List (List ℕ) → Type 0) → seen [] → LeadsTurns only world world first first seen []

@@ -1,5 +1,5 @@
 -- What a line is when its turn comes, by how it was filled.
-use Rattle.std.proofs.Common.{◌≡◌, ℕ, ◌+◌, ◌≤◌, ◌==◌, ◌||◌, Bool, true, false, cond, List, [], ◌∷◌, length, nat_le, slice_index, is_none, take, Option, Some, None, Result, Ok, Err, IfOk, OnOk, refl, sym, ◌∙◌, ap, subst}
+use Rattle.std.proofs.Common.{◌≡◌, ℕ, ◌+◌, ◌≤◌, ◌==◌, ◌||◌, Bool, true, false, cond, List, [], ◌∷◌, length, nat_le, slice_index, is_none, take, Option, Some, None, Result, Ok, Err, OnOk, arith, refl, sym, ◌∙◌, ap, subst}
 use Rattle.own_model.specs.SaidBy.{said_by}
 use Rattle.own_model.specs.Transcript.{longest_line}
 use Rattle.own_model.specs.World.{World}
@@ -18,10 +18,8 @@ use Rattle.scenario_names.specs.Known.{Known}
 use Rattle.scenario_names.specs.Learning.{learnt, learnt_of}
 use Rattle.friendly_lines.specs.Expected.{meets}
 use Rattle.scenario_names.specs.declared.fault.NameFault.{NameFault}
-use Rattle.workbench.specs.Faults.{takes_in}
-use Rattle.scenario.specs.Faults.{Fails}
-use Rattle.workbench.specs.Judging.{Awaited, IsJudged, awaited_after}
-use Rattle.workbench.specs.Turns.{AreBare, Deed, bare_deed, call_in, deed_by, deed_filled, deed_of, learnt_by, learnt_from, left_behind, next_stand, passed, reply_in, stand_after, turns_from, turns_of}
+use Rattle.workbench.specs.Judging.{Awaited, Judges}
+use Rattle.workbench.specs.Turns.{AreBare, Deed, StaysLow, bare_deed, call_in, deed_by, deed_filled, deed_of, learnt_by, learnt_from, left_behind, next_stand, passed, reply_in, stand_after, turns_from, turns_of}
 use Rattle.workbench.specs.Turns.Deed.{TooLong, Unnamed, Follows, Says}
 use Rattle.scenario.specs.declared.play_fault.PlayFault.{PlayFault}
 use Rattle.workbench.specs.declared.stand.Stand.{Stand}
@@ -40,14 +38,8 @@ module _ (stand : Stand) (line : List ℕ) where
 
   -- what is promised of a line, by what it is
   module _ (deed : Deed) (is : deed_of stand line ≡ deed) where
-    pub fails_by : (r : Result Bool PlayFault) (failed calls : Bool) → Fails r failed (takes_in calls deed) → Fails r failed (takes_in calls (deed_of stand line))
-    fails_by r failed calls fails = subst (λ d. Fails r failed (takes_in calls d)) (sym is) fails
-
-    pub judged_by : (r : Result Bool PlayFault) (only : Option (List ℕ)) (world : World) (awaited : Awaited) → IfOk r (IsJudged only world deed awaited) → IfOk r (IsJudged only world (deed_of stand line) awaited)
-    judged_by r only world awaited judged = subst (λ d. IfOk r (IsJudged only world d awaited)) (sym is) judged
-
-    pub expects_by : (r : Result Bool PlayFault) (number : ℕ) (old new : Awaited) → OnOk r (new ≡ awaited_after number deed old) → OnOk r (new ≡ awaited_after number (deed_of stand line) old)
-    expects_by r number old new expects = subst (λ d. OnOk r (new ≡ awaited_after number d old)) (sym is) expects
+    pub judges_by : {only : Option (List ℕ)} {world : World} {number : ℕ} {calls : Bool} {old new : Awaited} {failed : Bool} {r : Result Bool PlayFault} → Judges only world number deed calls old new failed r → Judges only world number (deed_of stand line) calls old new failed r
+    judges_by {only} {world} {number} {calls} {old} {new} {failed} {r} judges = subst (λ d. Judges only world number d calls old new failed r) (sym is) judges
 
     pub stands_by : (r : Result Bool PlayFault) (only : Option (List ℕ)) (world : World) (next : Stand) → OnOk r (next ≡ stand_after only world (passed stand) deed) → OnOk r (next ≡ next_stand only world stand line)
     stands_by r only world next stands = subst (λ d. OnOk r (next ≡ stand_after only world (passed stand) d)) (sym is) stands
@@ -65,7 +57,7 @@ learnt_none known f reply none =
 
 module _ (only : Option (List ℕ)) (world : World) (known : Known) (f : Filled) where
   -- no call binds none
-  pub learns_silent : (here : List (List ℕ)) → here ≡ [] → known ≡ learnt_from world known f (said_by only here)
+  learns_silent : (here : List (List ℕ)) → here ≡ [] → known ≡ learnt_from world known f (said_by only here)
   learns_silent here silent = sym (ap (λ calls. learnt_from world known f (said_by only calls)) silent ∙ ap (learnt_from world known f) (said_none only))
 
   -- a call that is answered binds what its answer binds
@@ -80,10 +72,23 @@ module _ (only : Option (List ℕ)) (world : World) (known : Known) (f : Filled)
   learns_said (Err fault) next here engine answer is answers learns = tt
 
 -- so a play stands behind a line that was filled
-pub stands_said : (r : Result Bool PlayFault) (only : Option (List ℕ)) (world : World) (stand : Stand) (f : Filled) (said : Result Said Fault) (next : Known) →
-    OnOk r (next ≡ learnt_from world stand.known f (said_by only (call_in said))) → OnOk r (record stand { number = stand.number + 1; known = next } ≡ stand_after only world (passed stand) (Says f said))
-stands_said (Ok complained) only world stand f said next learns = ap (λ known. record stand { number = stand.number + 1; known = known }) learns
-stands_said (Err fault) only world stand f said next learns = tt
+pub stands_said : (r : Result Bool PlayFault) (only : Option (List ℕ)) (world : World) (stand next : Stand) (f : Filled) (said : Result Said Fault) → next.number ≡ stand.number →
+    OnOk r (next.known ≡ learnt_from world stand.known f (said_by only (call_in said))) → OnOk r (next ≡ stand_after only world stand (Says f said))
+stands_said (Ok complained) only world stand next f said passes learns = λ i. record { number = passes i; known = learns i }
+stands_said (Err fault) only world stand next f said passes learns = tt
+
+-- where it says no call
+pub stays : (r : Result Bool PlayFault) (only : Option (List ℕ)) (world : World) (stand : Stand) (f : Filled) {said : Result Said Fault} → call_in said ≡ [] → OnOk r (stand ≡ stand_after only world stand (Says f said))
+stays r only world stand f {said} silent = stands_said r only world stand stand f said refl (on_ok r (learns_silent only world stand.known f (call_in said) silent))
+  where
+    on_ok : {P : Type 0} (r : Result Bool PlayFault) → P → OnOk r P
+    on_ok (Ok complained) p = p
+    on_ok (Err fault) p = tt
+
+-- and its number was passed
+pub low_said : (r : Result Bool PlayFault) (stand next after : Stand) → after.number ≡ stand.number + 1 → OnOk r (next ≡ after) → OnOk r (StaysLow stand next)
+low_said (Ok complained) stand next after passes stands = λ n most was. omega (arith, was, ap (λ (s : Stand). s.number) stands, passes)
+low_said (Err fault) stand next after passes stands = tt
 
 -- ---- bare lines
 

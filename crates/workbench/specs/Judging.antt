@@ -1,5 +1,5 @@
 -- What is expected of an answer, and whether it is otherwise.
-use Rattle.std.specs.Prelude.{◌≡◌, ℕ, ◌&&◌, ◌||◌, Bool, true, false, not, is_some, List, [], ◌∷◌, ◌++◌, Option, Some, None, Result, Ok, Err}
+use Rattle.std.specs.Prelude.{◌≡◌, ℕ, ◌&&◌, ◌||◌, Bool, true, false, not, is_some, List, [], ◌∷◌, ◌++◌, Option, Some, None, Result, Ok, Err, IfOk, OnOk}
 use Rattle.std.specs.Str.{bytes_eq}
 use Rattle.trade_base.specs.Refusal.{refusal_name}
 use Rattle.trade_base.specs.declared.refusal.Refusal.TheVariants.{UnknownComponent}
@@ -9,7 +9,10 @@ use Rattle.friendly_lines.specs.Friendly.{Said, is_passed}
 use Rattle.friendly_lines.specs.Friendly.Said.{Nothing, Log, Call}
 use Rattle.friendly_lines.specs.declared.fault.Fault.{Fault}
 use Rattle.scenario.specs.Answer.{AnswersLine}
+use Rattle.scenario.specs.Faults.{Fails}
 use Rattle.scenario.specs.declared.answering.LineAnswer.{LineAnswer}
+use Rattle.scenario.specs.declared.play_fault.PlayFault.{PlayFault}
+use Rattle.workbench.specs.Faults.{takes_in}
 use Rattle.workbench.specs.Turns.{Deed, is_misplaced}
 use Rattle.workbench.specs.Turns.Deed.{TooLong, Unnamed, Follows, Says}
 
@@ -77,3 +80,11 @@ IsJudged only world (Unnamed fault) awaited complained = complained ≡ true
 IsJudged only world (Follows directive) awaited complained = complained ≡ is_misplaced directive
 IsJudged only world (Says filled said) awaited complained =
     IsJudgedSaid (is_passed filled.line) only world said awaited complained
+
+-- a line of this number is judged by what it is in this world: which faults come, whether it is complained of, and what is expected
+-- behind it
+pub record Judges (only : Option (List ℕ)) (world : World) (number : ℕ) (deed : Deed) (calls : Bool) (awaited now_awaited : Awaited)
+    (failed : Bool) (result : Result Bool PlayFault) : Type 0 where
+  pub failing : Fails result failed (takes_in calls deed)
+  pub judged : IfOk result (IsJudged only world deed awaited)
+  pub expects : OnOk result (now_awaited ≡ awaited_after number deed awaited)

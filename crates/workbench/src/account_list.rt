@@ -22,9 +22,11 @@ use crate::closed_lines::write_closed;
 use crate::ending::Ending;
 use crate::machine::Play;
 use crate::needs::Needs;
-use crate::notes::Notes;
+use crate::notes::{Desk, Notes};
 use crate::peaks::Peaks;
 use crate::playing::play as play_lines;
+use crate::turn::{Listener, Turns};
+use friendly_lines::Line;
 use init_core::{BootFault, StartList, boot};
 use pd_core::{Core, Router};
 use scenario::{MAX_LINES, PlayFault, Run, RunFault, Sink, Source, write_columns};
@@ -74,6 +76,8 @@ pub fn accounts<S: Source, K: Sink, E: Sink>(
     let list = StartList::read(alloc, play.machine)?;
     let mut core = boot(alloc, &list)?;
     let mut notes = Notes::new(alloc, play.scenario, play.given)?;
+    let mut desk = Desk::new(alloc)?;
+    let mut sheet = Line::new();
     let run = Run {
         list: &list,
         only: None,
@@ -81,48 +85,57 @@ pub fn accounts<S: Source, K: Sink, E: Sink>(
     let peaks = Peaks::new(alloc, &core)?;
     let needs = Needs::new(alloc, &core)?;
     let mut watch = Accounting { peaks, needs };
-    Ok(play_accounting(&run, &mut core, &mut notes, &mut watch, reader, writer, complaints))
+    let mut bench = Bench {
+        complaints,
+        turns: Turns {
+            listener: Listener {
+                run: &run,
+                watch: &mut watch,
+            },
+            desk: &mut desk,
+            notes: &mut notes,
+        },
+        sheet: &mut sheet,
+        complained: 0,
+    };
+    Ok(play_accounting(&mut bench, &mut core, reader, writer))
 }
 
 // The same on a machine that has booted, with the peaks and needs of its accounts.
 fn play_accounting<R: Router + Drop, S: Source, K: Sink, E: Sink>(
-    run: &Run<'_>,
+    bench: &mut Bench<'_, '_, '_, '_, '_, '_, '_, Accounting, E>,
     core: &mut Core<R>,
-    notes: &mut Notes<'_>,
-    watch: &mut Accounting,
     reader: &mut S,
     writer: &mut K,
-    complaints: &mut E,
 ) -> Ending
-    requires listed { core.old.entries ≡ entries_of (start_list_of run.now.list.now) }
-    requires all { run.now.only ≡ None }
-    requires first { notes.old.stand.number ≡ 1 }
-    requires sees { SeesAccounts watch.old run.now.list.now core.old [] }
+    requires listed { core.old.entries
+        ≡ entries_of (start_list_of bench.old.turns.listener.run.now.list.now) }
+    requires all { bench.old.turns.listener.run.now.only ≡ None }
+    requires first { bench.old.turns.notes.now.stand.number ≡ 1 }
+    requires sees { SeesAccounts bench.old.turns.listener.watch.now
+        bench.old.turns.listener.run.now.list.now core.old [] }
+    ensures same_reference { bench.new.complaints.ghost_name ≡ bench.old.complaints.ghost_name }
     ensures played { fault_before (S.has_failed reader.old)
-        (K.has_failed writer.old || E.has_failed complaints.old) ≡ None →
-        (sessions : OfSessions) × IsPlayedFrom (turns_of None core.old notes.old.stand) (λ _. [])
-        (λ turns. accounts_text sessions run.now.list.now core.old (calls_answered None turns))
+        (K.has_failed writer.old || E.has_failed bench.old.complaints.now) ≡ None →
+        (sessions : OfSessions) × IsPlayedFrom
+        (turns_of None core.old bench.old.turns.notes.now.stand) (λ _. [])
+        (λ turns. accounts_text sessions bench.old.turns.listener.run.now.list.now core.old
+        (calls_answered None turns))
         true result (S.remaining reader.old) (S.remaining reader.new)
         (S.has_failed reader.new) (K.contents writer.old) (K.contents writer.new) }
     ensures few { result.lines ≤ MAX_LINES }
-    ensures writing { (K.has_failed writer.new || E.has_failed complaints.new)
+    ensures writing { (K.has_failed writer.new || E.has_failed bench.new.complaints.now)
         ≡ is_write_fault result.fault }
     ensures reading { IfNone result.fault (S.has_failed reader.new ≡ false) }
     ensures before { IfSome (fault_before (S.has_failed reader.old)
-        (K.has_failed writer.old || E.has_failed complaints.old))
+        (K.has_failed writer.old || E.has_failed bench.old.complaints.now))
         (λ fault. (result ≡ unplayed fault)
         × (reader.new ≡ reader.old) × (writer.new ≡ writer.old)
-        × (complaints.new ≡ complaints.old)) }
+        × (bench.new.complaints.now ≡ bench.old.complaints.now)) }
 {
-    let mut bench = Bench {
-        complaints,
-        run: &*run,
-        notes,
-        watch,
-        complained: 0,
-    };
-    let ending = play_lines(&mut bench, core, b"", reader, writer);
-    close_accounting(ending, core, run.list, &bench, writer)
+    let list = bench.turns.listener.run.list;
+    let ending = play_lines(bench, core, b"", reader, writer);
+    close_accounting(ending, core, list, &*bench, writer)
 }
 
 // Writes the list behind a play that came to its end.
@@ -130,19 +143,19 @@ fn close_accounting<R: Router + Drop, K: Sink, E: Sink>(
     ending: Ending,
     core: &Core<R>,
     list: &StartList,
-    bench: &Bench<'_, '_, '_, '_, '_, '_, Accounting, E>,
+    bench: &Bench<'_, '_, '_, '_, '_, '_, '_, Accounting, E>,
     writer: &mut K,
 ) -> Ending
     requires listed { core.now.entries ≡ entries_of (start_list_of list.now) }
     ensures closes { Closes ending result (K.contents writer.old) (K.contents writer.new)
-        (text_kept bench.now.watch.now list.now core.now) }
+        (text_kept bench.now.turns.listener.watch.now list.now core.now) }
     ensures failing { IfNone ending.fault (K.has_failed writer.new ≡ is_write_fault result.fault) }
     ensures stopped { IfSome ending.fault (λ _. (result ≡ ending) × (writer.new ≡ writer.old)) }
 {
     if ending.fault.is_some() {
         return ending;
     }
-    match write_accounts(core, list, bench.watch, writer) {
+    match write_accounts(core, list, bench.turns.listener.watch, writer) {
         Ok(()) => ending,
         Err(fault) => ending.stopped_by(PlayFault::from(fault)),
     }

@@ -19,10 +19,12 @@ ghost use Rattle.scenario.specs.declared.play_fault.PlayFault.TheVariants.{NoMem
 use crate::bench::Bench;
 use crate::ending::Ending;
 use crate::machine::Play;
-use crate::notes::Notes;
+use crate::notes::{Desk, Notes};
 use crate::playing::play as play_lines;
 use crate::text::{add, add_number, put_number, put_three};
+use crate::turn::{Listener, Turns};
 use crate::watch::{Heard, Watch};
+use friendly_lines::Line;
 use arrayvec::ArrayVec;
 use init_core::{BootFault, StartList, boot};
 use pd_core::{Core, Reply, Router};
@@ -198,52 +200,16 @@ pub fn alone<S: Source, K: Sink, E: Sink>(
     let list = StartList::read(alloc, play.machine)?;
     let mut core = boot(alloc, &list)?;
     let mut notes = Notes::new(alloc, play.scenario, play.given)?;
+    let mut desk = Desk::new(alloc)?;
+    let mut sheet = Line::new();
     let run = Run {
         list: &list,
         only: None,
     };
     let second = boot(alloc, &list)?;
     let reply = Reply::boot(alloc)?;
-    Ok(play_beside(
-        &run, &mut core, second, reply, name, &mut notes, reader, writer, complaints,
-    ))
-}
-
-// The same on two machines that have booted.
-fn play_beside<'a, R: Router + Drop, Q: Router + Drop, S: Source, K: Sink, E: Sink>(
-    run: &Run<'a>,
-    core: &mut Core<R>,
-    second: Core<Q>,
-    reply: Reply,
-    name: &'a [u8],
-    notes: &mut Notes<'_>,
-    reader: &mut S,
-    writer: &mut K,
-    complaints: &mut E,
-) -> Ending
-    requires listed { core.old.entries ≡ entries_of (start_list_of run.now.list.now) }
-    requires all { run.now.only ≡ None }
-    requires first { notes.old.stand.number ≡ 1 }
-    requires same { second ≡ core.old }
-    ensures played { fault_before (S.has_failed reader.old)
-        (K.has_failed writer.old || E.has_failed complaints.old) ≡ None →
-        IsPlayedFrom (turns_of None core.old notes.old.stand)
-        (λ turns. told_of_turns (alone_tells name.now core.old) None [] turns)
-        (λ turns. alone_sum name.now (length (calls_answered (Some name.now) turns)))
-        false result (S.remaining reader.old) (S.remaining reader.new)
-        (S.has_failed reader.new) (K.contents writer.old) (K.contents writer.new) }
-    ensures few { result.lines ≤ MAX_LINES }
-    ensures writing { (K.has_failed writer.new || E.has_failed complaints.new)
-        ≡ is_write_fault result.fault }
-    ensures reading { IfNone result.fault (S.has_failed reader.new ≡ false) }
-    ensures before { IfSome (fault_before (S.has_failed reader.old)
-        (K.has_failed writer.old || E.has_failed complaints.old))
-        (λ fault. (result ≡ unplayed fault)
-        × (reader.new ≡ reader.old) × (writer.new ≡ writer.old)
-        × (complaints.new ≡ complaints.old)) }
-{
     let mut watch = SecondMachine {
-        list: run.list,
+        list: &list,
         name,
         core: second,
         reply,
@@ -252,17 +218,60 @@ fn play_beside<'a, R: Router + Drop, Q: Router + Drop, S: Source, K: Sink, E: Si
     };
     let mut bench = Bench {
         complaints,
-        run: &*run,
-        notes,
-        watch: &mut watch,
+        turns: Turns {
+            listener: Listener {
+                run: &run,
+                watch: &mut watch,
+            },
+            desk: &mut desk,
+            notes: &mut notes,
+        },
+        sheet: &mut sheet,
         complained: 0,
     };
-    let ending = play_lines(&mut bench, core, b"", reader, writer);
+    Ok(play_beside(&mut bench, &mut core, name, reader, writer))
+}
+
+// The same on two machines that have booted.
+fn play_beside<R: Router + Drop, Q: Router + Drop, S: Source, K: Sink, E: Sink>(
+    bench: &mut Bench<'_, '_, '_, '_, '_, '_, '_, SecondMachine<'_, Q>, E>,
+    core: &mut Core<R>,
+    name: &[u8],
+    reader: &mut S,
+    writer: &mut K,
+) -> Ending
+    requires listed { core.old.entries
+        ≡ entries_of (start_list_of bench.old.turns.listener.run.now.list.now) }
+    requires all { bench.old.turns.listener.run.now.only ≡ None }
+    requires first { bench.old.turns.notes.now.stand.number ≡ 1 }
+    requires name { bench.old.turns.listener.watch.now.name.now ≡ name.now }
+    requires same { bench.old.turns.listener.watch.now.core ≡ core.old }
+    requires none { bench.old.turns.listener.watch.now.lines ≡ 0 }
+    requires alike { bench.old.turns.listener.watch.now.difference ≡ None }
+    ensures same_reference { bench.new.complaints.ghost_name ≡ bench.old.complaints.ghost_name }
+    ensures played { fault_before (S.has_failed reader.old)
+        (K.has_failed writer.old || E.has_failed bench.old.complaints.now) ≡ None →
+        IsPlayedFrom (turns_of None core.old bench.old.turns.notes.now.stand)
+        (λ turns. told_of_turns (alone_tells name.now core.old) None [] turns)
+        (λ turns. alone_sum name.now (length (calls_answered (Some name.now) turns)))
+        false result (S.remaining reader.old) (S.remaining reader.new)
+        (S.has_failed reader.new) (K.contents writer.old) (K.contents writer.new) }
+    ensures few { result.lines ≤ MAX_LINES }
+    ensures writing { (K.has_failed writer.new || E.has_failed bench.new.complaints.now)
+        ≡ is_write_fault result.fault }
+    ensures reading { IfNone result.fault (S.has_failed reader.new ≡ false) }
+    ensures before { IfSome (fault_before (S.has_failed reader.old)
+        (K.has_failed writer.old || E.has_failed bench.old.complaints.now))
+        (λ fault. (result ≡ unplayed fault)
+        × (reader.new ≡ reader.old) × (writer.new ≡ writer.old)
+        × (bench.new.complaints.now ≡ bench.old.complaints.now)) }
+{
+    let ending = play_lines(bench, core, b"", reader, writer);
     close_with_sum(
         ending,
         name,
-        bench.watch.lines,
-        bench.watch.difference,
+        bench.turns.listener.watch.lines,
+        bench.turns.listener.watch.difference,
         writer,
     )
 }

@@ -4,6 +4,7 @@ ghost use Rattle.std.specs.Prelude.{◌≡◌, false, is_err};
 use crate::shown::Shown;
 use crate::text::put_number;
 use scenario::{DeviceFault, Gather, Sink};
+use std::alloc::{AllocError, Global};
 
 /// Where in a scenario a complaint is about, both from 1 on.
 #[derive(Clone, Copy, Debug, PartialEq, Eq)]
@@ -14,18 +15,20 @@ pub(crate) struct Place {
 
 /// Tells complaints of a scenario.
 #[derive(Drop)]
-pub(crate) struct Complaints<'a> {
-    scenario: &'a [u8],
+pub(crate) struct Complaints {
+    scenario: Vec<u8>,
     gathered: Gather,
 }
 
-impl<'a> Complaints<'a> {
+impl Complaints {
     /// The complaints of a scenario by its name.
-    pub(crate) fn new(scenario: &'a [u8]) -> Complaints<'a> {
-        Complaints {
-            scenario,
+    pub(crate) fn new(alloc: Global, scenario: &[u8]) -> Result<Complaints, AllocError> {
+        let mut name = Vec::new(alloc);
+        name.extend_from_slice(scenario)?;
+        Ok(Complaints {
+            scenario: name,
             gathered: Gather::new(),
-        }
+        })
     }
 
     /// Writes `SCENARIO:LINE:COLUMN: ` and what is wrong.
@@ -148,7 +151,7 @@ impl<'a> Complaints<'a> {
         requires { E.has_failed sink.old ≡ false }
         ensures failing { E.has_failed sink.new ≡ is_err result }
     {
-        self.gathered.put(sink, self.scenario)?;
+        self.gathered.put(sink, self.scenario.as_slice())?;
         self.gathered.put(sink, b":")?;
         put_number(place.line, &mut self.gathered, sink)?;
         self.gathered.put(sink, b":")?;

@@ -16,27 +16,27 @@ use friendly_lines::{Fault, end_of, is_passed, meets};
 use init_core::StartList;
 use scenario::{LineAnswer, PlayFault, Sink};
 use scenario_names::{Known, NameFault};
-use std::alloc::Global;
+use std::alloc::{AllocError, Global};
 use trade_base::Refusal;
 
 /// Holds answers against what is expected, and complains. Each of its calls tells whether there was a complaint.
 #[derive(Drop)]
-pub(crate) struct Critic<'a> {
+pub(crate) struct Critic {
     alloc: Global,
     expected: Expected,
-    complaints: Complaints<'a>,
+    complaints: Complaints,
 }
 
-impl<'a> Critic<'a> {
+impl Critic {
     /// The critic of a scenario by its name, who expects nothing yet.
-    pub(crate) fn new(alloc: Global, scenario: &'a [u8]) -> Critic<'a>
-        ensures { result.expected ≡ nothing_awaited }
+    pub(crate) fn new(alloc: Global, scenario: &[u8]) -> Result<Critic, AllocError>
+        ensures { IfOk result (λ critic. critic.expected ≡ nothing_awaited) }
     {
-        Critic {
+        Ok(Critic {
             alloc,
             expected: Expected::new(alloc),
-            complaints: Complaints::new(scenario),
-        }
+            complaints: Complaints::new(alloc, scenario)?,
+        })
     }
 
     /// Expects a log line of the next call.

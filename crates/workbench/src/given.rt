@@ -2,7 +2,7 @@
 
 use crate::complaint::Place;
 use friendly_lines::signs_of;
-use scenario_names::{Known, source_column};
+use scenario_names::{Filled, Known, source_column};
 
 /// A line as it stands in a scenario, before it is filled.
 #[derive(Clone, Copy, Debug)]
@@ -11,6 +11,15 @@ pub(crate) struct Given<'a> {
     pub number: u64,
     /// Its bytes.
     pub line: &'a [u8],
+}
+
+/// A line as it stands, and as it was filled with what names stand for.
+#[derive(Drop)]
+pub(crate) struct Prepared<'a> {
+    /// As it stands.
+    pub given: Given<'a>,
+    /// As it is filled.
+    pub filled: Filled<'a>,
 }
 
 /// What is judged of a line: where it stands, what it is once it is filled, and the reply that it expects, if it expects one.

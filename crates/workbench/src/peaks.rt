@@ -85,6 +85,14 @@ impl Session {
     }
 }
 
+// What a component opens a session by.
+#[derive(Clone, Copy)]
+struct Opening<'a> {
+    component: usize,
+    service: &'a [u8],
+    args: &'a [u8],
+}
+
 /// The peaks of all accounts after the lines so far.
 #[derive(Drop)]
 pub(crate) struct Peaks {
@@ -213,40 +221,45 @@ impl Peaks {
         };
         for selector in 0..=core.last_selector(component) {
             if self.session(component, selector).is_none() {
-                self.keep_new(core, list, component, selector, service, args)?;
+                let opening = Opening {
+                    component,
+                    service,
+                    args,
+                };
+                self.keep_new(core, list, opening, selector)?;
             }
         }
         Ok(())
     }
 
-    // Keeps the session under a selector, if there is one, which a component has opened so.
+    // Keeps the session under a selector, if there is one, which was opened so.
     fn keep_new<R: Router + Drop>(
         &mut self,
         core: &Core<R>,
         list: &StartList,
-        component: usize,
+        opening: Opening<'_>,
         selector: u64,
-        service: &[u8],
-        args: &[u8],
     ) -> Result<(), AllocError>
-        requires component { component < length core.now.entries }
+        requires component { opening.component < length core.now.entries }
         requires listed { core.now.entries ≡ entries_of (start_list_of list.now) }
         ensures init { self.new.init ≡ self.old.init }
         ensures components { self.new.components.items ≡ self.old.components.items }
         ensures sessions { OnOk result ((c q : ℕ) →
             found self.new.sessions.items c q
             ≡ option_or (found self.old.sessions.items c q)
-            (if c == component && q == selector
-            then begun_with list.now core.now service.now args.now component selector else None)) }
+            (if c == opening.entry.component && q == selector
+            then begun_with list.now core.now opening.entry.service.now opening.entry.args.now
+            opening.entry.component selector else None)) }
     {
+        let component = opening.component;
         let Some(account) = core.session_account(component, selector) else {
             return Ok(());
         };
-        let given = label_given(args);
+        let given = label_given(opening.args);
         self.sessions.push(Session {
             component,
             selector,
-            server: route(list, component, service, given),
+            server: route(list, component, opening.service, given),
             label: label_of(self.alloc, list.label(component), given)?,
             peak: Peak::of(account),
         })?;

@@ -19,25 +19,25 @@ use scenario::{Buffers, DeviceFault, MAX_LINES, PlayFault, Sink, Source};
 /// the watch, and held against what is expected. All that is told is written before each read, and at the end. A device that has
 /// failed isn't tried again: also one that had failed before, which is told with the outputs first.
 pub(crate) fn play<R: Router + Drop, W: Watch, S: Source, K: Sink, E: Sink>(
-    bench: &mut Bench<'_, '_, '_, '_, '_, '_, W, E>,
+    bench: &mut Bench<'_, '_, '_, '_, '_, '_, '_, W, E>,
     core: &mut Core<R>,
     front: &[u8],
     reader: &mut S,
     writer: &mut K,
 ) -> Ending
-    requires listed { core.old.entries ≡ entries_of (start_list_of bench.old.run.now.list.now) }
-    requires low { bench.old.notes.now.stand.number ≤ low }
-    requires sees { W.sees bench.old.watch.now bench.old.run.now.list.now core.old [] }
+    requires listed { core.old.entries ≡ entries_of (start_list_of bench.old.turns.listener.run.now.list.now) }
+    requires low { bench.old.turns.notes.now.stand.number ≤ low }
+    requires sees { W.sees bench.old.turns.listener.watch.now bench.old.turns.listener.run.now.list.now core.old [] }
     ensures plays { fault_before (S.has_failed reader.old)
         (K.has_failed writer.old || E.has_failed bench.old.complaints.now) ≡ None →
-        PlaysAll (W.tells bench.old.watch.now core.old) W.takes
-        (W.sees bench.new.watch.now bench.old.run.now.list.now core.old)
-        (option_copied bench.old.run.now.only) bench.old.notes.now.stand result.fault result.lines core.old
+        PlaysAll (W.tells bench.old.turns.listener.watch.now core.old) W.takes
+        (W.sees bench.new.turns.listener.watch.now bench.old.turns.listener.run.now.list.now core.old)
+        (option_copied bench.old.turns.listener.run.now.only) bench.old.turns.notes.now.stand result.fault result.lines core.old
         core.new front.now
         (S.remaining reader.old) (S.remaining reader.new) (S.has_failed reader.new)
         (K.contents writer.old) (K.contents writer.new) }
     ensures same_reference { bench.new.complaints.ghost_name ≡ bench.old.complaints.ghost_name }
-    ensures held { W.holds bench.new.watch.now ≡ W.holds bench.old.watch.now }
+    ensures held { W.holds bench.new.turns.listener.watch.now ≡ W.holds bench.old.turns.listener.watch.now }
     ensures few { result.lines ≤ MAX_LINES }
     ensures listed { core.new.entries ≡ core.old.entries }
     ensures writing { (K.has_failed writer.new || E.has_failed bench.new.complaints.now)
@@ -64,9 +64,9 @@ pub(crate) fn play<R: Router + Drop, W: Watch, S: Source, K: Sink, E: Sink>(
         }
     }
     let played = scenario::play(bench, core, &mut buffers, reader, writer, MAX_LINES);
-    let critic = &mut bench.notes.desk.tools.critic;
+    let notes = &mut *bench.turns.notes;
     let fault = close(
-        critic,
+        &mut notes.critic,
         played.fault,
         &mut bench.complained,
         bench.complaints,
@@ -98,7 +98,7 @@ fn failed_before<S: Source, K: Sink, E: Sink>(
 
 // Complains of an expected log line that no call follows, where a play came to its end.
 fn close<E: Sink>(
-    critic: &mut Critic<'_>,
+    critic: &mut Critic,
     fault: Option<PlayFault>,
     complained: &mut u64,
     complaints: &mut E,

@@ -22,11 +22,13 @@ ghost use Rattle.scenario.specs.declared.play_fault.PlayFault.TheVariants.{NoMem
 use crate::bench::Bench;
 use crate::ending::Ending;
 use crate::machine::Play;
-use crate::notes::Notes;
+use crate::notes::{Desk, Notes};
 use crate::playing::play as play_lines;
 use crate::row::{add_account, add_cell, put_cell};
 use crate::text::{add, caller_of, put_number, said_in};
+use crate::turn::{Listener, Turns};
 use crate::watch::{Heard, Watch};
+use friendly_lines::Line;
 use arrayvec::ArrayVec;
 use init_core::{BootFault, StartList, boot};
 use pd_core::{Call, Core, Router};
@@ -247,48 +249,56 @@ pub fn trace<S: Source, K: Sink, E: Sink>(
     let list = StartList::read(alloc, play.machine)?;
     let mut core = boot(alloc, &list)?;
     let mut notes = Notes::new(alloc, play.scenario, play.given)?;
+    let mut desk = Desk::new(alloc)?;
+    let mut sheet = Line::new();
     let run = Run {
         list: &list,
         only: None,
     };
-    Ok(trace_on(&run, &mut core, &mut notes, reader, writer, complaints))
+    let mut watch = Tracer;
+    let mut bench = Bench {
+        complaints,
+        turns: Turns {
+            listener: Listener {
+                run: &run,
+                watch: &mut watch,
+            },
+            desk: &mut desk,
+            notes: &mut notes,
+        },
+        sheet: &mut sheet,
+        complained: 0,
+    };
+    Ok(trace_on(&mut bench, &mut core, reader, writer))
 }
 
 // The same on a machine that has booted.
 fn trace_on<R: Router + Drop, S: Source, K: Sink, E: Sink>(
-    run: &Run<'_>,
+    bench: &mut Bench<'_, '_, '_, '_, '_, '_, '_, Tracer, E>,
     core: &mut Core<R>,
-    notes: &mut Notes<'_>,
     reader: &mut S,
     writer: &mut K,
-    complaints: &mut E,
 ) -> Ending
-    requires listed { core.old.entries ≡ entries_of (start_list_of run.now.list.now) }
-    requires all { run.now.only ≡ None }
-    requires first { notes.old.stand.number ≡ 1 }
+    requires listed { core.old.entries
+        ≡ entries_of (start_list_of bench.old.turns.listener.run.now.list.now) }
+    requires all { bench.old.turns.listener.run.now.only ≡ None }
+    requires first { bench.old.turns.notes.now.stand.number ≡ 1 }
+    ensures same_reference { bench.new.complaints.ghost_name ≡ bench.old.complaints.ghost_name }
     ensures played { fault_before (S.has_failed reader.old)
-        (K.has_failed writer.old || E.has_failed complaints.old) ≡ None →
-        IsPlayedFrom (turns_of None core.old notes.old.stand)
+        (K.has_failed writer.old || E.has_failed bench.old.complaints.now) ≡ None →
+        IsPlayedFrom (turns_of None core.old bench.old.turns.notes.now.stand)
         (λ turns. trace_header ++ told_of_turns (trace_tells core.old) None [] turns) (λ _. [])
         false result (S.remaining reader.old) (S.remaining reader.new)
         (S.has_failed reader.new) (K.contents writer.old) (K.contents writer.new) }
     ensures few { result.lines ≤ MAX_LINES }
-    ensures writing { (K.has_failed writer.new || E.has_failed complaints.new)
+    ensures writing { (K.has_failed writer.new || E.has_failed bench.new.complaints.now)
         ≡ is_write_fault result.fault }
     ensures reading { IfNone result.fault (S.has_failed reader.new ≡ false) }
     ensures before { IfSome (fault_before (S.has_failed reader.old)
-        (K.has_failed writer.old || E.has_failed complaints.old))
+        (K.has_failed writer.old || E.has_failed bench.old.complaints.now))
         (λ fault. (result ≡ unplayed fault)
         × (reader.new ≡ reader.old) × (writer.new ≡ writer.old)
-        × (complaints.new ≡ complaints.old)) }
+        × (bench.new.complaints.now ≡ bench.old.complaints.now)) }
 {
-    let mut watch = Tracer;
-    let mut bench = Bench {
-        complaints,
-        run: &*run,
-        notes,
-        watch: &mut watch,
-        complained: 0,
-    };
-    play_lines(&mut bench, core, HEADER, reader, writer)
+    play_lines(bench, core, HEADER, reader, writer)
 }

@@ -18,10 +18,12 @@ ghost use Rattle.scenario.specs.declared.play_fault.PlayFault.TheVariants.{NoMem
 use crate::bench::Bench;
 use crate::ending::Ending;
 use crate::machine::Play;
-use crate::notes::Notes;
+use crate::notes::{Desk, Notes};
 use crate::playing::play as play_lines;
 use crate::text::put_number;
+use crate::turn::{Listener, Turns};
 use crate::watch::{Heard, Watch};
+use friendly_lines::Line;
 use init_core::{BootFault, StartList, boot};
 use pd_core::{Core, Router};
 use scenario::{DeviceFault, Gather, MAX_LINES, PlayFault, Run, Sink, Source, write_accounts};
@@ -148,57 +150,68 @@ pub fn run<S: Source, K: Sink, E: Sink>(
     let list = StartList::read(alloc, play.machine)?;
     let mut core = boot(alloc, &list)?;
     let mut notes = Notes::new(alloc, play.scenario, play.given)?;
+    let mut desk = Desk::new(alloc)?;
+    let mut sheet = Line::new();
     let run = Run {
         list: &list,
         only: showing.only,
     };
-    Ok(run_on(&run, &mut core, &mut notes, showing, reader, writer, complaints))
-}
-
-// The same on a machine that has booted.
-fn run_on<R: Router + Drop, S: Source, K: Sink, E: Sink>(
-    run: &Run<'_>,
-    core: &mut Core<R>,
-    notes: &mut Notes<'_>,
-    showing: Showing<'_>,
-    reader: &mut S,
-    writer: &mut K,
-    complaints: &mut E,
-) -> Ending
-    requires listed { core.old.entries ≡ entries_of (start_list_of run.now.list.now) }
-    requires first { notes.old.stand.number ≡ 1 }
-    ensures played { fault_before (S.has_failed reader.old)
-        (K.has_failed writer.old || E.has_failed complaints.old) ≡ None →
-        IsPlayedFrom (turns_of (option_copied run.now.only) core.old notes.old.stand)
-        (shown_of showing.entry.numbers (option_copied run.now.only) core.old)
-        (list_behind showing.entry.accounts (option_copied run.now.only) run.now.list.now core.old)
-        false result
-        (S.remaining reader.old) (S.remaining reader.new)
-        (S.has_failed reader.new) (K.contents writer.old) (K.contents writer.new) }
-    ensures few { result.lines ≤ MAX_LINES }
-    ensures writing { (K.has_failed writer.new || E.has_failed complaints.new)
-        ≡ is_write_fault result.fault }
-    ensures reading { IfNone result.fault (S.has_failed reader.new ≡ false) }
-    ensures before { IfSome (fault_before (S.has_failed reader.old)
-        (K.has_failed writer.old || E.has_failed complaints.old))
-        (λ fault. (result ≡ unplayed fault)
-        × (reader.new ≡ reader.old) × (writer.new ≡ writer.old)
-        × (complaints.new ≡ complaints.old)) }
-{
     let mut watch = Transcript {
         numbers: showing.numbers,
     };
     let mut bench = Bench {
         complaints,
-        run: &*run,
-        notes,
-        watch: &mut watch,
+        turns: Turns {
+            listener: Listener {
+                run: &run,
+                watch: &mut watch,
+            },
+            desk: &mut desk,
+            notes: &mut notes,
+        },
+        sheet: &mut sheet,
         complained: 0,
     };
-    let ending = play_lines(&mut bench, core, b"", reader, writer);
-    let accounts = showing.accounts;
+    Ok(run_on(&mut bench, &mut core, showing.accounts, reader, writer))
+}
+
+// The same on a machine that has booted.
+fn run_on<R: Router + Drop, S: Source, K: Sink, E: Sink>(
+    bench: &mut Bench<'_, '_, '_, '_, '_, '_, '_, Transcript, E>,
+    core: &mut Core<R>,
+    accounts: bool,
+    reader: &mut S,
+    writer: &mut K,
+) -> Ending
+    requires listed { core.old.entries
+        ≡ entries_of (start_list_of bench.old.turns.listener.run.now.list.now) }
+    requires first { bench.old.turns.notes.now.stand.number ≡ 1 }
+    ensures same_reference { bench.new.complaints.ghost_name ≡ bench.old.complaints.ghost_name }
+    ensures played { fault_before (S.has_failed reader.old)
+        (K.has_failed writer.old || E.has_failed bench.old.complaints.now) ≡ None →
+        IsPlayedFrom (turns_of (option_copied bench.old.turns.listener.run.now.only) core.old
+        bench.old.turns.notes.now.stand)
+        (shown_of bench.old.turns.listener.watch.now.numbers
+        (option_copied bench.old.turns.listener.run.now.only) core.old)
+        (list_behind accounts (option_copied bench.old.turns.listener.run.now.only)
+        bench.old.turns.listener.run.now.list.now core.old)
+        false result
+        (S.remaining reader.old) (S.remaining reader.new)
+        (S.has_failed reader.new) (K.contents writer.old) (K.contents writer.new) }
+    ensures few { result.lines ≤ MAX_LINES }
+    ensures writing { (K.has_failed writer.new || E.has_failed bench.new.complaints.now)
+        ≡ is_write_fault result.fault }
+    ensures reading { IfNone result.fault (S.has_failed reader.new ≡ false) }
+    ensures before { IfSome (fault_before (S.has_failed reader.old)
+        (K.has_failed writer.old || E.has_failed bench.old.complaints.now))
+        (λ fault. (result ≡ unplayed fault)
+        × (reader.new ≡ reader.old) × (writer.new ≡ writer.old)
+        × (bench.new.complaints.now ≡ bench.old.complaints.now)) }
+{
+    let list = bench.turns.listener.run.list;
+    let ending = play_lines(bench, core, b"", reader, writer);
     if accounts {
-        close_with_list(ending, core, run.list, writer)
+        close_with_list(ending, core, list, writer)
     } else {
         ending
     }

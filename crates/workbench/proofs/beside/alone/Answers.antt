@@ -24,6 +24,9 @@ returns-in_err-core-clause-alike g c = are_alike c.args.name.now
 pub returns-in_err-notes-clause-alike : goal.returns-in_err-notes-clause-alike
 returns-in_err-notes-clause-alike g c = are_alike c.args.name.now
 
+pub returns-in_err-desk-clause-alike : goal.returns-in_err-desk-clause-alike
+returns-in_err-desk-clause-alike g c = are_alike c.args.name.now
+
 pub returns-in_err-second-clause-alike : goal.returns-in_err-second-clause-alike
 returns-in_err-second-clause-alike g c = are_alike c.args.name.now
 

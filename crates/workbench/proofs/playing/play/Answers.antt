@@ -13,7 +13,7 @@ play-played-requires-clause-ready g c = (c.requires.listed, record { most = low;
 pub play-played-requires-clause-leads : goal.play-played-requires-clause-leads
 play-played-requires-clause-leads g c = (
   record { name_is = refl; run_is = refl; tells_is = refl; holds_is = refl },
-  leads_none (option_copied c.args.bench.now.run.now.only) c.args.core.now c.args.bench.now.notes.now.stand _ c.requires.sees,
+  leads_none (option_copied c.args.bench.now.turns.listener.run.now.only) c.args.core.now c.args.bench.now.turns.notes.now.stand _ c.requires.sees,
 )
 
 pub close-fault-requires : goal.close-fault-requires
@@ -21,7 +21,7 @@ close-fault-requires g c = record { works = complaints_work c.play-played.result
 
 pub returns-in-Err-clause-plays : goal.returns-in-Err-clause-plays
 returns-in-Err-clause-plays g c = λ works.
-    front_cut c.args.bench.now.notes.now.stand 0 c.args.core.now (g.S.Source.remaining c.args.reader.now) (g.S.Source.has_failed c.args.reader.now) c.new-buffers.ensures.gathered c.in-Err.ensures.told
+    front_cut c.args.bench.now.turns.notes.now.stand 0 c.args.core.now (g.S.Source.remaining c.args.reader.now) (g.S.Source.has_failed c.args.reader.now) c.new-buffers.ensures.gathered c.in-Err.ensures.told
 
 pub returns-clause-plays : goal.returns-clause-plays
 returns-clause-plays g c = λ works.

@@ -18,12 +18,12 @@ noted_with peak server label = record { peak = peak; server = server; label = la
 
 pub returns-clause-sessions : goal.returns-clause-sessions
 returns-clause-sessions g c = λ k q.
-    let server = route_of c.args.list.now c.args.component c.args.service.now (given c.args.args.now).label in
-    let label = label_with (entry_at c.args.core.now.entries c.args.component).label (given c.args.args.now).label in
-    let server_is : c.route.result ≡ server = c.route.ensures ∙ ap (route_of c.args.list.now c.args.component c.args.service.now) c.label_given-given.ensures.label in
-    let client_is : c.label.result.now ≡ (entry_at c.args.core.now.entries c.args.component).label = c.label.ensures.listed ∙ ap (λ entries. (entry_at entries c.args.component).label) (sym c.requires.listed) in
+    let server = route_of c.args.list.now c.args.opening.component c.args.opening.service.now (given c.args.opening.args.now).label in
+    let label = label_with (entry_at c.args.core.now.entries c.args.opening.component).label (given c.args.opening.args.now).label in
+    let server_is : c.route.result ≡ server = c.route.ensures ∙ ap (route_of c.args.list.now c.args.opening.component c.args.opening.service.now) c.label_given-given.ensures.label in
+    let client_is : c.label.result.now ≡ (entry_at c.args.core.now.entries c.args.opening.component).label = c.label.ensures.listed ∙ ap (λ entries. (entry_at entries c.args.opening.component).label) (sym c.requires.listed) in
     let label_is : c.in_ok-label_of.field-0.items ≡ label = c.in_ok-label_of.ensures ∙ (λ i. label_with (client_is i) (c.label_given-given.ensures.label i)) in
     ap (λ kept. found kept k q) c.in_ok-push.ensures.items
     ∙ found-more c.args.self.now.sessions.items _ k q
-    ∙ ap (λ o. option_or (found c.args.self.now.sessions.items k q) (cond (k == c.args.component && q == c.args.selector) o None))
-    ((λ i. Some (noted_with (c.of.ensures i) (server_is i) (label_is i))) ∙ begun_there (session_at c.args.component c.args.selector c.args.core.now) (quotas_account c.in-Some.account) server label c.in-Some.ensures)
+    ∙ ap (λ o. option_or (found c.args.self.now.sessions.items k q) (cond (k == c.args.opening.component && q == c.args.selector) o None))
+    ((λ i. Some (noted_with (c.of.ensures i) (server_is i) (label_is i))) ∙ begun_there (session_at c.args.opening.component c.args.selector c.args.core.now) (quotas_account c.in-Some.account) server label c.in-Some.ensures)
