@@ -43,7 +43,7 @@ fn main(rt: HostRuntime) -> ExitCode {
         Err(error) => return refuse(&rt, &error),
     };
     match Request::read(rt.alloc(), words.as_slice()) {
-        Ok(Some(request)) => ExitCode::from(answer_request(&rt, request)),
+        Ok(Some(request)) => ExitCode::from(answer_request(&rt, &request)),
         Ok(None) => match needs_command(rt.alloc()) {
             Ok(error) => refuse(&rt, &error),
             Err(error) => refuse(&rt, &error),
@@ -72,10 +72,9 @@ fn refuse_alone(rt: &HostRuntime) -> u8 {
 }
 
 // Does what is asked for with what names stand for, and answers the exit status.
-fn answer_request(rt: &HostRuntime, request: Request<'_>) -> u8 {
-    let Request { command, given } = request;
-    match Given::read(rt, given.as_slice()) {
-        Ok(given) => answer(rt, command, given),
+fn answer_request(rt: &HostRuntime, request: &Request<'_>) -> u8 {
+    match Given::read(rt, request.given.as_slice()) {
+        Ok(given) => answer(rt, &request.command, given),
         Err(status) => status,
     }
 }
@@ -91,32 +90,23 @@ fn refuse_color(rt: &HostRuntime) -> u8 {
 }
 
 // Does what is asked for, and answers the exit status.
-fn answer(rt: &HostRuntime, command: Command<'_>, given: Given<'_>) -> u8 {
+fn answer(rt: &HostRuntime, command: &Command<'_>, given: Given<'_>) -> u8 {
     match command {
         Command::Check {
             strict,
             json,
             policy,
             list,
-        } => match policy {
-            _ if json => check_documents(
-                rt,
-                Check {
-                    list,
-                    policy,
-                    strict,
-                    given,
-                },
-            ),
-            Some(policy) => hold(rt, list, given, policy, strict),
-            None => check(rt, list, given, strict),
-        },
-        Command::Tree {
-            json: true,
-            list,
-            ..
-        } => tree_document(rt, list, given),
-        Command::Tree { dot, list, .. } => tree(rt, list, given, dot),
+        } => {
+            let wanted = Check {
+                list,
+                policy: *policy,
+                strict: *strict,
+                given,
+            };
+            answer_check(rt, wanted, *json)
+        }
+        Command::Tree { dot, json, list } => answer_tree(rt, list, given, *dot, *json),
         Command::Reach {
             csv,
             json,
@@ -127,14 +117,10 @@ fn answer(rt: &HostRuntime, command: Command<'_>, given: Given<'_>) -> u8 {
             let asked = Asked {
                 from: from.as_slice(),
                 to: to.as_slice(),
-                csv,
+                csv: *csv,
                 given,
             };
-            if json {
-                reach_documents(rt, list, asked)
-            } else {
-                reach(rt, list, asked)
-            }
+            answer_reach(rt, list, asked, *json)
         }
         Command::Route {
             list,
@@ -156,16 +142,15 @@ fn answer(rt: &HostRuntime, command: Command<'_>, given: Given<'_>) -> u8 {
             numbers,
             color,
             scenario,
-            ..
-        } => match Coloring::asked(rt, color) {
+        } => match Coloring::asked(rt, *color) {
             Some(coloring) => {
                 let viewing = Viewing::Run {
-                    only,
-                    accounts,
-                    numbers,
+                    only: *only,
+                    accounts: *accounts,
+                    numbers: *numbers,
                     coloring,
                 };
-                play(rt, machine, scenario, given, viewing)
+                play(rt, *machine, scenario, given, viewing)
             }
             None => refuse_color(rt),
         },
@@ -176,9 +161,9 @@ fn answer(rt: &HostRuntime, command: Command<'_>, given: Given<'_>) -> u8 {
             scenario,
         } => {
             let wanted = recordings::Wanted {
-                machine,
-                all,
-                write,
+                machine: *machine,
+                all: *all,
+                write: *write,
                 scenario,
                 given,
             };
@@ -188,12 +173,12 @@ fn answer(rt: &HostRuntime, command: Command<'_>, given: Given<'_>) -> u8 {
             machine,
             json,
             scenario,
-        } => play(rt, machine, scenario, given, Viewing::Trace { json }),
+        } => play(rt, *machine, scenario, given, Viewing::Trace { json: *json }),
         Command::Accounts {
             machine,
             json,
             scenario,
-        } => play(rt, machine, scenario, given, Viewing::Accounts { json }),
+        } => play(rt, *machine, scenario, given, Viewing::Accounts { json: *json }),
         Command::Least {
             machine,
             as_donated,
@@ -204,9 +189,9 @@ fn answer(rt: &HostRuntime, command: Command<'_>, given: Given<'_>) -> u8 {
             scenario,
         } => least(
             rt,
-            machine,
-            as_donated,
-            Telling::of(csv, json, list, donations),
+            *machine,
+            *as_donated,
+            Telling::of(*csv, *json, *list, *donations),
             scenario,
             given,
         ),
@@ -216,18 +201,18 @@ fn answer(rt: &HostRuntime, command: Command<'_>, given: Given<'_>) -> u8 {
             summary,
             name,
             scenario,
-        } => match (all, scenario) {
-            (false, Some(scenario)) if !summary => {
-                play(rt, machine, scenario, given, Viewing::Alone { name })
+        } => match (*all, *scenario) {
+            (false, Some(path)) if !*summary => {
+                play(rt, *machine, path, given, Viewing::Alone { name })
             }
             (true, None) => {
-                let all = All {
-                    machine,
+                let wanted = All {
+                    machine: *machine,
                     scenario: name,
-                    summary,
+                    summary: *summary,
                     given,
                 };
-                all_alone(rt, all)
+                all_alone(rt, wanted)
             }
             _ => refuse_alone(rt),
         },
@@ -240,9 +225,9 @@ fn answer(rt: &HostRuntime, command: Command<'_>, given: Given<'_>) -> u8 {
             let compared = Compared {
                 before,
                 after,
-                scenario,
+                scenario: *scenario,
             };
-            diff(rt, compared, json)
+            diff(rt, compared, *json)
         }
         Command::Test {
             machine,
@@ -251,14 +236,14 @@ fn answer(rt: &HostRuntime, command: Command<'_>, given: Given<'_>) -> u8 {
             json,
             color,
             paths,
-        } => match Coloring::asked(rt, color) {
+        } => match Coloring::asked(rt, *color) {
             Some(coloring) => {
                 let wanted = Wanted {
                     paths: paths.as_slice(),
-                    machine,
-                    junit,
-                    coverage,
-                    json,
+                    machine: *machine,
+                    junit: *junit,
+                    coverage: *coverage,
+                    json: *json,
                     given,
                     colored: coloring.out,
                 };
@@ -266,5 +251,34 @@ fn answer(rt: &HostRuntime, command: Command<'_>, given: Given<'_>) -> u8 {
             }
             None => refuse_color(rt),
         },
+    }
+}
+
+// Tells what is wrong with a start list, and answers the exit status.
+fn answer_check(rt: &HostRuntime, wanted: Check<'_>, json: bool) -> u8 {
+    if json {
+        return check_documents(rt, wanted);
+    }
+    match wanted.policy {
+        Some(policy) => hold(rt, wanted.list, wanted.given, policy, wanted.strict),
+        None => check(rt, wanted.list, wanted.given, wanted.strict),
+    }
+}
+
+// Shows the components of a start list, and answers the exit status.
+fn answer_tree(rt: &HostRuntime, list: &str, given: Given<'_>, dot: bool, json: bool) -> u8 {
+    if json {
+        tree_document(rt, list, given)
+    } else {
+        tree(rt, list, given, dot)
+    }
+}
+
+// Tells which scripts reach which servers, and answers the exit status.
+fn answer_reach(rt: &HostRuntime, list: &str, asked: Asked<'_>, json: bool) -> u8 {
+    if json {
+        reach_documents(rt, list, asked)
+    } else {
+        reach(rt, list, asked)
     }
 }
