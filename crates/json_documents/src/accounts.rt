@@ -1,7 +1,7 @@
 //! The account list with needs and peaks, as documents.
 use crate::column::Column;
 use crate::document::Document;
-use crate::rows::listed;
+use crate::rows::{add_line, listed};
 use std::alloc::{AllocError, Global};
 
 /// How many pieces a line has at most: what stands behind the word `label` is one.
@@ -13,8 +13,7 @@ pub fn account_documents(alloc: Global, lines: &[u8]) -> Result<Vec<u8>, AllocEr
     for line in lines.split(|byte| *byte == b'\n') {
         if !line.is_empty() {
             let text = document_of(alloc, line)?;
-            documents.extend_from_slice(text.as_slice())?;
-            documents.push(b'\n')?;
+            add_line(&mut documents, text.as_slice())?;
         }
     }
     listed(alloc, documents.as_slice())
@@ -22,33 +21,28 @@ pub fn account_documents(alloc: Global, lines: &[u8]) -> Result<Vec<u8>, AllocEr
 
 // The document of a line.
 fn document_of(alloc: Global, line: &[u8]) -> Result<Vec<u8>, AllocError> {
-    let mut pieces: Vec<&[u8]> = Vec::new(alloc);
+    let pieces = pieces_of(alloc, line)?;
+    document_in(alloc, pieces.as_slice())?.into_text(alloc)
+}
+
+// The pieces of a line.
+fn pieces_of(alloc: Global, line: &[u8]) -> Result<Vec<&[u8]>, AllocError> {
+    let mut pieces = Vec::new(alloc);
     for piece in line.splitn(most_pieces(line), |byte| *byte == b' ') {
         pieces.push(piece)?;
     }
+    Ok(pieces)
+}
+
+// The document of a line with these pieces.
+fn document_in(alloc: Global, pieces: &[&[u8]]) -> Result<Document, AllocError> {
     let mut members = Members {
         alloc,
         document: Document::new(alloc),
-        pieces: pieces.as_slice(),
+        pieces,
     };
-    members.add(Column::Text("kind"), 0)?;
-    match members.piece(0) {
-        b"account" => {
-            members.add(Column::Text("name"), 1)?;
-            members.add_account(3)?;
-        }
-        b"session" => {
-            members.add(Column::Text("name"), 1)?;
-            members.add(Column::Number("session"), 2)?;
-            members.add_session()?;
-        }
-        b"reserve" => {
-            members.add(Column::Text("name"), 1)?;
-            members.add_two(3)?;
-        }
-        _ => members.add_two(2)?,
-    }
-    members.document.into_text(alloc)
+    members.add_line()?;
+    Ok(members.document)
 }
 
 // How many pieces a line has at most: that of a session that was closed has neither use nor limits.
@@ -73,6 +67,27 @@ impl<'a> Members<'a> {
     // The piece at a place, or nothing.
     fn piece(&self, place: usize) -> &'a [u8] {
         self.pieces.get(place).copied().unwrap_or(b"")
+    }
+
+    // The members of the line, by its first word.
+    fn add_line(&mut self) -> Result<(), AllocError> {
+        self.add(Column::Text("kind"), 0)?;
+        match self.piece(0) {
+            b"account" => {
+                self.add(Column::Text("name"), 1)?;
+                self.add_account(3)
+            }
+            b"session" => {
+                self.add(Column::Text("name"), 1)?;
+                self.add(Column::Number("session"), 2)?;
+                self.add_session()
+            }
+            b"reserve" => {
+                self.add(Column::Text("name"), 1)?;
+                self.add_two(3)
+            }
+            _ => self.add_two(2),
+        }
     }
 
     // The piece at a place as a member.

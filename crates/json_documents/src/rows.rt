@@ -82,6 +82,12 @@ pub(crate) fn listed(alloc: Global, lines: &[u8]) -> Result<Vec<u8>, AllocError>
     Ok(list)
 }
 
+/// Adds a line with this text.
+pub(crate) fn add_line(lines: &mut Vec<u8>, text: &[u8]) -> Result<(), AllocError> {
+    lines.extend_from_slice(text)?;
+    lines.push(b'\n')
+}
+
 // A line with its document for each row, but the first where that has the names.
 fn document_lines(
     alloc: Global,
@@ -99,8 +105,7 @@ fn document_lines(
         match reader.read_byte_record(&mut record) {
             Ok(true) => {
                 let text = document_of(alloc, columns, &record)?;
-                lines.extend_from_slice(text.as_slice())?;
-                lines.push(b'\n')?;
+                add_line(&mut lines, text.as_slice())?;
             }
             Ok(false) => break,
             Err(_) => return Err(AllocError),

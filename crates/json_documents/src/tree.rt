@@ -148,21 +148,36 @@ fn add_component<'a>(
     members.push(("binary", text_of(binary)))?;
     let mut names = MEANS[0];
     for part in means.split(", ") {
-        if let Some(service) = part.strip_prefix("provides ") {
-            members.push(("provides", provided(service)))?;
-        } else if part.ends_with(" caps") {
-            members.push((names.1, number_in(part)))?;
-        } else if let Some(ram) = part.strip_prefix("reserve ") {
-            names = MEANS[1];
-            members.push((names.0, number_in(ram)))?;
-        } else if let Some(ram) = part.strip_prefix("keeps ") {
-            names = MEANS[2];
-            members.push((names.0, number_in(ram)))?;
-        } else {
-            members.push((names.0, number_in(part)))?;
-        }
+        names = names_from(part, names);
+        members.push(member_in(part, names))?;
     }
     listing.add(members.as_slice())
+}
+
+// The names of RAM and of capabilities from a part of the means on, where they have these before it.
+fn names_from(part: &str, names: (&'static str, &'static str)) -> (&'static str, &'static str) {
+    if part.starts_with("reserve ") {
+        MEANS[1]
+    } else if part.starts_with("keeps ") {
+        MEANS[2]
+    } else {
+        names
+    }
+}
+
+// A part of the means as a member, where RAM and capabilities have these names.
+fn member_in<'a>(part: &'a str, names: (&'static str, &'static str)) -> (&'static str, Field<'a>) {
+    if let Some(service) = part.strip_prefix("provides ") {
+        ("provides", provided(service))
+    } else if part.ends_with(" caps") {
+        (names.1, number_in(part))
+    } else if let Some(ram) = part.strip_prefix("reserve ") {
+        (names.0, number_in(ram))
+    } else if let Some(ram) = part.strip_prefix("keeps ") {
+        (names.0, number_in(ram))
+    } else {
+        (names.0, number_in(part))
+    }
 }
 
 // A service that is provided, or nothing.

@@ -17,21 +17,25 @@ impl fmt::Display for Quoted<'_> {
         let backslash = if self.in_graph { "\\\\" } else { "\\" };
         f.write_str(quote)?;
         for sign in self.text.chars() {
-            match sign {
-                '"' => {
-                    f.write_str(backslash)?;
-                    f.write_str(quote)?;
-                }
-                '\\' => {
-                    f.write_str(backslash)?;
-                    f.write_str(backslash)?;
-                }
-                '\n' => write!(f, "{backslash}n")?,
-                '\t' => write!(f, "{backslash}t")?,
-                sign if sign.is_control() => write!(f, "{backslash}u{:04x}", sign as u32)?,
-                sign => write!(f, "{sign}")?,
-            }
+            show_sign(f, sign, quote, backslash)?;
         }
         f.write_str(quote)
+    }
+}
+
+// A sign of a text, where a quote and a backslash are written so.
+fn show_sign<W: fmt::Write>(
+    f: &mut fmt::Formatter<W>,
+    sign: char,
+    quote: &str,
+    backslash: &str,
+) -> fmt::Result {
+    match sign {
+        '"' => write!(f, "{backslash}{quote}"),
+        '\\' => write!(f, "{backslash}{backslash}"),
+        '\n' => write!(f, "{backslash}n"),
+        '\t' => write!(f, "{backslash}t"),
+        sign if sign.is_control() => write!(f, "{backslash}u{:04x}", sign as u32),
+        sign => write!(f, "{sign}"),
     }
 }
