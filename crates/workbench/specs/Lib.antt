@@ -8,6 +8,7 @@ pub mod Plays
 pub mod Watching
 pub mod Writes
 pub mod Texts
+pub mod Laws
 pub mod Tracing
 pub mod Alone
 pub mod Peaks

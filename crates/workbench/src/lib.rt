@@ -34,7 +34,7 @@ mod watch;
 pub use account_list::accounts;
 pub use beside::alone;
 pub use ending::{Ending, exit_status};
-pub use laws::bare_lines_stand;
+pub use laws::{bare_lines_stand, texts_are_read_back};
 pub use machine::Play;
 pub use near::near_component;
 pub use scenario::PlayFault;
