@@ -3,7 +3,7 @@ ghost use Rattle.std.specs.Prelude.{◌≡◌, ◌++◌, ◌∷◌, ◌||◌, []
 ghost use Rattle.colors.specs.Painted.{left_of, painted, painted_lines, shade_of};
 
 use crate::shade::{Lines, Shade};
-use scenario::{DeviceFault, Gather, Sink};
+use scenario_lines::{DeviceFault, Gather, Sink};
 use std::alloc::{AllocError, Global};
 
 /// A sink that colours each line once it is whole, and writes it to another.

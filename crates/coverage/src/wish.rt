@@ -7,10 +7,10 @@ ghost use Rattle.own_model.specs.Session.{given};
 ghost use Rattle.coverage.specs.Rules.{decided_by, default_of, init_of, init_place, is_turned_away, route_by, route_for, rule_in, rules_from, rules_of_wish, wish_in};
 
 use crate::event::{Route, RuleAt};
+use call_lines::read_line;
 use init_core::{Entry, StartList};
 use pd_core::Call;
 use reach::{Course, Hop};
-use scenario::read_line;
 use session_proto::SessionArgs;
 use std::alloc::{AllocError, Global};
 use trade_base::Refusal;

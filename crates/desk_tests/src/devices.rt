@@ -1,6 +1,6 @@
 //! Readers and writers that fail, and the status of each ending.
 use init_core::{BootFault, MACHINE_A};
-use scenario::{DeviceFault, Output, Sink, Source};
+use scenario_lines::{DeviceFault, Output, Sink, Source};
 use scenario_names::Known;
 use std::alloc::Global;
 use std::process::Abort;

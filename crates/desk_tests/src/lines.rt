@@ -1,6 +1,6 @@
 //! Lines of the friendly form, rule by rule: what each says.
 use friendly_lines::{Fault, Form, Line, Reason, Said, meets, read_friendly};
-use scenario::call_in;
+use scenario_lines::call_in;
 use std::process::Abort;
 use std::test::Fail;
 

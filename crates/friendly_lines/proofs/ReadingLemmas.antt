@@ -5,8 +5,8 @@ use Rattle.std.proofs.lemmas.Option.{none-some}
 use Rattle.std.proofs.lemmas.Bool.Decides.{nat_tests}
 use Rattle.own_model.specs.Call.{spoken}
 use Rattle.own_model.specs.Transcript.{longest_line}
-use Rattle.scenario.specs.Read.{IsReadAs}
-use Rattle.scenario.specs.declared.line.NamedCall.{NamedCall}
+use Rattle.call_lines.specs.Read.{IsReadAs}
+use Rattle.call_lines.specs.declared.line.NamedCall.{NamedCall}
 use Rattle.friendly_lines.specs.Friendly.{fault_behind, fault_in, said_of_call, said_of_line, without_return}
 use Rattle.friendly_lines.specs.Parts.{Tail, parts_of, spelled}
 use Rattle.friendly_lines.specs.Why.{has_small_unit}

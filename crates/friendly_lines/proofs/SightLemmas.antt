@@ -4,8 +4,8 @@ use Rattle.std.specs.List.{list_all, position_or_len, starts_with}
 use Rattle.std.specs.Option.{option_map, option_or}
 use Rattle.std.proofs.lemmas.Bool.Decides.{nat_tests}
 use Rattle.std.proofs.lemmas.List.Folds.{list_all_at}
-use Rattle.scenario.specs.Read.{Reads}
-use Rattle.scenario.specs.declared.line.NamedCall.{NamedCall}
+use Rattle.call_lines.specs.Read.{Reads}
+use Rattle.call_lines.specs.declared.line.NamedCall.{NamedCall}
 use Rattle.friendly_lines.specs.Friendly.{without_return}
 use Rattle.friendly_lines.specs.Handed.{has_no_sign, is_sign}
 use Rattle.friendly_lines.specs.Laws.{IsBare, IsPlain, is_translated}

@@ -7,9 +7,8 @@ use Rattle.std.proofs.lemmas.Slice.Eq.{bytes_eq-Decides}
 use Rattle.own_model.specs.Call.{Call, Spoken, call_of, forms, of_text, of_two, some_bytes_of_hex, spoken}
 use Rattle.own_model.specs.Call.Call.{CallSession, Poke}
 use Rattle.own_model.specs.Text.{address_of, first_word, number_of}
-use Rattle.pd_core.specs.Call.{model_call}
-use Rattle.scenario.specs.Read.{Reads}
-use Rattle.scenario.specs.declared.line.NamedCall.{NamedCall}
+use Rattle.call_lines.specs.Read.{Reads, model_call}
+use Rattle.call_lines.specs.declared.line.NamedCall.{NamedCall}
 use Rattle.friendly_lines.specs.Handed.{has_text}
 use Rattle.friendly_lines.specs.Laws.{is_translated}
 use Rattle.friendly_lines.specs.Parts.{parts_of, tail_of, takes_text, word_behind}

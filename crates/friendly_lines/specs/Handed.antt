@@ -3,7 +3,7 @@ use Rattle.std.specs.Prelude.{ℕ, ◌==◌, ◌||◌, not, Bool, true, false, L
 use Rattle.std.specs.List.{list_all}
 use Rattle.own_model.specs.Call.{Call as Modelled}
 use Rattle.own_model.specs.Call.Call.{CallSession, Poke}
-use Rattle.scenario.specs.Read.{IsReadAs}
+use Rattle.call_lines.specs.Read.{IsReadAs}
 use Rattle.friendly_lines.specs.declared.fault.Fault.{Fault}
 use Rattle.friendly_lines.specs.declared.reading.Said.{Said}
 use Rattle.friendly_lines.specs.declared.reading.Said.TheVariants.{Nothing, Log, Call}

@@ -5,14 +5,12 @@ ghost use Rattle.friendly_lines.specs.Laws.{IsBare, IsPlain, is_translated};
 ghost use Rattle.friendly_lines.specs.Parts.{parts_of};
 ghost use Rattle.friendly_lines.specs.Parts.Tail.{Request};
 ghost use Rattle.friendly_lines.specs.Views.{tail_in};
-ghost use Rattle.pd_core.specs.Call.{model_call};
-ghost use Rattle.scenario.specs.Read.{Reads};
+ghost use Rattle.call_lines.specs.Read.{Reads, model_call};
 
 use crate::parts::{Parts, Tail};
 use crate::requests::has_suffix;
 use crate::words::behind;
-use pd_core::Call;
-use scenario::{NamedCall, call_in};
+use call_lines::{Call, NamedCall, call_in};
 
 /// The call of a line of the engine's grammar that passes as it stands, where that is seen at its bytes: it has no sign of the
 /// friendly form, and none of a name. Most lines have none, and need nothing more.

@@ -3,7 +3,7 @@ ghost use Rattle.std.specs.Prelude.{◌≡◌, ◌+◌, ◌<◌, ◌≤◌, ◌^
 ghost use Rattle.std.specs.Option.{option_copied, option_map, option_or};
 ghost use Rattle.own_model.specs.Call.{spoken};
 ghost use Rattle.own_model.specs.Transcript.{longest_line};
-ghost use Rattle.scenario.specs.Read.{IsReadAs};
+ghost use Rattle.call_lines.specs.Read.{IsReadAs};
 ghost use Rattle.friendly_lines.specs.Friendly.{end_of, expects_bad_line, fault_behind, fault_in, is_passed, no_call, said_of, said_of_both, said_of_call, said_of_line, said_of_signs, said_of_text, signs_of, without_comment, without_mark, without_return};
 ghost use Rattle.friendly_lines.specs.Friendly.Said.{Call};
 ghost use Rattle.friendly_lines.specs.Handed.{HandsOn};
@@ -19,7 +19,7 @@ use crate::plain::plain_call;
 use crate::quotes::{Quoting, comment_of, marks_of};
 use crate::why::why;
 use crate::words::{behind, skip_blanks};
-use scenario::{NamedCall, call_in};
+use call_lines::{NamedCall, call_in};
 
 /// What a line of a scenario in the friendly form says.
 #[derive(Clone, Copy, Debug)]

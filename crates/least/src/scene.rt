@@ -4,10 +4,10 @@ ghost use Rattle.pd_core.specs.Call.{model_call, IsWellFormed};
 ghost use Rattle.least.specs.Steps.{with_args};
 
 use crate::stage::Stage;
+use call_lines::{LONGEST_LINE, read_line};
 use friendly_lines::{Fault, Line, Said, meets, read_friendly};
 use init_core::{BootFault, StartList};
 use pd_core::{Call, Core, Router};
-use scenario::{LONGEST_LINE, read_line};
 use scenario_names::{Directive, Filled, Known, NameFault, directive_of, fill, source_column};
 use std::alloc::Global;
 use text_codec::find_byte;

@@ -10,8 +10,8 @@ use Rattle.own_model.specs.World.{World, start_world}
 use Rattle.init_core.specs.StartText.{list_in}
 use Rattle.friendly_lines.specs.Friendly.{Said, said_of}
 use Rattle.friendly_lines.specs.declared.fault.Fault.{Fault}
-use Rattle.scenario.specs.Answer.{finished_lines}
-use Rattle.scenario.proofs.TaskLemmas.{fault_of_list, fault_of_text}
+use Rattle.scenario_lines.specs.Answer.{finished_lines}
+use Rattle.scenario_lines.proofs.MachineLemmas.{fault_of_list, fault_of_text}
 use Rattle.scenario_names.specs.Directives.{Directive, directive_of}
 use Rattle.scenario_names.specs.Filling.{Filled, filled}
 use Rattle.scenario_names.specs.Known.{Known}

@@ -8,8 +8,8 @@ use Rattle.own_model.specs.World.{World}
 use Rattle.friendly_lines.specs.Friendly.{Said, said_of}
 use Rattle.friendly_lines.specs.Friendly.Said.{Nothing, Log, Call}
 use Rattle.friendly_lines.specs.declared.fault.Fault.{Fault}
-use Rattle.scenario.specs.Answer.{answered_reply, finished_lines}
-use Rattle.scenario.specs.Answered.{after_all}
+use Rattle.scenario_lines.specs.Answer.{answered_reply, finished_lines}
+use Rattle.scenario_lines.specs.Answered.{after_all}
 use Rattle.scenario_names.specs.Directives.{Directive, directive_of, followed}
 use Rattle.scenario_names.specs.Directives.Directive.{Set, Enter, Again, Leave, Repeat, End, Unknown}
 use Rattle.scenario_names.specs.Filling.{Filled, filled}

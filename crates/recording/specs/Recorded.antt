@@ -10,7 +10,7 @@ use Rattle.friendly_lines.specs.Expected.{meets}
 use Rattle.friendly_lines.specs.Friendly.{Said, arrow_of, end_of, said_of}
 use Rattle.friendly_lines.specs.Friendly.Said.{Nothing, Log, Call}
 use Rattle.friendly_lines.specs.declared.fault.Fault.{Fault}
-use Rattle.scenario.specs.Program.{IsMachine, world_of}
+use Rattle.scenario_lines.specs.Machine.{IsMachine, world_of}
 use Rattle.scenario_names.specs.Filling.{Filled, filled, is_dollar}
 use Rattle.scenario_names.specs.Known.{Known}
 use Rattle.scenario_names.specs.declared.fault.NameFault.{NameFault}

@@ -5,7 +5,7 @@ ghost use Rattle.recording.specs.Views.{hearing_view};
 ghost use Rattle.friendly_lines.specs.Friendly.{said_of};
 
 use friendly_lines::{Line, Said, meets, read_friendly};
-use scenario::LONGEST_LINE;
+use scenario_lines::LONGEST_LINE;
 use scenario_names::{Known, fill};
 
 /// Room for a line that is filled, and for one that is read.

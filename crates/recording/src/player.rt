@@ -22,7 +22,7 @@ use crate::unread::{Unread, Why, column_of};
 use friendly_lines::{Fault, Line, Said, read_friendly};
 use init_core::{BootFault, StartList};
 use pd_core::{Core, Reply, Router};
-use scenario::{LONGEST_LINE, LineAnswer, Run};
+use scenario_lines::{LONGEST_LINE, LineAnswer, Run};
 use scenario_names::{Directive, Filled, Known, directive_of, fill, source_column};
 use std::alloc::{AllocError, Global};
 

@@ -3,7 +3,7 @@ ghost use Rattle.std.specs.Prelude.{◌≡◌, ◌≢◌, ◌++◌, ◌∷◌, [
 ghost use Rattle.own_model.specs.Listed.{start_list_of};
 ghost use Rattle.own_model.specs.StartList.{entries_of};
 ghost use Rattle.init_core.specs.declared.fault.BootFault.TheVariants.{NoMemory};
-ghost use Rattle.scenario.specs.Program.{boot_fault};
+ghost use Rattle.scenario_lines.specs.Machine.{boot_fault};
 ghost use Rattle.recording.specs.Recorded.{IsRecorded};
 
 use crate::marks::Marks;

@@ -4,8 +4,8 @@ use Rattle.std.proofs.lemmas.List.{append_assoc, drop-drop, drop-map, drop_all, 
 use Rattle.std.proofs.Math.Seq.{drop-cons}
 use Rattle.std.specs.Borrow.{Bor}
 use Rattle.own_model.specs.Text.{lines_of}
-use Rattle.scenario.specs.Lines.{after_line, line_of}
-use Rattle.scenario.proofs.LineLemmas.{lines_of-cons}
+use Rattle.scenario_lines.specs.Lines.{after_line, line_of}
+use Rattle.scenario_lines.proofs.LineLemmas.{lines_of-cons}
 use Rattle.scenario_names.specs.Sums.{and_then}
 use Rattle.rounds.specs.Structure.{body_length, kind_of}
 use Rattle.rounds.specs.Unfolding.{Head, Inner, Made, lines_from, mark_of, owned, rounds_from, step_of, with_mark, within}

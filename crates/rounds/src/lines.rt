@@ -1,7 +1,7 @@
 //! The lines of a scenario, as its rounds see them.
 ghost use Rattle.std.specs.Prelude.{◌≡◌, ◌+◌, ◌≤◌, IfOk, drop, length, take};
 ghost use Rattle.own_model.specs.Text.{lines_of};
-ghost use Rattle.scenario.specs.Lines.{line_length};
+ghost use Rattle.scenario_lines.specs.Lines.{line_length};
 ghost use Rattle.rounds.specs.Structure.{column_of, kind_of, words_of};
 ghost use Rattle.rounds.specs.Views.{texts};
 

@@ -1,6 +1,5 @@
 -- What a run that has ended promises, whether at the end of its input or at a fault.
-use Rattle.std.proofs.Common.{◌≡◌, ◌≢◌, ◌||◌, ℕ, ◌+◌, ◌<◌, ◌≤◌, Bool, true, false, List, [], ◌∷◌, ◌++◌, length, get_or, slice_index_or, Option, Some, None, IfSome, IfNone, Result, Ok, Err, inl, ⊎_elim, arith, refl, sym, ◌∙◌, ap, subst, append-nil, length-append}
-use Rattle.std.proofs.lemmas.List.{get_or-append-add}
+use Rattle.std.proofs.Common.{◌≡◌, ◌≢◌, ◌||◌, ℕ, ◌+◌, ◌≤◌, Bool, true, false, List, [], ◌++◌, length, Option, Some, None, IfSome, IfNone, Result, Ok, Err, inl, ⊎_elim, arith, refl, sym, ◌∙◌, ap, subst, append-nil}
 use Rattle.std.specs.Io.KnownBytes.{Appends}
 use Rattle.own_model.specs.SaidBy.{said_by}
 use Rattle.own_model.specs.Text.{lines_of}
@@ -8,22 +7,24 @@ use Rattle.own_model.specs.Transcript.{told_after, calls_of, state_at, state_aft
 use Rattle.own_model.specs.World.{World, IsBalanced, IsBalancedFor, world_running}
 use Rattle.own_model.proofs.StepBalanceLemmas.{lines_balanced, lines_balanced_for}
 use Rattle.own_model.proofs.RunningLemmas.{Tracks-none, told_after-running, length-states_running, states_running-at}
-use Rattle.scenario.specs.Answered.{told_of_all, after_all}
-use Rattle.scenario.specs.Lines.{longest_read, AreReadable}
-use Rattle.scenario.specs.Runs.{Completes, EndsWith, HasCause, KeepsWorld, Runs}
-use Rattle.scenario.specs.Faults.{is_write_fault as is_unwritten, play_fault}
+use Rattle.scenario_lines.specs.Answered.{told_of_all, after_all}
+use Rattle.scenario_lines.specs.Lines.{AreReadable}
+use Rattle.scenario.specs.Runs.{Completes, EndsWith, KeepsWorld, Runs}
+use Rattle.scenario_lines.specs.Causes.{HasCause, AppendsPart, StopsFor, is_write_fault}
+use Rattle.scenario_lines.specs.Faults.{is_write_fault as is_unwritten, play_fault}
 use Rattle.scenario.specs.declared.running.Summary.{Summary}
-use Rattle.scenario.proofs.FaultLemmas.{or_first}
-use Rattle.scenario.specs.Plays.{EndsAs, PlaysAll, StopsAs, StopsAt, WritesTold}
-use Rattle.scenario.proofs.PlayLemmas.{unplayed}
-use Rattle.scenario.proofs.ToldLemmas.{left_none, told_none}
-use Rattle.scenario.specs.Stops.{AppendsPart, Stops, StopsFor, IsWritten, is_write_fault}
-use Rattle.scenario.specs.declared.running.RunFault.{RunFault}
-use Rattle.scenario.proofs.ReachLemmas.{close_as, keeps_up_as}
-use Rattle.scenario.proofs.GatheredLemmas.{Appends-none}
-use Rattle.scenario.specs.declared.running.RunFault.TheVariants.{ReadFault, WriteFault, TooManyLines}
-use Rattle.scenario.specs.declared.play_fault.PlayFault.{PlayFault}
-use Rattle.scenario.specs.declared.play_fault.PlayFault.TheVariants.{ReadFault as Unread, WriteFault as Unwritten, TooManyLines as TooMany, NoMemory}
+use Rattle.scenario_lines.proofs.CauseLemmas.{within_bounds}
+use Rattle.scenario_lines.proofs.FaultLemmas.{or_first}
+use Rattle.scenario_lines.specs.Plays.{EndsAs, PlaysAll, StopsAs, StopsAt, WritesTold}
+use Rattle.scenario_lines.proofs.PlayLemmas.{unplayed}
+use Rattle.scenario_lines.proofs.ToldLemmas.{left_none, told_none}
+use Rattle.scenario.specs.Stops.{Stops, IsWritten}
+use Rattle.scenario_lines.specs.declared.run_fault.RunFault.{RunFault}
+use Rattle.scenario_lines.proofs.ReachLemmas.{close_as, keeps_up_as}
+use Rattle.scenario_lines.proofs.GatheredLemmas.{Appends-none}
+use Rattle.scenario_lines.specs.declared.run_fault.RunFault.TheVariants.{ReadFault, WriteFault, TooManyLines}
+use Rattle.scenario_lines.specs.declared.play_fault.PlayFault.{PlayFault}
+use Rattle.scenario_lines.specs.declared.play_fault.PlayFault.TheVariants.{ReadFault as Unread, WriteFault as Unwritten, TooManyLines as TooMany, NoMemory}
 
 -- what is told of lines by the running states is what is told of them by the history
 told_same : (world : World) (lines : List (List ℕ)) → told_of_all None world lines ≡ told_after world.entries world.states [] lines
@@ -107,33 +108,6 @@ module _ {only : Option (List ℕ)} {leads : List (List ℕ) → Type 0} {stops 
     states = states_at old new (said_by only plays.given) (left_at fault plays.given led plays.ends_as);
     world = left_at fault plays.given led plays.ends_as;
   }
-
--- a first line that is left can be read where all can
-first_readable : (all lines left : List (List ℕ)) → all ≡ lines ++ left → AreReadable all → longest_read < length (slice_index_or left 0 []) → ⊥
-first_readable all lines [] parts short long = omega (arith, long)
-first_readable all lines (line ∷ left) parts short long =
-    let within : length lines + 0 < length all = omega (arith, ap length parts, length-append lines (line ∷ left)) in
-    let at : get_or all (length lines + 0) [] ≡ line = ap (λ xs. get_or xs (length lines + 0) []) parts ∙ get_or-append-add lines (line ∷ left) 0 [] in
-    omega (arith, short (length lines + 0) [] within, ap length at, long)
-
--- within the bounds, and with no failed device, only want of room is a cause to stop
-pub within_bounds : (fault : PlayFault) (max_lines : ℕ) (lines left : List (List ℕ)) (text : List ℕ) (rest : Option (List ℕ)) (failed write_failed : Bool) →
-    lines_of text ≡ lines ++ left → StopsAt max_lines fault lines left text rest failed → write_failed ≡ is_unwritten (Some fault) → fault ≢ NoMemory → HasCause text max_lines failed write_failed
-within_bounds Unread max_lines lines left text rest failed write_failed parts cause fails other =
-    λ reads writes short few. ⊎_elim (λ cut. let e : failed ≡ true = cut.0 in cc) (λ long. first_readable (lines_of text) lines left parts short long) cause
-within_bounds Unwritten max_lines lines left text rest failed write_failed parts cause fails other = λ reads writes short few. let e : write_failed ≡ true = fails in cc
-within_bounds TooMany max_lines lines left text rest failed write_failed parts cause fails other =
-    λ reads writes short few. omega (arith, cause.0, cause.1, ap length parts, length-append lines left)
-within_bounds NoMemory max_lines lines left text rest failed write_failed parts cause fails other = absurd (other refl)
-
--- a device that had failed before is a cause
-pub cause_unwritten : (input : Option (List ℕ)) (max_lines : ℕ) (failed write_failed : Bool) → write_failed ≡ true → IfSome input (λ text. HasCause text max_lines failed write_failed)
-cause_unwritten None max_lines failed write_failed fails = tt
-cause_unwritten (Some text) max_lines failed write_failed fails = λ reads writes short few. cc
-
-pub cause_unread : (input : Option (List ℕ)) (max_lines : ℕ) (failed write_failed : Bool) → failed ≡ true → IfSome input (λ text. HasCause text max_lines failed write_failed)
-cause_unread None max_lines failed write_failed fails = tt
-cause_unread (Some text) max_lines failed write_failed fails = λ reads writes short few. cc
 
 -- so it answers Ok
 no_want : (fault : RunFault) → play_fault fault ≢ NoMemory

@@ -1,16 +1,16 @@
 -- What the engine's player makes of a line.
 use Rattle.std.proofs.Common.{◌≡◌, ℕ, Bool, false, true, List, [], ◌∷◌, ◌++◌, Option, Result, Ok, Err, refl, sym, ◌∙◌, ap, subst}
 use Rattle.own_model.specs.World.{World}
-use Rattle.scenario.specs.Answer.{AnswersLine, answer_text}
-use Rattle.scenario.specs.Answered.{after_all, told_of_all}
-use Rattle.scenario.specs.Faults.{Fails}
-use Rattle.scenario.specs.Gathered.{TellsUnless}
-use Rattle.scenario.specs.Plays.{GoesOn, PlaysLine}
-use Rattle.scenario.specs.declared.answering.LineAnswer.{LineAnswer}
-use Rattle.scenario.specs.declared.play_fault.PlayFault.{PlayFault}
-use Rattle.scenario.specs.declared.play_fault.PlayFault.TheVariants.{ReadFault, WriteFault, TooManyLines, NoMemory}
-use Rattle.scenario.proofs.AnsweringLemmas.{told_answer}
-use Rattle.scenario.proofs.ToldLemmas.{left_by_both, told_of_both}
+use Rattle.scenario_lines.specs.Answer.{AnswersLine, answer_text}
+use Rattle.scenario_lines.specs.Answered.{after_all, told_of_all}
+use Rattle.scenario_lines.specs.Faults.{Fails}
+use Rattle.scenario_lines.specs.Gathered.{TellsUnless}
+use Rattle.scenario_lines.specs.Plays.{GoesOn, PlaysLine}
+use Rattle.scenario_lines.specs.declared.answering.LineAnswer.{LineAnswer}
+use Rattle.scenario_lines.specs.declared.play_fault.PlayFault.{PlayFault}
+use Rattle.scenario_lines.specs.declared.play_fault.PlayFault.TheVariants.{ReadFault, WriteFault, TooManyLines, NoMemory}
+use Rattle.scenario_lines.proofs.AnsweringLemmas.{told_answer}
+use Rattle.scenario_lines.proofs.ToldLemmas.{left_by_both, told_of_both}
 
 -- it goes on, or a write failed
 goes_on : {T : Type 0} {A : Type 0} (only : Option (List ℕ)) (start new : World) (lines : List (List ℕ)) (result : Result T PlayFault) (write_failed : Bool) → A → new ≡ after_all only start lines → Fails result write_failed false →

@@ -1,51 +1,31 @@
 -- What a task on a machine promises.
-use Rattle.std.proofs.Common.{Bor, ◌≡◌, ◌≢◌, ℕ, ◌≤◌, Bool, true, false, inl, inr, arith, append-nil, ◌++◌, List, [], length, take, drop, Option, Some, None, IfSome, IfOk, IfErr, Result, Ok, Err, refl, sym, ap, ◌∙◌, subst}
-use Rattle.std.proofs.lemmas.List.{take-append-drop}
+use Rattle.std.proofs.Common.{Bor, ◌≡◌, ℕ, ◌≤◌, Bool, true, false, inl, inr, arith, append-nil, ◌++◌, List, [], length, Option, Some, None, IfSome, IfOk, IfErr, Result, Ok, Err, refl, sym, ap, ◌∙◌, subst}
 use Rattle.std.specs.Io.KnownBytes.{Appends}
 use Rattle.own_model.specs.Listed.{Listed, start_list_of}
-use Rattle.own_model.specs.StartList.{StartList, Boots, entries_of}
+use Rattle.own_model.specs.StartList.{StartList, Boots}
 use Rattle.own_model.specs.Transcript.{told_after}
 use Rattle.own_model.specs.AccountList.{account_list_text}
 use Rattle.own_model.specs.World.{World, start_world, world_running}
 use Rattle.own_model.proofs.StepBalanceLemmas.{totals, lines_balanced}
 use Rattle.own_model.proofs.StartLemmas.{start_balanced_for}
-use Rattle.init_core.specs.Boot.{quota_fault}
 use Rattle.init_core.specs.StartText.{list_in}
-use Rattle.init_core.specs.declared.fault.BootFault.{BootFault}
-use Rattle.init_core.specs.declared.fault.BootFault.TheVariants.{NoMemory}
 use Rattle.std.proofs.lemmas.List.Elements.{All-nil}
-use Rattle.scenario.specs.Lines.{longest_read}
-use Rattle.scenario.specs.Program.{IsAnswered, IsBoundedFor, IsMachine, IsDone, FailsFor, StopsScenario, TotalsAre, boot_fault, lines_run, ok_line, scenario_text, world_of}
+use Rattle.scenario_lines.specs.Lines.{longest_read}
+use Rattle.scenario.specs.Program.{IsAnswered, IsBoundedFor, IsDone, FailsFor, StopsScenario, TotalsAre, lines_run, ok_line, scenario_text}
+use Rattle.scenario_lines.specs.Machine.{IsMachine, world_of}
 use Rattle.scenario.specs.Ending.{CameOf}
 use Rattle.scenario.specs.Runs.{Completes}
 use Rattle.std.specs.Option.{option_copied}
-use Rattle.scenario.specs.Stops.{Stops, AppendsPart}
+use Rattle.scenario.specs.Stops.{Stops}
+use Rattle.scenario_lines.specs.Causes.{AppendsPart}
 use Rattle.scenario.specs.declared.program.Failure.{Failure}
 use Rattle.scenario.specs.declared.program.Failure.TheVariants as failure
 use Rattle.scenario.specs.declared.program.Task.{Task}
 use Rattle.scenario.specs.declared.program.Task.TheVariants as task
-use Rattle.scenario.specs.declared.running.RunFault.{RunFault}
-use Rattle.scenario.specs.declared.running.RunFault.TheVariants.{WriteFault}
+use Rattle.scenario_lines.specs.declared.run_fault.RunFault.{RunFault}
+use Rattle.scenario_lines.specs.declared.run_fault.RunFault.TheVariants.{WriteFault}
 use Rattle.scenario.specs.declared.running.Summary.{Summary}
-use Rattle.scenario.proofs.GatheredLemmas.{Appends-none, Appends-more}
-
--- the first n bytes are written
-pub told_to : (old new : Option (List ℕ)) (bytes : List ℕ) (n : ℕ) → Appends old new (take n bytes) → AppendsPart old new bytes
-told_to old new bytes n grows = record { part = take n bytes; left = drop n bytes; parts = sym (take-append-drop n bytes); grows = grows }
-
--- or none
-pub told_none : (old : Option (List ℕ)) (bytes : List ℕ) → AppendsPart old old bytes
-told_none old bytes = record { part = []; left = bytes; parts = refl; grows = Appends-none old }
-
-pub ruleset told_in_part = (told_to, told_none)
-
--- each way in which a fault of a list is told
-pub fault_of_text : (text : List ℕ) (fault : BootFault) → (fault ≢ NoMemory → list_in text ≡ Err fault) → fault ≢ NoMemory → boot_fault text ≡ Some fault
-fault_of_text text fault told other = rw (told other) refl
-
-pub fault_of_list : (text : List ℕ) (listed : Listed) (fault : BootFault) → list_in text ≡ Ok listed →
-    (fault ≢ NoMemory → quota_fault listed ≡ Some fault) → fault ≢ NoMemory → boot_fault text ≡ Some fault
-fault_of_list text listed fault reads told other = rw reads (told other)
+use Rattle.scenario_lines.proofs.GatheredLemmas.{Appends-more}
 
 -- a scenario from the machine's start
 from_start : (list : Listed) (world : World) → world ≡ world_of list → (P : World → List ℕ → Type 0) (input : Option (List ℕ)) →
@@ -113,10 +93,6 @@ bounded_for (task.Run accounts only) text max_lines lines input written now_writ
 
 -- ---- a scenario and its account list
 
--- the world of a start list has its entries
-pub listed_at_start : (list : StartList) (world : World) → world ≡ start_world list → world.entries ≡ entries_of list
-listed_at_start list world starts = ap (λ w. w.entries) starts
-
 -- a run is all that is told
 pub told_alone : (accounts : Bool) (only : Option (List ℕ)) (list : Listed) (world last : World) (lines : ℕ) (input written now_written : Option (List ℕ)) → accounts ≡ false →
     IfSome input (λ bytes. Completes only lines world last bytes written now_written) →
@@ -162,8 +138,6 @@ stopped_in_list only list world last accounts fault max_lines lines (Some bytes)
   parts = ap (account_list_text list) (sym done.world) ∙ part.parts;
   grows = Appends-more w w' w'' _ _ _ done.transcript part.grows refl;
 })
-
-pub ruleset tasks = (fault_of_text, fault_of_list, listed_at_start)
 
 -- what a scenario promises
 pub ruleset scenarios = (told_alone, stopped_in_run)

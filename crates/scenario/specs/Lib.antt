@@ -1,17 +1,6 @@
-pub mod Accounts
 pub mod Config
-pub mod Device
-pub mod Gathered
-pub mod Lines
-pub mod Reach
-pub mod Next
 pub mod Options
 pub mod Stops
-pub mod Answered
-pub mod Answer
-pub mod Read
-pub mod Faults
-pub mod Plays
 pub mod Runs
 pub mod Program
 pub mod Ending

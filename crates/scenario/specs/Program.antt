@@ -2,25 +2,24 @@
 use Rattle.std.specs.Prelude.{◌≡◌, ◌≢◌, ℕ, ◌*◌, ◌≤◌, ◌⊎◌, ◌++◌, ◌∷◌, Bool, true, false, List, [], codes, length, Option, Some, IfSome, Result, Ok, Err, ⊤}
 use Rattle.std.specs.Io.KnownBytes.{Appends}
 use Rattle.own_model.specs.AccountList.{account_list_text, total_line}
+use Rattle.scenario_lines.specs.Machine.{IsMachine, accounts_for, boot_fault, world_of}
 use Rattle.own_model.specs.Listed.{Listed, start_list_of}
-use Rattle.own_model.specs.StartList.{StartList, Boots}
+use Rattle.own_model.specs.StartList.{StartList}
 use Rattle.own_model.specs.Text.{lines_of}
 use Rattle.own_model.specs.Transcript.{told_after}
 use Rattle.own_model.specs.SaidBy.{said_by}
 use Rattle.std.specs.Option.{option_copied}
 use Rattle.own_model.specs.World.{World, start_world, world_running, all_ram, all_caps}
-use Rattle.init_core.specs.Boot.{quota_fault}
-use Rattle.init_core.specs.StartText.{list_in}
-use Rattle.init_core.specs.declared.fault.BootFault.{BootFault}
 use Rattle.init_core.specs.declared.fault.BootFault.TheVariants.{NoMemory}
-use Rattle.scenario.specs.Lines.{AreReadable}
-use Rattle.scenario.specs.Stops.{Stops, AppendsPart}
+use Rattle.scenario_lines.specs.Lines.{AreReadable}
+use Rattle.scenario.specs.Stops.{Stops}
+use Rattle.scenario_lines.specs.Causes.{AppendsPart}
 use Rattle.scenario.specs.declared.program.Failure.{Failure}
 use Rattle.scenario.specs.declared.program.Failure.TheVariants as failure
 use Rattle.scenario.specs.declared.program.Task.{Task}
 use Rattle.scenario.specs.declared.program.Task.TheVariants as task
-use Rattle.scenario.specs.declared.running.RunFault.{RunFault}
-use Rattle.scenario.specs.declared.running.RunFault.TheVariants.{WriteFault}
+use Rattle.scenario_lines.specs.declared.run_fault.RunFault.{RunFault}
+use Rattle.scenario_lines.specs.declared.run_fault.RunFault.TheVariants.{WriteFault}
 use Rattle.scenario.specs.declared.running.Summary.{Summary}
 
 -- a task is what the options of the command line ask for
@@ -28,24 +27,6 @@ abbrev pub AsksFor : Bool → Bool → Option (List ℕ) → Task → Type 0
 AsksFor check accounts only task.Check = check ≡ true
 AsksFor check accounts only (task.Run listed name) =
     (check ≡ false) × (listed ≡ accounts) × (option_copied name ≡ only)
-
--- a text is read as this start list, and the list boots
-pub record IsMachine (text : List ℕ) (list : Listed) : Type 0 where
-  pub reads : list_in text ≡ Ok list
-  pub boots : Boots (start_list_of list)
-
--- the world with which it starts
-abbrev pub world_of : Listed → World
-world_of list = start_world (start_list_of list)
-
--- the fault of a list that was read, or why none was
-abbrev fault_of : Result Listed BootFault → Option BootFault
-fault_of (Ok list) = quota_fault list
-fault_of (Err fault) = Some fault
-
--- why a text boots no machine
-abbrev pub boot_fault : List ℕ → Option BootFault
-boot_fault text = fault_of (list_in text)
 
 -- what a task reads: a check reads nothing
 abbrev pub read_for : Task → Option (List ℕ) → Option (List ℕ)
@@ -55,11 +36,6 @@ read_for (task.Run accounts only) input = input
 -- what a check tells of a machine
 abbrev pub ok_line : List ℕ
 ok_line = codes "ok" ++ 10 ∷ []
-
--- the account list, where it is asked for
-abbrev pub accounts_for : Bool → Listed → World → List ℕ
-accounts_for true list world = account_list_text list world
-accounts_for false list world = []
 
 -- the lines of an input that are run: all, or a name's alone
 abbrev pub lines_run : Option (List ℕ) → List ℕ → List (List ℕ)

@@ -6,12 +6,13 @@ use Rattle.own_model.specs.StartList.{StartList}
 use Rattle.own_model.specs.Text.{lines_of}
 use Rattle.own_model.specs.Transcript.{told_after, calls_of, state_at, state_after}
 use Rattle.own_model.specs.World.{World, IsBalanced, IsBalancedFor, world_running}
-use Rattle.scenario.specs.Faults.{play_fault}
-use Rattle.scenario.specs.Lines.{AreReadable}
-use Rattle.scenario.specs.Stops.{Stops, is_write_fault}
-use Rattle.scenario.specs.declared.play_fault.PlayFault.{PlayFault}
-use Rattle.scenario.specs.declared.running.RunFault.{RunFault}
-use Rattle.scenario.specs.declared.running.RunFault.TheVariants.{ReadFault, WriteFault}
+use Rattle.scenario_lines.specs.Faults.{play_fault}
+use Rattle.scenario_lines.specs.Lines.{AreReadable}
+use Rattle.scenario.specs.Stops.{Stops}
+use Rattle.scenario_lines.specs.Causes.{is_write_fault, HasCause}
+use Rattle.scenario_lines.specs.declared.play_fault.PlayFault.{PlayFault}
+use Rattle.scenario_lines.specs.declared.run_fault.RunFault.{RunFault}
+use Rattle.scenario_lines.specs.declared.run_fault.RunFault.TheVariants.{ReadFault, WriteFault}
 use Rattle.scenario.specs.declared.running.Summary.{Summary}
 
 -- a run came to the end of its input
@@ -36,12 +37,6 @@ pub record KeepsWorld (old new : World) : Type 0 where
   pub count : length new.states ≡ length old.states
   pub balance : (pages caps : ℕ) → IsBalanced pages caps old → IsBalanced pages caps new
   pub shares : (machine : StartList) → IsBalancedFor machine old → IsBalancedFor machine new
-
--- an input within the bounds, over devices that don't fail, is no cause to stop
-abbrev pub HasCause : List ℕ → ℕ → Bool → Bool → Type 0
-HasCause input max_lines read_failed write_failed =
-    read_failed ≡ false → write_failed ≡ false → AreReadable (lines_of input)
-    → length (lines_of input) ≤ max_lines → ⊥
 
 -- the fault that is told of devices that had failed before: the writer's first
 abbrev pub FaultBefore : Result Summary RunFault → Bool → Bool → Type 0

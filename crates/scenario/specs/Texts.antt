@@ -6,14 +6,7 @@ use Rattle.scenario.specs.declared.config.ConfigFault.{ConfigFault}
 use Rattle.scenario.specs.declared.config.ConfigFault.TheVariants.{Unreadable, NoMemory}
 use Rattle.scenario.specs.declared.program.Failure.{Failure}
 use Rattle.scenario.specs.declared.program.Failure.TheVariants as failure
-use Rattle.scenario.specs.declared.running.RunFault.{RunFault}
-use Rattle.scenario.specs.declared.running.RunFault.TheVariants.{ReadFault, WriteFault, TooManyLines}
-
--- why a run stopped
-abbrev pub run_fault_text : RunFault → List ℕ
-run_fault_text ReadFault = codes "Read_fault"
-run_fault_text WriteFault = codes "Write_fault"
-run_fault_text TooManyLines = codes "Too_many_lines"
+use Rattle.scenario_lines.specs.Faults.{run_fault_text}
 
 -- why the bytes of CONFIG aren't there
 abbrev pub config_fault_text : ConfigFault → List ℕ

@@ -2,14 +2,14 @@
 ghost use Rattle.std.specs.Prelude.{◌≡◌, ◌≤◌, ◌||◌, true, false, IfSome, IfOk, IfErr, OnOk, Some};
 ghost use Rattle.own_model.specs.Listed.{start_list_of};
 ghost use Rattle.own_model.specs.StartList.{entries_of};
-ghost use Rattle.scenario.specs.Runs.{Completes, FaultBefore, HasCause, KeepsWorld};
-ghost use Rattle.scenario.specs.Stops.{Stops, is_write_fault};
+ghost use Rattle.scenario.specs.Runs.{Completes, FaultBefore, KeepsWorld};
+ghost use Rattle.scenario_lines.specs.Causes.{HasCause, is_write_fault};
+ghost use Rattle.scenario.specs.Stops.{Stops};
 
-use crate::answering::Run;
-use crate::device::{Sink, Source};
-use crate::running::{RunFault, Summary, run_said_by};
+use crate::running::{Summary, run_said_by};
 use init_core::StartList;
 use pd_core::{Core, Reply, Router};
+use scenario_lines::{Run, RunFault, Sink, Source};
 
 /// Answers the lines of one name alone: those of at most `LONGEST_LINE` bytes that `read_line` reads as calls under it.
 /// Every other line is counted, and skipped: nothing is told of it, and it is read no further than the name goes. All

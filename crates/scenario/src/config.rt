@@ -4,8 +4,7 @@ ghost use Rattle.scenario.specs.Config.{is_unreadable};
 ghost use Rattle.scenario.specs.Texts.{config_fault_text};
 ghost use Rattle.scenario.specs.declared.config.ConfigFault.TheVariants.{Unreadable as CantRead, NoMemory as NoRoom};
 
-use crate::device::{DeviceFault, Source};
-use crate::input::Input;
+use scenario_lines::{DeviceFault, Input, Source};
 use std::alloc::{AllocError, Global};
 use std::fmt::{Display, Formatter};
 use std::rt::Files;

@@ -4,13 +4,12 @@ ghost use Rattle.std.specs.Process.{exit_status as status_told};
 ghost use Rattle.scenario.specs.Ending.{CameOf, program_status};
 
 use crate::config::{ConfigFault, read_config_at};
-use crate::input::Input;
 use crate::options::{Options, words_given};
-use crate::output::Output;
-use crate::program::{Failure, MAX_LINES, Task, boot_and_run, exit_status, task_of};
+use crate::program::{Failure, Task, boot_and_run, exit_status, task_of};
 use crate::running::Summary;
 use clap::Error;
 use init_core::MACHINE_A;
+use scenario_lines::{Input, MAX_LINES, Output};
 use std::convert::AsStr;
 use std::io;
 use std::io::Eprint;

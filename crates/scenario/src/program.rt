@@ -7,30 +7,24 @@ ghost use Rattle.own_model.specs.StartList.{entries_of};
 ghost use Rattle.own_model.specs.Text.{lines_of};
 ghost use Rattle.init_core.specs.declared.fault.BootFault.{BootFault as Unbooted};
 ghost use Rattle.init_core.specs.declared.fault.BootFault.TheVariants.{NoMemory as NoRoom};
-ghost use Rattle.scenario.specs.Program.{AsksFor, FailsFor, FailsIn, IsAnswered, IsBoundedFor, IsDone, IsMachine, StopsScenario, ok_line, scenario_text, status_of, world_of, written_for};
-ghost use Rattle.scenario.specs.Stops.{AppendsPart, is_write_fault};
+ghost use Rattle.scenario.specs.Program.{AsksFor, FailsFor, FailsIn, IsAnswered, IsBoundedFor, IsDone, StopsScenario, ok_line, scenario_text, status_of, written_for};
+ghost use Rattle.scenario_lines.specs.Machine.{IsMachine, world_of};
+ghost use Rattle.scenario_lines.specs.Causes.{AppendsPart, is_write_fault};
 ghost use Rattle.scenario.specs.Texts.{failure_text};
 ghost use Rattle.scenario.specs.declared.program.Failure.TheVariants.{Boot as Booting, Run as Running};
 ghost use Rattle.scenario.specs.declared.program.Task.TheVariants.{Check as Checking, Run as Answering};
-ghost use Rattle.scenario.specs.declared.running.RunFault.TheVariants.{WriteFault as Unwritten};
+ghost use Rattle.scenario_lines.specs.declared.run_fault.RunFault.TheVariants.{WriteFault as Unwritten};
 
-use crate::account_list::write_accounts;
-use crate::answering::Run;
-use crate::device::{Sink, Source};
-use crate::gather::write_out;
 use crate::options::Options;
-use crate::output::Output;
-use crate::running::{RunFault, Summary, run_said_by};
+use crate::running::{Summary, run_said_by};
 use init_core::{BootFault, StartList, boot};
 use pd_core::{Core, Reply, Router};
+use scenario_lines::{MAX_LINES, Output, Run, RunFault, Sink, Source, write_accounts, write_out};
 use std::alloc::Global;
 use std::fmt;
 use std::fmt::{Display, Formatter};
 use thiserror::Error;
 use trade_base::NoMemory;
-
-/// How many lines a scenario has at most.
-pub const MAX_LINES: u64 = 1_000_000;
 
 /// What a check tells of a machine that boots.
 const OK: &[u8] = b"ok\n";
@@ -107,7 +101,7 @@ impl From<NoMemory> for Failure {
 /// the last states where it is asked for; at a fault of the run it is the transcript of the lines answered by then, and no
 /// account list. The sums that the list tells are the machine's. Where no machine is booted, neither device is touched, and
 /// a check never reads.
-#[tactic(auto, using(crate::proofs::TaskLemmas::tasks))]
+#[tactic(auto, using(scenario_lines::proofs::MachineLemmas::tasks))]
 pub fn boot_and_run<S: Source, K: Sink>(
     alloc: Global,
     text: &[u8],
@@ -132,7 +126,7 @@ pub fn boot_and_run<S: Source, K: Sink>(
 }
 
 // Does a task on the machine of a start list, which has just booted.
-#[tactic(auto, using(crate::proofs::TaskLemmas::tasks))]
+#[tactic(auto, using(scenario_lines::proofs::MachineLemmas::tasks))]
 fn do_task<R: Router + Drop, S: Source, K: Sink>(
     alloc: Global,
     core: &mut Core<R>,
@@ -206,7 +200,7 @@ fn answer_scenario<R: Router + Drop, S: Source, K: Sink>(
 }
 
 // Tells that a machine boots. A writer that has failed is not tried again.
-#[tactic(auto, using(crate::proofs::TaskLemmas::told_in_part))]
+#[tactic(auto, using(scenario_lines::proofs::GatheredLemmas::told_in_part))]
 fn tell_ok<K: Sink>(writer: &mut K) -> Result<Summary, RunFault>
     ensures none { IfOk result (λ summary. summary.lines ≡ 0) }
     ensures told { OnOk result (Appends (K.contents writer.old) (K.contents writer.new) ok_line) }

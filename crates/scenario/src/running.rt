@@ -1,58 +1,28 @@
 //! The run: lines are read, answered and written.
-ghost use Rattle.std.specs.Prelude.{◌≡◌, ◌≢◌, ◌≤◌, ◌∷◌, ◌||◌, true, false, is_err, IfSome, IfOk, IfErr, OnOk, None, Some};
+ghost use Rattle.std.specs.Prelude.{◌≡◌, ◌≢◌, ◌≤◌, ◌∷◌, ◌||◌, true, false, IfSome, IfOk, IfErr, OnOk, None};
 ghost use Rattle.std.specs.Option.{option_copied};
 ghost use Rattle.own_model.specs.Listed.{start_list_of};
 ghost use Rattle.own_model.specs.StartList.{entries_of};
-ghost use Rattle.scenario.specs.Answer.{answer_text};
-ghost use Rattle.scenario.specs.Answered.{after_all, told_of_all};
-ghost use Rattle.scenario.specs.Faults.{Fails};
-ghost use Rattle.scenario.specs.Gathered.{TellsUnless};
-ghost use Rattle.scenario.specs.Runs.{Completes, EndsWith, FaultBefore, HasCause, KeepsWorld, Runs};
-ghost use Rattle.scenario.specs.Stops.{Stops, is_write_fault};
-ghost use Rattle.scenario.specs.Texts.{run_fault_text};
-ghost use Rattle.scenario.specs.declared.play_fault.PlayFault.TheVariants.{NoMemory as NoRoom, WriteFault as Unwritten};
+ghost use Rattle.scenario_lines.specs.Answer.{answer_text};
+ghost use Rattle.scenario_lines.specs.Answered.{after_all, told_of_all};
+ghost use Rattle.scenario_lines.specs.Faults.{Fails};
+ghost use Rattle.scenario_lines.specs.Gathered.{TellsUnless};
+ghost use Rattle.scenario.specs.Runs.{Completes, EndsWith, FaultBefore, KeepsWorld, Runs};
+ghost use Rattle.scenario_lines.specs.Causes.{HasCause, is_write_fault};
+ghost use Rattle.scenario.specs.Stops.{Stops};
+ghost use Rattle.scenario_lines.specs.declared.play_fault.PlayFault.TheVariants.{NoMemory as NoRoom, WriteFault as Unwritten};
 
-use crate::answering::{LineAnswer, Run};
-use crate::device::{Sink, Source};
-use crate::gather::Gather;
-use crate::lines::Buffers;
-use crate::play_fault::PlayFault;
-use crate::player::Player;
-use crate::playing::{Played, play};
 use init_core::StartList;
 use pd_core::{Core, Reply, Router};
-use std::fmt;
-use std::fmt::{Display, Formatter};
-use thiserror::Error;
+use scenario_lines::{
+    Buffers, Gather, LineAnswer, PlayFault, Played, Player, Run, RunFault, Sink, Source, play,
+};
 
 /// What a run did.
 #[derive(Clone, Copy, Debug, PartialEq, Eq)]
 pub struct Summary {
     /// How many lines were answered, or skipped where those of one name alone are answered.
     pub lines: u64,
-}
-
-/// Why a run stopped before the end of its input.
-#[derive(Clone, Copy, Debug, PartialEq, Eq, Error)]
-pub enum RunFault {
-    /// A read failed, or a line was too long to be read to its end.
-    ReadFault,
-    /// A write failed.
-    WriteFault,
-    /// A line came after the last one allowed.
-    TooManyLines,
-}
-
-impl Display for RunFault {
-    ghost output = { λ fault. Some (run_fault_text fault) };
-
-    fn fmt<W: fmt::Write>(&self, f: &mut Formatter<W>) -> fmt::Result {
-        match self {
-            RunFault::ReadFault => f.write_str("Read_fault"),
-            RunFault::WriteFault => f.write_str("Write_fault"),
-            RunFault::TooManyLines => f.write_str("Too_many_lines"),
-        }
-    }
 }
 
 /// Answers each line of the reader in turn, at most `max_lines`, by the components that the list names. All that is

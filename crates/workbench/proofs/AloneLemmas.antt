@@ -16,11 +16,11 @@ use Rattle.own_model.specs.World.{World, world_running}
 use Rattle.own_model.specs.Running.{told_now}
 use Rattle.own_model.proofs.RunningLemmas.{states_running-at}
 use Rattle.own_model.proofs.RunSaidByLemmas.{pieces_stand_alone, state_stands_alone}
-use Rattle.scenario.specs.Answer.{AnswersLine, IsAnswer, answer_text, answered_name, answered_reply, finished_lines}
-use Rattle.scenario.specs.Answered.{after_all}
-use Rattle.scenario.specs.declared.answering.LineAnswer.{LineAnswer}
-use Rattle.scenario.proofs.AnsweringLemmas.{told_answer}
-use Rattle.scenario.proofs.ToldLemmas.{left_by_both, said_by-append}
+use Rattle.scenario_lines.specs.Answer.{AnswersLine, IsAnswer, answer_text, answered_name, answered_reply, finished_lines}
+use Rattle.scenario_lines.specs.Answered.{after_all}
+use Rattle.scenario_lines.specs.declared.answering.LineAnswer.{LineAnswer}
+use Rattle.scenario_lines.proofs.AnsweringLemmas.{told_answer}
+use Rattle.scenario_lines.proofs.ToldLemmas.{left_by_both, said_by-append}
 use Rattle.workbench.specs.Alone.{AreAlike, SeesAlone, alone_tells, told_in}
 use Rattle.workbench.specs.Played.{calls_said}
 use Rattle.workbench.specs.Texts.{in_brackets, line_text}

@@ -5,8 +5,8 @@ use Rattle.std.proofs.lemmas.Grind.{flat_map-append}
 use Rattle.std.proofs.lemmas.List.{take_all, take-append-drop}
 use Rattle.std.specs.Io.KnownBytes.{Appends}
 use Rattle.std.specs.List.{flat_map}
-use Rattle.scenario.specs.Stops.{AppendsPart}
-use Rattle.scenario.proofs.GatheredLemmas.{Appends-more}
+use Rattle.scenario_lines.specs.Causes.{AppendsPart}
+use Rattle.scenario_lines.proofs.GatheredLemmas.{Appends-more}
 
 module _ {X : Type 0} (f : X → List ℕ) (xs : List X) where
   -- one more

@@ -2,15 +2,15 @@
 use Rattle.std.proofs.Common.{◌≡◌, Bool, true, false, ◌||◌, List, ℕ, Some, None, Result, Ok, Err, IfErr, IsErrAnd, refl, sym, ◌∙◌, ap}
 use Rattle.friendly_lines.specs.Friendly.{Said, said_of}
 use Rattle.friendly_lines.specs.declared.fault.Fault.{Fault}
-use Rattle.scenario.specs.Next.{AllWork}
+use Rattle.scenario_lines.specs.Next.{AllWork}
 use Rattle.workbench.specs.Faults.{fault_before, takes_in, takes_room}
-use Rattle.scenario.specs.Faults.{Fails}
-use Rattle.scenario.proofs.FaultLemmas.{or_first}
+use Rattle.scenario_lines.specs.Faults.{Fails}
+use Rattle.scenario_lines.proofs.FaultLemmas.{or_first}
 use Rattle.scenario_names.specs.Filling.{Filled}
 use Rattle.workbench.specs.Turns.{has_holes}
 use Rattle.workbench.specs.Turns.Deed.{Says}
-use Rattle.scenario.specs.declared.play_fault.PlayFault.{PlayFault}
-use Rattle.scenario.specs.declared.play_fault.PlayFault.TheVariants.{ReadFault, WriteFault, TooManyLines, NoMemory}
+use Rattle.scenario_lines.specs.declared.play_fault.PlayFault.{PlayFault}
+use Rattle.scenario_lines.specs.declared.play_fault.PlayFault.TheVariants.{ReadFault, WriteFault, TooManyLines, NoMemory}
 
 -- a fault of the complaints, where the writer works
 pub fails_beside : {T : Type 0} (r : Result T PlayFault) (a b takes more : Bool) → a ≡ false → Fails r b takes → (takes ≡ true → more ≡ true) → Fails r (a || b) more

@@ -24,7 +24,7 @@ use Rattle.own_model.specs.StartList.{no_account}
 use Rattle.own_model.specs.Transcript.{Heard, entry_at, heard, heard_call, heard_of, heard_spoken, longest_line}
 use Rattle.own_model.specs.Transcript.Heard.{NoCall, Stranger, Caller}
 use Rattle.own_model.specs.World.{World, account_at, machine_init, world_running}
-use Rattle.scenario.specs.Program.{world_of}
+use Rattle.scenario_lines.specs.Machine.{world_of}
 use Rattle.workbench.specs.Kept.{SeesPeaks, begun, begun_as, begun_by, begun_with, found, grown, in_use, is_kept_at, noted_in, noted_more, opens_for, peak_at, raised_in}
 use Rattle.workbench.specs.Peaks.{Noted, is_open, label_by, noted_of, opens, peak_of, server_by, session_account_at, session_at, worlds}
 use Rattle.workbench.specs.Said.{said_in}

@@ -5,14 +5,14 @@ use Rattle.own_model.specs.World.{World}
 use Rattle.friendly_lines.specs.Friendly.{Said, is_passed, said_of}
 use Rattle.friendly_lines.specs.Friendly.Said.{Nothing, Log, Call}
 use Rattle.friendly_lines.specs.declared.fault.Fault.{Fault}
-use Rattle.scenario.specs.Answered.{after_all}
-use Rattle.scenario.specs.Gathered.{Tells, TellsUnless}
-use Rattle.scenario.proofs.GatheredLemmas.{Tells-none}
-use Rattle.scenario.proofs.ToldLemmas.{left_none, said_none}
-use Rattle.scenario.specs.Answer.{AnswersLine}
-use Rattle.scenario.specs.declared.answering.LineAnswer.{LineAnswer}
+use Rattle.scenario_lines.specs.Answered.{after_all}
+use Rattle.scenario_lines.specs.Gathered.{Tells, TellsUnless}
+use Rattle.scenario_lines.proofs.GatheredLemmas.{Tells-none}
+use Rattle.scenario_lines.proofs.ToldLemmas.{left_none, said_none}
+use Rattle.scenario_lines.specs.Answer.{AnswersLine}
+use Rattle.scenario_lines.specs.declared.answering.LineAnswer.{LineAnswer}
 use Rattle.workbench.specs.Judging.{Awaited, IsJudged, IsJudgedSaid, awaited_after, awaited_said, is_other}
-use Rattle.scenario.specs.declared.play_fault.PlayFault.{PlayFault}
+use Rattle.scenario_lines.specs.declared.play_fault.PlayFault.{PlayFault}
 use Rattle.workbench.specs.Played.{told_of_calls}
 use Rattle.scenario_names.specs.Filling.{Filled}
 use Rattle.workbench.specs.Turns.{call_in}

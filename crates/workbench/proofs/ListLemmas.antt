@@ -4,10 +4,10 @@ use Rattle.own_model.specs.Listed.{Listed, start_list_of}
 use Rattle.own_model.specs.OwnState.{session_named}
 use Rattle.own_model.specs.StartList.{entries_of}
 use Rattle.own_model.specs.World.{World, world_running}
-use Rattle.scenario.specs.Accounts.{Beside, list_with}
-use Rattle.scenario.specs.declared.columns.Owner.TheVariants as owner
-use Rattle.scenario.proofs.AccountLemmas.{entries_listed}
-use Rattle.scenario.proofs.BesideLemmas.{list_alike}
+use Rattle.scenario_lines.specs.Accounts.{Beside, list_with}
+use Rattle.scenario_lines.specs.declared.columns.Owner.TheVariants as owner
+use Rattle.scenario_lines.proofs.AccountLemmas.{entries_listed}
+use Rattle.scenario_lines.proofs.BesideLemmas.{list_alike}
 use Rattle.workbench.specs.Accounting.{SeesAccounts, accounts_text, beside_kept, closed_lines, sessions_kept, text_kept, with_needs}
 use Rattle.workbench.specs.Needs.{Needed, needed_text, needs_after}
 use Rattle.workbench.specs.PeakList.{beside_after, peak_text, text_of_noted}

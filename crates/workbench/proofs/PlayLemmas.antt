@@ -5,17 +5,17 @@ use Rattle.std.specs.Result.{result_err}
 use Rattle.own_model.specs.SaidBy.{said_by}
 use Rattle.own_model.specs.Transcript.{heard}
 use Rattle.own_model.specs.World.{World, world_running}
-use Rattle.scenario.specs.Answer.{AnswersLine, IsAnswer}
-use Rattle.scenario.specs.Answered.{after_all}
-use Rattle.scenario.specs.Faults.{Fails, is_write_fault}
-use Rattle.scenario.specs.Gathered.{TellsUnless}
-use Rattle.scenario.specs.Lines.{AreReadable}
-use Rattle.scenario.specs.Plays.{EndsAs, EndsFor, GoesOn, PlaysAll as PlaysLines, PlaysLine, StopsAs, WritesTold}
-use Rattle.scenario.specs.declared.answering.LineAnswer.{LineAnswer}
-use Rattle.scenario.specs.declared.play_fault.PlayFault.{PlayFault}
-use Rattle.scenario.specs.declared.play_fault.PlayFault.TheVariants.{ReadFault, WriteFault, TooManyLines, NoMemory}
-use Rattle.scenario.proofs.FaultLemmas.{none_of, or_none}
-use Rattle.scenario.proofs.ToldLemmas.{left_none, said_none, world_running-append}
+use Rattle.scenario_lines.specs.Answer.{AnswersLine, IsAnswer}
+use Rattle.scenario_lines.specs.Answered.{after_all}
+use Rattle.scenario_lines.specs.Faults.{Fails, is_write_fault}
+use Rattle.scenario_lines.specs.Gathered.{TellsUnless}
+use Rattle.scenario_lines.specs.Lines.{AreReadable}
+use Rattle.scenario_lines.specs.Plays.{EndsAs, EndsFor, GoesOn, PlaysAll as PlaysLines, PlaysLine, StopsAs, WritesTold}
+use Rattle.scenario_lines.specs.declared.answering.LineAnswer.{LineAnswer}
+use Rattle.scenario_lines.specs.declared.play_fault.PlayFault.{PlayFault}
+use Rattle.scenario_lines.specs.declared.play_fault.PlayFault.TheVariants.{ReadFault, WriteFault, TooManyLines, NoMemory}
+use Rattle.scenario_lines.proofs.FaultLemmas.{none_of, or_none}
+use Rattle.scenario_lines.proofs.ToldLemmas.{left_none, said_none, world_running-append}
 use Rattle.workbench.specs.Faults.{takes_in}
 use Rattle.workbench.specs.Played.{calls_answered, calls_said, told_of_calls, told_of_turns}
 use Rattle.workbench.specs.Plays.{ClosesAs, LeadsTurns, PlaysAll, Remains, StopsTurns, TakesRoom, TakesRoomFor, counted, most_lines}

@@ -6,8 +6,8 @@ use Rattle.own_model.specs.SaidBy.{said_by}
 use Rattle.own_model.specs.Transcript.{longest_line}
 use Rattle.own_model.specs.World.{World, world_running}
 use Rattle.own_model.proofs.RunningLemmas.{Tracks-none, told_after-running}
-use Rattle.scenario.specs.Answered.{after_all, told_of_all}
-use Rattle.scenario.proofs.ToldLemmas.{left_by_both, left_none, said_by-append, said_none, told_running-append, world_running-append}
+use Rattle.scenario_lines.specs.Answered.{after_all, told_of_all}
+use Rattle.scenario_lines.proofs.ToldLemmas.{left_by_both, left_none, said_by-append, said_none, told_running-append, world_running-append}
 use Rattle.workbench.specs.Played.{calls_answered, calls_said, engine_tells, told_of_calls, told_of_turns}
 use Rattle.workbench.specs.Turns.{Turn, call_of, calls_in, deed_filled, deed_of, left_behind, next_stand, stand_behind, turn_of, turns_of}
 use Rattle.workbench.specs.Turns.Deed.{TooLong}

@@ -3,9 +3,8 @@ use Rattle.std.proofs.Common.{◌≡◌, ℕ, ◌<◌, ◌≤◌, Bool, true, fa
 use Rattle.std.proofs.lemmas.Bool.Decides.{nat_tests}
 use Rattle.own_model.specs.Call.{Spoken, spoken}
 use Rattle.own_model.specs.Transcript.{longest_line}
-use Rattle.scenario.specs.Answer.{IsNoCall}
-use Rattle.scenario.specs.Read.{Reads, spoken_as}
-use Rattle.scenario.specs.declared.line.NamedCall.{NamedCall}
+use Rattle.call_lines.specs.Read.{IsNoCall, Reads, spoken_as}
+use Rattle.call_lines.specs.declared.line.NamedCall.{NamedCall}
 use Rattle.workbench.specs.Said.{said_in}
 
 fits : (n : ℕ) → n ≤ longest_line → nat_le n longest_line ≡ true

@@ -9,9 +9,9 @@ use Rattle.friendly_lines.specs.Laws.{IsBare, IsPlain}
 use Rattle.friendly_lines.proofs.PlainLemmas.{plain_lines_pass}
 use Rattle.friendly_lines.specs.declared.fault.Fault.{Fault}
 use Rattle.friendly_lines.specs.Words.{next_word}
-use Rattle.scenario.specs.Answer.{AnswersLine}
-use Rattle.scenario.specs.declared.answering.LineAnswer.{LineAnswer}
-use Rattle.scenario.proofs.ToldLemmas.{said_none}
+use Rattle.scenario_lines.specs.Answer.{AnswersLine}
+use Rattle.scenario_lines.specs.declared.answering.LineAnswer.{LineAnswer}
+use Rattle.scenario_lines.proofs.ToldLemmas.{said_none}
 use Rattle.scenario_names.specs.Directives.{Directive, directive_by, directive_of}
 use Rattle.scenario_names.specs.Filling.{Filled, Hole, body_of, filled, filled_parts, front_length, whole}
 use Rattle.scenario_names.specs.Known.{Known}
@@ -19,11 +19,11 @@ use Rattle.scenario_names.specs.Learning.{learnt, learnt_of}
 use Rattle.friendly_lines.specs.Expected.{meets}
 use Rattle.scenario_names.specs.declared.fault.NameFault.{NameFault}
 use Rattle.workbench.specs.Faults.{takes_in}
-use Rattle.scenario.specs.Faults.{Fails}
+use Rattle.scenario_lines.specs.Faults.{Fails}
 use Rattle.workbench.specs.Judging.{Awaited, IsJudged, awaited_after}
 use Rattle.workbench.specs.Turns.{AreBare, Deed, bare_deed, call_in, deed_by, deed_filled, deed_of, learnt_by, learnt_from, left_behind, next_stand, passed, reply_in, stand_after, turns_from, turns_of}
 use Rattle.workbench.specs.Turns.Deed.{TooLong, Unnamed, Follows, Says}
-use Rattle.scenario.specs.declared.play_fault.PlayFault.{PlayFault}
+use Rattle.scenario_lines.specs.declared.play_fault.PlayFault.{PlayFault}
 use Rattle.workbench.specs.declared.stand.Stand.{Stand}
 use Rattle.workbench.proofs.PlayedLemmas.{deed_of-short}
 

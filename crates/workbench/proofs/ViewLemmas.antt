@@ -9,7 +9,7 @@ use Rattle.own_model.specs.World.{World}
 use Rattle.friendly_lines.specs.Friendly.{Said}
 use Rattle.friendly_lines.specs.Friendly.Said.{Nothing, Log, Call}
 use Rattle.friendly_lines.specs.declared.fault.Fault.{Fault}
-use Rattle.scenario.specs.Program.{accounts_for}
+use Rattle.scenario_lines.specs.Machine.{accounts_for}
 use Rattle.workbench.specs.Alone.{SeesAlone, alone_sum, alone_tells}
 use Rattle.workbench.specs.Accounting.{SeesAccounts, accounts_text, sessions_kept, text_kept}
 use Rattle.workbench.specs.Played.{calls_answered, calls_said, told_of_calls, told_of_turns}
@@ -20,7 +20,7 @@ use Rattle.workbench.specs.Turns.Deed.{TooLong, Unnamed, Follows, Says}
 use Rattle.workbench.specs.Writes.{Closes, IsPlayedFrom, WritesAfter, list_behind, run_tells, shown_of}
 use Rattle.workbench.specs.declared.accounting.Accounting.{Accounting}
 use Rattle.workbench.specs.declared.ending.Ending.{Ending}
-use Rattle.scenario.specs.declared.play_fault.PlayFault.{PlayFault}
+use Rattle.scenario_lines.specs.declared.play_fault.PlayFault.{PlayFault}
 use Rattle.workbench.specs.declared.stand.Stand.{Stand}
 use Rattle.workbench.proofs.ListLemmas.{text_is}
 use Rattle.workbench.proofs.PlayedLemmas.{told_as_engine}

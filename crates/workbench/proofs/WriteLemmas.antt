@@ -8,26 +8,25 @@ use Rattle.own_model.specs.StartList.{Boots}
 use Rattle.own_model.specs.Text.{lines_of}
 use Rattle.own_model.specs.World.{World}
 use Rattle.init_core.specs.StartText.{list_in}
-use Rattle.scenario.specs.Gathered.{Tells, TellsPart}
-use Rattle.scenario.specs.Lines.{AreReadable, longest_read}
-use Rattle.scenario.specs.Program.{world_of}
-use Rattle.scenario.specs.Runs.{HasCause}
-use Rattle.scenario.specs.Stops.{AppendsPart}
-use Rattle.scenario.proofs.Ending.{cause_unread, cause_unwritten, within_bounds}
-use Rattle.scenario.proofs.GatheredLemmas.{Appends-more, Tells-gathered}
-use Rattle.scenario.proofs.ToldLemmas.{left_none}
-use Rattle.scenario.proofs.PlayLemmas.{none_readable}
+use Rattle.scenario_lines.specs.Gathered.{Tells, TellsPart}
+use Rattle.scenario_lines.specs.Lines.{AreReadable, longest_read}
+use Rattle.scenario_lines.specs.Machine.{world_of}
+use Rattle.scenario_lines.specs.Causes.{HasCause, AppendsPart}
+use Rattle.scenario_lines.proofs.CauseLemmas.{cause_unread, cause_unwritten, within_bounds}
+use Rattle.scenario_lines.proofs.GatheredLemmas.{Appends-more, Tells-gathered}
+use Rattle.scenario_lines.proofs.ToldLemmas.{left_none}
+use Rattle.scenario_lines.proofs.PlayLemmas.{none_readable}
 use Rattle.workbench.proofs.PlayLemmas.{cut_behind}
 use Rattle.workbench.specs.Faults.{fault_before, unplayed}
-use Rattle.scenario.specs.Faults.{is_write_fault}
+use Rattle.scenario_lines.specs.Faults.{is_write_fault}
 use Rattle.workbench.specs.Played.{told_of_turns}
 use Rattle.workbench.specs.Plays.{PlaysAll, TakesRoomFor, most_lines}
-use Rattle.scenario.specs.Plays.{EndsFor, StopsAt, WritesTold}
+use Rattle.scenario_lines.specs.Plays.{EndsFor, StopsAt, WritesTold}
 use Rattle.workbench.specs.Turns.{Turn, turns_of}
 use Rattle.workbench.specs.Writes.{AreAll, Closes, IsPlayed, IsPlayedFrom, IsUnplayed, IsWrittenBy, WritesAfter, WritesBoth, turns_on}
 use Rattle.workbench.specs.declared.ending.Ending.{Ending}
-use Rattle.scenario.specs.declared.play_fault.PlayFault.{PlayFault}
-use Rattle.scenario.specs.declared.play_fault.PlayFault.TheVariants.{ReadFault, WriteFault, TooManyLines, NoMemory}
+use Rattle.scenario_lines.specs.declared.play_fault.PlayFault.{PlayFault}
+use Rattle.scenario_lines.specs.declared.play_fault.PlayFault.TheVariants.{ReadFault, WriteFault, TooManyLines, NoMemory}
 use Rattle.workbench.specs.declared.stand.Stand.{Stand}
 
 -- behind a text that is written a part of another is

@@ -6,8 +6,8 @@ use Rattle.own_model.specs.Listed.{Listed, start_list_of}
 use Rattle.own_model.specs.StartList.{Entry, entries_of}
 use Rattle.own_model.specs.World.{World, world_running}
 use Rattle.budget_meter.specs.Needs.{amounts_of}
-use Rattle.scenario.specs.Accounts.{Beside, list_with}
-use Rattle.scenario.specs.Program.{world_of}
+use Rattle.scenario_lines.specs.Accounts.{Beside, list_with}
+use Rattle.scenario_lines.specs.Machine.{world_of}
 use Rattle.workbench.specs.Kept.{SeesPeaks, found, noted_in, peak_at, peaked}
 use Rattle.workbench.specs.Meters.{SeesNeeds, needed_of, needs_of_sessions}
 use Rattle.workbench.specs.Needs.{Needs, needed_text, needs_after, needs_by}

@@ -4,9 +4,9 @@ use Rattle.std.specs.Option.{option_map_or}
 use Rattle.own_model.specs.Listed.{Listed}
 use Rattle.own_model.specs.SaidBy.{is_said_by, joined, pieces, pieces_for, said_by}
 use Rattle.own_model.specs.World.{World, world_running}
-use Rattle.scenario.specs.Answered.{after_all, told_of_all}
+use Rattle.scenario_lines.specs.Answered.{after_all, told_of_all}
 use Rattle.workbench.specs.Played.{calls_answered, calls_said, told_of_turns}
-use Rattle.scenario.specs.Program.{world_of}
+use Rattle.scenario_lines.specs.Machine.{world_of}
 use Rattle.workbench.specs.Texts.{in_brackets, line_text}
 use Rattle.workbench.specs.Turns.{Turn}
 use Rattle.workbench.specs.Writes.{transcript_of}

@@ -3,8 +3,8 @@ use Rattle.std.specs.Prelude.{◌||◌, Bool, true, false, if◌then◌else◌, 
 use Rattle.friendly_lines.specs.Friendly.{Said}
 use Rattle.friendly_lines.specs.Friendly.Said.{Nothing, Log, Call}
 use Rattle.friendly_lines.specs.declared.fault.Fault.{Fault}
-use Rattle.scenario.specs.declared.play_fault.PlayFault.{PlayFault}
-use Rattle.scenario.specs.declared.play_fault.PlayFault.TheVariants.{ReadFault, WriteFault}
+use Rattle.scenario_lines.specs.declared.play_fault.PlayFault.{PlayFault}
+use Rattle.scenario_lines.specs.declared.play_fault.PlayFault.TheVariants.{ReadFault, WriteFault}
 use Rattle.workbench.specs.Turns.{Deed, has_holes}
 use Rattle.workbench.specs.Turns.Deed.{TooLong, Unnamed, Follows, Says}
 use Rattle.workbench.specs.declared.ending.Ending.{Ending}

@@ -8,8 +8,8 @@ use Rattle.friendly_lines.specs.Expected.{meets}
 use Rattle.friendly_lines.specs.Friendly.{Said, is_passed}
 use Rattle.friendly_lines.specs.Friendly.Said.{Nothing, Log, Call}
 use Rattle.friendly_lines.specs.declared.fault.Fault.{Fault}
-use Rattle.scenario.specs.Answer.{AnswersLine}
-use Rattle.scenario.specs.declared.answering.LineAnswer.{LineAnswer}
+use Rattle.scenario_lines.specs.Answer.{AnswersLine}
+use Rattle.scenario_lines.specs.declared.answering.LineAnswer.{LineAnswer}
 use Rattle.workbench.specs.Turns.{Deed, is_misplaced}
 use Rattle.workbench.specs.Turns.Deed.{TooLong, Unnamed, Follows, Says}
 

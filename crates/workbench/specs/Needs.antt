@@ -12,9 +12,9 @@ use Rattle.own_model.specs.StartList.{Entry, Kind}
 use Rattle.own_model.specs.Transcript.{calls_of, entry_at, own_part, state_at}
 use Rattle.own_model.specs.World.{World, world_running}
 use Rattle.budget_laws.specs.Need.{Cell, cell}
-use Rattle.scenario.specs.Accounts.{listed_at}
-use Rattle.scenario.specs.declared.columns.Owner.{Owner}
-use Rattle.scenario.specs.declared.columns.Owner.TheVariants.{Init as OfInit, Component as OfComponent, Session as OfSession}
+use Rattle.scenario_lines.specs.Accounts.{listed_at}
+use Rattle.scenario_lines.specs.declared.columns.Owner.{Owner}
+use Rattle.scenario_lines.specs.declared.columns.Owner.TheVariants.{Init as OfInit, Component as OfComponent, Session as OfSession}
 
 -- so much is needed of what an account started with; its component may be gone
 pub record Needed : Type 0 where

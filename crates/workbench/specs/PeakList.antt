@@ -6,8 +6,8 @@ use Rattle.own_model.specs.Reply.{amounts_text}
 use Rattle.own_model.specs.StartList.{Entry, entries_of}
 use Rattle.own_model.specs.Transcript.{entry_at}
 use Rattle.own_model.specs.World.{World, account_at, machine_init}
-use Rattle.scenario.specs.Accounts.{Beside}
-use Rattle.scenario.specs.declared.columns.Owner.TheVariants.{Init, Component, Session}
+use Rattle.scenario_lines.specs.Accounts.{Beside}
+use Rattle.scenario_lines.specs.declared.columns.Owner.TheVariants.{Init, Component, Session}
 use Rattle.workbench.specs.Peaks.{Noted, noted_of, peak_of, worlds}
 
 -- a peak, as it stands beside an account

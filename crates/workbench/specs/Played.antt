@@ -3,7 +3,7 @@ use Rattle.std.specs.Prelude.{ℕ, List, [], ◌∷◌, ◌++◌, None, Option}
 use Rattle.std.specs.List.{flat_map}
 use Rattle.own_model.specs.SaidBy.{said_by}
 use Rattle.own_model.specs.World.{World, world_running}
-use Rattle.scenario.specs.Answered.{told_of_all}
+use Rattle.scenario_lines.specs.Answered.{told_of_all}
 use Rattle.workbench.specs.Turns.{Turn, calls_in}
 
 -- the engine's lines that the lines of a scenario say, by their turns

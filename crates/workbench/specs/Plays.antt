@@ -1,11 +1,11 @@
 -- How far a play of the friendly form has come, and how it ends.
 use Rattle.std.specs.Prelude.{◌≡◌, ℕ, ◌≤◌, Bool, true, false, ⊤, List, [], ◌∷◌, ◌++◌, length, Option, Some, None, IfSome, IfNone, Result, Ok, Err}
 use Rattle.own_model.specs.World.{World}
-use Rattle.scenario.specs.Answered.{after_all}
-use Rattle.scenario.specs.Lines.{AreReadable}
-use Rattle.scenario.specs.Plays.{EndsFor, WritesTold}
-use Rattle.scenario.specs.declared.play_fault.PlayFault.{PlayFault}
-use Rattle.scenario.specs.declared.play_fault.PlayFault.TheVariants.{ReadFault, WriteFault, TooManyLines, NoMemory}
+use Rattle.scenario_lines.specs.Answered.{after_all}
+use Rattle.scenario_lines.specs.Lines.{AreReadable}
+use Rattle.scenario_lines.specs.Plays.{EndsFor, WritesTold}
+use Rattle.scenario_lines.specs.declared.play_fault.PlayFault.{PlayFault}
+use Rattle.scenario_lines.specs.declared.play_fault.PlayFault.TheVariants.{ReadFault, WriteFault, TooManyLines, NoMemory}
 use Rattle.workbench.specs.Faults.{takes_in}
 use Rattle.workbench.specs.Played.{calls_answered, calls_said, told_of_turns}
 use Rattle.workbench.specs.Turns.{Turn, stand_behind, turns_of}

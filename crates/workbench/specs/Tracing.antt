@@ -13,12 +13,12 @@ use Rattle.own_model.specs.Session.{Session}
 use Rattle.own_model.specs.Transcript.{Heard, heard, state_at}
 use Rattle.own_model.specs.Transcript.Heard.{NoCall, Stranger, Caller}
 use Rattle.own_model.specs.World.{World, account_at, world_running}
-use Rattle.scenario.specs.Answer.{answered_name, answered_reply}
+use Rattle.scenario_lines.specs.Answer.{answered_name, answered_reply}
 use Rattle.workbench.specs.Played.{told_of_turns}
 use Rattle.workbench.specs.Said.{said_in}
 use Rattle.workbench.specs.Texts.{line_text}
 use Rattle.workbench.specs.Turns.{Turn}
-use Rattle.scenario.specs.Program.{world_of}
+use Rattle.scenario_lines.specs.Machine.{world_of}
 
 -- the call as it stands behind the name and a space, or a line that is none
 abbrev pub text_behind : Option Spoken → List ℕ → List ℕ

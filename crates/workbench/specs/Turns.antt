@@ -9,9 +9,9 @@ use Rattle.friendly_lines.specs.Friendly.{Said, said_of}
 use Rattle.friendly_lines.specs.Friendly.Said.{Nothing, Log, Call}
 use Rattle.friendly_lines.specs.Laws.{IsBare}
 use Rattle.friendly_lines.specs.declared.fault.Fault.{Fault}
-use Rattle.scenario.specs.Answer.{answered_reply}
-use Rattle.scenario.specs.Answered.{after_all}
-use Rattle.scenario.specs.declared.answering.LineAnswer.{LineAnswer}
+use Rattle.scenario_lines.specs.Answer.{answered_reply}
+use Rattle.scenario_lines.specs.Answered.{after_all}
+use Rattle.scenario_lines.specs.declared.answering.LineAnswer.{LineAnswer}
 use Rattle.scenario_names.specs.Directives.{Directive, directive_of, followed}
 use Rattle.scenario_names.specs.Directives.Directive.{Set, Enter, Again, Leave, Repeat, End, Unknown}
 use Rattle.scenario_names.specs.Filling.{Filled, filled, whole}

@@ -6,18 +6,18 @@ use Rattle.own_model.specs.Listed.{Listed}
 use Rattle.own_model.specs.Text.{lines_of}
 use Rattle.own_model.specs.Transcript.{told_after}
 use Rattle.own_model.specs.World.{World}
-use Rattle.scenario.specs.Answered.{after_all}
-use Rattle.scenario.specs.Lines.{AreReadable}
-use Rattle.scenario.specs.Program.{IsMachine, accounts_for, world_of}
-use Rattle.scenario.specs.Stops.{AppendsPart}
+use Rattle.scenario_lines.specs.Answered.{after_all}
+use Rattle.scenario_lines.specs.Lines.{AreReadable}
+use Rattle.scenario_lines.specs.Machine.{IsMachine, accounts_for, world_of}
+use Rattle.scenario_lines.specs.Causes.{AppendsPart}
 use Rattle.workbench.specs.Faults.{unplayed}
 use Rattle.workbench.specs.Played.{calls_answered, calls_said, engine_tells, told_of_turns}
 use Rattle.workbench.specs.Plays.{TakesRoomFor, most_lines}
-use Rattle.scenario.specs.Plays.{EndsFor}
+use Rattle.scenario_lines.specs.Plays.{EndsFor}
 use Rattle.workbench.specs.Turns.{Turn, turns_of}
 use Rattle.workbench.specs.declared.ending.Ending.{Ending}
-use Rattle.scenario.specs.declared.play_fault.PlayFault.{PlayFault}
-use Rattle.scenario.specs.declared.play_fault.PlayFault.TheVariants.{ReadFault, WriteFault, TooManyLines, NoMemory}
+use Rattle.scenario_lines.specs.declared.play_fault.PlayFault.{PlayFault}
+use Rattle.scenario_lines.specs.declared.play_fault.PlayFault.TheVariants.{ReadFault, WriteFault, TooManyLines, NoMemory}
 use Rattle.workbench.specs.declared.stand.Stand.{Stand}
 use Rattle.workbench.specs.declared.transcript.Showing.{Showing}
 

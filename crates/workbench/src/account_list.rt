@@ -4,17 +4,16 @@ ghost use Rattle.std.specs.Prelude.{◌≡◌, ◌≢◌, ◌≤◌, ◌||◌, [
 ghost use Rattle.own_model.specs.Listed.{start_list_of};
 ghost use Rattle.own_model.specs.StartList.{entries_of};
 ghost use Rattle.init_core.specs.declared.fault.BootFault.TheVariants.{NoMemory};
-ghost use Rattle.scenario.specs.Program.{boot_fault};
-ghost use Rattle.scenario.specs.Runs.{HasCause};
-ghost use Rattle.scenario.specs.Faults.{is_write_fault};
-ghost use Rattle.scenario.specs.Stops.{AppendsPart, is_write_fault as is_writing};
-ghost use Rattle.scenario.specs.declared.running.RunFault.TheVariants.{WriteFault};
+ghost use Rattle.scenario_lines.specs.Machine.{boot_fault};
+ghost use Rattle.scenario_lines.specs.Causes.{HasCause, AppendsPart, is_write_fault as is_writing};
+ghost use Rattle.scenario_lines.specs.Faults.{is_write_fault};
+ghost use Rattle.scenario_lines.specs.declared.run_fault.RunFault.TheVariants.{WriteFault};
 ghost use Rattle.workbench.specs.Accounting.{OfSessions, SeesAccounts, accounts_behind, accounts_text, text_kept};
 ghost use Rattle.workbench.specs.Faults.{fault_before, unplayed};
 ghost use Rattle.workbench.specs.Played.{calls_answered};
 ghost use Rattle.workbench.specs.Turns.{first_with, turns_of};
 ghost use Rattle.workbench.specs.Writes.{Closes, IsPlayed, IsPlayedFrom, IsUnplayed, nothing_told, turns_on};
-ghost use Rattle.scenario.specs.declared.play_fault.PlayFault.TheVariants.{NoMemory as NoRoom};
+ghost use Rattle.scenario_lines.specs.declared.play_fault.PlayFault.TheVariants.{NoMemory as NoRoom};
 
 use crate::accounting::Accounting;
 use crate::bench::Bench;
@@ -27,7 +26,7 @@ use crate::peaks::Peaks;
 use crate::playing::play as play_lines;
 use init_core::{BootFault, StartList, boot};
 use pd_core::{Core, Router};
-use scenario::{MAX_LINES, PlayFault, Run, RunFault, Sink, Source, write_columns};
+use scenario_lines::{MAX_LINES, PlayFault, Run, RunFault, Sink, Source, write_columns};
 use std::alloc::Global;
 
 /// Plays a scenario, and then writes the account list: the account of the machine's init, those of the components with their
@@ -38,7 +37,7 @@ use std::alloc::Global;
 ///
 /// At a fault of the play no list is written, and at one of the list's a part of it, from the front. It stops as `run` does, and for
 /// want of room at a call too.
-#[tactic(auto, using(scenario::proofs::TaskLemmas::tasks))]
+#[tactic(auto, using(scenario_lines::proofs::MachineLemmas::tasks))]
 pub fn accounts<S: Source, K: Sink, E: Sink>(
     alloc: Global,
     play: Play<'_>,

@@ -1,6 +1,6 @@
 //! The watch of an account list: peaks and needs, which are its columns.
 ghost use Rattle.std.specs.Prelude.{◌≡◌, false, is_err};
-ghost use Rattle.scenario.specs.Gathered.{TellsUnless};
+ghost use Rattle.scenario_lines.specs.Gathered.{TellsUnless};
 ghost use Rattle.workbench.specs.Meters.{needed_in};
 ghost use Rattle.workbench.specs.Needs.{needed_text};
 
@@ -11,7 +11,7 @@ use crate::watch::{Heard, Watch};
 use arrayvec::ArrayVec;
 use init_core::StartList;
 use pd_core::{Core, Router};
-use scenario::{Columns, DeviceFault, Gather, Owner, PlayFault, Sink};
+use scenario_lines::{Columns, DeviceFault, Gather, Owner, PlayFault, Sink};
 
 /// Room for what an account needs.
 const LONGEST_NEED: usize = 80;

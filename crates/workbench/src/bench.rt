@@ -11,7 +11,7 @@ use crate::notes::Notes;
 use crate::turn::play_line;
 use crate::watch::Watch;
 use pd_core::{Core, Router};
-use scenario::{Gather, PlayFault, Player, Run, Sink};
+use scenario_lines::{Gather, PlayFault, Player, Run, Sink};
 
 /// Plays lines of the friendly form: each call is answered, told to a watch, and held against what is expected.
 pub(crate) struct Bench<'e, 'r, 'l, 'n, 's, 'w, W: Watch, E: Sink> {

@@ -5,19 +5,19 @@ ghost use Rattle.std.specs.Result.{result_err};
 ghost use Rattle.own_model.specs.Listed.{start_list_of};
 ghost use Rattle.own_model.specs.StartList.{entries_of};
 ghost use Rattle.init_core.specs.declared.fault.BootFault.TheVariants.{NoMemory};
-ghost use Rattle.scenario.specs.Answer.{answer_text};
-ghost use Rattle.scenario.specs.Gathered.{TellsUnless};
-ghost use Rattle.scenario.specs.Program.{boot_fault};
-ghost use Rattle.scenario.specs.Read.{IsReadAs};
-ghost use Rattle.scenario.specs.Runs.{HasCause};
+ghost use Rattle.scenario_lines.specs.Answer.{answer_text};
+ghost use Rattle.scenario_lines.specs.Gathered.{TellsUnless};
+ghost use Rattle.scenario_lines.specs.Machine.{boot_fault};
+ghost use Rattle.call_lines.specs.Read.{IsReadAs};
+ghost use Rattle.scenario_lines.specs.Causes.{HasCause};
 ghost use Rattle.workbench.specs.Faults.{fault_before, unplayed};
-ghost use Rattle.scenario.specs.Faults.{is_write_fault};
+ghost use Rattle.scenario_lines.specs.Faults.{is_write_fault};
 ghost use Rattle.workbench.specs.Alone.{AreAlike, SeesAlone, alone_behind, alone_sum, alone_tells, alone_told};
 ghost use Rattle.workbench.specs.Played.{calls_answered, told_of_turns};
 ghost use Rattle.workbench.specs.Texts.{in_brackets, line_text};
 ghost use Rattle.workbench.specs.Turns.{first_with, turns_of};
 ghost use Rattle.workbench.specs.Writes.{Closes, IsPlayed, IsPlayedFrom, IsUnplayed, IsWrittenBy, turns_on};
-ghost use Rattle.scenario.specs.declared.play_fault.PlayFault.TheVariants.{NoMemory as NoRoom};
+ghost use Rattle.scenario_lines.specs.declared.play_fault.PlayFault.TheVariants.{NoMemory as NoRoom};
 
 use crate::bench::Bench;
 use crate::ending::Ending;
@@ -30,7 +30,7 @@ use crate::watch::{Heard, Watch};
 use arrayvec::ArrayVec;
 use init_core::{BootFault, StartList, boot};
 use pd_core::{Core, Reply, Router};
-use scenario::{DeviceFault, Gather, LineAnswer, MAX_LINES, PlayFault, Run, Sink, Source};
+use scenario_lines::{DeviceFault, Gather, LineAnswer, MAX_LINES, PlayFault, Run, Sink, Source};
 use std::alloc::Global;
 
 /// Room for a number with the words behind it.
@@ -183,7 +183,7 @@ fn put_side<K: Sink>(
 ///
 /// At a fault what was told by then is written, or where a write failed or the host has no room a part of it, from the front. It
 /// stops as `run` does.
-#[tactic(auto, using(scenario::proofs::TaskLemmas::tasks))]
+#[tactic(auto, using(scenario_lines::proofs::MachineLemmas::tasks))]
 pub fn alone<S: Source, K: Sink, E: Sink>(
     alloc: Global,
     play: Play<'_>,
@@ -326,7 +326,7 @@ fn with_none(ending: Ending, lines: u64) -> Ending
 }
 
 // Writes how many lines there were, and whether the answers are the same.
-#[tactic(auto, using(scenario::proofs::TaskLemmas::told_in_part))]
+#[tactic(auto, using(scenario_lines::proofs::GatheredLemmas::told_in_part))]
 fn write_sum<K: Sink>(
     name: &[u8],
     lines: u64,

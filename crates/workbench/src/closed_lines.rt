@@ -3,9 +3,9 @@ ghost use Rattle.std.specs.Prelude.{◌≡◌, false, IfErr, OnErr, OnOk, is_err
 ghost use Rattle.std.specs.Io.KnownBytes.{Appends};
 ghost use Rattle.own_model.specs.Listed.{start_list_of};
 ghost use Rattle.own_model.specs.StartList.{entries_of};
-ghost use Rattle.scenario.specs.Gathered.{TellsUnless};
-ghost use Rattle.scenario.specs.Stops.{AppendsPart, is_write_fault};
-ghost use Rattle.scenario.specs.declared.running.RunFault.TheVariants.{WriteFault};
+ghost use Rattle.scenario_lines.specs.Gathered.{TellsUnless};
+ghost use Rattle.scenario_lines.specs.Causes.{AppendsPart, is_write_fault};
+ghost use Rattle.scenario_lines.specs.declared.run_fault.RunFault.TheVariants.{WriteFault};
 ghost use Rattle.workbench.specs.Accounting.{closed_front, closed_line, closed_lines, session_of};
 
 use crate::accounting::put_needed;
@@ -15,7 +15,7 @@ use crate::peak_columns::{name_at, put_session as put_noted};
 use crate::peaks::Session;
 use crate::text::{put_number, put_three};
 use init_core::StartList;
-use scenario::{DeviceFault, Gather, RunFault, Sink};
+use scenario_lines::{DeviceFault, Gather, RunFault, Sink};
 
 /// Writes the lines of sessions that were closed. A write that fails leaves a part of them.
 pub(crate) fn write_closed<K: Sink>(

@@ -4,7 +4,7 @@ ghost use Rattle.std.specs.Prelude.{◌≡◌, false, is_err};
 use crate::shown::Shown;
 use crate::text::put_number;
 use crate::texts::put_text_behind;
-use scenario::{DeviceFault, Gather, Sink};
+use scenario_lines::{DeviceFault, Gather, Sink};
 
 /// Where in a scenario a complaint is about, both from 1 on.
 #[derive(Clone, Copy, Debug, PartialEq, Eq)]

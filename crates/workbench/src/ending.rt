@@ -3,7 +3,7 @@ ghost use Rattle.std.specs.Prelude.{◌≡◌};
 ghost use Rattle.workbench.specs.Ending.{status_of};
 
 use init_core::BootFault;
-use scenario::PlayFault;
+use scenario_lines::PlayFault;
 
 /// How a play ended.
 #[derive(Clone, Copy, Debug, PartialEq, Eq)]

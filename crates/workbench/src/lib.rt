@@ -37,6 +37,6 @@ pub use ending::{Ending, exit_status};
 pub use laws::bare_lines_stand;
 pub use machine::Play;
 pub use near::near_component;
-pub use scenario::PlayFault;
+pub use scenario_lines::PlayFault;
 pub use tracing::trace;
 pub use transcript::{Showing, run};

@@ -10,9 +10,9 @@ ghost use Rattle.own_model.specs.StartList.{Entry as AnEntry, entries_of};
 ghost use Rattle.own_model.specs.World.{World, account_at};
 ghost use Rattle.pd_core.specs.Answer.{quotas_account};
 ghost use Rattle.pd_core.specs.Call.{model_call};
-ghost use Rattle.scenario.specs.Accounts.{listed_at};
-ghost use Rattle.scenario.specs.Program.{world_of};
-ghost use Rattle.scenario.specs.Read.{IsReadAs};
+ghost use Rattle.scenario_lines.specs.Accounts.{listed_at};
+ghost use Rattle.scenario_lines.specs.Machine.{world_of};
+ghost use Rattle.call_lines.specs.Read.{IsReadAs};
 ghost use Rattle.budget_meter.specs.Metered.{HasHeard, IsToldBy};
 ghost use Rattle.budget_meter.specs.Needs.{amounts_of};
 ghost use Rattle.workbench.specs.Meters.{IsFresh, SeesNeeds, meter_at, metered, needed_in, needed_of, needs_of_sessions};
@@ -26,7 +26,7 @@ use crate::watch::Heard;
 use budget_meter::{AccountMeter, Budget};
 use init_core::{Binary, Entry, StartList};
 use pd_core::{Call, Core, Quotas, Router};
-use scenario::Owner;
+use scenario_lines::Owner;
 use std::alloc::{AllocError, Global};
 
 /// What an account needs, and whether its component has exited.

@@ -2,7 +2,7 @@
 ghost use Rattle.std.specs.Prelude.{◌≡◌, false, is_err};
 ghost use Rattle.own_model.specs.Listed.{start_list_of};
 ghost use Rattle.own_model.specs.StartList.{entries_of};
-ghost use Rattle.scenario.specs.Gathered.{TellsUnless};
+ghost use Rattle.scenario_lines.specs.Gathered.{TellsUnless};
 ghost use Rattle.workbench.specs.Kept.{noted_in, peaked};
 ghost use Rattle.workbench.specs.PeakList.{name_at, noted_text, peak_text, server_text};
 
@@ -10,7 +10,7 @@ use crate::peaks::{Peak, Peaks, Session};
 use crate::text::{add, put_three};
 use arrayvec::ArrayVec;
 use init_core::StartList;
-use scenario::{Columns, DeviceFault, Gather, Owner, Sink, add_amounts};
+use scenario_lines::{Columns, DeviceFault, Gather, Owner, Sink, add_amounts};
 
 /// Room for a peak.
 const LONGEST_PEAK: usize = 60;

@@ -7,7 +7,7 @@ ghost use Rattle.own_model.specs.Session.{Session as Opened, given};
 ghost use Rattle.own_model.specs.StartList.{entries_of};
 ghost use Rattle.own_model.specs.World.{account_at, machine_init};
 ghost use Rattle.pd_core.specs.Answer.{quotas_account};
-ghost use Rattle.scenario.specs.Read.{IsReadAs};
+ghost use Rattle.call_lines.specs.Read.{IsReadAs};
 ghost use Rattle.workbench.specs.Kept.{begun_by, begun_with, found, grown, in_use, is_kept_at, noted_in, noted_more, peak_at, peaked, raised_in};
 ghost use Rattle.workbench.specs.Peaks.{session_at};
 
@@ -15,7 +15,7 @@ use crate::text::{caller_of, said_in};
 use crate::watch::{Heard, Watch};
 use init_core::{StartList, route};
 use pd_core::{Call, Core, Quotas, Router};
-use scenario::{Gather, NamedCall, PlayFault, Sink};
+use scenario_lines::{Gather, NamedCall, PlayFault, Sink};
 use session_proto::SessionArgs;
 use std::alloc::{AllocError, Global};
 use std::mem;

@@ -3,7 +3,7 @@ ghost use Rattle.std.specs.Prelude.{◌≡◌, ◌≤◌, ◌||◌, [], IfSome, 
 ghost use Rattle.std.specs.Option.{option_copied};
 ghost use Rattle.own_model.specs.Listed.{start_list_of};
 ghost use Rattle.own_model.specs.StartList.{entries_of};
-ghost use Rattle.scenario.specs.Faults.{is_write_fault};
+ghost use Rattle.scenario_lines.specs.Faults.{is_write_fault};
 ghost use Rattle.workbench.specs.Faults.{fault_before, unplayed};
 ghost use Rattle.workbench.specs.Plays.{ClosesAs, PlaysAll};
 ghost use Rattle.workbench.specs.Turns.{low};
@@ -13,7 +13,7 @@ use crate::critic::Critic;
 use crate::ending::Ending;
 use crate::watch::Watch;
 use pd_core::{Core, Router};
-use scenario::{Buffers, DeviceFault, MAX_LINES, PlayFault, Sink, Source};
+use scenario_lines::{Buffers, DeviceFault, MAX_LINES, PlayFault, Sink, Source};
 
 /// Plays each line of a scenario in turn, at most `MAX_LINES`, behind a front that is told first: its call is answered, told to
 /// the watch, and held against what is expected. All that is told is written before each read, and at the end. A device that has
@@ -63,7 +63,7 @@ pub(crate) fn play<R: Router + Drop, W: Watch, S: Source, K: Sink, E: Sink>(
             };
         }
     }
-    let played = scenario::play(bench, core, &mut buffers, reader, writer, MAX_LINES);
+    let played = scenario_lines::play(bench, core, &mut buffers, reader, writer, MAX_LINES);
     let critic = &mut bench.notes.desk.tools.critic;
     let fault = close(
         critic,

@@ -3,13 +3,13 @@ ghost use Rattle.std.specs.Prelude.{◌≡◌, ◌+◌, ◌≤◌, ◌∷◌, �
 ghost use Rattle.arrayvec.specs.ArrayVec.{array_vec_len};
 ghost use Rattle.csv.specs.Writing.{default_writer, escaped, field_text, fields_text, needs_byte, needs_quotes, quoted};
 ghost use Rattle.pd_core.specs.Answer.{quotas_account};
-ghost use Rattle.scenario.specs.Gathered.{TellsUnless};
+ghost use Rattle.scenario_lines.specs.Gathered.{TellsUnless};
 ghost use Rattle.workbench.specs.Tracing.{account_cells, cell_text};
 
 use crate::text::{add, add_number};
 use arrayvec::ArrayVec;
 use pd_core::Quotas;
-use scenario::{DeviceFault, Gather, Sink};
+use scenario_lines::{DeviceFault, Gather, Sink};
 
 /// Gathers a cell more with a text, in quotes where it needs them.
 pub(crate) fn put_cell<K: Sink>(

@@ -4,12 +4,12 @@ ghost use Rattle.std.specs.List.{list_all};
 ghost use Rattle.std.specs.Option.{option_map};
 ghost use Rattle.csv.specs.Writing.{default_writer, needs_quotes, quoted};
 ghost use Rattle.own_model.specs.Text.{bytes_of_hex, hex_bytes};
-ghost use Rattle.scenario.specs.Gathered.{TellsUnless};
+ghost use Rattle.scenario_lines.specs.Gathered.{TellsUnless};
 ghost use Rattle.workbench.specs.Texts.{in_brackets, is_shown, shown_text, sign_text, signs_text, written_in};
 ghost use Rattle.workbench.specs.Tracing.{cell_text};
 
 use crate::row::needs_byte;
-use scenario::{DeviceFault, Gather, Sink};
+use scenario_lines::{DeviceFault, Gather, Sink};
 use text_codec::{decode_hex_from, read_hex};
 
 /// Digits of one or more bytes that can all be shown.

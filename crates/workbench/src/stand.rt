@@ -2,9 +2,9 @@
 ghost use Rattle.std.specs.Prelude.{◌≡◌, ◌≤◌, ℕ, IfErr, IfNone, IfSome, OnErr, OnOk, true, false};
 ghost use Rattle.scenario_names.specs.Views.{directive_view, filled_view};
 ghost use Rattle.workbench.specs.Turns.{first_with, followed_by, has_holes, is_misplaced, learnt_by, low, line_told};
-ghost use Rattle.scenario.specs.declared.play_fault.PlayFault.TheVariants.{NoMemory as NoRoom};
+ghost use Rattle.scenario_lines.specs.declared.play_fault.PlayFault.TheVariants.{NoMemory as NoRoom};
 
-use scenario::{LineAnswer, PlayFault};
+use scenario_lines::{LineAnswer, PlayFault};
 use scenario_names::{Directive, Filled, Known};
 
 /// The number of a line is at most this, as it is told; each line behind has one more.

@@ -7,15 +7,15 @@ ghost use Rattle.own_model.specs.StartList.{entries_of};
 ghost use Rattle.own_model.specs.Transcript.{calls_in, heard, heard_spoken};
 ghost use Rattle.own_model.specs.Transcript.Heard.{Caller};
 ghost use Rattle.pd_core.specs.Call.{model_call};
-ghost use Rattle.scenario.specs.Gathered.{TellsUnless};
-ghost use Rattle.scenario.specs.Read.{IsReadAs};
+ghost use Rattle.scenario_lines.specs.Gathered.{TellsUnless};
+ghost use Rattle.call_lines.specs.Read.{IsReadAs};
 ghost use Rattle.workbench.specs.Said.{heard_as, said_in};
 
 use arrayvec::ArrayVec;
 use init_core::StartList;
 use itoa::{Buffer, Integer};
 use pd_core::Call;
-use scenario::{DeviceFault, Gather, NamedCall, Sink};
+use scenario_lines::{DeviceFault, Gather, NamedCall, Sink};
 
 /// Gathers a number in decimal digits.
 pub(crate) fn put_number<I: Integer, K: Sink>(

@@ -3,15 +3,15 @@ ghost use Rattle.std.specs.Prelude.{◌≡◌, [], false, is_err};
 ghost use Rattle.std.specs.Option.{option_map, option_map_or, unwrap_or};
 ghost use Rattle.own_model.specs.Text.{hex_bytes};
 ghost use Rattle.pd_core.specs.Call.{model_call};
-ghost use Rattle.scenario.specs.Gathered.{TellsUnless};
-ghost use Rattle.scenario.specs.Read.{IsReadAs};
+ghost use Rattle.scenario_lines.specs.Gathered.{TellsUnless};
+ghost use Rattle.call_lines.specs.Read.{IsReadAs};
 ghost use Rattle.workbench.specs.Texts.{bytes_told, bytes_written, in_brackets, line_text, signs_text};
 ghost use Rattle.workbench.specs.Tracing.{cell_text};
 
 use crate::shown::Shown;
 use crate::text::said_in;
 use pd_core::Call;
-use scenario::{DeviceFault, Gather, NamedCall, Sink};
+use scenario_lines::{DeviceFault, Gather, NamedCall, Sink};
 use session_proto::{FileRequest, LogRequest};
 
 /// The bytes that a line tells of which this was read, if it tells some that can all be shown.

@@ -9,18 +9,18 @@ ghost use Rattle.own_model.specs.Text.{hex_bytes};
 ghost use Rattle.own_model.specs.Transcript.{heard, heard_spoken, state_at};
 ghost use Rattle.init_core.specs.declared.fault.BootFault.TheVariants.{NoMemory};
 ghost use Rattle.pd_core.specs.Call.{model_call};
-ghost use Rattle.scenario.specs.Gathered.{TellsUnless};
-ghost use Rattle.scenario.specs.Program.{boot_fault};
-ghost use Rattle.scenario.specs.Read.{IsReadAs};
-ghost use Rattle.scenario.specs.Runs.{HasCause};
+ghost use Rattle.scenario_lines.specs.Gathered.{TellsUnless};
+ghost use Rattle.scenario_lines.specs.Machine.{boot_fault};
+ghost use Rattle.call_lines.specs.Read.{IsReadAs};
+ghost use Rattle.scenario_lines.specs.Causes.{HasCause};
 ghost use Rattle.workbench.specs.Faults.{fault_before, unplayed};
-ghost use Rattle.scenario.specs.Faults.{is_write_fault};
+ghost use Rattle.scenario_lines.specs.Faults.{is_write_fault};
 ghost use Rattle.workbench.specs.Played.{told_of_turns};
 ghost use Rattle.workbench.specs.Texts.{signs_text};
 ghost use Rattle.workbench.specs.Tracing.{call_text, caller_cells, cell_text, figures, session_cells, session_of, stranger_cells, trace_header, trace_tells, trace_told};
 ghost use Rattle.workbench.specs.Turns.{first_with, turns_of};
 ghost use Rattle.workbench.specs.Writes.{IsPlayed, IsPlayedFrom, IsUnplayed, nothing_told, turns_on};
-ghost use Rattle.scenario.specs.declared.play_fault.PlayFault.TheVariants.{NoMemory as NoRoom};
+ghost use Rattle.scenario_lines.specs.declared.play_fault.PlayFault.TheVariants.{NoMemory as NoRoom};
 
 use crate::bench::Bench;
 use crate::ending::Ending;
@@ -35,7 +35,7 @@ use crate::watch::{Heard, Watch};
 use arrayvec::ArrayVec;
 use init_core::{BootFault, StartList, boot};
 use pd_core::{Call, Core, Router};
-use scenario::{DeviceFault, Gather, MAX_LINES, NamedCall, PlayFault, Run, Sink, Source};
+use scenario_lines::{DeviceFault, Gather, MAX_LINES, NamedCall, PlayFault, Run, Sink, Source};
 use std::alloc::Global;
 
 /// The names of the columns.
@@ -235,7 +235,7 @@ fn session_of(call: Call<'_>) -> Option<u64>
 ///
 /// The figures are those of the own state that the call leaves its caller. At a fault the rows of the lines that were
 /// played are written, or where a write failed or the host has no room a part of them, from the front. It stops as `run` does.
-#[tactic(auto, using(scenario::proofs::TaskLemmas::tasks))]
+#[tactic(auto, using(scenario_lines::proofs::MachineLemmas::tasks))]
 pub fn trace<S: Source, K: Sink, E: Sink>(
     alloc: Global,
     play: Play<'_>,

@@ -5,15 +5,15 @@ ghost use Rattle.own_model.specs.AccountList.{account_list_text};
 ghost use Rattle.own_model.specs.Listed.{start_list_of};
 ghost use Rattle.own_model.specs.StartList.{entries_of};
 ghost use Rattle.init_core.specs.declared.fault.BootFault.TheVariants.{NoMemory};
-ghost use Rattle.scenario.specs.Answer.{answer_text};
-ghost use Rattle.scenario.specs.Gathered.{TellsUnless};
-ghost use Rattle.scenario.specs.Program.{boot_fault};
-ghost use Rattle.scenario.specs.Runs.{HasCause};
+ghost use Rattle.scenario_lines.specs.Answer.{answer_text};
+ghost use Rattle.scenario_lines.specs.Gathered.{TellsUnless};
+ghost use Rattle.scenario_lines.specs.Machine.{boot_fault};
+ghost use Rattle.scenario_lines.specs.Causes.{HasCause};
 ghost use Rattle.workbench.specs.Faults.{fault_before, unplayed};
-ghost use Rattle.scenario.specs.Faults.{is_write_fault};
+ghost use Rattle.scenario_lines.specs.Faults.{is_write_fault};
 ghost use Rattle.workbench.specs.Turns.{first_with, turns_of};
 ghost use Rattle.workbench.specs.Writes.{Closes, IsPlayed, IsPlayedFrom, IsUnplayed, list_behind, number_before, run_behind, run_tells, run_told, shown_of, turns_on};
-ghost use Rattle.scenario.specs.declared.play_fault.PlayFault.TheVariants.{NoMemory as NoRoom};
+ghost use Rattle.scenario_lines.specs.declared.play_fault.PlayFault.TheVariants.{NoMemory as NoRoom};
 
 use crate::bench::Bench;
 use crate::ending::Ending;
@@ -24,7 +24,9 @@ use crate::text::put_number;
 use crate::watch::{Heard, Watch};
 use init_core::{BootFault, StartList, boot};
 use pd_core::{Core, Router};
-use scenario::{DeviceFault, Gather, MAX_LINES, PlayFault, Run, Sink, Source, write_accounts};
+use scenario_lines::{
+    DeviceFault, Gather, MAX_LINES, PlayFault, Run, Sink, Source, write_accounts,
+};
 use std::alloc::Global;
 
 /// What of a play is told.
@@ -110,7 +112,7 @@ fn write_numbered<K: Sink>(
 /// at a fault the transcript of the lines that were played, or where a write failed or the host has no room a part of these, from
 /// the front. It stops for the causes of the engine's run, or for want of room at a line that isn't read or that expects a log
 /// line. A device that had failed before is told, the outputs first, and none is touched then, nor where no machine is booted.
-#[tactic(auto, using(scenario::proofs::TaskLemmas::tasks))]
+#[tactic(auto, using(scenario_lines::proofs::MachineLemmas::tasks))]
 pub fn run<S: Source, K: Sink, E: Sink>(
     alloc: Global,
     play: Play<'_>,

@@ -3,14 +3,14 @@ ghost use Rattle.std.specs.Prelude.{◌≡◌, ◌∷◌, ◌++◌, ℕ, Bool, L
 ghost use Rattle.own_model.specs.Listed.{Listed, start_list_of};
 ghost use Rattle.own_model.specs.StartList.{entries_of};
 ghost use Rattle.own_model.specs.World.{World};
-ghost use Rattle.scenario.specs.Gathered.{TellsUnless};
-ghost use Rattle.scenario.specs.Read.{IsReadAs};
-ghost use Rattle.scenario.specs.Faults.{Fails};
+ghost use Rattle.scenario_lines.specs.Gathered.{TellsUnless};
+ghost use Rattle.call_lines.specs.Read.{IsReadAs};
+ghost use Rattle.scenario_lines.specs.Faults.{Fails};
 ghost use Rattle.workbench.specs.Watching.{IsToldOf};
 
 use init_core::StartList;
 use pd_core::{Core, Router};
-use scenario::{Gather, LineAnswer, NamedCall, PlayFault, Sink};
+use scenario_lines::{Gather, LineAnswer, NamedCall, PlayFault, Sink};
 
 /// A call that was answered.
 #[derive(Clone, Copy, Debug)]

@@ -1,5 +1,5 @@
 use Rattle.std.proofs.Common.{sym}
-use Rattle.scenario.proofs.LineLemmas.{line_length-none}
+use Rattle.scenario_lines.proofs.LineLemmas.{line_length-none}
 use Rattle.rounds.proofs.lines.line_length.Goals as goal
 
 pub returns-in-None-clause-count : goal.returns-in-None-clause-count

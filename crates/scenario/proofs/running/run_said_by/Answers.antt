@@ -2,7 +2,7 @@
 use Rattle.std.proofs.Common.{◌∙◌, refl, sym}
 use Rattle.std.specs.Option.{option_copied}
 use Rattle.scenario.proofs.Ending.{has_room, runs, runs_unread, runs_unwritten}
-use Rattle.scenario.proofs.ToldLemmas.{left_none, told_none}
+use Rattle.scenario_lines.proofs.ToldLemmas.{left_none, told_none}
 use Rattle.scenario.proofs.running.run_said_by.Goals as goal
 
 pub returns-clause-runs : goal.returns-clause-runs

@@ -2,8 +2,8 @@
 use Rattle.std.proofs.Common.{◌∷◌, ◌++◌, [], codes, subst}
 use Rattle.std.specs.Prelude.{decimal}
 use Rattle.std.specs.Option.{option_map_or}
-use Rattle.scenario.specs.Gathered.{TellsUnless}
-use Rattle.scenario.proofs.GatheredLemmas.{Tells-more, Tells-front, told_err, told_more}
+use Rattle.scenario_lines.specs.Gathered.{TellsUnless}
+use Rattle.scenario_lines.proofs.GatheredLemmas.{Tells-more, Tells-front, told_err, told_more}
 use Rattle.workbench.specs.Texts.{in_brackets}
 use Rattle.workbench.proofs.beside.put_heard.Goals as goal
 

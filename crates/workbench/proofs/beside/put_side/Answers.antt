@@ -1,5 +1,5 @@
 -- A write that fails in the name of the side loses the answer.
-use Rattle.scenario.proofs.GatheredLemmas.{Tells-front, told_err, told_more}
+use Rattle.scenario_lines.proofs.GatheredLemmas.{Tells-front, told_err, told_more}
 use Rattle.workbench.proofs.beside.put_side.Goals as goal
 
 pub returns-in_err-put-clause-told : goal.returns-in_err-put-clause-told

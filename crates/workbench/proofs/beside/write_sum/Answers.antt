@@ -1,5 +1,5 @@
 -- What is gathered is written, or a part of it.
-use Rattle.scenario.proofs.AccountLemmas.{list_cut}
+use Rattle.scenario_lines.proofs.AccountLemmas.{list_cut}
 use Rattle.workbench.proofs.WriteLemmas.{written_err}
 use Rattle.workbench.proofs.beside.write_sum.Goals as goal
 

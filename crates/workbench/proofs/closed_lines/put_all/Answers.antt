@@ -1,5 +1,5 @@
 -- What is gathered is written, or a part of it.
-use Rattle.scenario.proofs.AccountLemmas.{flushed, flushed_in_part}
+use Rattle.scenario_lines.proofs.AccountLemmas.{flushed, flushed_in_part}
 use Rattle.workbench.proofs.closed_lines.put_all.Goals as goal
 
 pub returns-clause-told : goal.returns-clause-told

@@ -2,9 +2,9 @@
 use Rattle.std.proofs.Common.{ℕ, List, subst}
 use Rattle.own_model.specs.Listed.{Listed, start_list_of}
 use Rattle.own_model.specs.StartList.{entries_of}
-use Rattle.scenario.specs.Gathered.{Tells}
-use Rattle.scenario.proofs.AccountLemmas.{told_cut, told_on}
-use Rattle.scenario.proofs.GatheredLemmas.{told_err}
+use Rattle.scenario_lines.specs.Gathered.{Tells}
+use Rattle.scenario_lines.proofs.AccountLemmas.{told_cut, told_on}
+use Rattle.scenario_lines.proofs.GatheredLemmas.{told_err}
 use Rattle.workbench.specs.Accounting.{closed_line}
 use Rattle.workbench.specs.declared.metered.Closed.{Closed}
 use Rattle.workbench.proofs.ClosedLemmas.{line_all, line_cut, line_more}

@@ -2,7 +2,7 @@
 use Rattle.std.proofs.Common.{◌≡◌, false, take}
 use Rattle.own_model.specs.Listed.{start_list_of}
 use Rattle.own_model.specs.StartList.{entries_of}
-use Rattle.scenario.specs.Gathered.{Tells}
+use Rattle.scenario_lines.specs.Gathered.{Tells}
 use Rattle.workbench.specs.Accounting.{closed_lines}
 use Rattle.workbench.proofs.closed_lines.put_sessions.Given as goal
 

@@ -1,7 +1,7 @@
 -- A write that fails in one part of the text loses the parts after it.
 use Rattle.std.proofs.Common.{subst}
-use Rattle.scenario.specs.Gathered.{TellsUnless}
-use Rattle.scenario.proofs.GatheredLemmas.{Tells-more, Tells-front, told_err, told_more}
+use Rattle.scenario_lines.specs.Gathered.{TellsUnless}
+use Rattle.scenario_lines.proofs.GatheredLemmas.{Tells-more, Tells-front, told_err, told_more}
 use Rattle.workbench.proofs.peak_columns.put_session.Goals as goal
 
 pub returns-in_err-put_peak-clause-told : goal.returns-in_err-put_peak-clause-told

@@ -1,7 +1,7 @@
 -- A comma, and then the text as it is or in quotes.
 use Rattle.std.proofs.Common.{subst, sym, ◌∙◌}
-use Rattle.scenario.specs.Gathered.{TellsUnless}
-use Rattle.scenario.proofs.GatheredLemmas.{Tells-front, told_err, told_more}
+use Rattle.scenario_lines.specs.Gathered.{TellsUnless}
+use Rattle.scenario_lines.proofs.GatheredLemmas.{Tells-front, told_err, told_more}
 use Rattle.workbench.proofs.RowLemmas.{quoted_cell, unquoted_cell}
 use Rattle.workbench.proofs.row.put_cell.Goals as goal
 

@@ -1,8 +1,8 @@
 -- One byte more is told, or a write fails there.
 use Rattle.std.proofs.Common.{rules, subst}
-use Rattle.scenario.specs.Gathered.{Tells}
-use Rattle.scenario.proofs.AccountLemmas.{told_on, told_cut}
-use Rattle.scenario.proofs.GatheredLemmas.{Tells-none, told_err}
+use Rattle.scenario_lines.specs.Gathered.{Tells}
+use Rattle.scenario_lines.proofs.AccountLemmas.{told_on, told_cut}
+use Rattle.scenario_lines.proofs.GatheredLemmas.{Tells-none, told_err}
 use Rattle.workbench.proofs.RowLemmas.{escaped_cut, escaped_more, escaped_nothing}
 use Rattle.workbench.proofs.row.put_escaped.Goals as goal
 

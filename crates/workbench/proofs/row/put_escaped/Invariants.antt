@@ -1,7 +1,7 @@
 -- So many bytes are told, and no write failed yet.
 use Rattle.std.proofs.Common.{◌≡◌, false, take}
 use Rattle.csv.specs.Writing.{default_writer, escaped}
-use Rattle.scenario.specs.Gathered.{Tells}
+use Rattle.scenario_lines.specs.Gathered.{Tells}
 use Rattle.workbench.proofs.row.put_escaped.Given as goal
 
 abbrev pub invariant-loop-place : goal.invariant-loop-place

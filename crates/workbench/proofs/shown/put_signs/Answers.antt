@@ -2,9 +2,9 @@
 use Rattle.std.proofs.Common.{◌<◌, length, arith, subst}
 use Rattle.std.proofs.lemmas.List.{take_all}
 use Rattle.own_model.specs.Text.{hex_bytes}
-use Rattle.scenario.specs.Gathered.{Tells}
-use Rattle.scenario.proofs.AccountLemmas.{told_on, told_cut}
-use Rattle.scenario.proofs.GatheredLemmas.{Tells-none, told_err}
+use Rattle.scenario_lines.specs.Gathered.{Tells}
+use Rattle.scenario_lines.proofs.AccountLemmas.{told_on, told_cut}
+use Rattle.scenario_lines.proofs.GatheredLemmas.{Tells-none, told_err}
 use Rattle.workbench.specs.Texts.{signs_text, written_in}
 use Rattle.workbench.proofs.ShownLemmas.{bytes_counted, signs_cut, signs_more, written_nothing}
 use Rattle.workbench.proofs.shown.put_signs.Goals as goal

@@ -1,7 +1,7 @@
 -- The text of so many bytes is told, and no write failed yet.
 use Rattle.std.proofs.Common.{◌≡◌, false, take}
 use Rattle.own_model.specs.Text.{hex_bytes}
-use Rattle.scenario.specs.Gathered.{Tells}
+use Rattle.scenario_lines.specs.Gathered.{Tells}
 use Rattle.workbench.specs.Texts.{signs_text, written_in}
 use Rattle.workbench.proofs.shown.put_signs.Given as goal
 

@@ -1,7 +1,7 @@
 -- What the play writes, and the account list behind it where it is asked for.
 use Rattle.std.proofs.Common.{Bool, subst, sym}
 use Rattle.std.specs.Option.{option_copied}
-use Rattle.scenario.specs.Program.{accounts_for}
+use Rattle.scenario_lines.specs.Machine.{accounts_for}
 use Rattle.workbench.specs.Writes.{Closes}
 use Rattle.workbench.proofs.ViewLemmas.{run_played}
 use Rattle.workbench.proofs.WriteLemmas.{closes_alone}

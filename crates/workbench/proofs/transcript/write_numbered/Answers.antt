@@ -1,7 +1,7 @@
 -- A write that fails in one part loses the parts after it.
 use Rattle.std.proofs.Common.{append-nil, subst}
-use Rattle.scenario.specs.Gathered.{TellsUnless}
-use Rattle.scenario.proofs.GatheredLemmas.{Tells-more, Tells-front, told_err, told_more}
+use Rattle.scenario_lines.specs.Gathered.{TellsUnless}
+use Rattle.scenario_lines.proofs.GatheredLemmas.{Tells-more, Tells-front, told_err, told_more}
 use Rattle.workbench.proofs.transcript.write_numbered.Goals as goal
 
 pub returns-in_err-put_number-clause-told : goal.returns-in_err-put_number-clause-told

@@ -1,7 +1,7 @@
 -- A call that is answered is told to the watch.
 use Rattle.std.proofs.Common.{subst}
 use Rattle.std.specs.Option.{option_copied}
-use Rattle.scenario.specs.Gathered.{Tells}
+use Rattle.scenario_lines.specs.Gathered.{Tells}
 use Rattle.workbench.proofs.PlayLemmas.{told_of, watches_more}
 use Rattle.workbench.proofs.PlayedLemmas.{told_of_one}
 use Rattle.workbench.proofs.turn.answer_call.Goals as goal

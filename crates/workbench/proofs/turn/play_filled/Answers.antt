@@ -2,14 +2,14 @@
 use Rattle.std.proofs.Common.{Bool, false, refl, Result, Ok, Err, ap, sym, ◌∙◌}
 use Rattle.std.specs.Option.{option_copied}
 use Rattle.friendly_lines.specs.Says.{says}
-use Rattle.scenario.specs.declared.play_fault.PlayFault.{PlayFault}
+use Rattle.scenario_lines.specs.declared.play_fault.PlayFault.{PlayFault}
 use Rattle.friendly_lines.specs.Friendly.{said_of}
 use Rattle.scenario_names.specs.Views.{filled_view}
 use Rattle.workbench.specs.Turns.{call_in}
 use Rattle.workbench.proofs.LineLemmas.{call_in-said, expects_by, judged_call, judged_log, judged_nothing, judged_told, judged_unread, on_ok, seen_said, seen_silent, told_said, told_silent}
 use Rattle.workbench.proofs.TurnLemmas.{learns_said, learns_silent}
 use Rattle.workbench.proofs.FailLemmas.{fails_before, fails_beside, fails_for_room, holes_take, line_takes}
-use Rattle.scenario.proofs.FaultLemmas.{or_none}
+use Rattle.scenario_lines.proofs.FaultLemmas.{or_none}
 use Rattle.workbench.proofs.turn.play_filled.Goals as goal
 
 abbrev silent_ok : Result Bool PlayFault

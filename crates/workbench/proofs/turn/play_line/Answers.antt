@@ -4,11 +4,11 @@ use Rattle.std.specs.Option.{option_copied}
 use Rattle.friendly_lines.specs.Friendly.Said.{Call}
 use Rattle.scenario_names.specs.Filling.{whole}
 use Rattle.friendly_lines.proofs.PlainLemmas.{not_passed}
-use Rattle.scenario.specs.Faults.{Fails}
+use Rattle.scenario_lines.specs.Faults.{Fails}
 use Rattle.workbench.specs.Judging.{IsJudgedSaid}
 use Rattle.workbench.specs.Turns.{call_of, calls_in}
 use Rattle.workbench.specs.Turns.Deed.{Says}
-use Rattle.scenario.proofs.FaultLemmas.{or_first}
+use Rattle.scenario_lines.proofs.FaultLemmas.{or_first}
 use Rattle.workbench.proofs.LineLemmas.{left_said, on_ok, seen_said, told_said}
 use Rattle.workbench.proofs.TurnLemmas.{deed_plain, expects_by, fails_by, judged_by, stands_by, stands_whole}
 use Rattle.workbench.proofs.turn.play_line.Goals as goal

@@ -1,7 +1,7 @@
 -- The call is answered and told, and its answer is judged.
 use Rattle.std.proofs.Common.{Bool, Err, Result, false}
 use Rattle.std.specs.Option.{option_copied}
-use Rattle.scenario.specs.declared.play_fault.PlayFault.{PlayFault}
+use Rattle.scenario_lines.specs.declared.play_fault.PlayFault.{PlayFault}
 use Rattle.workbench.proofs.FailLemmas.{fails_before, fails_beside, fails_wider}
 use Rattle.workbench.proofs.LineLemmas.{judged_plain, judged_told, on_ok}
 use Rattle.workbench.proofs.turn.play_plain.Goals as goal

@@ -1,7 +1,7 @@
 -- A line that is too long is no call.
 use Rattle.std.proofs.Common.{ap, inl}
 use Rattle.std.specs.Option.{option_copied}
-use Rattle.scenario.proofs.AnsweringLemmas.{left_no_call}
+use Rattle.scenario_lines.proofs.AnsweringLemmas.{left_no_call}
 use Rattle.scenario.proofs.EngineLemmas.{engine_plays}
 use Rattle.scenario.proofs.running.EnginePlayer.play_too_long.Goals as goal
 

@@ -2,9 +2,9 @@
 use Rattle.std.proofs.Common.{ℕ, ◌++◌, List, ap, sym}
 use Rattle.own_model.specs.Listed.{Listed, start_list_of}
 use Rattle.own_model.specs.StartList.{entries_of}
-use Rattle.scenario.specs.Accounts.{Beside}
-use Rattle.scenario.proofs.AccountLemmas.{told_as, told_first}
-use Rattle.scenario.proofs.GatheredLemmas.{told_err, told_more}
+use Rattle.scenario_lines.specs.Accounts.{Beside}
+use Rattle.scenario_lines.proofs.AccountLemmas.{told_as, told_first}
+use Rattle.scenario_lines.proofs.GatheredLemmas.{told_err, told_more}
 use Rattle.workbench.specs.Kept.{found, peak_at, peaked}
 use Rattle.workbench.specs.Needs.{needed_text}
 use Rattle.workbench.specs.PeakList.{peaks_beside}

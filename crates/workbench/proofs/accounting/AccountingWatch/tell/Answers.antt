@@ -1,6 +1,6 @@
 -- What the peaks see, and the needs.
 use Rattle.std.proofs.Common.{refl}
-use Rattle.scenario.proofs.GatheredLemmas.{Tells-none, told_err}
+use Rattle.scenario_lines.proofs.GatheredLemmas.{Tells-none, told_err}
 use Rattle.workbench.proofs.AccountingLemmas.{sees_both}
 use Rattle.workbench.proofs.FailLemmas.{roomless}
 use Rattle.workbench.proofs.accounting.AccountingWatch.tell.Goals as goal

@@ -3,7 +3,7 @@ use Rattle.std.proofs.Common.{ℕ, List, ap, subst, ◌∙◌, ◌||◌}
 use Rattle.std.specs.Option.{option_copied}
 use Rattle.own_model.specs.SaidBy.{said_by}
 use Rattle.own_model.specs.World.{World}
-use Rattle.scenario.specs.Gathered.{TellsUnless}
+use Rattle.scenario_lines.specs.Gathered.{TellsUnless}
 use Rattle.workbench.specs.Played.{calls_answered, told_of_calls}
 use Rattle.workbench.specs.Turns.{call_of, turns_of}
 use Rattle.workbench.proofs.LineLemmas.{sees_on}

@@ -1,7 +1,7 @@
 -- A line of the name is answered alone as in the whole run, and another's is skipped.
 use Rattle.std.proofs.Common.{arith, length, refl, ap, subst}
-use Rattle.scenario.specs.Gathered.{Tells}
-use Rattle.scenario.proofs.GatheredLemmas.{Tells-none, told_err}
+use Rattle.scenario_lines.specs.Gathered.{Tells}
+use Rattle.scenario_lines.proofs.GatheredLemmas.{Tells-none, told_err}
 use Rattle.workbench.proofs.AloneLemmas.{answered_alike, sees_more, told_both_of, told_none_of}
 use Rattle.workbench.proofs.FailLemmas.{unwritten}
 use Rattle.workbench.proofs.beside.SecondMachineWatch.tell.Goals as goal

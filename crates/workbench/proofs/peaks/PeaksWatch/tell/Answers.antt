@@ -1,7 +1,7 @@
 -- The peaks of accounts, of sessions that are still open, and of those that were just opened.
 use Rattle.std.proofs.Common.{ℕ, ◌≡◌, ◌<◌, length, ap, subst, sym, refl, ◌∙◌, arith}
 use Rattle.std.specs.Option.{option_or}
-use Rattle.scenario.proofs.GatheredLemmas.{Tells-none, told_err}
+use Rattle.scenario_lines.proofs.GatheredLemmas.{Tells-none, told_err}
 use Rattle.workbench.specs.Kept.{begun_by, found, peak_at, peaked, raised_in}
 use Rattle.workbench.specs.Peaks.{session_at}
 use Rattle.workbench.proofs.FailLemmas.{roomless}

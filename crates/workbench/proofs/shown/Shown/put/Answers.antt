@@ -1,7 +1,7 @@
 -- A write that fails in one part loses the parts after it.
 use Rattle.std.proofs.Common.{codes}
 use Rattle.own_model.specs.Text.{hex_bytes}
-use Rattle.scenario.proofs.GatheredLemmas.{Tells-more, Tells-front, told_err, told_more}
+use Rattle.scenario_lines.proofs.GatheredLemmas.{Tells-more, Tells-front, told_err, told_more}
 use Rattle.workbench.specs.Texts.{signs_text}
 use Rattle.workbench.proofs.shown.Shown.put.Goals as goal
 

@@ -1,8 +1,8 @@
 -- A comma, and then the text as it is or in quotes.
 use Rattle.std.proofs.Common.{subst, sym, ◌∙◌}
 use Rattle.own_model.specs.Text.{hex_bytes}
-use Rattle.scenario.specs.Gathered.{TellsUnless}
-use Rattle.scenario.proofs.GatheredLemmas.{Tells-front, told_err, told_more}
+use Rattle.scenario_lines.specs.Gathered.{TellsUnless}
+use Rattle.scenario_lines.proofs.GatheredLemmas.{Tells-front, told_err, told_more}
 use Rattle.workbench.specs.Texts.{signs_text}
 use Rattle.workbench.proofs.RowLemmas.{quoted_cell, unquoted_cell}
 use Rattle.workbench.proofs.shown.Shown.put_cell.Goals as goal

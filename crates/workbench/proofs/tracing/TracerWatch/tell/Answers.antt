@@ -1,7 +1,7 @@
 -- The row is written as it is defined.
 use Rattle.std.proofs.Common.{subst, ◌∙◌}
-use Rattle.scenario.specs.Gathered.{Tells}
-use Rattle.scenario.proofs.GatheredLemmas.{told_err}
+use Rattle.scenario_lines.specs.Gathered.{Tells}
+use Rattle.scenario_lines.proofs.GatheredLemmas.{told_err}
 use Rattle.workbench.proofs.FailLemmas.{unwritten}
 use Rattle.workbench.proofs.RowLemmas.{row_written}
 use Rattle.workbench.proofs.tracing.TracerWatch.tell.Goals as goal

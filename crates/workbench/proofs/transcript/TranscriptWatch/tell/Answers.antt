@@ -1,9 +1,9 @@
 -- What is told is the answer, behind its number where that is asked for.
 use Rattle.std.proofs.Common.{Some, None, ◌++◌, ap, refl, subst}
 use Rattle.own_model.specs.World.{world_running}
-use Rattle.scenario.specs.Gathered.{Tells}
-use Rattle.scenario.proofs.AnsweringLemmas.{told_answer}
-use Rattle.scenario.proofs.GatheredLemmas.{told_err}
+use Rattle.scenario_lines.specs.Gathered.{Tells}
+use Rattle.scenario_lines.proofs.AnsweringLemmas.{told_answer}
+use Rattle.scenario_lines.proofs.GatheredLemmas.{told_err}
 use Rattle.workbench.specs.Writes.{number_before}
 use Rattle.workbench.proofs.FailLemmas.{unwritten}
 use Rattle.workbench.proofs.transcript.TranscriptWatch.tell.Goals as goal

@@ -1,0 +1,7 @@
+//! Lines that make calls: which component a line names, and what it asks for.
+#![tactic(auto)]
+
+mod line;
+
+pub use line::{LONGEST_LINE, NamedCall, call_in, read_line, read_named};
+pub use pd_core::Call;

@@ -1,0 +1,16 @@
+pub mod AccountLemmas
+pub mod BlockLemmas
+pub mod ComponentLines
+pub mod BesideLemmas
+pub mod LineLemmas
+pub mod GatheredLemmas
+pub mod FaultLemmas
+pub mod ToCome
+pub mod PassedLines
+pub mod ReachLemmas
+pub mod ToldLemmas
+pub mod PlayLemmas
+pub mod CauseLemmas
+pub mod CallerLemmas
+pub mod AnsweringLemmas
+pub mod MachineLemmas
