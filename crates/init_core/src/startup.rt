@@ -16,9 +16,8 @@ use crate::list::StartList;
 use crate::table::RouteTable;
 use cap_space::CapSpace;
 use dataspace_core::Memory;
-use pd_core::{Component, Core};
+use pd_core::{Component, Core, Host};
 use region_map::RegionMap;
-use services::Host;
 use std::alloc::Global;
 use trade_base::{AccountId, Caps, Ram, Service};
 

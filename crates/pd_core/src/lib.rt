@@ -22,3 +22,4 @@ pub use label::{LONGEST_CLIENT, label_of};
 pub use machine::Core;
 pub use router::Router;
 pub use server_frame::{Quotas, Reply};
+pub use services::Host;
