@@ -4,8 +4,11 @@ use scenario_lines::call_in;
 use std::process::Abort;
 use std::test::Fail;
 
+/// A line, the line of the engine that it says, and the reply that is expected, if one is.
+type Says = (&'static [u8], &'static [u8], Option<&'static [u8]>);
+
 // Checks that each line says the call that the engine reads beside it, with the reply that is expected or none.
-fn check_calls<R: Abort>(rt: &R, rows: &[(&[u8], &[u8], Option<&[u8]>)]) {
+fn check_calls<R: Abort>(rt: &R, rows: &[Says]) {
     for (line, engine, reply) in rows {
         assert!(rt; is_call(read_friendly(line, &mut Line::new()), engine, *reply));
     }
@@ -38,156 +41,152 @@ fn is_log(said: Result<Said<'_>, Fault>, log: Option<&[u8]>) -> bool {
     }
 }
 
-#[test]
-fn lines_say_calls(rt: HostRuntime) -> Result<(), Fail> {
-    check_calls(
-        &rt,
-        &[
-            // what follows an exclamation mark passes
-            (b"!alice  quota", b"alice  quota", None),
-            (b" \t! # \" => x\r", b" # \" => x\r", None),
-            (b"!", b"", None),
-            // a carriage return at the end goes
-            (b"alice quota\r", b"alice quota", None),
-            (b"alice quota => ok\r", b"alice quota", Some(b"ok")),
-            (b"alice open LOG x\r\r", b"alice open LOG x\r", None),
-            // the last arrow outside of quotes ends the call
-            (b"alice alloc 1 => cap 1", b"alice alloc 1", Some(b"cap 1")),
-            (
-                b"alice alloc 1 =>  cap 1 ",
-                b"alice alloc 1",
-                Some(b" cap 1 "),
-            ),
-            (
-                b"alice call 1 a => b => ",
-                b"alice call 1 a => b",
-                Some(b""),
-            ),
-            (
-                b"alice call 1 WRITE \" => \" => OK 4",
-                b"alice call 1 WRITE 203d3e20",
-                Some(b"OK 4"),
-            ),
-            (
-                b"alice open LOG label=\"\\\" => \"",
-                b"alice open LOG label=\"\\\" => \"",
-                None,
-            ),
-            // no call, where that is expected
-            (b"alice  frob => Bad_line", b"alice frob", Some(b"Bad_line")),
-        ],
-    );
-    Ok(())
-}
+/// Lines, the call that each says as the engine reads it, and the reply that is expected.
+const CALLS: &[Says] = &[
+    // what follows an exclamation mark passes
+    (b"!alice  quota", b"alice  quota", None),
+    (b" \t! # \" => x\r", b" # \" => x\r", None),
+    (b"!", b"", None),
+    // a carriage return at the end goes
+    (b"alice quota\r", b"alice quota", None),
+    (b"alice quota => ok\r", b"alice quota", Some(b"ok")),
+    (b"alice open LOG x\r\r", b"alice open LOG x\r", None),
+    // the last arrow outside of quotes ends the call
+    (b"alice alloc 1 => cap 1", b"alice alloc 1", Some(b"cap 1")),
+    (
+        b"alice alloc 1 =>  cap 1 ",
+        b"alice alloc 1",
+        Some(b" cap 1 "),
+    ),
+    (
+        b"alice call 1 a => b => ",
+        b"alice call 1 a => b",
+        Some(b""),
+    ),
+    (
+        b"alice call 1 WRITE \" => \" => OK 4",
+        b"alice call 1 WRITE 203d3e20",
+        Some(b"OK 4"),
+    ),
+    (
+        b"alice open LOG label=\"\\\" => \"",
+        b"alice open LOG label=\"\\\" => \"",
+        None,
+    ),
+    // no call, where that is expected
+    (b"alice  frob => Bad_line", b"alice frob", Some(b"Bad_line")),
+];
 
 #[test]
-fn comments_stand_behind_calls(rt: HostRuntime) -> Result<(), Fail> {
-    check_calls(
-        &rt,
-        &[
-            (b"alice quota # all", b"alice quota", None),
-            (b"alice quota\t#", b"alice quota", None),
-            (b"alice quota => ok  # \" => x", b"alice quota", Some(b"ok")),
-            (b"alice quota\t=> ok", b"alice quota", Some(b"ok")),
-            (b"alice call 1 a #b # c", b"alice call 1 a #b", None),
-            (
-                b"alice call 1 WRITE \" # \" # => x",
-                b"alice call 1 WRITE 202320",
-                None,
-            ),
-            (b"\xef\xbb\xbf alice quota", b"alice quota", None),
-            (b"\xef\xbb\xbf!alice  quota", b"alice  quota", None),
-        ],
-    );
-    Ok(())
+fn lines_say_calls(rt: HostRuntime) {
+    check_calls(&rt, CALLS);
 }
 
-#[test]
-fn blanks_part_the_words(rt: HostRuntime) -> Result<(), Fail> {
-    check_calls(
-        &rt,
-        &[
-            (b"\talice \t alloc   1\t", b"alice alloc 1", None),
-            (
-                b" alice  attach_at  1\t0x10 ",
-                b"alice attach_at 1 0x10",
-                None,
-            ),
-            (b" alice  open  LOG\tx\ty ", b"alice open LOG x\ty ", None),
-            (b"alice\tcall\t1\t  STAT ", b"alice call 1   STAT ", None),
-            (b" alice   exit  => ok", b"alice exit", Some(b"ok")),
-            (b" alice  reserve ", b"alice reserve", None),
-            (
-                b" alice  request\t ram_quota=4K,  x=1 ",
-                b"alice request  ram_quota=4K,  x=1 ",
-                None,
-            ),
-            (b"alice  yield", b"alice yield", None),
-            (
-                b" sub/carol\talloc  1 => cap 1",
-                b"sub/carol alloc 1",
-                Some(b"cap 1"),
-            ),
-        ],
-    );
-    Ok(())
-}
+/// The same with comments behind them.
+const COMMENTED: &[Says] = &[
+    (b"alice quota # all", b"alice quota", None),
+    (b"alice quota\t#", b"alice quota", None),
+    (b"alice quota => ok  # \" => x", b"alice quota", Some(b"ok")),
+    (b"alice quota\t=> ok", b"alice quota", Some(b"ok")),
+    (b"alice call 1 a #b # c", b"alice call 1 a #b", None),
+    (
+        b"alice call 1 WRITE \" # \" # => x",
+        b"alice call 1 WRITE 202320",
+        None,
+    ),
+    (b"\xef\xbb\xbf alice quota", b"alice quota", None),
+    (b"\xef\xbb\xbf!alice  quota", b"alice  quota", None),
+];
 
 #[test]
-fn texts_and_sizes_are_translated(rt: HostRuntime) -> Result<(), Fail> {
-    check_calls(
-        &rt,
-        &[
-            (b"alice poke 0x10  \"hi\" ", b"alice poke 0x10 6869", None),
-            (
-                b"alice call 1 WRITE \"hi\\n\"",
-                b"alice call 1 WRITE 68690a",
-                None,
-            ),
-            (
-                b"alice call 1 WRITE f 05 \"\\t\"",
-                b"alice call 1 WRITE f 05 09",
-                None,
-            ),
-            (b"alice call 1 WRITE \"\"", b"alice call 1 WRITE", None),
-            (
-                b"alice call 1 WRITE f 0 \"\"",
-                b"alice call 1 WRITE f 0",
-                None,
-            ),
-            (
-                b"alice poke 0x10 \"\\n\\t\\\"\\\\\\x0aF\\xfF\"",
-                b"alice poke 0x10 0a09225c0a46ff",
-                None,
-            ),
-            (b"alice alloc 4K", b"alice alloc 4096", None),
-            (b"alice new 2M => x", b"alice new 2097152", Some(b"x")),
-            (b"alice snew 1G", b"alice snew 1073741824", None),
-            (b"alice  peek 0x10  1K ", b"alice peek 0x10 1024", None),
-            (b"alice call 1 BUFFER 8K", b"alice call 1 BUFFER 8192", None),
-            (
-                b"alice call 1 READ 1K 1K 2K",
-                b"alice call 1 READ 1K 1024 2048",
-                None,
-            ),
-            (
-                b"alice call 1 PUT f 1K 0 1M x",
-                b"alice call 1 PUT f 1024 0 1048576 x",
-                None,
-            ),
-            (
-                b"alice call 1 WRITE f 4K 00",
-                b"alice call 1 WRITE f 4096 00",
-                None,
-            ),
-            (
-                b"alice call 1 WRITE f 4K \"\\n\"",
-                b"alice call 1 WRITE f 4096 0a",
-                None,
-            ),
-        ],
-    );
-    Ok(())
+fn comments_stand_behind_calls(rt: HostRuntime) {
+    check_calls(&rt, COMMENTED);
+}
+
+/// The same with blanks between words and around them.
+const BLANKS: &[Says] = &[
+    (b"\talice \t alloc   1\t", b"alice alloc 1", None),
+    (
+        b" alice  attach_at  1\t0x10 ",
+        b"alice attach_at 1 0x10",
+        None,
+    ),
+    (b" alice  open  LOG\tx\ty ", b"alice open LOG x\ty ", None),
+    (b"alice\tcall\t1\t  STAT ", b"alice call 1   STAT ", None),
+    (b" alice   exit  => ok", b"alice exit", Some(b"ok")),
+    (b" alice  reserve ", b"alice reserve", None),
+    (
+        b" alice  request\t ram_quota=4K,  x=1 ",
+        b"alice request  ram_quota=4K,  x=1 ",
+        None,
+    ),
+    (b"alice  yield", b"alice yield", None),
+    (
+        b" sub/carol\talloc  1 => cap 1",
+        b"sub/carol alloc 1",
+        Some(b"cap 1"),
+    ),
+];
+
+#[test]
+fn blanks_part_the_words(rt: HostRuntime) {
+    check_calls(&rt, BLANKS);
+}
+
+/// The same of texts and sizes, which are translated.
+const TRANSLATED: &[Says] = &[
+    (b"alice poke 0x10  \"hi\" ", b"alice poke 0x10 6869", None),
+    (
+        b"alice call 1 WRITE \"hi\\n\"",
+        b"alice call 1 WRITE 68690a",
+        None,
+    ),
+    (
+        b"alice call 1 WRITE f 05 \"\\t\"",
+        b"alice call 1 WRITE f 05 09",
+        None,
+    ),
+    (b"alice call 1 WRITE \"\"", b"alice call 1 WRITE", None),
+    (
+        b"alice call 1 WRITE f 0 \"\"",
+        b"alice call 1 WRITE f 0",
+        None,
+    ),
+    (
+        b"alice poke 0x10 \"\\n\\t\\\"\\\\\\x0aF\\xfF\"",
+        b"alice poke 0x10 0a09225c0a46ff",
+        None,
+    ),
+    (b"alice alloc 4K", b"alice alloc 4096", None),
+    (b"alice new 2M => x", b"alice new 2097152", Some(b"x")),
+    (b"alice snew 1G", b"alice snew 1073741824", None),
+    (b"alice  peek 0x10  1K ", b"alice peek 0x10 1024", None),
+    (b"alice call 1 BUFFER 8K", b"alice call 1 BUFFER 8192", None),
+    (
+        b"alice call 1 READ 1K 1K 2K",
+        b"alice call 1 READ 1K 1024 2048",
+        None,
+    ),
+    (
+        b"alice call 1 PUT f 1K 0 1M x",
+        b"alice call 1 PUT f 1024 0 1048576 x",
+        None,
+    ),
+    (
+        b"alice call 1 WRITE f 4K 00",
+        b"alice call 1 WRITE f 4096 00",
+        None,
+    ),
+    (
+        b"alice call 1 WRITE f 4K \"\\n\"",
+        b"alice call 1 WRITE f 4096 0a",
+        None,
+    ),
+];
+
+#[test]
+fn texts_and_sizes_are_translated(rt: HostRuntime) {
+    check_calls(&rt, TRANSLATED);
 }
 
 /// Lines of the engine, which pass as they are.

@@ -15,11 +15,20 @@ fn take_and_fill(rt: &impl Abort, pool: &mut Pool) -> PageNo
     ensures apart { (page : ℕ) → IsTrue (is_taken pool.old page) → page ≢ result.0 }
 {
     let page = pool.take().expect(rt, "a free page");
+    fill(rt, pool, page);
+    page
+}
+
+/// Fills a page with ones, where it held zeros.
+#[tactic(auto, using(page_pool::proofs::PageLaws::page_laws))]
+fn fill(rt: &impl Abort, pool: &mut Pool, page: PageNo)
+    requires { IsTrue (is_taken pool.old page.0) }
+    ensures { (page : ℕ) → is_taken pool.new page ≡ is_taken pool.old page }
+{
     let mut bytes = [1; 4096];
     pool.read(page, 0, &mut bytes);
     assert!(rt; bytes.iter().all(|byte| *byte == 0));
     pool.write(page, 0, &[1; 4096]);
-    page
 }
 
 /// Sixteen pages of ones.
@@ -57,10 +66,10 @@ fn pages_come_back_zero(rt: HostRuntime) {
     let pages = take_sixteen(&rt, &mut pool);
     assert!(rt; pool.take().is_none());
     give_sixteen(&mut pool, &pages);
-    assert_eq!(rt; pool.free_pages(), 16);
+    assert!(rt; pool.free_pages() == 16);
     take_sixteen(&rt, &mut pool);
     assert!(rt; pool.take().is_none());
-    assert_eq!(rt; pool.free_pages(), 0);
+    assert!(rt; pool.free_pages() == 0);
 }
 
 /// A pool of so many pages has them all.

@@ -49,16 +49,31 @@ fn buffer_is_taken_by_its_dataspace(rt: HostRuntime) {
     check_inserts(&rt, &mut space, &[(Cap::RpcObject, 1)]);
 }
 
+/// Whether a buffer is taken by each dataspace in turn, and under which selector.
+fn check_buffers(rt: &impl Abort, space: &mut CapSpace, rows: &[(DsId, Option<Selector>)]) {
+    for (ds, selector) in rows {
+        assert!(rt; space.take_buffer(*ds) == *selector);
+    }
+}
+
 /// A buffer is taken by its dataspace alone, and what is no buffer by its selector.
 fn check_taken(rt: &impl Abort, space: &mut CapSpace) {
-    for none in [0, 5, 7] {
-        assert!(rt; space.take_buffer(DsId(none)).is_none(), "of {none}");
-    }
+    check_buffers(
+        rt,
+        space,
+        &[(DsId(0), None), (DsId(5), None), (DsId(7), None)],
+    );
     assert!(rt; space.take_dataspace(3).is_none() && !space.take_rpc_object(3));
     assert!(rt; space.take_session(3).is_none());
-    assert!(rt; space.take_buffer(DsId(4)) == Some(Selector(4)));
-    assert!(rt; space.take_buffer(DsId(4)).is_none());
-    assert!(rt; space.take_buffer(DsId(6)) == Some(Selector(3)));
+    check_buffers(
+        rt,
+        space,
+        &[
+            (DsId(4), Some(Selector(4))),
+            (DsId(4), None),
+            (DsId(6), Some(Selector(3))),
+        ],
+    );
     assert!(rt; space.get(2) == Some(Cap::Dataspace(DsId(5))));
     assert!(rt; space.take_session(1) == Some((0, SessionId(7))));
 }

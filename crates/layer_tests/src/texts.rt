@@ -62,6 +62,27 @@ fn amounts_and_addresses_are_read(rt: HostRuntime) {
     assert!(rt; read_number(b"007") == Some(7) && read_number(b"7K").is_none());
 }
 
+/// What a text is asked to be.
+#[derive(Clone, Copy)]
+enum Asked {
+    Name,
+    Path,
+    NameBytes,
+    Hex,
+}
+
+impl Asked {
+    /// Whether a text is that.
+    fn is(self, text: &[u8]) -> bool {
+        match self {
+            Asked::Name => is_name(text),
+            Asked::Path => is_path(text),
+            Asked::NameBytes => has_name_bytes(text),
+            Asked::Hex => read_hex(text).is_some(),
+        }
+    }
+}
+
 /// Texts that are names.
 const NAMES: &str = "A-0_z.9
 abcdefghijklmnopqrstuvwxyz012345";
@@ -78,22 +99,43 @@ const NO_HEX: &str = "
 0g
 00\x20";
 
+/// Each line is what is asked, or none is.
+fn check_each(rt: &impl Abort, asked: Asked, lines: &str, want: bool) {
+    for text in lines.lines() {
+        assert!(rt; asked.is(text.as_bytes()) == want, "of {text}");
+    }
+}
+
 #[test]
 fn names_and_hexadecimal_digits_are_told(rt: HostRuntime) {
-    for name in NAMES.lines() {
-        assert!(rt;
-            is_name(name.as_bytes()) && is_path(name.as_bytes()),
-            "of {name}"
-        );
-    }
-    for text in NO_NAMES.lines() {
-        assert!(rt; !is_name(text.as_bytes()), "of {text}");
-    }
-    assert!(rt; is_path(b"a/b") && !is_path(b"a//b"));
-    assert!(rt; has_name_bytes(b"abcdefghijklmnopqrstuvwxyz0123456"));
-    assert!(rt; read_hex(b"00fF").is_some());
-    for text in NO_HEX.lines() {
-        assert!(rt; read_hex(text.as_bytes()).is_none(), "of {text}");
+    check_each(&rt, Asked::Name, NAMES, true);
+    check_each(&rt, Asked::Path, NAMES, true);
+    check_each(&rt, Asked::Name, NO_NAMES, false);
+    check_each(&rt, Asked::Path, "a/b", true);
+    check_each(&rt, Asked::Path, "a//b", false);
+    check_each(
+        &rt,
+        Asked::NameBytes,
+        "abcdefghijklmnopqrstuvwxyz0123456",
+        true,
+    );
+    check_each(&rt, Asked::Hex, "00fF", true);
+    check_each(&rt, Asked::Hex, NO_HEX, false);
+}
+
+/// A text, its first word, and what stands behind the space, where there is one.
+type Parted = (&'static [u8], &'static [u8], Option<&'static [u8]>);
+
+const PARTED: &[Parted] = &[
+    (b"quota  1", b"quota", Some(b" 1")),
+    (b"quota", b"quota", None),
+    (b" quota", b"", Some(b"quota")),
+];
+
+/// Each text is parted so.
+fn check_parted(rt: &impl Abort, rows: &[Parted]) {
+    for (text, word, rest) in rows {
+        assert!(rt; split_first_word(text) == (*word, *rest));
     }
 }
 
@@ -101,17 +143,7 @@ fn names_and_hexadecimal_digits_are_told(rt: HostRuntime) {
 fn bytes_are_found_and_parted(rt: HostRuntime) {
     assert!(rt; find_byte(b'=', b"a=b=c") == Some(1));
     assert!(rt; find_byte(b'=', b"abc").is_none() && find_byte(b'=', b"").is_none());
-    for (text, word, rest) in [
-        (
-            b"quota  1".as_slice(),
-            b"quota".as_slice(),
-            Some(b" 1".as_slice()),
-        ),
-        (b"quota", b"quota", None),
-        (b" quota", b"", Some(b"quota")),
-    ] {
-        assert!(rt; split_first_word(text) == (word, rest));
-    }
+    check_parted(&rt, PARTED);
 }
 
 #[test]
@@ -177,8 +209,8 @@ fn are_arguments(text: &str, want: &str) -> bool {
     let (caps, label) = rest.split_once(' ').unwrap_or((rest, ""));
     match SessionArgs::read(text.as_bytes()) {
         Ok(args) => {
-            Some(args.ram().0) == ram.parse::<u64>().ok()
-                && Some(args.caps().0) == caps.parse::<u32>().ok()
+            is_number(Some(args.ram().0), ram)
+                && is_number(Some(u64::from(args.caps().0)), caps)
                 && args.label() == label.as_bytes()
         }
         Err(_) => false,

@@ -24,9 +24,9 @@ fn words_stand_on_both_sides_of_a_page_end(rt: HostRuntime) {
     let ds = memory.alloc(root, 8192).expect(&rt, "the root has it");
     store(&mut memory, ds, 4088, 0x0102_0304_0506_0708);
     store(&mut memory, ds, 4096, 0x1112_1314_1516_1718);
-    assert_eq!(rt; memory.load_word(ds, 4088), 0x0102_0304_0506_0708);
-    assert_eq!(rt; memory.load_word(ds, 4096), 0x1112_1314_1516_1718);
+    assert!(rt; memory.load_word(ds, 4088) == 0x0102_0304_0506_0708);
+    assert!(rt; memory.load_word(ds, 4096) == 0x1112_1314_1516_1718);
     let mut buffer = [9; 4];
     memory.read(ds, 4094, &mut buffer);
-    assert_eq!(rt; buffer, [2, 1, 0x18, 0x17]);
+    assert!(rt; buffer == [2, 1, 0x18, 0x17]);
 }

@@ -7,7 +7,7 @@ use init_core::StartList;
 use std::alloc::Global;
 
 /// Scripts and servers of a start list by their numbers; where none are named, all of them.
-#[derive(Debug, Drop)]
+#[derive(Drop)]
 pub struct Chosen {
     from: Vec<usize>,
     to: Vec<usize>,

@@ -128,7 +128,7 @@ impl<'a> Course<'a> {
 }
 
 /// Why no course is told.
-#[derive(Clone, Copy, Debug, PartialEq, Eq)]
+#[derive(Clone, Copy)]
 pub enum NoCourse {
     /// No script is called so.
     Nobody,

@@ -14,7 +14,7 @@ use std::alloc::{AllocError, Global};
 use std::marker::Model;
 
 /// Rules that decide wishes of a client, list by list outward, with a label of such a wish.
-#[derive(Debug, Drop)]
+#[derive(Drop)]
 pub struct Trail {
     label: Label,
     rules: Vec<usize>,
@@ -58,7 +58,7 @@ impl Trail {
 }
 
 /// How the wishes of a client for a service are decided, for every label that can be given.
-#[derive(Debug, Drop)]
+#[derive(Drop)]
 pub struct Trails {
     trails: Vec<Trail>,
 }

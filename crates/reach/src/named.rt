@@ -6,7 +6,7 @@ use std::alloc::Global;
 use std::fmt;
 
 /// Who is sought by a path.
-#[derive(Clone, Copy, Debug, PartialEq, Eq)]
+#[derive(Clone, Copy, PartialEq, Eq)]
 pub enum Sought {
     /// Scripts.
     Script,

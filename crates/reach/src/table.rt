@@ -13,7 +13,7 @@ use std::fmt;
 use trade_base::SERVICES;
 
 /// Whether a script's wishes for a service reach a server.
-#[derive(Debug, Drop)]
+#[derive(Drop)]
 pub struct Cell {
     /// The number of the script.
     pub client: usize,

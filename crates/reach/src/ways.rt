@@ -12,7 +12,7 @@ use std::alloc::{AllocError, Global};
 use std::marker::Model;
 
 /// Whether a client's wishes for a service lead to a server.
-#[derive(Debug, Drop)]
+#[derive(Drop)]
 pub enum Reach {
     /// With every label.
     Always,

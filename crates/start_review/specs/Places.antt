@@ -136,7 +136,7 @@ spot_of_flaw flaw = record { part = flaw.part; member = option_copied flaw.membe
 
 -- ---- why a text is no start list, or doesn't boot
 
-abbrev fault_in : Result Listed BootFault → Option BootFault
+abbrev pub fault_in : Result Listed BootFault → Option BootFault
 fault_in (Ok list) = quota_fault list
 fault_in (Err fault) = Some fault
 

@@ -2,7 +2,7 @@
 use std::fmt;
 
 /// What an entry asks for in its account, and in its reserve.
-#[derive(Clone, Copy, Debug)]
+#[derive(Clone, Copy)]
 pub(crate) struct Asked {
     /// The member that says what the account has.
     member: &'static str,

@@ -15,7 +15,7 @@ use std::fmt::Write;
 const MOST_TOLD: usize = 80;
 
 /// Why a text is no JSON, as its reader tells it.
-#[derive(Clone, Copy, Debug)]
+#[derive(Clone, Copy)]
 pub struct Reason {
     told: ArrayString<MOST_TOLD>,
 }
@@ -41,7 +41,7 @@ impl fmt::Display for Reason {
 }
 
 /// Where a fault is.
-#[derive(Debug, Drop)]
+#[derive(Drop)]
 pub enum Whereabouts {
     /// In the JSON text: the line and the column, from 1 on, as far as the reader tells them, and its reason.
     Text(usize, usize, Reason),
@@ -56,7 +56,7 @@ pub enum Whereabouts {
 }
 
 /// The engine's own fault, and where it is.
-#[derive(Debug, Drop)]
+#[derive(Drop)]
 pub struct Fault {
     /// The fault.
     pub fault: BootFault,

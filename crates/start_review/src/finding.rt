@@ -3,14 +3,14 @@ ghost use Rattle.std.specs.Prelude.{◌≡◌, IfOk};
 
 use crate::asked::Asked;
 use crate::part::Part;
-use crate::quoted::Quoted;
+use crate::quoted::{Quoted, show_within};
 use init_core::Name;
 use std::alloc::{AllocError, Global};
 use std::fmt;
 use std::marker::Model;
 
 /// Something that a start list says, and where.
-#[derive(Debug, Drop)]
+#[derive(Drop)]
 pub struct Finding {
     /// The part of the list.
     pub part: Part,
@@ -25,7 +25,7 @@ impl fmt::Display for Finding {
 }
 
 /// The name of a member, as it stands in a text.
-#[derive(Debug, Drop)]
+#[derive(Drop)]
 pub struct Written {
     text: String,
 }
@@ -57,7 +57,7 @@ impl Written {
 }
 
 /// The name of a member that is read.
-#[derive(Debug, Drop)]
+#[derive(Drop)]
 pub struct Known(pub(crate) &'static str);
 
 impl Model for Known {
@@ -78,7 +78,7 @@ impl Known {
 }
 
 /// What is to be told of a part of a start list.
-#[derive(Debug, Drop)]
+#[derive(Drop)]
 pub enum Remark {
     /// An earlier member of the same object has this name, too.
     GivenTwice(Written),
@@ -123,47 +123,44 @@ pub enum Remark {
 impl fmt::Display for Remark {
     fn fmt<W: fmt::Write>(&self, f: &mut fmt::Formatter<W>) -> fmt::Result {
         match self {
-            Remark::GivenTwice(member) => {
-                show_member(f, member.as_str())?;
-                f.write_str(": given twice; the last one counts")
-            }
-            Remark::Unread(member, near) => {
-                show_member(f, member.as_str())?;
-                f.write_str(": nothing reads this member")?;
-                show_near(f, known_text(near))
-            }
-            Remark::NoChild(child, near) => {
-                write!(f, "child: no entry has the name \"{child}\"")?;
-                show_near(f, text_of(near))
-            }
-            Remark::NotProvided(child, service) => {
-                write!(f, "child: \"{child}\" doesn't provide {service}")
-            }
-            Remark::NoProvider(service) => write!(f, "any-child: no entry provides {service}"),
-            Remark::SeveralProviders(service) => {
-                write!(
-                    f,
-                    "any-child: several entries provide {service}, so it is denied"
-                )
-            }
-            Remark::Hidden(rule) => {
-                write!(
-                    f,
-                    "hidden: rule [{rule}] of the same list matches whatever this one does"
-                )
-            }
-            Remark::OtherCase(service, meant) => write!(
+            Remark::GivenTwice(member) => show_member(
                 f,
-                "service: no server has {service}; did you mean \"{}\"?",
-                meant.as_str()
+                member,
+                ": given twice; the last one counts",
+                None,
             ),
+            Remark::Unread(member, near) => show_member(
+                f,
+                member,
+                ": nothing reads this member",
+                known_text(near),
+            ),
+            Remark::NoChild(child, near) => show_no_child(f, child, near),
+            Remark::NotProvided(child, service) => show_not_provided(f, child, service),
+            Remark::NoProvider(service) => {
+                show_within(f, "any-child: no entry provides ", service, "")
+            }
+            Remark::SeveralProviders(service) => show_within(
+                f,
+                "any-child: several entries provide ",
+                service,
+                ", so it is denied",
+            ),
+            Remark::Hidden(rule) => show_within(
+                f,
+                "hidden: rule [",
+                rule,
+                "] of the same list matches whatever this one does",
+            ),
+            Remark::OtherCase(service, meant) => show_other_case(f, service, meant),
             Remark::Idle => f.write_str(
                 "decides nothing: no script's wish comes to this rule, with any label",
             ),
-            Remark::NoLabel(member) => write!(
+            Remark::NoLabel(member) => show_within(
                 f,
-                "decides nothing: {}: no label can have this text",
-                member.as_str()
+                "decides nothing: ",
+                &member.as_str(),
+                ": no label can have this text",
             ),
             Remark::Arrow => f.write_str(
                 "decides nothing: label: who gives no label is seen by the names alone, without the arrow",
@@ -172,27 +169,40 @@ impl fmt::Display for Remark {
             Remark::ChosenEnd => f.write_str(
                 "label_suffix: a client chooses it with any label that isn't empty, and it may reach into the names",
             ),
-            Remark::NotProviding(service) => write!(
+            Remark::NotProviding(service) => show_within(
                 f,
-                "provides: it could provide {}, and doesn't say so",
-                service.as_str()
+                "provides: it could provide ",
+                &service.as_str(),
+                ", and doesn't say so",
             ),
             Remark::Unreached => f.write_str("no script's route leads to this server"),
-            Remark::LowRam(own, kept) => write!(
+            Remark::LowRam(own, kept) => show_within(
                 f,
-                "{} bytes pay for no session, which takes at least 4096",
-                Asked::ram(*own, *kept)
+                "",
+                &Asked::ram(*own, *kept),
+                " bytes pay for no session, which takes at least 4096",
             ),
-            Remark::LowCaps(own, kept) => write!(
+            Remark::LowCaps(own, kept) => show_within(
                 f,
-                "{} capabilities pay for no session, which takes at least 2",
-                Asked::caps(*own, *kept)
+                "",
+                &Asked::caps(*own, *kept),
+                " capabilities pay for no session, which takes at least 2",
             ),
             Remark::PartPages(ram) => {
-                write!(f, "quantum: {ram} bytes aren't whole pages of 4096 bytes")
+                show_within(
+                    f,
+                    "quantum: ",
+                    ram,
+                    " bytes aren't whole pages of 4096 bytes",
+                )
             }
             Remark::PartReserve(ram) => {
-                write!(f, "reserve: {ram} bytes aren't whole pages of 4096 bytes")
+                show_within(
+                    f,
+                    "reserve: ",
+                    ram,
+                    " bytes aren't whole pages of 4096 bytes",
+                )
             }
         }
     }
@@ -211,13 +221,51 @@ fn show_let_in<W: fmt::Write>(
     write!(f, "label_prefix: {front} lets \"{name}\" in too")
 }
 
-// The name of a member.
-fn show_member<W: fmt::Write>(f: &mut fmt::Formatter<W>, member: &str) -> fmt::Result {
+// What is to be told of a member, and what may have been meant.
+fn show_member<W: fmt::Write>(
+    f: &mut fmt::Formatter<W>,
+    member: &Written,
+    said: &str,
+    near: Option<&str>,
+) -> fmt::Result {
     let member = Quoted {
-        text: member,
+        text: member.as_str(),
         in_graph: false,
     };
-    write!(f, "{member}")
+    write!(f, "{member}{said}")?;
+    show_near(f, near)
+}
+
+// That no entry has the name of a child.
+fn show_no_child<W: fmt::Write>(
+    f: &mut fmt::Formatter<W>,
+    child: &Name,
+    near: &Option<Name>,
+) -> fmt::Result {
+    write!(f, "child: no entry has the name \"{child}\"")?;
+    show_near(f, text_of(near))
+}
+
+// That a child doesn't provide a service.
+fn show_not_provided<W: fmt::Write>(
+    f: &mut fmt::Formatter<W>,
+    child: &Name,
+    service: &Name,
+) -> fmt::Result {
+    write!(f, "child: \"{child}\" doesn't provide {service}")
+}
+
+// That no server has a service, and which may have been meant.
+fn show_other_case<W: fmt::Write>(
+    f: &mut fmt::Formatter<W>,
+    service: &Name,
+    meant: &Known,
+) -> fmt::Result {
+    write!(
+        f,
+        "service: no server has {service}; did you mean \"{}\"?",
+        meant.as_str()
+    )
 }
 
 // What may have been meant, if something may.

@@ -11,7 +11,7 @@ ghost use Rattle.start_review.specs.Values.{seen};
 
 use crate::bad_rule::{bad_rule, rule_flaw};
 use crate::part::{Owner, Part, Steps, rule_at};
-use crate::quoted::Quoted;
+use crate::quoted::{Quoted, show_within};
 use crate::values::{EntryValue, find_entries, member, runs};
 use arrayvec::ArrayString;
 use init_core::{BootFault, Field, entry_at_fault};
@@ -23,7 +23,7 @@ use std::fmt;
 const MOST_TOLD: usize = 40;
 
 /// What a value is.
-#[derive(Clone, Copy, Debug, PartialEq, Eq)]
+#[derive(Clone, Copy)]
 pub enum Sort {
     /// There is none.
     Missing,
@@ -84,13 +84,13 @@ impl fmt::Display for Sort {
         match self {
             Sort::Missing => f.write_str("missing"),
             Sort::Null => f.write_str("null"),
-            Sort::Boolean(value) => write!(f, "{value}"),
-            Sort::Whole(number) => write!(f, "{number}"),
-            Sort::Negative(number) => write!(f, "{number}"),
+            Sort::Boolean(value) => show_within(f, "", value, ""),
+            Sort::Whole(number) => show_within(f, "", number, ""),
+            Sort::Negative(number) => show_within(f, "", number, ""),
             Sort::Number => f.write_str("a number that isn't whole"),
             Sort::Text(text) => show_text(f, text.as_str()),
-            Sort::LongText(length) => write!(f, "a text of {length} bytes"),
-            Sort::List(count) => write!(f, "a list of {count}"),
+            Sort::LongText(length) => show_within(f, "a text of ", length, " bytes"),
+            Sort::List(count) => show_within(f, "a list of ", count, ""),
             Sort::Object => f.write_str("an object"),
         }
     }
@@ -106,7 +106,7 @@ fn show_text<W: fmt::Write>(f: &mut fmt::Formatter<W>, text: &str) -> fmt::Resul
 }
 
 /// What is expected of a member, or of a whole rule or entry.
-#[derive(Clone, Copy, Debug, PartialEq, Eq)]
+#[derive(Clone, Copy)]
 pub enum Expected {
     /// An object.
     Object,
@@ -171,7 +171,7 @@ impl fmt::Display for Expected {
 }
 
 /// A fault of a value: the part, the member of it, if it is one's, what is there, and what is expected.
-#[derive(Debug, Drop)]
+#[derive(Drop)]
 pub struct Flaw {
     /// The part of the list.
     pub part: Part,

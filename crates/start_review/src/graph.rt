@@ -8,7 +8,7 @@ use std::fmt;
 
 /// The tree as a graph in DOT: an init is a box around what it starts, each other component a node, by its path, and an edge stands
 /// for the rules that decide some of a script's wishes for a service. What is denied of a list's scripts leads to one grey node.
-#[derive(Debug, Drop)]
+#[derive(Drop)]
 pub struct Graph<'a> {
     list: &'a StartList,
     decided: Vec<Decided>,

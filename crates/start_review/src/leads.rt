@@ -10,7 +10,7 @@ use std::fmt;
 use trade_base::SERVICES;
 
 /// How the wishes of a script for a service are decided.
-#[derive(Debug, Drop)]
+#[derive(Drop)]
 pub(crate) struct Decided {
     /// The number of the script.
     pub client: usize,

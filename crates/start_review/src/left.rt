@@ -20,7 +20,7 @@ use std::marker::Model;
 const MOST_INITS: usize = 33;
 
 /// What an init still has.
-#[derive(Clone, Copy, Debug, Default)]
+#[derive(Clone, Copy, Default)]
 pub(crate) struct Left {
     /// RAM in bytes.
     pub ram: u64,
@@ -136,7 +136,7 @@ fn start(inits: &mut Inits, list: &StartList, entry: &Entry)
 }
 
 /// An entry that what its init still has doesn't cover.
-#[derive(Debug, Drop)]
+#[derive(Drop)]
 pub struct Lack {
     /// The entry's number among those of all lists.
     pub entry: usize,

@@ -9,7 +9,7 @@ use crate::near::near_word;
 use std::alloc::{AllocError, Global};
 
 /// The kinds of objects in a start list.
-#[derive(Clone, Copy, Debug, PartialEq, Eq)]
+#[derive(Clone, Copy)]
 pub(crate) enum Table {
     /// The list itself.
     List,

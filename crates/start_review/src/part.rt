@@ -3,13 +3,14 @@ ghost use Rattle.std.specs.Prelude.{◌≡◌, ◌≤◌, IfOk};
 ghost use Rattle.std.specs.List.{slice_get};
 ghost use Rattle.start_review.specs.Steps.{part_of, place_in, rule_at, rule_part, steps_above, steps_to, steps_within};
 
+use crate::quoted::show_within;
 use init_core::{Entry, MOST_LISTS, Name, StartList};
 use std::alloc::{AllocError, Global};
 use std::fmt;
 use std::marker::Model;
 
 /// A step to an entry: its place in its list, and its name where it has one.
-#[derive(Debug, Drop)]
+#[derive(Drop)]
 pub struct Step {
     /// The place, from 0 on.
     pub place: usize,
@@ -43,7 +44,7 @@ impl fmt::Display for Step {
 }
 
 /// The steps to an entry, from the machine's list on.
-#[derive(Debug, Drop)]
+#[derive(Drop)]
 pub struct Steps {
     steps: Vec<Step>,
 }
@@ -109,7 +110,7 @@ impl fmt::Display for Steps {
 }
 
 /// A part of a start list, or a place in its text. Entries are those of all lists, an init directly before its own. Numbers and places count from 0.
-#[derive(Debug, Drop)]
+#[derive(Drop)]
 pub enum Part {
     /// A place in the text: the line and the column, from 1 on.
     Text(usize, usize),
@@ -155,9 +156,9 @@ impl fmt::Display for Part {
             Part::Text(line, column) => write!(f, "line {line}, column {column}"),
             Part::List => f.write_str("start list"),
             Part::Machine => f.write_str("machine"),
-            Part::Entry(_, steps) => write!(f, "{steps}"),
-            Part::Config(_, steps) => write!(f, "{steps}: config"),
-            Part::DefaultRule(rule) => write!(f, "default-route[{rule}]"),
+            Part::Entry(_, steps) => show_within(f, "", steps, ""),
+            Part::Config(_, steps) => show_within(f, "", steps, ": config"),
+            Part::DefaultRule(rule) => show_within(f, "default-route[", rule, "]"),
             Part::Rule(_, steps, rule) => write!(f, "{steps}: route[{rule}]"),
             Part::InnerRule(_, steps, rule) => write!(f, "{steps}: config: default-route[{rule}]"),
         }

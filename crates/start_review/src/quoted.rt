@@ -13,25 +13,53 @@ pub(crate) struct Quoted<'a> {
 
 impl fmt::Display for Quoted<'_> {
     fn fmt<W: fmt::Write>(&self, f: &mut fmt::Formatter<W>) -> fmt::Result {
-        let quote = if self.in_graph { "\\\"" } else { "\"" };
-        let backslash = if self.in_graph { "\\\\" } else { "\\" };
-        f.write_str(quote)?;
+        f.write_str(self.quote())?;
         for sign in self.text.chars() {
-            match sign {
-                '"' => {
-                    f.write_str(backslash)?;
-                    f.write_str(quote)?;
-                }
-                '\\' => {
-                    f.write_str(backslash)?;
-                    f.write_str(backslash)?;
-                }
-                '\n' => write!(f, "{backslash}n")?,
-                '\t' => write!(f, "{backslash}t")?,
-                sign if sign.is_control() => write!(f, "{backslash}u{:04x}", sign as u32)?,
-                sign => write!(f, "{sign}")?,
-            }
+            self.show_sign(f, sign)?;
         }
-        f.write_str(quote)
+        f.write_str(self.quote())
     }
+}
+
+impl Quoted<'_> {
+    // A quote, as it is written.
+    fn quote(&self) -> &'static str {
+        if self.in_graph { "\\\"" } else { "\"" }
+    }
+
+    // A backslash, as it is written.
+    fn backslash(&self) -> &'static str {
+        if self.in_graph { "\\\\" } else { "\\" }
+    }
+
+    // A sign of the text.
+    fn show_sign<W: fmt::Write>(&self, f: &mut fmt::Formatter<W>, sign: char) -> fmt::Result {
+        let backslash = self.backslash();
+        match sign {
+            '"' => show_both(f, backslash, self.quote()),
+            '\\' => show_both(f, backslash, backslash),
+            '\n' => show_both(f, backslash, "n"),
+            '\t' => show_both(f, backslash, "t"),
+            sign if sign.is_control() => write!(f, "{backslash}u{:04x}", sign as u32),
+            sign => write!(f, "{sign}"),
+        }
+    }
+}
+
+// Two texts.
+fn show_both<W: fmt::Write>(f: &mut fmt::Formatter<W>, first: &str, second: &str) -> fmt::Result {
+    f.write_str(first)?;
+    f.write_str(second)
+}
+
+/// A value, and the texts before and behind it.
+pub(crate) fn show_within<W: fmt::Write, T: fmt::Display>(
+    f: &mut fmt::Formatter<W>,
+    before: &str,
+    value: &T,
+    behind: &str,
+) -> fmt::Result {
+    f.write_str(before)?;
+    write!(f, "{value}")?;
+    f.write_str(behind)
 }

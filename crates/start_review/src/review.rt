@@ -6,7 +6,7 @@ ghost use Rattle.init_core.specs.Boot.{quota_fault};
 ghost use Rattle.init_core.specs.StartText.{json_in, list_in, list_of};
 ghost use Rattle.init_core.specs.declared.fault.BootFault.TheVariants.{BadJson, NoMemory};
 ghost use Rattle.start_review.specs.Findings.{findings_of};
-ghost use Rattle.start_review.specs.Places.{IsPlaced, fault_of};
+ghost use Rattle.start_review.specs.Places.{IsPlaced, fault_in, fault_of};
 ghost use Rattle.start_review.specs.Repeated.{repeated_in};
 ghost use Rattle.start_review.specs.Spare.{if_any, spare_of};
 ghost use Rattle.start_review.specs.Unread.{unread_of};
@@ -29,7 +29,7 @@ use std::alloc::{AllocError, Global};
 const LONGEST_TEXT: usize = 65_536;
 
 /// A start list that boots, and what is to be told of it.
-#[derive(Debug, Drop)]
+#[derive(Drop)]
 pub struct Review {
     list: StartList,
     findings: Vec<Finding>,
@@ -59,20 +59,8 @@ impl Review {
             });
         }
         let value = read_json(alloc, text)?;
-        let list = match StartList::of_value(alloc, &value) {
-            Ok(list) => list,
-            Err(fault) => return Err(placed(alloc, &value, fault)),
-        };
-        if let Some(lack) = first_lack(alloc, &list)? {
-            return Err(Fault {
-                fault: BootFault::QuotaExceeded(lack.path.copy()),
-                place: Whereabouts::Budget(lack),
-            });
-        }
-        let mut findings = Vec::new(alloc);
-        tell_repeated(&mut findings, alloc, text)?;
-        tell_unread(&mut findings, alloc, &value)?;
-        tell_findings(&mut findings, alloc, &list)?;
+        let list = read_list(alloc, &value)?;
+        let findings = findings_in(alloc, text, &value, &list)?;
         let spare = spare_of(alloc, &list)?;
         Ok(Review {
             list,
@@ -143,6 +131,45 @@ fn read_json(alloc: Global, text: &[u8]) -> Result<Value, Fault>
             })
         },
     }
+}
+
+// The list that a value is, where what its inits have covers each entry.
+fn read_list(alloc: Global, value: &Value) -> Result<StartList, Fault>
+    ensures list { IfOk result (λ list. list_of (view value.now) ≡ Ok list) }
+    ensures boots { IfOk result (λ list. quota_fault list ≡ None) }
+    ensures fault { IfErr result (λ fault. fault.fault ≢ NoMemory
+        → fault_in (list_of (view value.now)) ≡ Some fault.fault) }
+    ensures place { IfErr result (λ fault. fault.fault ≢ NoMemory
+        → IsPlaced (Some (view value.now)) fault.fault fault.place) }
+{
+    let list = match StartList::of_value(alloc, value) {
+        Ok(list) => list,
+        Err(fault) => return Err(placed(alloc, value, fault)),
+    };
+    match first_lack(alloc, &list)? {
+        Some(lack) => Err(Fault {
+            fault: BootFault::QuotaExceeded(lack.path.copy()),
+            place: Whereabouts::Budget(lack),
+        }),
+        None => Ok(list),
+    }
+}
+
+// What is to be told of a list, of the value that it was read of, and of the text that this was read of.
+fn findings_in(
+    alloc: Global,
+    text: &[u8],
+    value: &Value,
+    list: &StartList,
+) -> Result<Vec<Finding>, AllocError>
+    ensures { IfOk result (λ findings. findings.items
+        ≡ repeated_in text.now ++ unread_of (view value.now) ++ findings_of list.now) }
+{
+    let mut findings = Vec::new(alloc);
+    tell_repeated(&mut findings, alloc, text)?;
+    tell_unread(&mut findings, alloc, value)?;
+    tell_findings(&mut findings, alloc, list)?;
+    Ok(findings)
 }
 
 // A fault of a value with its place.

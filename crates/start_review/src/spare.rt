@@ -9,7 +9,7 @@ use std::alloc::{AllocError, Global};
 use std::fmt;
 
 /// What a server's account starts with, and has to the end: no call charges it.
-#[derive(Debug, Drop)]
+#[derive(Drop)]
 pub struct Spare {
     /// The server's path.
     pub path: Path,
@@ -31,7 +31,7 @@ impl fmt::Display for Spare {
 }
 
 /// What the servers of a list have that nothing uses.
-#[derive(Clone, Copy, Debug)]
+#[derive(Clone, Copy)]
 pub struct Advice<'a> {
     /// Each that has something.
     pub servers: &'a [Spare],

@@ -7,7 +7,7 @@ use std::fmt;
 
 /// A start list's machine, what inits keep, each component with what it starts with, below its init, and for each script and service
 /// where an `open` leads, by which rules, under which conditions on the label, and with which label, where others lead elsewhere.
-#[derive(Debug, Drop)]
+#[derive(Drop)]
 pub struct Tree<'a> {
     list: &'a StartList,
     decided: Vec<Decided>,

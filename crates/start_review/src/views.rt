@@ -14,7 +14,7 @@ use std::marker::Model;
 use trade_base::SERVICES;
 
 /// How the wishes of a script for a service are decided.
-#[derive(Debug, Drop)]
+#[derive(Drop)]
 pub(crate) struct View {
     /// The number of the script.
     pub(crate) client: usize,

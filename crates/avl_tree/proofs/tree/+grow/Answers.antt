@@ -89,3 +89,14 @@ pub returns-in-Right-clause-loads : goal.returns-in-Right-clause-loads
 returns-in-Right-clause-loads g t c =
     grow-right_loads _ _ c.args.node _ c.args.root c.if-root-eq0.false _ _ (g.N.Nodes.loads c.grow-right.new.memory) _ (g.N.Nodes.loads c.args.memory.now) c.in-Right.ensures.step c.with_right.ensures.loads
     (λ u stands new. omega (arith, c.step.ensures.loads, c.grow-right.ensures.loads u (rw c.step.ensures.view stands) (rw c.step.ensures.view new)))
+
+-- what is kept
+pub returns-in-Left-clause-keeps : goal.returns-in-Left-clause-keeps
+returns-in-Left-clause-keeps g t c =
+    let then = g.met.N.Nodes.keeps_then in
+    then _ _ _ _ c.step.ensures.keeps (then _ _ _ _ c.grow-left.ensures.keeps c.with_left.ensures.keeps)
+
+pub returns-in-Right-clause-keeps : goal.returns-in-Right-clause-keeps
+returns-in-Right-clause-keeps g t c =
+    let then = g.met.N.Nodes.keeps_then in
+    then _ _ _ _ c.step.ensures.keeps (then _ _ _ _ c.grow-right.ensures.keeps c.with_right.ensures.keeps)

@@ -96,3 +96,19 @@ pub returns-in-Here-clause-loads : goal.returns-in-Here-clause-loads
 returns-in-Here-clause-loads g t c =
     here_loads _ _ (g.N.Nodes.rank c.args.key) c.args.root c.if-root-eq0.false _ _ _
     (λ l s h r stands. omega (arith, c.step.ensures.loads, c.join.ensures.loads l s h r (rw c.step.ensures.view stands)))
+
+-- what is kept
+pub returns-in-Left-clause-keeps : goal.returns-in-Left-clause-keeps
+returns-in-Left-clause-keeps g t c =
+    let then = g.met.N.Nodes.keeps_then in
+    then _ _ _ _ c.step.ensures.keeps (then _ _ _ _ c.prune-left.ensures.keeps c.with_left.ensures.keeps)
+
+pub returns-in-Right-clause-keeps : goal.returns-in-Right-clause-keeps
+returns-in-Right-clause-keeps g t c =
+    let then = g.met.N.Nodes.keeps_then in
+    then _ _ _ _ c.step.ensures.keeps (then _ _ _ _ c.prune-right.ensures.keeps c.with_right.ensures.keeps)
+
+pub returns-in-Here-clause-keeps : goal.returns-in-Here-clause-keeps
+returns-in-Here-clause-keeps g t c =
+    let then = g.met.N.Nodes.keeps_then in
+    then _ _ _ _ c.step.ensures.keeps c.join.ensures.keeps

@@ -47,3 +47,19 @@ returns-clause-made g c =
     (λ t stands. c.part_first-parted.ensures.first t (rw c.links-links.ensures.view stands)) parts c.limb_of-left.ensures.is
     (λ old new told held at. c.limb_now-right.ensures.is old new told (rw c.limb_of-left.ensures.view held) at)
     (λ x y z slope. rw (sym kept) (c.balance.ensures.made x y z (rw kept slope)))
+
+-- what is kept
+pub returns-clause-keeps : goal.returns-clause-keeps
+returns-clause-keeps g c =
+    let then = g.met.N.Nodes.keeps_then in
+    then _ _ _ _ c.links-links.ensures.keeps (then _ _ _ _ c.part_first-parted.ensures.keeps (then _ _ _ _ c.limb_of-left.ensures.keeps (then _ _ _ _ c.limb_now-right.ensures.keeps c.balance.ensures.keeps)))
+
+pub returns-then-links-eq0-clause-keeps : goal.returns-then-links-eq0-clause-keeps
+returns-then-links-eq0-clause-keeps g c =
+    let then = g.met.N.Nodes.keeps_then in
+    then _ _ _ _ c.links-links.ensures.keeps c.limb_of.ensures.keeps
+
+pub returns-then-links-eq0-2-clause-keeps : goal.returns-then-links-eq0-2-clause-keeps
+returns-then-links-eq0-2-clause-keeps g c =
+    let then = g.met.N.Nodes.keeps_then in
+    then _ _ _ _ c.links-links.ensures.keeps c.limb_of-then-links-eq0-2.ensures.keeps
