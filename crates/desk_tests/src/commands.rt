@@ -1,7 +1,7 @@
 //! Command lines that are taken: the command that each asks for.
 use std::process::Abort;
 use std::test::Fail;
-use workbench_options::{Color, Command, Request};
+use workbench_options::Request;
 
 /// Words, and the command that they ask for as it is told for debugging.
 const COMMANDS: &[(&[&str], &str)] = &[
@@ -141,15 +141,11 @@ fn values_are_read_in_order(rt: HostRuntime) -> Result<(), Fail> {
     let Some(request) = Request::read(rt.alloc(), words.as_slice())? else {
         return Err(Fail::new("no request"));
     };
-    let command = Command::Run {
-        machine: None,
-        only: None,
-        accounts: true,
-        numbers: false,
-        color: Color::Never,
-        scenario: "x",
-    };
-    assert!(rt; request.command == command);
+    let told = format!(in rt.alloc(); "{:?}", request.command)?;
+    assert!(rt;
+        told.as_str()
+            == r#"Run { machine: None, only: None, accounts: true, numbers: false, color: Never, scenario: "x" }"#
+    );
     assert!(rt; request.given.as_slice() == ["a=1", "b="].as_slice());
     Ok(())
 }

@@ -1,7 +1,7 @@
 //! What is asked for.
 ghost use Rattle.std.specs.Prelude.{◌≡◌, ◌≢◌, [], IfErr, IfOk, Some, codes, map, true, unwrap_or};
 ghost use Rattle.clap.specs.Words.{FailsBy, all_of, fault_of, found_of, kind_of, rows_of, subcommand_of, subcommand_rows_of, takes};
-ghost use Rattle.workbench_options.specs.Line.{AsksAs, IsColor, IsCommand, first_or, is_set, program};
+ghost use Rattle.workbench_options.specs.Line.{Asks, AsksAs, IsColor, IsCommand, first_or, is_set, program};
 
 use crate::commands::commands;
 use clap::error::ErrorKind;
@@ -32,7 +32,7 @@ pub enum Color {
 }
 
 /// What the workbench is asked to do. Paths are as they stand, and `-` is standard input.
-#[derive(Debug, PartialEq, Eq, Drop)]
+#[derive(Debug, Drop)]
 pub enum Command<'a> {
     /// Answers a scenario, and tells where it isn't answered as it expects.
     Run {
@@ -235,23 +235,39 @@ impl<'a> Command<'a> {
             IsCommand command name.entry.now (rows_of (found_of found.now))) }
     {
         match name {
-            "test" => Ok(Some(Command::Test {
-                machine: found.get_str("machine"),
-                junit: found.get_str("junit"),
-                coverage: is_set(found, "coverage"),
-                json: is_set(found, "json"),
-                color: colored(found),
-                paths: words(alloc, found, "path")?,
-            })),
-            "reach" => Ok(Some(Command::Reach {
-                csv: is_set(found, "csv"),
-                json: is_set(found, "json"),
-                from: words(alloc, found, "from")?,
-                to: words(alloc, found, "to")?,
-                list: path(found, "list"),
-            })),
+            "test" => Ok(Some(Command::test(alloc, found)?)),
+            "reach" => Ok(Some(Command::reach(alloc, found)?)),
             _ => Ok(Command::of(name, found)),
         }
+    }
+
+    // The command that runs scenarios as tests.
+    fn test(alloc: Global, found: &ArgMatches<'a>) -> Result<Command<'a>, AllocError>
+        ensures { IfOk result (λ command.
+            Asks command (codes "test") (rows_of (found_of found.now))) }
+    {
+        Ok(Command::Test {
+            machine: found.get_str("machine"),
+            junit: found.get_str("junit"),
+            coverage: is_set(found, "coverage"),
+            json: is_set(found, "json"),
+            color: colored(found),
+            paths: words(alloc, found, "path")?,
+        })
+    }
+
+    // The command that tells which scripts reach which servers.
+    fn reach(alloc: Global, found: &ArgMatches<'a>) -> Result<Command<'a>, AllocError>
+        ensures { IfOk result (λ command.
+            Asks command (codes "reach") (rows_of (found_of found.now))) }
+    {
+        Ok(Command::Reach {
+            csv: is_set(found, "csv"),
+            json: is_set(found, "json"),
+            from: words(alloc, found, "from")?,
+            to: words(alloc, found, "to")?,
+            list: path(found, "list"),
+        })
     }
 
     // The same of one that takes no lists of words.
@@ -261,70 +277,140 @@ impl<'a> Command<'a> {
         ensures { IsCommand result name.entry.now (rows_of (found_of found.now)) }
     {
         match name {
-            "run" => Some(Command::Run {
-                machine: found.get_str("machine"),
-                only: found.get_str("only"),
-                accounts: is_set(found, "accounts"),
-                numbers: is_set(found, "numbers"),
-                color: colored(found),
-                scenario: path(found, "scenario"),
-            }),
-            "record" => Some(Command::Record {
-                machine: found.get_str("machine"),
-                all: is_set(found, "all"),
-                write: is_set(found, "write"),
-                scenario: path(found, "scenario"),
-            }),
-            "check" => Some(Command::Check {
-                strict: is_set(found, "strict"),
-                json: is_set(found, "json"),
-                policy: found.get_str("policy"),
-                list: path(found, "list"),
-            }),
-            "tree" => Some(Command::Tree {
-                dot: is_set(found, "dot"),
-                json: is_set(found, "json"),
-                list: path(found, "list"),
-            }),
-            "route" => Some(Command::Route {
-                list: path(found, "list"),
-                client: word(found, "client"),
-                service: word(found, "service"),
-                args: word(found, "args"),
-            }),
-            "trace" => Some(Command::Trace {
-                machine: found.get_str("machine"),
-                json: is_set(found, "json"),
-                scenario: path(found, "scenario"),
-            }),
-            "accounts" => Some(Command::Accounts {
-                machine: found.get_str("machine"),
-                json: is_set(found, "json"),
-                scenario: path(found, "scenario"),
-            }),
-            "least" => Some(Command::Least {
-                machine: found.get_str("machine"),
-                as_donated: is_set(found, "as-donated"),
-                csv: is_set(found, "csv"),
-                json: is_set(found, "json"),
-                list: is_set(found, "list"),
-                donations: is_set(found, "scenario"),
-                scenario: path(found, "played"),
-            }),
-            "alone" => Some(Command::Alone {
-                machine: found.get_str("machine"),
-                all: is_set(found, "all"),
-                summary: is_set(found, "summary"),
-                name: word(found, "name"),
-                scenario: found.get_str("scenario"),
-            }),
-            "diff" => Some(Command::Diff {
-                json: is_set(found, "json"),
-                before: word(found, "before"),
-                after: word(found, "after"),
-                scenario: found.get_str("scenario"),
-            }),
+            "run" => Some(Command::run(found)),
+            "record" => Some(Command::record(found)),
+            "check" => Some(Command::check(found)),
+            "tree" => Some(Command::tree(found)),
+            "route" => Some(Command::route(found)),
+            "trace" => Some(Command::trace(found)),
+            "accounts" => Some(Command::accounts(found)),
+            "least" => Some(Command::least(found)),
+            "alone" => Some(Command::alone(found)),
+            "diff" => Some(Command::diff(found)),
             _ => None,
+        }
+    }
+
+    // The command that answers a scenario.
+    fn run(found: &ArgMatches<'a>) -> Command<'a>
+        ensures { Asks result (codes "run") (rows_of (found_of found.now)) }
+    {
+        Command::Run {
+            machine: found.get_str("machine"),
+            only: found.get_str("only"),
+            accounts: is_set(found, "accounts"),
+            numbers: is_set(found, "numbers"),
+            color: colored(found),
+            scenario: path(found, "scenario"),
+        }
+    }
+
+    // The command that records a scenario.
+    fn record(found: &ArgMatches<'a>) -> Command<'a>
+        ensures { Asks result (codes "record") (rows_of (found_of found.now)) }
+    {
+        Command::Record {
+            machine: found.get_str("machine"),
+            all: is_set(found, "all"),
+            write: is_set(found, "write"),
+            scenario: path(found, "scenario"),
+        }
+    }
+
+    // The command that tells what is wrong with a start list.
+    fn check(found: &ArgMatches<'a>) -> Command<'a>
+        ensures { Asks result (codes "check") (rows_of (found_of found.now)) }
+    {
+        Command::Check {
+            strict: is_set(found, "strict"),
+            json: is_set(found, "json"),
+            policy: found.get_str("policy"),
+            list: path(found, "list"),
+        }
+    }
+
+    // The command that shows the components of a start list.
+    fn tree(found: &ArgMatches<'a>) -> Command<'a>
+        ensures { Asks result (codes "tree") (rows_of (found_of found.now)) }
+    {
+        Command::Tree {
+            dot: is_set(found, "dot"),
+            json: is_set(found, "json"),
+            list: path(found, "list"),
+        }
+    }
+
+    // The command that tells where a wish leads.
+    fn route(found: &ArgMatches<'a>) -> Command<'a>
+        ensures { Asks result (codes "route") (rows_of (found_of found.now)) }
+    {
+        Command::Route {
+            list: path(found, "list"),
+            client: word(found, "client"),
+            service: word(found, "service"),
+            args: word(found, "args"),
+        }
+    }
+
+    // The command that tells a table of all lines.
+    fn trace(found: &ArgMatches<'a>) -> Command<'a>
+        ensures { Asks result (codes "trace") (rows_of (found_of found.now)) }
+    {
+        Command::Trace {
+            machine: found.get_str("machine"),
+            json: is_set(found, "json"),
+            scenario: path(found, "scenario"),
+        }
+    }
+
+    // The command that tells all accounts.
+    fn accounts(found: &ArgMatches<'a>) -> Command<'a>
+        ensures { Asks result (codes "accounts") (rows_of (found_of found.now)) }
+    {
+        Command::Accounts {
+            machine: found.get_str("machine"),
+            json: is_set(found, "json"),
+            scenario: path(found, "scenario"),
+        }
+    }
+
+    // The command that tells what accounts need.
+    fn least(found: &ArgMatches<'a>) -> Command<'a>
+        ensures { Asks result (codes "least") (rows_of (found_of found.now)) }
+    {
+        Command::Least {
+            machine: found.get_str("machine"),
+            as_donated: is_set(found, "as-donated"),
+            csv: is_set(found, "csv"),
+            json: is_set(found, "json"),
+            list: is_set(found, "list"),
+            donations: is_set(found, "scenario"),
+            scenario: path(found, "played"),
+        }
+    }
+
+    // The command that shows what a component is told alone.
+    fn alone(found: &ArgMatches<'a>) -> Command<'a>
+        ensures { Asks result (codes "alone") (rows_of (found_of found.now)) }
+    {
+        Command::Alone {
+            machine: found.get_str("machine"),
+            all: is_set(found, "all"),
+            summary: is_set(found, "summary"),
+            name: word(found, "name"),
+            scenario: found.get_str("scenario"),
+        }
+    }
+
+    // The command that tells what a change changes.
+    fn diff(found: &ArgMatches<'a>) -> Command<'a>
+        ensures { Asks result (codes "diff") (rows_of (found_of found.now)) }
+    {
+        Command::Diff {
+            json: is_set(found, "json"),
+            before: word(found, "before"),
+            after: word(found, "after"),
+            scenario: found.get_str("scenario"),
         }
     }
 }
