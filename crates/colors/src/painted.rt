@@ -55,6 +55,13 @@ impl<S: Sink> Painted<S> {
         &self.sink
     }
 
+    /// The other sink, for what was written to it by now.
+    pub fn into_sink(self) -> S
+        ensures { result ≡ self.sink }
+    {
+        self.sink
+    }
+
     // Takes bytes in, and writes the lines that they end, coloured as these lines are.
     fn take(&mut self, lines: Lines, bytes: &[u8]) -> Result<(), DeviceFault>
         requires { S.has_failed self.old.sink ≡ false }

@@ -5,9 +5,10 @@ use crate::given::Given;
 use crate::machines::{Machine, MachineText, tell_unbooted};
 use crate::streams::{Origin, Place, plain_writer};
 use crate::unfolding::unfolded;
-use crate::views::{Viewing, view_into};
+use crate::views::{Kept, Viewing, view_text};
 use init_core::{Binary, StartList};
 use scenario::Input;
+use scenario_names::Known;
 use std::io::{Read, Write};
 use std::{fs, io};
 use workbench::{Ending, Play};
@@ -73,7 +74,7 @@ fn read_scenario(rt: &HostRuntime, path: &str) -> io::Result<Vec<u8>> {
 }
 
 // The same on the machine of a text.
-fn all_on(rt: &HostRuntime, text: &[u8], scenario: &[u8], all: All<'_>) -> u8 {
+fn all_on<'a>(rt: &HostRuntime, text: &'a [u8], scenario: &'a [u8], all: All<'a>) -> u8 {
     let list = match StartList::read(rt.alloc(), text) {
         Ok(list) => list,
         Err(fault) => {
@@ -85,7 +86,13 @@ fn all_on(rt: &HostRuntime, text: &[u8], scenario: &[u8], all: All<'_>) -> u8 {
 }
 
 // Tells of each script of a list in turn.
-fn tell_each(rt: &HostRuntime, text: &[u8], list: &StartList, scenario: &[u8], all: All<'_>) -> u8 {
+fn tell_each<'a>(
+    rt: &HostRuntime,
+    text: &'a [u8],
+    list: &'a StartList,
+    scenario: &'a [u8],
+    all: All<'a>,
+) -> u8 {
     let mut status = 0;
     let mut complained = false;
     for entry in list.entries() {
@@ -119,20 +126,29 @@ struct One<'a> {
 
 impl<'a> One<'a> {
     // Plays it, and answers the exit status.
-    fn tell(self, rt: &HostRuntime, all: All<'_>) -> u8 {
-        let mut told = Vec::new(rt.alloc());
-        match self.play(rt, all, &mut told) {
-            Ok(ending) => tell_ending(rt, all, ending, told.as_slice()),
-            Err(status) => status,
+    fn tell(self, rt: &HostRuntime, all: All<'a>) -> u8 {
+        let given = match all.given.known_or_told(rt) {
+            Ok(given) => given,
+            Err(status) => return status,
+        };
+        let kept = self.play(rt, all.scenario, given);
+        match &kept.ended {
+            Ok(ending) => tell_ending(rt, all, *ending, kept.text.as_slice()),
+            Err(fault) => {
+                if !self.silent {
+                    tell_unbooted(rt, all.machine_of(self.text), fault);
+                }
+                REFUSED
+            }
         }
     }
 
-    // Plays it into a text, or answers the exit status where no machine was booted.
-    fn play(self, rt: &HostRuntime, all: All<'_>, told: &mut Vec<u8>) -> Result<Ending, u8> {
+    // Plays it, and keeps what is told of it.
+    fn play(self, rt: &HostRuntime, scenario: &'a str, given: Known) -> Kept {
         let play = Play {
             machine: self.text,
-            scenario: all.scenario.as_bytes(),
-            given: all.given.known_or_told(rt)?,
+            scenario: scenario.as_bytes(),
+            given,
         };
         let place = if self.silent {
             Place::Dropped
@@ -141,16 +157,13 @@ impl<'a> One<'a> {
         };
         let mut reader = Input::new(Origin::Held(self.scenario));
         let mut complaints = plain_writer(rt, place);
-        let viewing = Viewing::Alone(self.name);
-        match view_into(rt, told, play, viewing, &mut reader, &mut complaints) {
-            Ok(ending) => Ok(ending),
-            Err(fault) => {
-                if !self.silent {
-                    tell_unbooted(rt, all.machine_of(self.text), &fault);
-                }
-                Err(REFUSED)
-            }
-        }
+        view_text(
+            rt,
+            play,
+            Viewing::Alone(self.name),
+            &mut reader,
+            &mut complaints,
+        )
     }
 }
 

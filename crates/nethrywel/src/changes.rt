@@ -5,7 +5,7 @@ use crate::given::Given;
 use crate::lists::tell_fault;
 use crate::streams::{Origin, Place, plain_writer};
 use crate::unfolding::unfolded;
-use crate::views::{Viewing, view_into};
+use crate::views::{Viewing, view_text};
 use init_core::{BootFault, Entry, StartList};
 use json_documents::Listing;
 use least::{Account, Budget, Question, Report};
@@ -330,28 +330,28 @@ fn means_of(budget: Budget) -> Means {
 }
 
 // The trace of a scenario, or the exit status of one that can't be played to its end. What it expects isn't looked at.
-fn traced(
+fn traced<'a>(
     rt: &HostRuntime,
-    path: &str,
+    path: &'a str,
     scenario: &[u8],
-    policy: &Policy<'_>,
+    policy: &'a Policy<'_>,
 ) -> Result<Vec<u8>, u8> {
-    let alloc = rt.alloc();
     let play = Play {
         machine: &policy.text,
         scenario: path.as_bytes(),
-        given: Known::new(alloc),
+        given: Known::new(rt.alloc()),
     };
-    let mut text = Vec::new(alloc);
     let mut reader = Input::new(Origin::Held(scenario));
     let mut complaints = plain_writer(rt, Place::Dropped);
     let viewing = Viewing::Trace { json: false };
-    match view_into(rt, &mut text, play, viewing, &mut reader, &mut complaints) {
-        Ok(ending) => match tell_ending(rt, path, ending) {
-            0 | 3 => Ok(text),
-            status => Err(status),
-        },
-        Err(fault) => Err(tell_unplayed(rt, policy.path, &fault)),
+    let kept = view_text(rt, play, viewing, &mut reader, &mut complaints);
+    let status = match &kept.ended {
+        Ok(ending) => tell_ending(rt, path, *ending),
+        Err(fault) => return Err(tell_unplayed(rt, policy.path, fault)),
+    };
+    match status {
+        0 | 3 => Ok(kept.text),
+        status => Err(status),
     }
 }
 

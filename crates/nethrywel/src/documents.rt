@@ -1,7 +1,7 @@
 //! What is told of a scenario, as documents of JSON.
 use crate::ends::Played;
 use crate::streams::{Reader, Writer};
-use crate::views::{Viewing, view_into};
+use crate::views::{Viewing, view_text};
 use init_core::BootFault;
 use json_documents::{Column, Rows, account_documents};
 use std::io;
@@ -38,15 +38,19 @@ pub(crate) fn accounts_document(
     reader: &mut Reader<'_>,
     complaints: &mut Writer<'_>,
 ) -> Played {
-    let mut lines = Vec::new(rt.alloc());
-    let viewing = Viewing::Accounts { json: true };
-    let ended = view_into(rt, &mut lines, play, viewing, reader, complaints);
-    match print_documents(rt, lines.as_slice()) {
+    let kept = view_text(
+        rt,
+        play,
+        Viewing::Accounts { json: true },
+        reader,
+        complaints,
+    );
+    match print_documents(rt, kept.text.as_slice()) {
         Ok(()) => Played {
-            ended,
+            ended: kept.ended,
             unread: false,
         },
-        Err(error) => unprinted(ended, &error),
+        Err(error) => unprinted(kept.ended, &error),
     }
 }
 

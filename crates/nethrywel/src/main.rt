@@ -84,7 +84,7 @@ fn answer_request(rt: &HostRuntime, request: &Request<'_>) -> u8 {
 }
 
 // Does what is asked for, and answers the exit status.
-fn answer(rt: &HostRuntime, command: &Command<'_>, given: Given<'_>) -> u8 {
+fn answer<'a>(rt: &HostRuntime, command: &'a Command<'a>, given: Given<'a>) -> u8 {
     match command {
         Command::Run(asked) => answer_run(rt, asked, given),
         Command::Record(asked) => record_scenario(rt, asked, given),
@@ -108,7 +108,7 @@ fn answer(rt: &HostRuntime, command: &Command<'_>, given: Given<'_>) -> u8 {
 }
 
 // Answers a scenario, and answers the exit status.
-fn answer_run(rt: &HostRuntime, asked: &Run<'_>, given: Given<'_>) -> u8 {
+fn answer_run<'a>(rt: &HostRuntime, asked: &'a Run<'a>, given: Given<'a>) -> u8 {
     match Coloring::asked(rt, asked.color) {
         Some(coloring) => play_transcript(rt, asked, given, coloring),
         None => refuse_words(rt, color_is_one_of_three(rt.alloc())),
@@ -145,7 +145,7 @@ fn answer_reach(rt: &HostRuntime, asked: &Reach<'_>, given: Given<'_>) -> u8 {
 }
 
 // Shows what a component, or each, is told alone, and answers the exit status.
-fn answer_alone(rt: &HostRuntime, asked: &Alone<'_>, given: Given<'_>) -> u8 {
+fn answer_alone<'a>(rt: &HostRuntime, asked: &'a Alone<'a>, given: Given<'a>) -> u8 {
     match (asked.all, asked.scenario) {
         (false, Some(scenario)) if !asked.summary => {
             let scene = Scene {
@@ -170,7 +170,7 @@ fn answer_alone(rt: &HostRuntime, asked: &Alone<'_>, given: Given<'_>) -> u8 {
 }
 
 // Runs scenarios as tests, and answers the exit status.
-fn answer_test(rt: &HostRuntime, asked: &Test<'_>, given: Given<'_>) -> u8 {
+fn answer_test<'a>(rt: &HostRuntime, asked: &'a Test<'a>, given: Given<'a>) -> u8 {
     match Coloring::asked(rt, asked.color) {
         Some(coloring) => {
             let wanted = Wanted {

@@ -46,10 +46,10 @@ impl<'a> Scene<'a> {
 }
 
 /// Plays a scenario, and tells its transcript. Answers the exit status.
-pub(crate) fn play_transcript(
+pub(crate) fn play_transcript<'a>(
     rt: &HostRuntime,
-    asked: &Run<'_>,
-    given: Given<'_>,
+    asked: &'a Run<'a>,
+    given: Given<'a>,
     coloring: Coloring,
 ) -> u8 {
     let showing = Showing {

@@ -2,6 +2,7 @@
 use colors::{Lines, Painted};
 use json_documents::Rows;
 use scenario::{Input, Output};
+use std::alloc::Global;
 use std::fs::File;
 use std::io;
 use std::io::{Printer, Read, Stderr, StdinLock, Write};
@@ -37,7 +38,7 @@ pub(crate) enum Place<'a> {
     /// Standard error.
     Complained(Stderr),
     /// A text.
-    Kept(&'a mut Vec<u8>),
+    Kept(Vec<u8>),
     /// Nowhere.
     Dropped,
 }
@@ -55,6 +56,21 @@ impl Write for Place<'_> {
 
     fn flush(&mut self) -> io::Result<()> {
         Ok(())
+    }
+}
+
+impl Place<'_> {
+    /// A text without lines.
+    pub(crate) fn text(rt: &HostRuntime) -> Self {
+        Place::Kept(Vec::new(rt.alloc()))
+    }
+
+    // The lines of a text; of any other place none.
+    fn into_text(self, alloc: Global) -> Vec<u8> {
+        match self {
+            Place::Kept(text) => text,
+            _ => Vec::new(alloc),
+        }
     }
 }
 
@@ -81,4 +97,9 @@ pub(crate) fn writer<'a>(
     } else {
         plain_writer(rt, place)
     }
+}
+
+/// The lines that were written to a text.
+pub(crate) fn text_of(rt: &HostRuntime, writer: Writer<'_>) -> Vec<u8> {
+    writer.into_sink().into_inner().into_text(rt.alloc())
 }

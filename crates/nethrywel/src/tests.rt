@@ -8,8 +8,8 @@ use crate::lists::Told;
 use crate::machines::{Machine, MachineText};
 use crate::policies::{Noted, Standing, hold_against};
 use crate::scenarios::scenarios_at;
-use crate::streams::{Origin, Place, plain_writer};
-use crate::views::{Viewing, view, view_into};
+use crate::streams::{Origin, Place, plain_writer, text_of};
+use crate::views::{Kept, Viewing, view, view_text};
 use colors::{Lines, paint};
 use init_core::{BootFault, StartList};
 use rounds::{Unfit, unfold};
@@ -329,47 +329,49 @@ fn run_from(
     origin: Origin<'_>,
     coverings: &mut Coverings,
 ) -> Result<Trial, AllocError> {
-    let mut told = Vec::new(rt.alloc());
-    let ended = played(rt, case, origin, coverings, &mut told)?;
-    add_end(rt.alloc(), case, &ended, &mut told)?;
+    let mut kept = played(rt, case, origin, coverings)?;
+    add_end(rt.alloc(), case, &kept.ended, &mut kept.text)?;
     Ok(Trial {
         path: String::from_str(rt.alloc(), case.scenario)?,
-        passed: exit_status(&ended) == 0,
-        told,
+        passed: exit_status(&kept.ended) == 0,
+        told: kept.text,
     })
 }
 
-// Plays the lines of an origin, with complaints in a text. What they show is read from their trace.
+// Plays the lines of an origin, and keeps its complaints. What they show is read from their trace.
 fn played(
     rt: &HostRuntime,
     case: Case<'_>,
     origin: Origin<'_>,
     coverings: &mut Coverings,
-    told: &mut Vec<u8>,
-) -> Result<Result<Ending, BootFault>, AllocError> {
+) -> Result<Kept, AllocError> {
     let play = Play {
         machine: case.machine.text,
         scenario: case.scenario.as_bytes(),
         given: case.given.known(rt.alloc())?,
     };
     let mut reader = Input::new(origin);
-    let mut complaints = plain_writer(rt, Place::Kept(told));
-    if coverings.are_wanted() {
-        let mut shown = Vec::new(rt.alloc());
+    let mut complaints = plain_writer(rt, Place::text(rt));
+    let ended = if coverings.are_wanted() {
         let viewing = Viewing::Trace { json: false };
-        let ended = view_into(rt, &mut shown, play, viewing, &mut reader, &mut complaints);
-        coverings.add(rt, case.machine, case.scenario, shown.as_slice())?;
-        return Ok(ended);
-    }
-    let mut nowhere = plain_writer(rt, Place::Dropped);
-    Ok(view(
-        rt,
-        play,
-        REPLIES,
-        &mut reader,
-        &mut nowhere,
-        &mut complaints,
-    ))
+        let shown = view_text(rt, play, viewing, &mut reader, &mut complaints);
+        coverings.add(rt, case.machine, case.scenario, shown.text.as_slice())?;
+        shown.ended
+    } else {
+        let mut nowhere = plain_writer(rt, Place::Dropped);
+        view(
+            rt,
+            play,
+            REPLIES,
+            &mut reader,
+            &mut nowhere,
+            &mut complaints,
+        )
+    };
+    Ok(Kept {
+        ended,
+        text: text_of(rt, complaints),
+    })
 }
 
 // Adds what is told of a play that didn't begin or didn't come to its end.
