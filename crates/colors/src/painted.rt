@@ -6,12 +6,13 @@ use crate::shade::{Lines, Shade};
 use scenario_lines::{DeviceFault, Gather, Sink};
 use std::alloc::{AllocError, Global};
 
-/// A sink that colours each line once it is whole, and writes it to another.
+/// A sink that colours each line once it is whole, and writes it to another; or one that passes bytes on as they are.
 #[derive(Drop)]
 pub struct Painted<S> {
     alloc: Global,
     sink: S,
-    lines: Lines,
+    // None where bytes pass as they are.
+    lines: Option<Lines>,
     // What came of the line that isn't whole yet.
     line: Vec<u8>,
     gathered: Gather,
@@ -27,7 +28,22 @@ impl<S: Sink> Painted<S> {
         Painted {
             alloc,
             sink,
-            lines,
+            lines: Some(lines),
+            line: Vec::new(alloc),
+            gathered: Gather::new(),
+            failed: false,
+        }
+    }
+
+    /// A sink before another that passes bytes on as they are.
+    pub fn plain(alloc: Global, sink: S) -> Painted<S>
+        requires { S.has_failed sink ≡ false }
+        ensures { ⟦<Painted<S> as Sink>⟧.has_failed result ≡ false }
+    {
+        Painted {
+            alloc,
+            sink,
+            lines: None,
             line: Vec::new(alloc),
             gathered: Gather::new(),
             failed: false,
@@ -39,14 +55,21 @@ impl<S: Sink> Painted<S> {
         &self.sink
     }
 
-    // Takes bytes in, and writes the lines that they end.
-    fn take(&mut self, bytes: &[u8]) -> Result<(), DeviceFault>
+    /// The other sink, for what was written to it by now.
+    pub fn into_sink(self) -> S
+        ensures { result ≡ self.sink }
+    {
+        self.sink
+    }
+
+    // Takes bytes in, and writes the lines that they end, coloured as these lines are.
+    fn take(&mut self, lines: Lines, bytes: &[u8]) -> Result<(), DeviceFault>
         requires { S.has_failed self.old.sink ≡ false }
         ensures works { OnOk result (S.has_failed self.new.sink ≡ false) }
         ensures kept { self.new.failed ≡ self.old.failed }
     {
         let mut text = Vec::new(self.alloc);
-        if add_painted(&mut text, self.lines, &mut self.line, bytes).is_err() {
+        if add_painted(&mut text, lines, &mut self.line, bytes).is_err() {
             return Err(DeviceFault);
         }
         self.gathered.put(&mut self.sink, text.as_slice())?;
@@ -58,7 +81,10 @@ impl<S: Sink> Sink for Painted<S> {
     ghost has_failed = { λ painted. painted.failed || S.has_failed painted.sink };
 
     fn write(&mut self, buffer: &[u8]) -> Result<usize, DeviceFault> {
-        if self.take(buffer).is_err() {
+        let Some(lines) = self.lines else {
+            return self.sink.write(buffer);
+        };
+        if self.take(lines, buffer).is_err() {
             self.failed = true;
             return Err(DeviceFault);
         }

@@ -6,7 +6,7 @@ use crate::row::{form_in, request_in};
 use session_proto::FileError;
 
 /// To what an error is the answer: to any request of a session, or to one of a form.
-#[derive(Clone, Copy, Debug, PartialEq, Eq)]
+#[derive(Clone, Copy)]
 pub enum Asked {
     AnyRequest,
     Create,

@@ -9,7 +9,7 @@ use session_proto::FileError;
 use trade_base::Refusal;
 
 /// Something that an answer may show.
-#[derive(Clone, Copy, Debug, PartialEq, Eq)]
+#[derive(Clone, Copy)]
 pub enum Event {
     /// A call of a form is refused so.
     Refused(Form, Refusal),
@@ -21,7 +21,7 @@ pub enum Event {
 
 /// The rules of which one decides: those of an entry by its number, of the default route in the list of an init by its entry's
 /// number, or of the machine's default route.
-#[derive(Clone, Copy, Debug, PartialEq, Eq)]
+#[derive(Clone, Copy)]
 pub enum Route {
     Own(usize),
     Inner(usize),
@@ -29,7 +29,7 @@ pub enum Route {
 }
 
 /// A rule, by its place in its route.
-#[derive(Clone, Copy, Debug, PartialEq, Eq)]
+#[derive(Clone, Copy)]
 pub struct RuleAt {
     pub route: Route,
     pub place: usize,

@@ -6,7 +6,7 @@ use crate::row::form_in;
 use trade_base::Refusal;
 
 /// To what a refusal is the answer: to any line, to any call, or to a call of a form.
-#[derive(Clone, Copy, Debug, PartialEq, Eq)]
+#[derive(Clone, Copy)]
 pub enum Form {
     AnyLine,
     AnyCall,

@@ -10,7 +10,7 @@ use crate::event::{Event, RuleAt, is_error};
 use text_codec::split_first_word;
 
 /// Something that an answer may show, and whether one did.
-#[derive(Clone, Copy, Debug, PartialEq, Eq)]
+#[derive(Clone, Copy)]
 pub struct Row {
     pub event: Event,
     pub met: bool,
@@ -24,7 +24,7 @@ impl Row {
 }
 
 /// An answered line, with the rules that decided its wish.
-#[derive(Clone, Copy, Debug)]
+#[derive(Clone, Copy)]
 pub(crate) struct Answered<'a, 'b> {
     pub line: &'a [u8],
     pub reply: &'a [u8],

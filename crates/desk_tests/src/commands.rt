@@ -1,13 +1,13 @@
 //! Command lines that are taken: the command that each asks for.
 use std::process::Abort;
 use std::test::Fail;
-use workbench_options::{Color, Command, Request};
+use workbench_options::Request;
 
 /// Words, and the command that they ask for as it is told for debugging.
 const COMMANDS: &[(&[&str], &str)] = &[
     (
         &["nethrywel", "run", "a.txt"],
-        r#"Run { machine: None, only: None, accounts: false, numbers: false, color: Auto, scenario: "a.txt" }"#,
+        r#"Run(Run { machine: None, only: None, accounts: false, numbers: false, color: Auto, scenario: "a.txt" })"#,
     ),
     (
         &[
@@ -19,15 +19,15 @@ const COMMANDS: &[(&[&str], &str)] = &[
             "-",
             "--only=bob",
         ],
-        r#"Run { machine: Some("m.json"), only: Some("bob"), accounts: true, numbers: false, color: Auto, scenario: "-" }"#,
+        r#"Run(Run { machine: Some("m.json"), only: Some("bob"), accounts: true, numbers: false, color: Auto, scenario: "-" })"#,
     ),
     (
         &["nethrywel", "run", "--", "--accounts"],
-        r#"Run { machine: None, only: None, accounts: false, numbers: false, color: Auto, scenario: "--accounts" }"#,
+        r#"Run(Run { machine: None, only: None, accounts: false, numbers: false, color: Auto, scenario: "--accounts" })"#,
     ),
     (
         &["nethrywel", "check", "m.json"],
-        r#"Check { strict: false, json: false, policy: None, list: "m.json" }"#,
+        r#"Check(Check { strict: false, json: false, policy: None, list: "m.json" })"#,
     ),
     (
         &[
@@ -38,55 +38,55 @@ const COMMANDS: &[(&[&str], &str)] = &[
             "--json",
             "--policy=p",
         ],
-        r#"Check { strict: true, json: true, policy: Some("p"), list: "-" }"#,
+        r#"Check(Check { strict: true, json: true, policy: Some("p"), list: "-" })"#,
     ),
     (
         &["nethrywel", "tree", ""],
-        r#"Tree { dot: false, json: false, list: "" }"#,
+        r#"Tree(Tree { dot: false, json: false, list: "" })"#,
     ),
     (
         &["nethrywel", "tree", "--dot", "check"],
-        r#"Tree { dot: true, json: false, list: "check" }"#,
+        r#"Tree(Tree { dot: true, json: false, list: "check" })"#,
     ),
     (
         &["nethrywel", "trace", "run"],
-        r#"Trace { machine: None, json: false, scenario: "run" }"#,
+        r#"Trace(Played { machine: None, json: false, scenario: "run" })"#,
     ),
     (
         &["", "trace", "--machine=", "--json", "a"],
-        r#"Trace { machine: Some(""), json: true, scenario: "a" }"#,
+        r#"Trace(Played { machine: Some(""), json: true, scenario: "a" })"#,
     ),
     (
         &["nethrywel", "accounts", "a"],
-        r#"Accounts { machine: None, json: false, scenario: "a" }"#,
+        r#"Accounts(Played { machine: None, json: false, scenario: "a" })"#,
     ),
     (
         &["nethrywel", "accounts", "--json", "a", "--machine", "b"],
-        r#"Accounts { machine: Some("b"), json: true, scenario: "a" }"#,
+        r#"Accounts(Played { machine: Some("b"), json: true, scenario: "a" })"#,
     ),
     (
         &["nethrywel", "alone", "bob", "a"],
-        r#"Alone { machine: None, all: false, summary: false, name: "bob", scenario: Some("a") }"#,
+        r#"Alone(Alone { machine: None, all: false, summary: false, name: "bob", scenario: Some("a") })"#,
     ),
     (
         &["nethrywel", "alone", "bob", "--machine", "b", "a"],
-        r#"Alone { machine: Some("b"), all: false, summary: false, name: "bob", scenario: Some("a") }"#,
+        r#"Alone(Alone { machine: Some("b"), all: false, summary: false, name: "bob", scenario: Some("a") })"#,
     ),
     (
         &["nethrywel", "alone", "", "größe"],
-        r#"Alone { machine: None, all: false, summary: false, name: "", scenario: Some("größe") }"#,
+        r#"Alone(Alone { machine: None, all: false, summary: false, name: "", scenario: Some("größe") })"#,
     ),
     (
         &["nethrywel", "alone", "--all", "a", "--summary"],
-        r#"Alone { machine: None, all: true, summary: true, name: "a", scenario: None }"#,
+        r#"Alone(Alone { machine: None, all: true, summary: true, name: "a", scenario: None })"#,
     ),
     (
         &["nethrywel", "diff", "a", "b"],
-        r#"Diff { json: false, before: "a", after: "b", scenario: None }"#,
+        r#"Diff(Diff { json: false, before: "a", after: "b", scenario: None })"#,
     ),
     (
         &["nethrywel", "diff", "a", "--json", "b", "c"],
-        r#"Diff { json: true, before: "a", after: "b", scenario: Some("c") }"#,
+        r#"Diff(Diff { json: true, before: "a", after: "b", scenario: Some("c") })"#,
     ),
     (
         &[
@@ -100,11 +100,11 @@ const COMMANDS: &[(&[&str], &str)] = &[
             "d",
             "e",
         ],
-        r#"Test { machine: Some("d"), junit: Some("b"), coverage: false, json: false, color: Auto, paths: ["a", "c", "e"] }"#,
+        r#"Test(Test { machine: Some("d"), junit: Some("b"), coverage: false, json: false, color: Auto, paths: ["a", "c", "e"] })"#,
     ),
     (
         &["nethrywel", "test", "--json", "a", "--coverage"],
-        r#"Test { machine: None, junit: None, coverage: true, json: true, color: Auto, paths: ["a"] }"#,
+        r#"Test(Test { machine: None, junit: None, coverage: true, json: true, color: Auto, paths: ["a"] })"#,
     ),
 ];
 
@@ -141,15 +141,11 @@ fn values_are_read_in_order(rt: HostRuntime) -> Result<(), Fail> {
     let Some(request) = Request::read(rt.alloc(), words.as_slice())? else {
         return Err(Fail::new("no request"));
     };
-    let command = Command::Run {
-        machine: None,
-        only: None,
-        accounts: true,
-        numbers: false,
-        color: Color::Never,
-        scenario: "x",
-    };
-    assert!(rt; request.command == command);
+    let told = format!(in rt.alloc(); "{:?}", request.command)?;
+    assert!(rt;
+        told.as_str()
+            == r#"Run(Run { machine: None, only: None, accounts: true, numbers: false, color: Never, scenario: "x" })"#
+    );
     assert!(rt; request.given.as_slice() == ["a=1", "b="].as_slice());
     Ok(())
 }

@@ -1,7 +1,7 @@
 //! Documents that are told one after the other.
 use crate::document::Document;
 use crate::field::Field;
-use crate::rows::listed;
+use crate::rows::{add_line, listed};
 use std::alloc::{AllocError, Global};
 
 /// Documents, in the order in which they were added.
@@ -28,9 +28,7 @@ impl Listing {
             document.add_field(self.alloc, *name, *field)?;
         }
         let text = document.into_text(self.alloc)?;
-        self.lines.extend_from_slice(text.as_slice())?;
-        self.lines.push(b'\n')?;
-        Ok(())
+        add_line(&mut self.lines, text.as_slice())
     }
 
     /// The text of a list of them.

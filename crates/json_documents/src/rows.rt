@@ -69,6 +69,12 @@ pub fn row_documents(
 /// Documents of a line each as a list.
 pub(crate) fn listed(alloc: Global, lines: &[u8]) -> Result<Vec<u8>, AllocError> {
     let mut list = Vec::new(alloc);
+    add_list(&mut list, lines)?;
+    Ok(list)
+}
+
+// Adds documents of a line each as a list.
+fn add_list(list: &mut Vec<u8>, lines: &[u8]) -> Result<(), AllocError> {
     list.push(b'[')?;
     for (place, line) in lines.split(|byte| *byte == b'\n').enumerate() {
         if !line.is_empty() {
@@ -78,8 +84,14 @@ pub(crate) fn listed(alloc: Global, lines: &[u8]) -> Result<Vec<u8>, AllocError>
             list.extend_from_slice(line)?;
         }
     }
-    list.extend_from_slice(b"]\n")?;
-    Ok(list)
+    list.extend_from_slice(b"]\n")
+}
+
+/// Adds a line with this text.
+pub(crate) fn add_line(lines: &mut Vec<u8>, text: &[u8]) -> Result<(), AllocError> {
+    lines.extend_from_slice(text)?;
+    lines.push(b'\n')?;
+    Ok(())
 }
 
 // A line with its document for each row, but the first where that has the names.
@@ -96,17 +108,31 @@ fn document_lines(
         .from_reader(alloc, rows);
     let mut record = ByteRecord::new(alloc);
     for _ in rows {
-        match reader.read_byte_record(&mut record) {
-            Ok(true) => {
-                let text = document_of(alloc, columns, &record)?;
-                lines.extend_from_slice(text.as_slice())?;
-                lines.push(b'\n')?;
-            }
-            Ok(false) => break,
-            Err(_) => return Err(AllocError),
+        let has_row = reader.read_byte_record(&mut record);
+        if !add_row(alloc, columns, has_row, &record, &mut lines)? {
+            break;
         }
     }
     Ok(lines)
+}
+
+// Adds a line with the document of a row that was read, and answers whether there was one.
+fn add_row(
+    alloc: Global,
+    columns: &[Column],
+    has_row: Result<bool, csv::Error>,
+    row: &ByteRecord,
+    lines: &mut Vec<u8>,
+) -> Result<bool, AllocError> {
+    match has_row {
+        Ok(true) => {
+            let text = document_of(alloc, columns, row)?;
+            add_line(lines, text.as_slice())?;
+            Ok(true)
+        }
+        Ok(false) => Ok(false),
+        Err(_) => Err(AllocError),
+    }
 }
 
 // The document of a row.

@@ -22,15 +22,18 @@ pub fn tree_documents(alloc: Global, tree: &str, graph: &str) -> Result<Vec<u8>,
     let mut edges = graph.split('\n').filter_map(edge_in);
     for line in tree.split('\n') {
         let text = line.trim_start();
-        if let Some(means) = text.strip_prefix("machine: ") {
-            add_machine(&mut listing, means)?;
+        let added = if let Some(means) = text.strip_prefix("machine: ") {
+            add_machine(&mut listing, means)
         } else if let Some(means) = text.strip_prefix("init keeps: ") {
-            add_init(&mut listing, means)?;
+            add_init(&mut listing, means)
         } else if let Some((service, by)) = wish_in(text) {
-            add_wish(&mut listing, service, edges.next(), by)?;
+            add_wish(&mut listing, service, edges.next(), by)
         } else if let Some((binary, means)) = component_in(text) {
-            add_component(&mut listing, alloc, nodes.next(), binary, means)?;
-        }
+            add_component(&mut listing, alloc, nodes.next(), binary, means)
+        } else {
+            Ok(())
+        };
+        added?;
     }
     listing.into_text()
 }
@@ -142,27 +145,45 @@ fn add_component<'a>(
     let Some(path) = path else {
         return Ok(());
     };
-    let mut members = Vec::new(alloc);
-    members.push(("kind", Field::Word("component")))?;
-    members.push(("name", text_of(path)))?;
-    members.push(("binary", text_of(binary)))?;
+    let mut members = vec![in alloc;
+        ("kind", Field::Word("component")),
+        ("name", text_of(path)),
+        ("binary", text_of(binary)),
+    ]?;
     let mut names = MEANS[0];
     for part in means.split(", ") {
-        if let Some(service) = part.strip_prefix("provides ") {
-            members.push(("provides", provided(service)))?;
-        } else if part.ends_with(" caps") {
-            members.push((names.1, number_in(part)))?;
-        } else if let Some(ram) = part.strip_prefix("reserve ") {
-            names = MEANS[1];
-            members.push((names.0, number_in(ram)))?;
-        } else if let Some(ram) = part.strip_prefix("keeps ") {
-            names = MEANS[2];
-            members.push((names.0, number_in(ram)))?;
-        } else {
-            members.push((names.0, number_in(part)))?;
-        }
+        names = names_from(part, names);
+        members.push(member_in(part, names))?;
     }
     listing.add(members.as_slice())
+}
+
+// The names of RAM and of capabilities from a part of the means on, where they have these before it.
+fn names_from(part: &str, names: (&'static str, &'static str)) -> (&'static str, &'static str) {
+    if part.ends_with(" caps") {
+        names
+    } else if part.starts_with("reserve ") {
+        MEANS[1]
+    } else if part.starts_with("keeps ") {
+        MEANS[2]
+    } else {
+        names
+    }
+}
+
+// A part of the means as a member, where RAM and capabilities have these names.
+fn member_in<'a>(part: &'a str, names: (&'static str, &'static str)) -> (&'static str, Field<'a>) {
+    if let Some(service) = part.strip_prefix("provides ") {
+        ("provides", provided(service))
+    } else if part.ends_with(" caps") {
+        (names.1, number_in(part))
+    } else if let Some(ram) = part.strip_prefix("reserve ") {
+        (names.0, number_in(ram))
+    } else if let Some(ram) = part.strip_prefix("keeps ") {
+        (names.0, number_in(ram))
+    } else {
+        (names.0, number_in(part))
+    }
 }
 
 // A service that is provided, or nothing.

@@ -57,17 +57,12 @@ impl Differences<'_> {
             Change::Came(number) => ("+", None, after.get(number)),
             Change::Changed(was, now) => ("~", before.get(was), after.get(now)),
         };
-        let mut members = Vec::new(alloc);
-        members.push(("kind", Field::Word("entry")))?;
-        members.push(("change", Field::Word(sign)))?;
-        if let Some(entry) = was {
-            members.push(("name", Field::Text(entry.path())))?;
-            members = with_means(members, &WERE, entry)?;
-        }
-        if let Some(entry) = now {
-            members.push(("name", Field::Text(entry.path())))?;
-            members = with_means(members, &MEANS, entry)?;
-        }
+        let members = vec![in alloc;
+            ("kind", Field::Word("entry")),
+            ("change", Field::Word(sign)),
+        ]?;
+        let members = with_entry(members, &WERE, was)?;
+        let members = with_entry(members, &MEANS, now)?;
         listing.add(members.as_slice())
     }
 }
@@ -84,16 +79,22 @@ fn add_machine(listing: &mut Listing, was: &StartList, now: &StartList) -> Resul
     ])
 }
 
-// The members with what an entry has behind them, under these names.
-fn with_means<'a>(
+// The members with the name of an entry behind them, if there is one, and with what it has, under these names.
+fn with_entry<'a>(
     mut members: Vec<Member<'a>>,
     names: &'static [&'static str; 6],
-    entry: &'a Entry,
+    entry: Option<&'a Entry>,
 ) -> Result<Vec<Member<'a>>, AllocError> {
+    let Some(entry) = entry else {
+        return Ok(members);
+    };
     let binary = entry.binary();
-    members.push((names[0], Field::Word(binary.as_str())))?;
-    members.push((names[1], Field::Number(entry.ram())))?;
-    members.push((names[2], Field::Number(u64::from(entry.caps()))))?;
+    members.extend_from_slice(&[
+        ("name", Field::Text(entry.path())),
+        (names[0], Field::Word(binary.as_str())),
+        (names[1], Field::Number(entry.ram())),
+        (names[2], Field::Number(u64::from(entry.caps()))),
+    ])?;
     if let Some(reserve) = entry.reserve() {
         members.push((names[3], Field::Number(reserve.ram.0)))?;
         members.push((names[4], Field::Number(u64::from(reserve.caps.0))))?;

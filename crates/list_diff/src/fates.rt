@@ -11,7 +11,7 @@ use pd_core::Reserve;
 use std::alloc::{AllocError, Global};
 
 /// What became of an entry. Numbers are those of the start lists, in which an init stands directly before its own.
-#[derive(Clone, Copy, Debug, PartialEq, Eq)]
+#[derive(Clone, Copy)]
 pub enum Change {
     /// The entry of this number before has no entry of its path after.
     Gone(usize),

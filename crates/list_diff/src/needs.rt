@@ -4,7 +4,7 @@ use std::alloc::{AllocError, Global};
 use std::fmt;
 
 /// RAM in bytes, and capabilities.
-#[derive(Clone, Copy, Debug, PartialEq, Eq)]
+#[derive(Clone, Copy)]
 pub struct Means {
     /// The RAM.
     pub ram: u64,
@@ -13,7 +13,7 @@ pub struct Means {
 }
 
 /// What a component has, and what its calls in a scenario need.
-#[derive(Clone, Copy, Debug)]
+#[derive(Clone, Copy)]
 pub struct Need<'a> {
     /// Its path.
     pub name: &'a [u8],
@@ -26,7 +26,7 @@ pub struct Need<'a> {
 }
 
 /// A component whose needs were covered and aren't any more.
-#[derive(Clone, Copy, Debug)]
+#[derive(Clone, Copy)]
 pub struct Lack<'a> {
     /// What it has and needs after a change.
     pub now: Need<'a>,

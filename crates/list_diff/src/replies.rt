@@ -23,36 +23,53 @@ pub fn changed_replies(
     let mut olds = builder.from_reader(alloc, before);
     let mut news = builder.from_reader(alloc, after);
     for _ in after {
-        let (Some(was), Some(now)) = (next_row(alloc, &mut olds)?, next_row(alloc, &mut news)?)
-        else {
+        let was = next_row(alloc, &mut olds)?;
+        if !add_changed(alloc, was, &mut news, &mut found)? {
             break;
-        };
-        if cell(&was, 0) != cell(&now, 0) {
-            break;
-        }
-        if cell(&was, 3) != cell(&now, 3) {
-            found.push(Changed { was, now })?;
         }
     }
     Ok(found)
+}
+
+// Adds a row whose reply is another one in the other table's next row, and answers whether both answer one line.
+fn add_changed(
+    alloc: Global,
+    was: Option<ByteRecord>,
+    news: &mut Reader<&[u8]>,
+    found: &mut Vec<Changed>,
+) -> Result<bool, AllocError> {
+    let (Some(was), Some(now)) = (was, next_row(alloc, news)?) else {
+        return Ok(false);
+    };
+    if cell(&was, 0) != cell(&now, 0) {
+        return Ok(false);
+    }
+    if cell(&was, 3) != cell(&now, 3) {
+        found.push(Changed { was, now })?;
+    }
+    Ok(true)
 }
 
 impl Changed {
     /// Adds a line that tells it: the line of the scenario, the call, its reply, and the one before.
     pub fn add_line(&self, told: &mut Vec<u8>) -> Result<(), AllocError> {
         let (was, now) = (&self.was, &self.now);
-        told.extend_from_slice(b"~ ")?;
-        told.extend_from_slice(cell(now, 0))?;
-        told.extend_from_slice(b": ")?;
-        told.extend_from_slice(cell(now, 1))?;
-        told.extend_from_slice(b" ")?;
-        told.extend_from_slice(cell(now, 2))?;
-        told.extend_from_slice(b" => ")?;
-        told.extend_from_slice(cell(now, 3))?;
-        told.extend_from_slice(b" (was: ")?;
-        told.extend_from_slice(cell(was, 3))?;
-        told.extend_from_slice(b")\n")?;
-        Ok(())
+        add_all(
+            told,
+            &[
+                b"~ ",
+                cell(now, 0),
+                b": ",
+                cell(now, 1),
+                b" ",
+                cell(now, 2),
+                b" => ",
+                cell(now, 3),
+                b" (was: ",
+                cell(was, 3),
+                b")\n",
+            ],
+        )
     }
 
     /// Adds a document that tells the same.
@@ -72,6 +89,14 @@ impl Changed {
             ("was_reply", Field::Text(cell(was, 3))),
         ])
     }
+}
+
+// Adds pieces of a text.
+fn add_all(told: &mut Vec<u8>, pieces: &[&[u8]]) -> Result<(), AllocError> {
+    for piece in pieces {
+        told.extend_from_slice(piece)?;
+    }
+    Ok(())
 }
 
 // The next row, if there is one.

@@ -1,14 +1,17 @@
 //! What each script is told in a scenario, among the others and alone, one script after the other.
 use crate::ends::{Played, REFUSED, status_of};
-use crate::files::{STANDARD_INPUT, read_start_list};
+use crate::files::STANDARD_INPUT;
 use crate::given::Given;
-use crate::plays::tell_unbooted;
+use crate::machines::{Machine, MachineText, tell_unbooted};
+use crate::streams::{Origin, Place, plain_writer};
 use crate::unfolding::unfolded;
-use init_core::{Binary, BootFault, MACHINE_A, StartList};
-use scenario::Output;
+use crate::views::{Kept, Viewing, view_text};
+use init_core::{Binary, StartList};
+use scenario::Input;
+use scenario_names::Known;
 use std::io::{Read, Write};
 use std::{fs, io};
-use workbench::{Ending, Play, alone};
+use workbench::{Ending, Play};
 
 /// The exit status where something isn't as expected, or a script is told something else alone.
 const DIFFERENT: u8 = 3;
@@ -32,6 +35,16 @@ pub(crate) struct All<'a> {
     pub(crate) given: Given<'a>,
 }
 
+impl<'a> All<'a> {
+    // The machine of a text.
+    fn machine_of(self, text: &'a [u8]) -> Machine<'a> {
+        Machine {
+            path: self.machine,
+            text,
+        }
+    }
+}
+
 /// Plays the scenario for each script of the machine in turn, and tells what `alone` tells of it; complaints are told once.
 /// Answers the exit status: 3 also where a script is told something else alone.
 pub(crate) fn all_alone(rt: &HostRuntime, all: All<'_>) -> u8 {
@@ -43,15 +56,9 @@ pub(crate) fn all_alone(rt: &HostRuntime, all: All<'_>) -> u8 {
         Ok(lines) => lines,
         Err(status) => return status,
     };
-    let Some(path) = all.machine else {
-        return all_on(rt, MACHINE_A.as_bytes(), lines.bytes(), all);
-    };
-    match read_start_list(rt, path, all.given) {
-        Ok(text) => all_on(rt, &text, lines.bytes(), all),
-        Err(fault) => {
-            let _ = eprintln!(rt; "{fault}");
-            REFUSED
-        }
+    match MachineText::read(rt, all.machine, all.given) {
+        Ok(text) => all_on(rt, text.bytes(), lines.bytes(), all),
+        Err(status) => status,
     }
 }
 
@@ -67,14 +74,25 @@ fn read_scenario(rt: &HostRuntime, path: &str) -> io::Result<Vec<u8>> {
 }
 
 // The same on the machine of a text.
-fn all_on(rt: &HostRuntime, text: &[u8], scenario: &[u8], all: All<'_>) -> u8 {
+fn all_on<'a>(rt: &HostRuntime, text: &'a [u8], scenario: &'a [u8], all: All<'a>) -> u8 {
     let list = match StartList::read(rt.alloc(), text) {
         Ok(list) => list,
         Err(fault) => {
-            tell_unbooted(rt, text, all.machine, &fault);
+            tell_unbooted(rt, all.machine_of(text), &fault);
             return REFUSED;
         }
     };
+    tell_each(rt, text, &list, scenario, all)
+}
+
+// Tells of each script of a list in turn.
+fn tell_each<'a>(
+    rt: &HostRuntime,
+    text: &'a [u8],
+    list: &'a StartList,
+    scenario: &'a [u8],
+    all: All<'a>,
+) -> u8 {
     let mut status = 0;
     let mut complained = false;
     for entry in list.entries() {
@@ -108,77 +126,74 @@ struct One<'a> {
 
 impl<'a> One<'a> {
     // Plays it, and answers the exit status.
-    fn tell(self, rt: &HostRuntime, all: All<'_>) -> u8 {
-        let alloc = rt.alloc();
-        let mut source = self.scenario;
-        let mut writer = Output::new(Vec::new(alloc));
+    fn tell(self, rt: &HostRuntime, all: All<'a>) -> u8 {
         let given = match all.given.known_or_told(rt) {
             Ok(given) => given,
             Err(status) => return status,
         };
+        let kept = self.play(rt, all.scenario, given);
+        match &kept.ended {
+            Ok(ending) => tell_ending(rt, all, *ending, kept.text.as_slice()),
+            Err(fault) => {
+                if !self.silent {
+                    tell_unbooted(rt, all.machine_of(self.text), fault);
+                }
+                REFUSED
+            }
+        }
+    }
+
+    // Plays it, and keeps what is told of it.
+    fn play(self, rt: &HostRuntime, scenario: &'a str, given: Known) -> Kept {
         let play = Play {
             machine: self.text,
-            scenario: all.scenario.as_bytes(),
+            scenario: scenario.as_bytes(),
             given,
         };
-        let ended = if self.silent {
-            let mut complaints = Output::new(io::sink());
-            alone(
-                alloc,
-                play,
-                self.name,
-                &mut source,
-                &mut writer,
-                &mut complaints,
-            )
+        let place = if self.silent {
+            Place::Dropped
         } else {
-            let mut complaints = Output::new(rt.stderr());
-            alone(
-                alloc,
-                play,
-                self.name,
-                &mut source,
-                &mut writer,
-                &mut complaints,
-            )
+            Place::Complained(rt.stderr())
         };
-        if let Err(fault) = &ended {
-            if !self.silent {
-                tell_unbooted(rt, self.text, all.machine, fault);
-            }
-            return REFUSED;
-        }
-        let told = writer.into_inner();
-        let shown = if all.summary {
-            last_line(&told)
-        } else {
-            told.as_slice()
-        };
-        let printed = status_of(rt, io::writer(rt).write_all(shown));
-        if printed != 0 {
-            return printed;
-        }
-        let unused = told.as_slice().ends_with(UNUSED);
-        let played = Played {
-            ended: without_none(ended, unused),
-            unread: false,
-        };
-        match played.tell(rt, all.scenario) {
-            0 if !unused && !told.as_slice().ends_with(SAME) => DIFFERENT,
-            status => status,
-        }
+        let mut reader = Input::new(Origin::Held(self.scenario));
+        let mut complaints = plain_writer(rt, place);
+        view_text(
+            rt,
+            play,
+            Viewing::Alone(self.name),
+            &mut reader,
+            &mut complaints,
+        )
+    }
+}
+
+// Prints what was told of a script's play, and answers the exit status.
+fn tell_ending(rt: &HostRuntime, all: All<'_>, ending: Ending, told: &[u8]) -> u8 {
+    let shown = if all.summary { last_line(told) } else { told };
+    let printed = status_of(rt, io::writer(rt).write_all(shown));
+    if printed != 0 {
+        return printed;
+    }
+    let unused = told.ends_with(UNUSED);
+    let played = Played {
+        ended: Ok(without_none(ending, unused)),
+        unread: false,
+    };
+    match played.tell(rt, all.scenario) {
+        0 if !unused && !told.ends_with(SAME) => DIFFERENT,
+        status => status,
     }
 }
 
 // How a play ended, without the complaint that there was no line.
-fn without_none(ended: Result<Ending, BootFault>, unused: bool) -> Result<Ending, BootFault> {
-    match ended {
-        Ok(ending) if unused => Ok(Ending {
-            lines: ending.lines,
-            complaints: ending.complaints.saturating_sub(1),
-            fault: ending.fault,
-        }),
-        other => other,
+fn without_none(ending: Ending, unused: bool) -> Ending {
+    if !unused {
+        return ending;
+    }
+    Ending {
+        lines: ending.lines,
+        complaints: ending.complaints.saturating_sub(1),
+        fault: ending.fault,
     }
 }
 

@@ -1,50 +1,58 @@
 //! What a change of a start list changes.
-use crate::ends::{Played as Ended, REFUSED, UNWRITTEN, status_of};
+use crate::ends::{Played as Ended, REFUSED, made_or_told, status_of};
 use crate::files::read_list;
 use crate::given::Given;
 use crate::lists::tell_fault;
+use crate::streams::{Origin, Place, plain_writer};
 use crate::unfolding::unfolded;
-use init_core::{Entry, StartList};
+use crate::views::{Viewing, view_text};
+use init_core::{BootFault, Entry, StartList};
 use json_documents::Listing;
 use least::{Account, Budget, Question, Report};
 use list_diff::{
     Changed, Differences, Lack, Means, Need, Side, changed_replies, changes, lacks, leads,
 };
 use reach::Table;
-use scenario::Output;
+use scenario::Input;
 use scenario_names::Known;
 use start_review::Review;
 use std::alloc::{AllocError, Global};
 use std::io::Write;
 use std::{fs, io};
-use workbench::{Play, trace};
+use workbench::{Ending, Play};
+use workbench_options::Diff;
 
 /// The exit status where something is changed.
 const CHANGED: u8 = 4;
 
-/// What is compared.
-#[derive(Clone, Copy)]
-pub(crate) struct Compared<'a> {
-    /// The path of the start list before a change.
-    pub(crate) before: &'a str,
-    /// The path of the start list after it.
-    pub(crate) after: &'a str,
-    /// The path of a scenario that is played on both, or none.
-    pub(crate) scenario: Option<&'a str>,
-}
-
 /// Tells what the second of two start lists has otherwise, and with a scenario which replies are other ones, a line each or as
 /// documents of JSON. Answers the exit status.
-pub(crate) fn diff(rt: &HostRuntime, compared: Compared<'_>, json: bool) -> u8 {
-    let (Some(before), Some(after)) = (
-        Policy::at(rt, compared.before),
-        Policy::at(rt, compared.after),
-    ) else {
-        return REFUSED;
-    };
-    match compared.scenario {
-        Some(path) => tell_played(rt, path, &before, &after, json),
-        None => tell(rt, &before, &after, &Played::nothing(rt.alloc()), json),
+pub(crate) fn diff(rt: &HostRuntime, asked: &Diff<'_>) -> u8 {
+    let before = Policy::at(rt, asked.before);
+    let after = Policy::at(rt, asked.after);
+    match (&before, &after) {
+        (Some(before), Some(after)) => compare_policies(
+            rt,
+            before,
+            after,
+            asked.scenario,
+            asked.json,
+        ),
+        _ => REFUSED,
+    }
+}
+
+// Tells what one list has otherwise than the other, with what a scenario shows of both if there is one.
+fn compare_policies(
+    rt: &HostRuntime,
+    before: &Policy<'_>,
+    after: &Policy<'_>,
+    scenario: Option<&str>,
+    json: bool,
+) -> u8 {
+    match scenario {
+        Some(path) => tell_played(rt, path, before, after, json),
+        None => tell(rt, before, after, &Played::nothing(rt.alloc()), json),
     }
 }
 
@@ -70,15 +78,9 @@ fn tell(
     played: &Played<'_>,
     json: bool,
 ) -> u8 {
-    let Ok(told) = differences(rt.alloc(), before, after, played, json) else {
-        let _ = eprintln!(rt; "run: No_memory");
-        return UNWRITTEN;
-    };
-    let status = status_of(rt, io::writer(rt).write_all(told.text.as_slice()));
-    if status == 0 && told.is_changed {
-        CHANGED
-    } else {
-        status
+    match made_or_told(rt, differences(rt.alloc(), before, after, played, json)) {
+        Ok(told) => told.print(rt),
+        Err(status) => status,
     }
 }
 
@@ -87,6 +89,18 @@ fn tell(
 struct Text {
     text: Vec<u8>,
     is_changed: bool,
+}
+
+impl Text {
+    // Prints it, and answers the exit status.
+    fn print(&self, rt: &HostRuntime) -> u8 {
+        let status = status_of(rt, io::writer(rt).write_all(self.text.as_slice()));
+        if status == 0 && self.is_changed {
+            CHANGED
+        } else {
+            status
+        }
+    }
 }
 
 // What a scenario shows of both lists.
@@ -222,21 +236,38 @@ fn play_both<'a>(
         return Err(REFUSED);
     };
     let lines = unfolded(rt, path, &scenario, Given::nothing())?;
-    let was = traced(rt, path, lines.bytes(), before)?;
-    let now = traced(rt, path, lines.bytes(), after)?;
-    let had = needs(rt, lines.bytes(), before)?;
-    let has = needs(rt, lines.bytes(), after)?;
-    let alloc = rt.alloc();
-    match (
-        changed_replies(alloc, was.as_slice(), now.as_slice()),
-        lacks(alloc, had.as_slice(), has.as_slice()),
-    ) {
-        (Ok(replies), Ok(lacks)) => Ok(Played { replies, lacks }),
-        _ => {
-            let _ = eprintln!(rt; "run: No_memory");
-            Err(UNWRITTEN)
-        }
-    }
+    Ok(Played {
+        replies: replies_of(rt, path, lines.bytes(), before, after)?,
+        lacks: lacks_of(rt, lines.bytes(), before, after)?,
+    })
+}
+
+// The replies that aren't the same on both lists.
+fn replies_of(
+    rt: &HostRuntime,
+    path: &str,
+    scenario: &[u8],
+    before: &Policy<'_>,
+    after: &Policy<'_>,
+) -> Result<Vec<Changed>, u8> {
+    let was = traced(rt, path, scenario, before)?;
+    let now = traced(rt, path, scenario, after)?;
+    made_or_told(
+        rt,
+        changed_replies(rt.alloc(), was.as_slice(), now.as_slice()),
+    )
+}
+
+// What components lack of either list.
+fn lacks_of<'a>(
+    rt: &HostRuntime,
+    scenario: &[u8],
+    before: &'a Policy<'_>,
+    after: &'a Policy<'_>,
+) -> Result<Vec<Lack<'a>>, u8> {
+    let had = needs(rt, scenario, before)?;
+    let has = needs(rt, scenario, after)?;
+    made_or_told(rt, lacks(rt.alloc(), had.as_slice(), has.as_slice()))
 }
 
 // What the components of a list need for a scenario, or the exit status where there is no memory for it. Sessions aren't
@@ -252,20 +283,16 @@ fn needs<'a>(
         scenario,
         as_donated: true,
     };
-    let report = match Report::of(alloc, question, Known::new(alloc)) {
-        Ok(report) => report,
-        Err(fault) => {
-            let _ = eprintln!(rt; "{}: {fault}", policy.path);
-            return Err(REFUSED);
-        }
-    };
-    match needs_told(alloc, &report, policy.review.list()) {
-        Ok(needs) => Ok(needs),
-        Err(AllocError) => {
-            let _ = eprintln!(rt; "run: No_memory");
-            Err(UNWRITTEN)
-        }
+    match Report::of(alloc, question, Known::new(alloc)) {
+        Ok(report) => made_or_told(rt, needs_told(alloc, &report, policy.review.list())),
+        Err(fault) => Err(tell_unplayed(rt, policy.path, &fault)),
     }
+}
+
+// Tells why nothing is played on a list, and answers the exit status.
+fn tell_unplayed(rt: &HostRuntime, path: &str, fault: &BootFault) -> u8 {
+    let _ = eprintln!(rt; "{path}: {fault}");
+    REFUSED
 }
 
 // What a report tells of the components' own accounts.
@@ -303,32 +330,36 @@ fn means_of(budget: Budget) -> Means {
 }
 
 // The trace of a scenario, or the exit status of one that can't be played to its end. What it expects isn't looked at.
-fn traced(
+fn traced<'a>(
     rt: &HostRuntime,
-    path: &str,
+    path: &'a str,
     scenario: &[u8],
-    policy: &Policy<'_>,
+    policy: &'a Policy<'_>,
 ) -> Result<Vec<u8>, u8> {
-    let alloc = rt.alloc();
     let play = Play {
         machine: &policy.text,
         scenario: path.as_bytes(),
-        given: Known::new(alloc),
+        given: Known::new(rt.alloc()),
     };
-    let mut source = scenario;
-    let mut writer = Output::new(Vec::new(alloc));
-    let mut complaints = Output::new(io::sink());
-    let ended = trace(alloc, play, &mut source, &mut writer, &mut complaints);
-    if let Err(fault) = &ended {
-        let _ = eprintln!(rt; "{}: {fault}", policy.path);
-        return Err(REFUSED);
-    }
-    let played = Ended {
-        ended,
-        unread: false,
+    let mut reader = Input::new(Origin::Held(scenario));
+    let mut complaints = plain_writer(rt, Place::Dropped);
+    let viewing = Viewing::Trace { json: false };
+    let kept = view_text(rt, play, viewing, &mut reader, &mut complaints);
+    let status = match &kept.ended {
+        Ok(ending) => tell_ending(rt, path, *ending),
+        Err(fault) => return Err(tell_unplayed(rt, policy.path, fault)),
     };
-    match played.tell(rt, path) {
-        0 | 3 => Ok(writer.into_inner()),
+    match status {
+        0 | 3 => Ok(kept.text),
         status => Err(status),
     }
+}
+
+// Tells a fault with which a play ended, and answers the exit status.
+fn tell_ending(rt: &HostRuntime, path: &str, ending: Ending) -> u8 {
+    let ended = Ended {
+        ended: Ok(ending),
+        unread: false,
+    };
+    ended.tell(rt, path)
 }

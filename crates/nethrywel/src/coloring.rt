@@ -4,7 +4,7 @@ use std::io::IsTerminal;
 use workbench_options::Color;
 
 /// Where lines are coloured.
-#[derive(Clone, Copy, Debug, PartialEq, Eq)]
+#[derive(Clone, Copy)]
 pub(crate) struct Coloring {
     /// On standard output.
     pub(crate) out: bool,
@@ -13,6 +13,12 @@ pub(crate) struct Coloring {
 }
 
 impl Coloring {
+    /// Nowhere.
+    pub(crate) const NOWHERE: Coloring = Coloring {
+        out: false,
+        err: false,
+    };
+
     /// As it is asked for, or none for a word that says nothing. By itself a terminal has colours, unless `NO_COLOR` is set.
     pub(crate) fn asked(rt: &HostRuntime, color: Color) -> Option<Coloring> {
         match color {
@@ -20,10 +26,7 @@ impl Coloring {
                 out: true,
                 err: true,
             }),
-            Color::Never => Some(Coloring {
-                out: false,
-                err: false,
-            }),
+            Color::Never => Some(Coloring::NOWHERE),
             Color::Auto => {
                 let wanted = !is_unwanted(rt);
                 Some(Coloring {

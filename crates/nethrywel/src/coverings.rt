@@ -1,4 +1,5 @@
 //! What the scenarios that are run as tests show of their machines.
+use crate::machines::Machine;
 use coverage::{Report, cover};
 use init_core::StartList;
 use std::alloc::AllocError;
@@ -42,19 +43,18 @@ impl Coverings {
     pub(crate) fn add(
         &mut self,
         rt: &HostRuntime,
-        machine: &[u8],
-        path: Option<&str>,
+        machine: Machine<'_>,
         scenario: &str,
         trace: &[u8],
     ) -> Result<(), AllocError> {
         let Some(report) = &mut self.report else {
             return Ok(());
         };
-        let Ok(list) = StartList::read(rt.alloc(), machine) else {
+        let Ok(list) = StartList::read(rt.alloc(), machine.text) else {
             return Ok(());
         };
         let coverage = cover(rt.alloc(), &list, trace)?;
-        report.add(&list, path.unwrap_or(BUILT_IN), scenario, coverage)
+        report.add(&list, machine.path.unwrap_or(BUILT_IN), scenario, coverage)
     }
 
     /// Tells it: lines of comments, or the document.

@@ -1,11 +1,12 @@
 //! What is told of a scenario, as documents of JSON.
 use crate::ends::Played;
+use crate::streams::{Reader, Writer};
+use crate::views::{Viewing, view_text};
 use init_core::BootFault;
 use json_documents::{Column, Rows, account_documents};
-use scenario::{Output, Source};
 use std::io;
-use std::io::{ErrorKind, Write};
-use workbench::{Ending, Play, PlayFault, accounts, trace};
+use std::io::{ErrorKind, Printer, Write};
+use workbench::{Ending, Play, PlayFault};
 
 /// The columns of a trace.
 static TRACE: [Column; 14] = [
@@ -25,39 +26,31 @@ static TRACE: [Column; 14] = [
     Column::Filled("text"),
 ];
 
-/// Plays a scenario, and tells a document for each row of its trace, a line each.
-pub(crate) fn trace_documents<S: Source>(
-    rt: &HostRuntime,
-    play: Play<'_>,
-    reader: &mut S,
-) -> Played {
-    let alloc = rt.alloc();
-    let mut writer = Output::new(Rows::new(alloc, &TRACE, io::writer(rt)));
-    let mut complaints = Output::new(rt.stderr());
-    let ended = trace(alloc, play, reader, &mut writer, &mut complaints);
-    Played {
-        ended,
-        unread: writer.is_unread(),
-    }
+/// A writer of a document for each row of a trace on standard output.
+pub(crate) fn trace_rows(rt: &HostRuntime) -> Rows<Printer<'_, HostRuntime>> {
+    Rows::new(rt.alloc(), &TRACE, io::writer(rt))
 }
 
 /// Plays a scenario, and tells a list with a document for each line of its account list.
-pub(crate) fn accounts_document<S: Source>(
+pub(crate) fn accounts_document(
     rt: &HostRuntime,
     play: Play<'_>,
-    reader: &mut S,
+    reader: &mut Reader<'_>,
+    complaints: &mut Writer<'_>,
 ) -> Played {
-    let alloc = rt.alloc();
-    let mut writer = Output::new(Vec::new(alloc));
-    let mut complaints = Output::new(rt.stderr());
-    let ended = accounts(alloc, play, reader, &mut writer, &mut complaints);
-    let lines = writer.into_inner();
-    match print_documents(rt, lines.as_slice()) {
+    let kept = view_text(
+        rt,
+        play,
+        Viewing::Accounts { json: true },
+        reader,
+        complaints,
+    );
+    match print_documents(rt, kept.text.as_slice()) {
         Ok(()) => Played {
-            ended,
+            ended: kept.ended,
             unread: false,
         },
-        Err(error) => unprinted(ended, &error),
+        Err(error) => unprinted(kept.ended, &error),
     }
 }
 

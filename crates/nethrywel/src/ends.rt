@@ -1,5 +1,6 @@
 //! The exit status, and what is told on standard error of a result that can't be written or a scenario that can't be read.
 use init_core::BootFault;
+use std::alloc::AllocError;
 use std::io::ErrorKind;
 use std::{fmt, io};
 use workbench::{Ending, PlayFault, exit_status};
@@ -28,8 +29,22 @@ pub(crate) fn status_of(rt: &HostRuntime, printed: io::Result<()>) -> u8 {
     }
 }
 
+/// Tells that the host has no memory, and answers the exit status.
+pub(crate) fn no_memory(rt: &HostRuntime) -> u8 {
+    let _ = eprintln!(rt; "run: No_memory");
+    UNWRITTEN
+}
+
+/// What was made, or the exit status where the host has no memory for it, which is told.
+pub(crate) fn made_or_told<T>(rt: &HostRuntime, made: Result<T, AllocError>) -> Result<T, u8> {
+    match made {
+        Ok(made) => Ok(made),
+        Err(AllocError) => Err(no_memory(rt)),
+    }
+}
+
 /// How a play ended, and whether nobody reads what is written.
-#[derive(Debug, Drop)]
+#[derive(Drop)]
 pub(crate) struct Played {
     /// How it ended.
     pub(crate) ended: Result<Ending, BootFault>,

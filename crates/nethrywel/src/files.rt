@@ -24,13 +24,13 @@ pub(crate) fn read_list(rt: &HostRuntime, path: &str) -> Result<Vec<u8>, ConfigF
 }
 
 /// Why the start list of a path isn't there.
-#[derive(Clone, Copy, Debug)]
+#[derive(Clone, Copy)]
 pub(crate) struct NoList<'a> {
     path: &'a str,
     why: Why,
 }
 
-#[derive(Clone, Copy, Debug)]
+#[derive(Clone, Copy)]
 enum Why {
     Unread(ConfigFault),
     Unfilled(UnknownName),
@@ -42,6 +42,17 @@ impl fmt::Display for NoList<'_> {
         match self.why {
             Why::Unread(fault) => write!(f, "{path}: {fault}"),
             Why::Unfilled(name) => write!(f, "{path}:{name}"),
+        }
+    }
+}
+
+/// The text of a start list, with what its names stand for, or none where that is told on standard error.
+pub(crate) fn start_list(rt: &HostRuntime, path: &str, given: Given<'_>) -> Option<Vec<u8>> {
+    match read_start_list(rt, path, given) {
+        Ok(text) => Some(text),
+        Err(fault) => {
+            let _ = eprintln!(rt; "{fault}");
+            None
         }
     }
 }

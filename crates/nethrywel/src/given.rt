@@ -1,10 +1,10 @@
 //! What names stand for by the command line.
-use crate::ends::{REFUSED, UNWRITTEN};
+use crate::ends::{REFUSED, made_or_told};
 use scenario_names::{Known, is_name};
 use std::alloc::{AllocError, Global};
 
 /// The values of names, each `NAME=VALUE`.
-#[derive(Clone, Copy, Debug)]
+#[derive(Clone, Copy)]
 pub(crate) struct Given<'a> {
     words: &'a [&'a str],
 }
@@ -13,18 +13,7 @@ impl<'a> Given<'a> {
     /// Those of the command line, or the exit status where one is none, which is told.
     pub(crate) fn read(rt: &HostRuntime, words: &'a [&'a str]) -> Result<Given<'a>, u8> {
         for word in words {
-            let (name, Some(value)) = parted(word) else {
-                let _ = eprintln!(rt; "--set {word}: a value is given as NAME=VALUE");
-                return Err(REFUSED);
-            };
-            if !is_name(name.as_bytes()) {
-                let _ = eprintln!(rt;
-                    "--set {word}: a name is a letter or _, then letters, digits and _"
-                );
-                return Err(REFUSED);
-            }
-            if !value.bytes().all(may_stand) {
-                let _ = eprintln!(rt; "--set {name}: a value has no \", no \\ and no control sign");
+            if !is_taken(rt, word) {
                 return Err(REFUSED);
             }
         }
@@ -49,14 +38,25 @@ impl<'a> Given<'a> {
 
     /// The same, or the exit status where the host has no memory, which is told.
     pub(crate) fn known_or_told(self, rt: &HostRuntime) -> Result<Known, u8> {
-        match self.known(rt.alloc()) {
-            Ok(known) => Ok(known),
-            Err(_) => {
-                let _ = eprintln!(rt; "run: No_memory");
-                Err(UNWRITTEN)
-            }
-        }
+        made_or_told(rt, self.known(rt.alloc()))
     }
+}
+
+// Whether a word gives a name a value; why it doesn't is told.
+fn is_taken(rt: &HostRuntime, word: &str) -> bool {
+    let (name, Some(value)) = parted(word) else {
+        let _ = eprintln!(rt; "--set {word}: a value is given as NAME=VALUE");
+        return false;
+    };
+    if !is_name(name.as_bytes()) {
+        let _ = eprintln!(rt; "--set {word}: a name is a letter or _, then letters, digits and _");
+        return false;
+    }
+    if !value.bytes().all(may_stand) {
+        let _ = eprintln!(rt; "--set {name}: a value has no \", no \\ and no control sign");
+        return false;
+    }
+    true
 }
 
 // A name and its value, if one stands behind it.

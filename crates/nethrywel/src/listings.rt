@@ -1,8 +1,8 @@
 //! What is told of a start list, as documents of JSON.
-use crate::ends::{REFUSED, UNWRITTEN, status_of};
-use crate::files::read_start_list;
+use crate::ends::{REFUSED, no_memory, status_of};
+use crate::files::start_list;
 use crate::given::Given;
-use crate::lists::{Asked, chosen, review};
+use crate::lists::{chosen, review};
 use crate::policies::{BROKEN, Noted, Standing, hold_against};
 use init_core::StartList;
 use json_documents::{Field, Listing, tree_documents};
@@ -11,32 +11,17 @@ use start_review::{Fault, Finding, Part, Review, Whereabouts};
 use std::alloc::{AllocError, Global};
 use std::io;
 use std::io::Write;
-
-/// What is asked of a check.
-#[derive(Clone, Copy)]
-pub(crate) struct Check<'a> {
-    /// The path of the start list.
-    pub(crate) list: &'a str,
-    /// The path of a policy that is held against it, or none.
-    pub(crate) policy: Option<&'a str>,
-    /// Whether findings count.
-    pub(crate) strict: bool,
-    /// What names stand for.
-    pub(crate) given: Given<'a>,
-}
+use workbench_options::{Check, Reach as AskedReach};
 
 /// Tells what a check tells, a document each of a list, and answers the exit status.
-pub(crate) fn check_documents(rt: &HostRuntime, check: Check<'_>) -> u8 {
+pub(crate) fn check_documents(rt: &HostRuntime, check: &Check<'_>, given: Given<'_>) -> u8 {
     let mut listing = Listing::new(rt.alloc());
-    match read_start_list(rt, check.list, check.given) {
-        Ok(text) => {
+    match start_list(rt, check.list, given) {
+        Some(text) => {
             let added = add_all(rt, check, &text, &mut listing);
             printed(rt, added, listing)
         }
-        Err(fault) => {
-            let _ = eprintln!(rt; "{fault}");
-            REFUSED
-        }
+        None => REFUSED,
     }
 }
 
@@ -56,12 +41,12 @@ fn tree_text(alloc: Global, review: &Review) -> Result<Vec<u8>, AllocError> {
 }
 
 /// Tells which scripts reach which servers, a document a cell of the table, and answers the exit status.
-pub(crate) fn reach_documents(rt: &HostRuntime, path: &str, asked: Asked<'_>) -> u8 {
-    let Some(review) = review(rt, path, asked.given) else {
+pub(crate) fn reach_documents(rt: &HostRuntime, asked: &AskedReach<'_>, given: Given<'_>) -> u8 {
+    let Some(review) = review(rt, asked.list, given) else {
         return REFUSED;
     };
     let list = review.list();
-    match chosen(rt, path, list, asked) {
+    match chosen(rt, list, asked) {
         Some(chosen) => print_documents(rt, reach_text(rt.alloc(), list, &chosen)),
         None => REFUSED,
     }
@@ -104,22 +89,31 @@ fn add_cells<'a>(
 // Adds all that is told of a start list's text, and answers the exit status.
 fn add_all(
     rt: &HostRuntime,
-    check: Check<'_>,
+    check: &Check<'_>,
     text: &[u8],
     listing: &mut Listing,
 ) -> Result<u8, AllocError> {
-    let alloc = rt.alloc();
-    let review = match Review::read(alloc, text) {
-        Ok(review) => review,
+    match Review::read(rt.alloc(), text) {
+        Ok(review) => add_review(rt, check, &review, listing),
         Err(fault) => {
-            add_fault(alloc, listing, check.list, &fault)?;
-            return Ok(REFUSED);
+            add_fault(rt.alloc(), listing, check.list, &fault)?;
+            Ok(REFUSED)
         }
-    };
+    }
+}
+
+// Adds what is told of a start list, and answers the exit status.
+fn add_review(
+    rt: &HostRuntime,
+    check: &Check<'_>,
+    review: &Review,
+    listing: &mut Listing,
+) -> Result<u8, AllocError> {
+    let alloc = rt.alloc();
     for finding in review.findings() {
         add_finding(alloc, listing, check.list, finding)?;
     }
-    add_advice(alloc, listing, check.list, &review)?;
+    add_advice(alloc, listing, check.list, review)?;
     if check.strict && !review.findings().is_empty() {
         return Ok(REFUSED);
     }
@@ -283,7 +277,7 @@ fn number_of(place: usize) -> Field<'static> {
 fn printed(rt: &HostRuntime, added: Result<u8, AllocError>, listing: Listing) -> u8 {
     let status = match added {
         Ok(status) => status,
-        Err(AllocError) => return tell_want(rt),
+        Err(AllocError) => return no_memory(rt),
     };
     let shown = print_documents(rt, listing.into_text());
     if shown == 0 { status } else { shown }
@@ -293,12 +287,6 @@ fn printed(rt: &HostRuntime, added: Result<u8, AllocError>, listing: Listing) ->
 pub(crate) fn print_documents(rt: &HostRuntime, documents: Result<Vec<u8>, AllocError>) -> u8 {
     match documents {
         Ok(text) => status_of(rt, io::writer(rt).write_all(text.as_slice())),
-        Err(AllocError) => tell_want(rt),
+        Err(AllocError) => no_memory(rt),
     }
-}
-
-// Tells that the host has no memory, and answers the exit status.
-fn tell_want(rt: &HostRuntime) -> u8 {
-    let _ = eprintln!(rt; "run: No_memory");
-    UNWRITTEN
 }

@@ -1,11 +1,12 @@
 //! What is told of a start list: its faults and findings, and where its wishes lead.
 use crate::ends::{REFUSED, UNWRITTEN, status_of};
-use crate::files::read_start_list;
+use crate::files::start_list;
 use crate::given::Given;
 use init_core::StartList;
 use reach::{Chosen, Course, NoCourse, Table, WayList};
 use start_review::{Fault, Finding, Part, Review, Whereabouts};
 use std::{fmt, io};
+use workbench_options::{Reach, Route};
 
 /// The exit status of a wish that leads nowhere.
 const DENIED: u8 = 3;
@@ -27,6 +28,16 @@ pub(crate) fn checked(
     strict: bool,
 ) -> Option<Review> {
     let review = review(rt, path, given)?;
+    tell_review(rt, path, &review);
+    if strict && !review.findings().is_empty() {
+        None
+    } else {
+        Some(review)
+    }
+}
+
+// Tells the findings and the advice of a start list.
+fn tell_review(rt: &HostRuntime, path: &str, review: &Review) {
     for finding in review.findings() {
         let noticed = Noticed { path, finding };
         let _ = eprintln!(rt; "{noticed}");
@@ -34,10 +45,6 @@ pub(crate) fn checked(
     if let Some(advice) = review.advice() {
         let _ = eprintln!(rt; "{path}: {advice}");
     }
-    if strict && !review.findings().is_empty() {
-        return None;
-    }
-    Some(review)
 }
 
 /// Shows the components of a start list as text or as a graph, and answers the exit status.
@@ -62,43 +69,26 @@ fn show_graph(rt: &HostRuntime, path: &str, review: &Review) -> u8 {
     }
 }
 
-/// What is asked of who reaches whom.
-#[derive(Clone, Copy)]
-pub(crate) struct Asked<'a> {
-    /// The paths of the scripts that are looked at; all where there are none.
-    pub(crate) from: &'a [&'a str],
-    /// The paths of the servers that are looked at; all where there are none.
-    pub(crate) to: &'a [&'a str],
-    /// Whether comma-separated values are written in place of a table.
-    pub(crate) csv: bool,
-    /// What names stand for.
-    pub(crate) given: Given<'a>,
-}
-
 /// Shows which scripts of a start list reach which servers, as a table or as comma-separated values, and of those that are named
 /// each way; answers the exit status.
-pub(crate) fn reach(rt: &HostRuntime, path: &str, asked: Asked<'_>) -> u8 {
-    let Some(review) = review(rt, path, asked.given) else {
+pub(crate) fn reach(rt: &HostRuntime, asked: &Reach<'_>, given: Given<'_>) -> u8 {
+    let Some(review) = review(rt, asked.list, given) else {
         return REFUSED;
     };
     let list = review.list();
-    match chosen(rt, path, list, asked) {
-        Some(chosen) => show_reach(rt, path, list, &chosen, asked.csv),
+    match chosen(rt, list, asked) {
+        Some(chosen) => show_reach(rt, asked.list, list, &chosen, asked.csv),
         None => REFUSED,
     }
 }
 
 /// The scripts and servers of the paths that are asked for, or none where that is told on standard error.
-pub(crate) fn chosen(
-    rt: &HostRuntime,
-    path: &str,
-    list: &StartList,
-    asked: Asked<'_>,
-) -> Option<Chosen> {
-    match Chosen::read(rt.alloc(), list, asked.from, asked.to) {
+pub(crate) fn chosen(rt: &HostRuntime, list: &StartList, asked: &Reach<'_>) -> Option<Chosen> {
+    let (from, to) = (asked.from.as_slice(), asked.to.as_slice());
+    match Chosen::read(rt.alloc(), list, from, to) {
         Ok(chosen) => Some(chosen),
         Err(fault) => {
-            let _ = eprintln!(rt; "{path}: {fault}");
+            let _ = eprintln!(rt; "{}: {fault}", asked.list);
             None
         }
     }
@@ -152,63 +142,49 @@ fn print_values(rt: &HostRuntime, table: Table<'_>) -> io::Result<()> {
     print!(rt; "{values}")
 }
 
-/// A wish for a session.
-#[derive(Clone, Copy)]
-pub(crate) struct Wish<'a> {
-    /// The path of the script that wishes.
-    pub(crate) client: &'a str,
-    /// The service.
-    pub(crate) service: &'a str,
-    /// The arguments of the session.
-    pub(crate) args: &'a str,
-}
-
 /// Shows where a wish of a script for a session leads, and answers the exit status: where it leads nowhere that of what isn't
 /// as expected.
-pub(crate) fn route(rt: &HostRuntime, path: &str, given: Given<'_>, wish: Wish<'_>) -> u8 {
-    let Wish {
-        client,
-        service,
-        args,
-    } = wish;
-    let Some(review) = review(rt, path, given) else {
-        return REFUSED;
-    };
-    let client_path = client.as_bytes();
+pub(crate) fn route(rt: &HostRuntime, wish: &Route<'_>, given: Given<'_>) -> u8 {
+    match review(rt, wish.list, given) {
+        Some(review) => route_in(rt, review.list(), wish),
+        None => REFUSED,
+    }
+}
+
+// Shows where a wish leads in a start list, and answers the exit status.
+fn route_in(rt: &HostRuntime, list: &StartList, wish: &Route<'_>) -> u8 {
     match Course::read(
         rt.alloc(),
-        review.list(),
-        client_path,
-        service.as_bytes(),
-        args.as_bytes(),
+        list,
+        wish.client.as_bytes(),
+        wish.service.as_bytes(),
+        wish.args.as_bytes(),
     ) {
-        Ok(course) => {
-            let status = status_of(rt, print!(rt; "{course}"));
-            if status == 0 && course.child().is_none() {
-                DENIED
-            } else {
-                status
-            }
-        }
+        Ok(course) => show_course(rt, &course),
         Err(fault) => {
-            let _ = eprintln!(rt; "{client}: {fault}");
+            let _ = eprintln!(rt; "{}: {fault}", wish.client);
             REFUSED
         }
     }
 }
 
+// Shows where a wish leads, and answers the exit status.
+fn show_course(rt: &HostRuntime, course: &Course<'_>) -> u8 {
+    let status = status_of(rt, print!(rt; "{course}"));
+    if status == 0 && course.child().is_none() {
+        DENIED
+    } else {
+        status
+    }
+}
+
 /// The start list of a path, or none where that is told on standard error.
 pub(crate) fn review(rt: &HostRuntime, path: &str, given: Given<'_>) -> Option<Review> {
-    match read_start_list(rt, path, given) {
-        Ok(text) => match Review::read(rt.alloc(), &text) {
-            Ok(review) => Some(review),
-            Err(fault) => {
-                tell_fault(rt, path, &fault);
-                None
-            }
-        },
+    let text = start_list(rt, path, given)?;
+    match Review::read(rt.alloc(), &text) {
+        Ok(review) => Some(review),
         Err(fault) => {
-            let _ = eprintln!(rt; "{fault}");
+            tell_fault(rt, path, &fault);
             None
         }
     }

@@ -11,30 +11,35 @@ mod files;
 mod given;
 mod listings;
 mod lists;
+mod machines;
 mod needs;
 mod plays;
 mod policies;
 mod recordings;
 mod scenarios;
+mod streams;
 mod tests;
 mod unfolding;
+mod views;
 
 use apart::{All, all_alone};
-use changes::{Compared, diff};
+use changes::diff;
 use clap::Error;
 use coloring::Coloring;
 use ends::{REFUSED, status_of};
 use given::Given;
-use listings::{Check, check_documents, reach_documents, tree_document};
-use lists::{Asked, Wish, check, reach, route, tree};
-use needs::{Telling, least};
-use plays::{Viewing, play};
+use listings::{check_documents, reach_documents, tree_document};
+use lists::{check, reach, route, tree};
+use needs::least;
+use plays::{Scene, play, play_transcript};
 use policies::hold;
 use recordings::record_scenario;
 use std::process::ExitCode;
 use tests::{Wanted, test};
+use views::Viewing;
 use workbench_options::{
-    Command, Request, alone_takes_a_name_or_all, color_is_one_of_three, needs_command, words_given,
+    Alone, Check, Command, Reach, Request, Run, Test, Tree, alone_takes_a_name_or_all,
+    color_is_one_of_three, needs_command, words_given,
 };
 
 fn main(rt: HostRuntime) -> ExitCode {
@@ -43,10 +48,9 @@ fn main(rt: HostRuntime) -> ExitCode {
         Err(error) => return refuse(&rt, &error),
     };
     match Request::read(rt.alloc(), words.as_slice()) {
-        Ok(Some(request)) => ExitCode::from(answer_request(&rt, request)),
+        Ok(Some(request)) => ExitCode::from(answer_request(&rt, &request)),
         Ok(None) => match needs_command(rt.alloc()) {
-            Ok(error) => refuse(&rt, &error),
-            Err(error) => refuse(&rt, &error),
+            Ok(error) | Err(error) => refuse(&rt, &error),
         },
         Err(error) => refuse(&rt, &error),
     }
@@ -61,9 +65,9 @@ fn refuse(rt: &HostRuntime, error: &Error) -> ExitCode {
     ExitCode::from(status_of(rt, printed))
 }
 
-// Tells what `alone` takes, and answers the exit status.
-fn refuse_alone(rt: &HostRuntime) -> u8 {
-    match alone_takes_a_name_or_all(rt.alloc()) {
+// Tells which words are taken, and answers the exit status.
+fn refuse_words(rt: &HostRuntime, told: Result<Error, Error>) -> u8 {
+    match told {
         Ok(error) | Err(error) => {
             let _ = error.print(rt);
             REFUSED
@@ -72,199 +76,110 @@ fn refuse_alone(rt: &HostRuntime) -> u8 {
 }
 
 // Does what is asked for with what names stand for, and answers the exit status.
-fn answer_request(rt: &HostRuntime, request: Request<'_>) -> u8 {
-    let Request { command, given } = request;
-    match Given::read(rt, given.as_slice()) {
-        Ok(given) => answer(rt, command, given),
+fn answer_request(rt: &HostRuntime, request: &Request<'_>) -> u8 {
+    match Given::read(rt, request.given.as_slice()) {
+        Ok(given) => answer(rt, &request.command, given),
         Err(status) => status,
     }
 }
 
-// Tells which words `--color` takes, and answers the exit status.
-fn refuse_color(rt: &HostRuntime) -> u8 {
-    match color_is_one_of_three(rt.alloc()) {
-        Ok(error) | Err(error) => {
-            let _ = error.print(rt);
-            REFUSED
+// Does what is asked for, and answers the exit status.
+fn answer<'a>(rt: &HostRuntime, command: &'a Command<'a>, given: Given<'a>) -> u8 {
+    match command {
+        Command::Run(asked) => answer_run(rt, asked, given),
+        Command::Record(asked) => record_scenario(rt, asked, given),
+        Command::Check(asked) => answer_check(rt, asked, given),
+        Command::Tree(asked) => answer_tree(rt, asked, given),
+        Command::Reach(asked) => answer_reach(rt, asked, given),
+        Command::Route(asked) => route(rt, asked, given),
+        Command::Trace(asked) => {
+            let viewing = Viewing::Trace { json: asked.json };
+            play(rt, asked.machine, Scene::whole(asked, given, viewing))
         }
+        Command::Accounts(asked) => {
+            let viewing = Viewing::Accounts { json: asked.json };
+            play(rt, asked.machine, Scene::whole(asked, given, viewing))
+        }
+        Command::Least(asked) => least(rt, asked, given),
+        Command::Alone(asked) => answer_alone(rt, asked, given),
+        Command::Diff(asked) => diff(rt, asked),
+        Command::Test(asked) => answer_test(rt, asked, given),
     }
 }
 
-// Does what is asked for, and answers the exit status.
-fn answer(rt: &HostRuntime, command: Command<'_>, given: Given<'_>) -> u8 {
-    match command {
-        Command::Check {
-            strict,
-            json,
-            policy,
-            list,
-        } => match policy {
-            _ if json => check_documents(
-                rt,
-                Check {
-                    list,
-                    policy,
-                    strict,
-                    given,
-                },
-            ),
-            Some(policy) => hold(rt, list, given, policy, strict),
-            None => check(rt, list, given, strict),
-        },
-        Command::Tree {
-            json: true,
-            list,
-            ..
-        } => tree_document(rt, list, given),
-        Command::Tree { dot, list, .. } => tree(rt, list, given, dot),
-        Command::Reach {
-            csv,
-            json,
-            from,
-            to,
-            list,
-        } => {
-            let asked = Asked {
-                from: from.as_slice(),
-                to: to.as_slice(),
-                csv,
-                given,
-            };
-            if json {
-                reach_documents(rt, list, asked)
-            } else {
-                reach(rt, list, asked)
-            }
-        }
-        Command::Route {
-            list,
-            client,
-            service,
-            args,
-        } => {
-            let wish = Wish {
-                client,
-                service,
-                args,
-            };
-            route(rt, list, given, wish)
-        }
-        Command::Run {
-            machine,
-            only,
-            accounts,
-            numbers,
-            color,
-            scenario,
-            ..
-        } => match Coloring::asked(rt, color) {
-            Some(coloring) => {
-                let viewing = Viewing::Run {
-                    only,
-                    accounts,
-                    numbers,
-                    coloring,
-                };
-                play(rt, machine, scenario, given, viewing)
-            }
-            None => refuse_color(rt),
-        },
-        Command::Record {
-            machine,
-            all,
-            write,
-            scenario,
-        } => {
-            let wanted = recordings::Wanted {
-                machine,
-                all,
-                write,
+// Answers a scenario, and answers the exit status.
+fn answer_run<'a>(rt: &HostRuntime, asked: &'a Run<'a>, given: Given<'a>) -> u8 {
+    match Coloring::asked(rt, asked.color) {
+        Some(coloring) => play_transcript(rt, asked, given, coloring),
+        None => refuse_words(rt, color_is_one_of_three(rt.alloc())),
+    }
+}
+
+// Tells what is wrong with a start list, and answers the exit status.
+fn answer_check(rt: &HostRuntime, asked: &Check<'_>, given: Given<'_>) -> u8 {
+    if asked.json {
+        return check_documents(rt, asked, given);
+    }
+    match asked.policy {
+        Some(policy) => hold(rt, asked, given, policy),
+        None => check(rt, asked.list, given, asked.strict),
+    }
+}
+
+// Shows the components of a start list, and answers the exit status.
+fn answer_tree(rt: &HostRuntime, asked: &Tree<'_>, given: Given<'_>) -> u8 {
+    if asked.json {
+        tree_document(rt, asked.list, given)
+    } else {
+        tree(rt, asked.list, given, asked.dot)
+    }
+}
+
+// Tells which scripts reach which servers, and answers the exit status.
+fn answer_reach(rt: &HostRuntime, asked: &Reach<'_>, given: Given<'_>) -> u8 {
+    if asked.json {
+        reach_documents(rt, asked, given)
+    } else {
+        reach(rt, asked, given)
+    }
+}
+
+// Shows what a component, or each, is told alone, and answers the exit status.
+fn answer_alone<'a>(rt: &HostRuntime, asked: &'a Alone<'a>, given: Given<'a>) -> u8 {
+    match (asked.all, asked.scenario) {
+        (false, Some(scenario)) if !asked.summary => {
+            let scene = Scene {
                 scenario,
                 given,
+                viewing: Viewing::Alone(asked.name.as_bytes()),
+                name: Some(asked.name),
             };
-            record_scenario(rt, wanted)
+            play(rt, asked.machine, scene)
         }
-        Command::Trace {
-            machine,
-            json,
-            scenario,
-        } => play(rt, machine, scenario, given, Viewing::Trace { json }),
-        Command::Accounts {
-            machine,
-            json,
-            scenario,
-        } => play(rt, machine, scenario, given, Viewing::Accounts { json }),
-        Command::Least {
-            machine,
-            as_donated,
-            csv,
-            json,
-            list,
-            donations,
-            scenario,
-        } => least(
-            rt,
-            machine,
-            as_donated,
-            Telling::of(csv, json, list, donations),
-            scenario,
-            given,
-        ),
-        Command::Alone {
-            machine,
-            all,
-            summary,
-            name,
-            scenario,
-        } => match (all, scenario) {
-            (false, Some(scenario)) if !summary => {
-                play(rt, machine, scenario, given, Viewing::Alone { name })
-            }
-            (true, None) => {
-                let all = All {
-                    machine,
-                    scenario: name,
-                    summary,
-                    given,
-                };
-                all_alone(rt, all)
-            }
-            _ => refuse_alone(rt),
-        },
-        Command::Diff {
-            json,
-            before,
-            after,
-            scenario,
-        } => {
-            let compared = Compared {
-                before,
-                after,
-                scenario,
+        (true, None) => {
+            let all = All {
+                machine: asked.machine,
+                scenario: asked.name,
+                summary: asked.summary,
+                given,
             };
-            diff(rt, compared, json)
+            all_alone(rt, all)
         }
-        Command::Test {
-            machine,
-            junit,
-            coverage,
-            json,
-            color,
-            paths,
-        } => match Coloring::asked(rt, color) {
-            Some(coloring) => {
-                let wanted = Wanted {
-                    paths: paths.as_slice(),
-                    machine,
-                    junit,
-                    coverage,
-                    json,
-                    given,
-                    colored: coloring.out,
-                };
-                test(rt, &wanted)
-            }
-            None => refuse_color(rt),
-        },
+        _ => refuse_words(rt, alone_takes_a_name_or_all(rt.alloc())),
+    }
+}
+
+// Runs scenarios as tests, and answers the exit status.
+fn answer_test<'a>(rt: &HostRuntime, asked: &'a Test<'a>, given: Given<'a>) -> u8 {
+    match Coloring::asked(rt, asked.color) {
+        Some(coloring) => {
+            let wanted = Wanted {
+                asked,
+                given,
+                colored: coloring.out,
+            };
+            test(rt, wanted)
+        }
+        None => refuse_words(rt, color_is_one_of_three(rt.alloc())),
     }
 }

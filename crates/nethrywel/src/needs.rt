@@ -1,18 +1,19 @@
 //! What the accounts of a scenario need.
-use crate::ends::{REFUSED, UNWRITTEN, status_of};
-use crate::files::{STANDARD_INPUT, read_start_list};
+use crate::ends::{REFUSED, UNWRITTEN, no_memory, status_of};
+use crate::files::STANDARD_INPUT;
 use crate::given::Given;
 use crate::listings::print_documents;
-use crate::lists::tell_fault;
+use crate::machines::{Machine, MachineText, tell_unbooted};
+use crate::streams::{Origin, Reader};
 use crate::unfolding::unfolded;
-use init_core::{BootFault, MACHINE_A};
+use init_core::BootFault;
 use json_documents::{Column, row_documents};
 use least::{Question, Report};
 use scenario::{ConfigFault, Input, Source};
-use start_review::Review;
 use std::alloc::{AllocError, Global};
 use std::io::Write;
 use std::{fs, io};
+use workbench_options::Least;
 
 /// How many bytes of a scenario are asked for at once.
 const BLOCK: usize = 4096;
@@ -30,9 +31,9 @@ static ROWS: [Column; 6] = [
     Column::Number("caps_from"),
 ];
 
-/// In which form it is told.
-#[derive(Clone, Copy, Debug)]
-pub(crate) enum Telling {
+// In which form it is told.
+#[derive(Clone, Copy)]
+enum Telling {
     /// As text.
     Text,
     /// As comma-separated values.
@@ -46,15 +47,15 @@ pub(crate) enum Telling {
 }
 
 impl Telling {
-    /// That of four flags, of which the first that is set counts.
-    pub(crate) fn of(csv: bool, json: bool, list: bool, donations: bool) -> Telling {
-        if csv {
+    // That of four flags, of which the first that is set counts.
+    fn asked(asked: &Least<'_>) -> Telling {
+        if asked.csv {
             Telling::Values
-        } else if json {
+        } else if asked.json {
             Telling::Documents
-        } else if list {
+        } else if asked.list {
             Telling::List
-        } else if donations {
+        } else if asked.donations {
             Telling::Scenario
         } else {
             Telling::Text
@@ -63,93 +64,81 @@ impl Telling {
 }
 
 /// Tells what the accounts of a scenario need on the machine of a start list, or on the built-in machine. Answers the exit status.
-pub(crate) fn least(
-    rt: &HostRuntime,
-    machine: Option<&str>,
-    as_donated: bool,
-    telling: Telling,
-    scenario: &str,
-    given: Given<'_>,
-) -> u8 {
-    let Some(path) = machine else {
-        return least_on(
-            rt,
-            MACHINE_A.as_bytes(),
-            None,
-            as_donated,
-            telling,
-            scenario,
-            given,
-        );
-    };
-    match read_start_list(rt, path, given) {
-        Ok(text) => least_on(rt, &text, machine, as_donated, telling, scenario, given),
-        Err(fault) => {
-            let _ = eprintln!(rt; "{fault}");
-            REFUSED
-        }
-    }
-}
-
-// The same on the machine of a text.
-fn least_on(
-    rt: &HostRuntime,
-    machine: &[u8],
-    path: Option<&str>,
-    as_donated: bool,
-    telling: Telling,
-    scenario: &str,
-    given: Given<'_>,
-) -> u8 {
-    let text = match read_scenario(rt, scenario) {
+pub(crate) fn least(rt: &HostRuntime, asked: &Least<'_>, given: Given<'_>) -> u8 {
+    let text = match MachineText::read(rt, asked.machine, given) {
         Ok(text) => text,
         Err(status) => return status,
     };
-    let (lines, known) = match (
-        unfolded(rt, scenario, text.as_slice(), given),
-        given.known_or_told(rt),
-    ) {
-        (Ok(lines), Ok(known)) => (lines, known),
-        (Err(status), _) | (_, Err(status)) => return status,
+    let machine = Machine {
+        path: asked.machine,
+        text: text.bytes(),
+    };
+    match read_scenario(rt, asked.scenario) {
+        Ok(scenario) => least_on(rt, machine, scenario.as_slice(), asked, given),
+        Err(status) => status,
+    }
+}
+
+// The same on a machine, for a scenario of a text.
+fn least_on(
+    rt: &HostRuntime,
+    machine: Machine<'_>,
+    text: &[u8],
+    asked: &Least<'_>,
+    given: Given<'_>,
+) -> u8 {
+    let lines = match unfolded(rt, asked.scenario, text, given) {
+        Ok(lines) => lines,
+        Err(status) => return status,
+    };
+    let known = match given.known_or_told(rt) {
+        Ok(known) => known,
+        Err(status) => return status,
     };
     let question = Question {
-        machine,
+        machine: machine.text,
         scenario: lines.bytes(),
-        as_donated,
+        as_donated: asked.as_donated,
     };
     match Report::of(rt.alloc(), question, known) {
-        Ok(report) => {
-            let status = tell_misread(rt, scenario, &report);
-            let told = tell(rt, machine, text.as_slice(), telling, report);
-            if told == 0 { status } else { told }
-        }
-        Err(fault) => tell_unbooted(rt, machine, path, &fault),
+        Ok(report) => tell_report(rt, machine.text, text, asked, report),
+        Err(fault) => tell_unbooted(rt, machine, &fault),
     }
+}
+
+// Tells a report of a scenario's text, and before it the lines that are no calls.
+fn tell_report(
+    rt: &HostRuntime,
+    machine: &[u8],
+    text: &[u8],
+    asked: &Least<'_>,
+    report: Report,
+) -> u8 {
+    let status = tell_misread(rt, asked.scenario, &report);
+    let told = tell(rt, machine, text, Telling::asked(asked), report);
+    if told == 0 { status } else { told }
 }
 
 /// The text of a scenario, or the exit status where it can't be read, which is told.
 pub(crate) fn read_scenario(rt: &HostRuntime, scenario: &str) -> Result<Vec<u8>, u8> {
-    let read = if scenario == STANDARD_INPUT {
-        read_all(rt.alloc(), &mut Input::new(rt.reader()))
+    let origin = if scenario == STANDARD_INPUT {
+        Origin::Typed(rt.reader())
     } else {
         match fs::open(rt, scenario) {
-            Ok(file) => read_all(rt.alloc(), &mut Input::new(file)),
+            Ok(file) => Origin::File(file),
             Err(_) => {
                 let _ = eprintln!(rt; "{scenario}: Unreadable_scenario");
                 return Err(REFUSED);
             }
         }
     };
-    match read {
+    match read_all(rt.alloc(), &mut Input::new(origin)) {
         Ok(text) => Ok(text),
         Err(ConfigFault::Unreadable) => {
             let _ = eprintln!(rt; "{scenario}: Read_fault");
             Err(UNWRITTEN)
         }
-        Err(ConfigFault::NoMemory) => {
-            let _ = eprintln!(rt; "run: No_memory");
-            Err(UNWRITTEN)
-        }
+        Err(ConfigFault::NoMemory) => Err(no_memory(rt)),
     }
 }
 
@@ -198,40 +187,28 @@ fn tell_fault_of_run(rt: &HostRuntime, fault: &BootFault) -> u8 {
     UNWRITTEN
 }
 
-/// Tells why no machine was booted, with the place in its start list where that is a file's, and answers the exit status.
-pub(crate) fn tell_unbooted(
-    rt: &HostRuntime,
-    text: &[u8],
-    machine: Option<&str>,
-    fault: &BootFault,
-) -> u8 {
-    if let Some(path) = machine {
-        if let Err(placed) = Review::read(rt.alloc(), text) {
-            tell_fault(rt, path, &placed);
-            return REFUSED;
-        }
-    }
-    let _ = eprintln!(rt; "boot: {fault}");
-    if matches!(fault, BootFault::NoMemory) {
-        UNWRITTEN
-    } else {
-        REFUSED
-    }
-}
-
-// Reads a source to its end. One that has failed isn't read again.
-fn read_all<S: Source>(alloc: Global, source: &mut S) -> Result<Vec<u8>, ConfigFault> {
+// Reads a scenario to its end. A reader that has failed isn't read again.
+fn read_all(alloc: Global, reader: &mut Reader<'_>) -> Result<Vec<u8>, ConfigFault> {
     let mut text = Vec::new(alloc);
     let mut block = [0; BLOCK];
     for _ in 0..u64::MAX {
-        if source.failed() {
-            return Err(ConfigFault::Unreadable);
-        }
-        let count = source.read(&mut block)?;
-        if count == 0 {
+        if !read_block(reader, &mut block, &mut text)? {
             break;
         }
-        text.extend_from_slice(&block[..count])?;
     }
     Ok(text)
+}
+
+// Adds a block, and answers whether there was one.
+fn read_block(
+    reader: &mut Reader<'_>,
+    block: &mut [u8; BLOCK],
+    text: &mut Vec<u8>,
+) -> Result<bool, ConfigFault> {
+    if reader.failed() {
+        return Err(ConfigFault::Unreadable);
+    }
+    let count = reader.read(block)?;
+    text.extend_from_slice(&block[..count])?;
+    Ok(count > 0)
 }

@@ -4,10 +4,11 @@ use crate::files::read_list;
 use crate::given::Given;
 use crate::lists::checked;
 use init_core::StartList;
-use policy::{Policy, PolicyFault, Told};
+use policy::{Breach, Policy, PolicyFault, Told};
 use reach::NoCourse;
 use std::alloc::{AllocError, Global};
 use std::str;
+use workbench_options::Check;
 
 /// The exit status where a line of a policy is broken.
 pub(crate) const BROKEN: u8 = 3;
@@ -16,7 +17,7 @@ pub(crate) const BROKEN: u8 = 3;
 const LONGEST_POLICY: usize = 65_536;
 
 /// A line of a policy, by its number, and what is told of it.
-#[derive(Debug, Drop)]
+#[derive(Drop)]
 pub(crate) struct Noted {
     /// The number of the line, from 1 on.
     pub(crate) line: usize,
@@ -25,7 +26,7 @@ pub(crate) struct Noted {
 }
 
 /// How a start list stands to a policy.
-#[derive(Debug, Drop)]
+#[derive(Drop)]
 pub(crate) enum Standing {
     /// It breaks these lines: none, where it keeps the policy.
     Held(Vec<Noted>),
@@ -37,14 +38,25 @@ pub(crate) enum Standing {
 
 /// Tells what is wrong with a start list, as a check does, and then which lines of a policy it breaks, a line each on standard
 /// error, and `ok` where it breaks none. Answers the exit status.
-pub(crate) fn hold(rt: &HostRuntime, list: &str, given: Given<'_>, path: &str, strict: bool) -> u8 {
-    let Some(review) = checked(rt, list, given, strict) else {
+pub(crate) fn hold(rt: &HostRuntime, asked: &Check<'_>, given: Given<'_>, path: &str) -> u8 {
+    let Some(review) = checked(rt, asked.list, given, asked.strict) else {
         return REFUSED;
     };
     match hold_against(rt, review.list(), path) {
-        Ok(Standing::Held(broken)) => {
+        Ok(standing) => tell_standing(rt, path, &standing),
+        Err(_) => {
+            let _ = eprintln!(rt; "{path}: {}", NoCourse::NoMemory);
+            UNWRITTEN
+        }
+    }
+}
+
+// Tells how a start list stands to the policy of a path, and answers the exit status.
+fn tell_standing(rt: &HostRuntime, path: &str, standing: &Standing) -> u8 {
+    match standing {
+        Standing::Held(broken) => {
             for noted in broken.as_slice() {
-                let _ = eprintln!(rt; "{path}:{}: {}", noted.line, noted.text);
+                tell_noted(rt, path, noted);
             }
             if broken.is_empty() {
                 status_of(rt, println!(rt; "ok"))
@@ -52,19 +64,21 @@ pub(crate) fn hold(rt: &HostRuntime, list: &str, given: Given<'_>, path: &str, s
                 BROKEN
             }
         }
-        Ok(Standing::Faulty(noted)) => {
-            let _ = eprintln!(rt; "{path}:{}: {}", noted.line, noted.text);
+        Standing::Faulty(noted) => {
+            tell_noted(rt, path, noted);
             REFUSED
         }
-        Ok(Standing::Unread(why)) => {
+        Standing::Unread(why) => {
             let _ = eprintln!(rt; "{path}: {why}");
             REFUSED
         }
-        Err(_) => {
-            let _ = eprintln!(rt; "{path}: {}", NoCourse::NoMemory);
-            UNWRITTEN
-        }
     }
+}
+
+// Tells a line of a policy.
+fn tell_noted(rt: &HostRuntime, path: &str, noted: &Noted) {
+    let (line, text) = (noted.line, noted.text.as_str());
+    let _ = eprintln!(rt; "{path}:{line}: {text}");
 }
 
 /// How a start list stands to the policy of a path. An error is want of memory.
@@ -75,12 +89,19 @@ pub(crate) fn hold_against(
 ) -> Result<Standing, AllocError> {
     let alloc = rt.alloc();
     match read_list(rt, path) {
-        Ok(bytes) if LONGEST_POLICY < bytes.len() => unread(alloc, "it is too long"),
-        Ok(bytes) => match str::from_utf8(&bytes) {
-            Ok(text) => standing_to(alloc, list, text),
-            Err(_) => unread(alloc, "it isn't UTF-8"),
-        },
+        Ok(bytes) => standing_by(alloc, list, &bytes),
         Err(fault) => Ok(Standing::Unread(format!(in alloc; "{fault}")?)),
+    }
+}
+
+// How a start list stands to a policy of these bytes.
+fn standing_by(alloc: Global, list: &StartList, bytes: &[u8]) -> Result<Standing, AllocError> {
+    if LONGEST_POLICY < bytes.len() {
+        return unread(alloc, "it is too long");
+    }
+    match str::from_utf8(bytes) {
+        Ok(text) => standing_to(alloc, list, text),
+        Err(_) => unread(alloc, "it isn't UTF-8"),
     }
 }
 
@@ -111,12 +132,22 @@ fn held(alloc: Global, list: &StartList, policy: &Policy) -> Result<Standing, Al
     let mut broken = Vec::new(alloc);
     for line in policy.lines() {
         if let Some(breach) = line.breach(alloc, list)? {
-            let told = Told::of(alloc, list, &breach)?;
-            broken.push(Noted {
-                line: line.number,
-                text: format!(in alloc; "{told}")?,
-            })?;
+            broken.push(broken_by(alloc, list, line.number, &breach)?)?;
         }
     }
     Ok(Standing::Held(broken))
+}
+
+// What is told of a line that a start list breaks.
+fn broken_by(
+    alloc: Global,
+    list: &StartList,
+    line: usize,
+    breach: &Breach,
+) -> Result<Noted, AllocError> {
+    let told = Told::of(alloc, list, breach)?;
+    Ok(Noted {
+        line,
+        text: format!(in alloc; "{told}")?,
+    })
 }

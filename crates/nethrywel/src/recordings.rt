@@ -1,76 +1,70 @@
 //! A scenario that is recorded: on standard output, or in its place.
 use crate::ends::{REFUSED, UNWRITTEN, status_of};
-use crate::files::{STANDARD_INPUT, read_start_list};
+use crate::files::STANDARD_INPUT;
 use crate::given::Given;
-use crate::needs::{read_scenario, tell_unbooted};
+use crate::machines::{Machine, MachineText, tell_unbooted};
+use crate::needs::read_scenario;
 use crate::unfolding::unfolded;
-use init_core::MACHINE_A;
 use recording::{Recording, Scenario, record};
 use std::fs::File;
 use std::io::Write;
 use std::{fs, io};
+use workbench_options::Record;
 
 /// The exit status of a scenario with lines that aren't read.
 const UNREAD_LINES: u8 = 3;
 
-/// What is asked of a recording.
-#[derive(Clone, Copy, Debug)]
-pub(crate) struct Wanted<'a> {
-    /// The path of a start list, or none for the built-in machine.
-    pub(crate) machine: Option<&'a str>,
-    /// Whether each reply is written anew.
-    pub(crate) all: bool,
-    /// Whether the recording is written in place of the scenario.
-    pub(crate) write: bool,
-    /// The path of the scenario.
-    pub(crate) scenario: &'a str,
-    /// What names stand for.
-    pub(crate) given: Given<'a>,
-}
-
 /// Records a scenario on the machine of a start list, or on the built-in machine. Answers the exit status.
-pub(crate) fn record_scenario(rt: &HostRuntime, wanted: Wanted<'_>) -> u8 {
+pub(crate) fn record_scenario(rt: &HostRuntime, wanted: &Record<'_>, given: Given<'_>) -> u8 {
     if wanted.write && wanted.scenario == STANDARD_INPUT {
         let _ = eprintln!(rt; "-: --write takes the path of a file");
         return REFUSED;
     }
-    let Some(path) = wanted.machine else {
-        return record_on(rt, MACHINE_A.as_bytes(), wanted);
-    };
-    match read_start_list(rt, path, wanted.given) {
-        Ok(text) => record_on(rt, &text, wanted),
-        Err(fault) => {
-            let _ = eprintln!(rt; "{fault}");
-            REFUSED
-        }
-    }
-}
-
-// The same on the machine of a text.
-fn record_on(rt: &HostRuntime, machine: &[u8], wanted: Wanted<'_>) -> u8 {
-    let text = match read_scenario(rt, wanted.scenario) {
+    let text = match MachineText::read(rt, wanted.machine, given) {
         Ok(text) => text,
         Err(status) => return status,
     };
-    let (lines, known) = match (
-        unfolded(rt, wanted.scenario, text.as_slice(), wanted.given),
-        wanted.given.known_or_told(rt),
-    ) {
-        (Ok(lines), Ok(known)) => (lines, known),
-        (Err(status), _) | (_, Err(status)) => return status,
+    let machine = Machine {
+        path: wanted.machine,
+        text: text.bytes(),
+    };
+    match read_scenario(rt, wanted.scenario) {
+        Ok(scenario) => record_on(rt, machine, scenario.as_slice(), wanted, given),
+        Err(status) => status,
+    }
+}
+
+// The same on a machine, of a scenario of a text.
+fn record_on(
+    rt: &HostRuntime,
+    machine: Machine<'_>,
+    text: &[u8],
+    wanted: &Record<'_>,
+    given: Given<'_>,
+) -> u8 {
+    let lines = match unfolded(rt, wanted.scenario, text, given) {
+        Ok(lines) => lines,
+        Err(status) => return status,
+    };
+    let known = match given.known_or_told(rt) {
+        Ok(known) => known,
+        Err(status) => return status,
     };
     let scenario = Scenario {
-        text: text.as_slice(),
+        text,
         unfolded: lines.bytes(),
     };
-    match record(rt.alloc(), machine, scenario, known, wanted.all) {
-        Ok(recording) => {
-            let status = tell_unread(rt, wanted.scenario, &recording);
-            let told = tell(rt, wanted, text.as_slice(), recording.text.as_slice());
-            if told == 0 { status } else { told }
-        }
-        Err(fault) => tell_unbooted(rt, machine, wanted.machine, &fault),
+    match record(rt.alloc(), machine.text, scenario, known, wanted.all) {
+        Ok(recording) => tell_recording(rt, wanted, text, &recording),
+        Err(fault) => tell_unbooted(rt, machine, &fault),
     }
+}
+
+// Tells a recording of a scenario's text, and before it the lines that aren't read.
+fn tell_recording(rt: &HostRuntime, wanted: &Record<'_>, text: &[u8], recording: &Recording) -> u8 {
+    let status = tell_unread(rt, wanted.scenario, recording);
+    let told = tell(rt, wanted, text, recording.text.as_slice());
+    if told == 0 { status } else { told }
 }
 
 // Tells the lines that aren't read, and answers the exit status.
@@ -87,7 +81,7 @@ fn tell_unread(rt: &HostRuntime, scenario: &str, recording: &Recording) -> u8 {
 }
 
 // Writes a recording where it is asked for, and answers the exit status. A scenario that is recorded already stays untouched.
-fn tell(rt: &HostRuntime, wanted: Wanted<'_>, old: &[u8], new: &[u8]) -> u8 {
+fn tell(rt: &HostRuntime, wanted: &Record<'_>, old: &[u8], new: &[u8]) -> u8 {
     if !wanted.write {
         return status_of(rt, io::writer(rt).write_all(new));
     }

@@ -1,6 +1,7 @@
 //! Which files are the scenarios of paths: a file itself, and of a folder those in it and in the folders below.
-use crate::ends::{REFUSED, UNWRITTEN};
+use crate::ends::{REFUSED, no_memory};
 use std::alloc::{AllocError, AllocFailed};
+use std::fs::DirEntry;
 use std::io::ErrorKind;
 use std::{fs, io};
 use test_report::is_scenario;
@@ -9,31 +10,31 @@ use test_report::is_scenario;
 const MOST_FOLDERS: usize = 100_000;
 
 /// Why the scenarios of paths aren't known.
-#[derive(Debug, Drop)]
-pub(crate) enum Unfound {
+#[derive(Clone, Copy)]
+pub(crate) enum Unfound<'a> {
     /// Nothing stands at this path, or it can't be read.
-    Unreadable(String),
+    Unreadable(&'a str),
     /// No scenario stands in this folder, nor below.
-    Nothing(String),
+    Nothing(&'a str),
     /// The host has no memory.
     NoMemory,
 }
 
-impl From<AllocError> for Unfound {
-    fn from(_want: AllocError) -> Unfound {
+impl<'a> From<AllocError> for Unfound<'a> {
+    fn from(_want: AllocError) -> Unfound<'a> {
         Unfound::NoMemory
     }
 }
 
-impl<T: Drop> From<AllocFailed<T>> for Unfound {
-    fn from(_want: AllocFailed<T>) -> Unfound {
+impl<'a, T: Drop> From<AllocFailed<T>> for Unfound<'a> {
+    fn from(_want: AllocFailed<T>) -> Unfound<'a> {
         Unfound::NoMemory
     }
 }
 
-impl Unfound {
+impl Unfound<'_> {
     /// Tells it, and answers the exit status.
-    pub(crate) fn tell(&self, rt: &HostRuntime) -> u8 {
+    pub(crate) fn tell(self, rt: &HostRuntime) -> u8 {
         match self {
             Unfound::Unreadable(path) => {
                 let _ = eprintln!(rt; "{path}: Unreadable_path");
@@ -43,38 +44,52 @@ impl Unfound {
                 let _ = eprintln!(rt; "{path}: no file here ends with .scenario");
                 REFUSED
             }
-            Unfound::NoMemory => {
-                let _ = eprintln!(rt; "run: No_memory");
-                UNWRITTEN
-            }
+            Unfound::NoMemory => no_memory(rt),
         }
     }
 }
 
 /// The scenarios of paths: of each in turn, those of a folder in the order of their bytes.
-pub(crate) fn scenarios_at(rt: &HostRuntime, paths: &[&str]) -> Result<Vec<String>, Unfound> {
+pub(crate) fn scenarios_at<'a>(
+    rt: &HostRuntime,
+    paths: &[&'a str],
+) -> Result<Vec<String>, Unfound<'a>> {
     let mut all = Vec::new(rt.alloc());
     for path in paths {
-        let mut found = at(rt, path)?;
-        found.sort()?;
-        for scenario in found {
-            all.push(scenario)?;
-        }
+        add_scenarios(rt, path, &mut all)?;
     }
     Ok(all)
 }
 
+// Adds the scenarios of a path.
+fn add_scenarios<'a>(
+    rt: &HostRuntime,
+    path: &'a str,
+    all: &mut Vec<String>,
+) -> Result<(), Unfound<'a>> {
+    let mut found = at(rt, path)?;
+    found.sort()?;
+    for scenario in found {
+        all.push(scenario)?;
+    }
+    Ok(())
+}
+
 // The scenarios of a path.
-fn at(rt: &HostRuntime, path: &str) -> Result<Vec<String>, Unfound> {
-    let owned = String::from_str(rt.alloc(), path)?;
+fn at<'a>(rt: &HostRuntime, path: &'a str) -> Result<Vec<String>, Unfound<'a>> {
     match fs::metadata(rt, path) {
-        Ok(of) if of.is_dir() => match below(rt, path) {
-            Ok(found) if found.is_empty() => Err(Unfound::Nothing(owned)),
-            Ok(found) => Ok(found),
-            Err(_) => Err(Unfound::Unreadable(owned)),
-        },
-        Ok(_) => Ok(vec![in rt.alloc(); owned]?),
-        Err(_) => Err(Unfound::Unreadable(owned)),
+        Ok(of) if of.is_dir() => in_folder(rt, path),
+        Ok(_) => Ok(vec![in rt.alloc(); String::from_str(rt.alloc(), path)?]?),
+        Err(_) => Err(Unfound::Unreadable(path)),
+    }
+}
+
+// The scenarios of a folder, if there are any.
+fn in_folder<'a>(rt: &HostRuntime, path: &'a str) -> Result<Vec<String>, Unfound<'a>> {
+    match below(rt, path) {
+        Ok(found) if found.is_empty() => Err(Unfound::Nothing(path)),
+        Ok(found) => Ok(found),
+        Err(_) => Err(Unfound::Unreadable(path)),
     }
 }
 
@@ -104,16 +119,26 @@ fn look_through(
     found: &mut Vec<String>,
 ) -> io::Result<()> {
     for entry in fs::read_dir(rt, folder)? {
-        let entry = entry?;
-        if entry.file_name().starts_with('.') {
-            continue;
-        }
-        let path = String::from_str(rt.alloc(), entry.path().as_str())?;
-        if entry.file_type()?.is_dir() {
-            folders.push(path)?;
-        } else if is_scenario(path.as_str()) {
-            found.push(path)?;
-        }
+        look_at(rt, &entry?, folders, found)?;
+    }
+    Ok(())
+}
+
+// Adds what stands in a folder, where it is a folder or a scenario.
+fn look_at(
+    rt: &HostRuntime,
+    entry: &DirEntry<HostRuntime>,
+    folders: &mut Vec<String>,
+    found: &mut Vec<String>,
+) -> io::Result<()> {
+    if entry.file_name().starts_with('.') {
+        return Ok(());
+    }
+    let path = String::from_str(rt.alloc(), entry.path().as_str())?;
+    if entry.file_type()?.is_dir() {
+        folders.push(path)?;
+    } else if is_scenario(path.as_str()) {
+        found.push(path)?;
     }
     Ok(())
 }

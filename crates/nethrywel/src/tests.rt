@@ -1,30 +1,39 @@
 //! Scenarios that are run as tests, and what is told of them.
+use crate::coloring::Coloring;
 use crate::coverings::Coverings;
 use crate::ends::{Stopped, UNWRITTEN, status_of};
 use crate::files::{read_start_list, read_whole};
 use crate::given::Given;
 use crate::lists::Told;
-use crate::policies::{Standing, hold_against};
-use crate::scenarios::{Unfound, scenarios_at};
+use crate::machines::{Machine, MachineText};
+use crate::policies::{Noted, Standing, hold_against};
+use crate::scenarios::scenarios_at;
+use crate::streams::{Origin, Place, plain_writer, text_of};
+use crate::views::{Kept, Viewing, view, view_text};
 use colors::{Lines, paint};
-use init_core::{BootFault, MACHINE_A, StartList};
+use init_core::{BootFault, StartList};
 use rounds::{Unfit, unfold};
-use scenario::{Input, Output, Source};
+use scenario::Input;
 use start_review::Review;
-use std::alloc::AllocError;
+use std::alloc::{AllocError, Global};
+use std::fmt::Display;
 use std::io::{IsTerminal, Write};
 use std::{fs, io};
 use test_report::{
     Trial, failures, junit_document, machine_beside, policy_beside, tap_plan, tap_point,
 };
-use workbench::{Ending, Play, Showing, exit_status, run, trace};
+use workbench::{Ending, Play, Showing, exit_status};
+use workbench_options::Test;
 
-/// What is told of a test: its replies.
-const REPLIES: Showing<'static> = Showing {
-    only: None,
-    accounts: false,
-    numbers: false,
-};
+/// What is asked of a test: its replies.
+const REPLIES: Viewing<'static> = Viewing::Run(
+    Showing {
+        only: None,
+        accounts: false,
+        numbers: false,
+    },
+    Coloring::NOWHERE,
+);
 
 /// The exit status where a scenario isn't answered as it expects.
 const FAILED: u8 = 3;
@@ -32,16 +41,8 @@ const FAILED: u8 = 3;
 /// What is asked of tests.
 #[derive(Clone, Copy)]
 pub(crate) struct Wanted<'a> {
-    /// Files, and folders with scenarios.
-    pub(crate) paths: &'a [&'a str],
-    /// The machine of scenarios beside which none stands, in place of the built-in one.
-    pub(crate) machine: Option<&'a str>,
-    /// The file to which the document of all results is written.
-    pub(crate) junit: Option<&'a str>,
-    /// Whether it is told what the scenarios show of their machines.
-    pub(crate) coverage: bool,
-    /// Whether that is told as a document, in place of all lines.
-    pub(crate) json: bool,
+    /// Which scenarios are run, and what is told of them.
+    pub(crate) asked: &'a Test<'a>,
     /// What names stand for.
     pub(crate) given: Given<'a>,
     /// Whether lines are coloured.
@@ -50,10 +51,10 @@ pub(crate) struct Wanted<'a> {
 
 /// Runs the scenarios of all paths one after the other, each on a machine of its own: the one that stands beside it, or the one
 /// for the others. Tells a line each, and writes the document where one is asked for. Answers the exit status.
-pub(crate) fn test(rt: &HostRuntime, wanted: &Wanted<'_>) -> u8 {
-    match scenarios_at(rt, wanted.paths) {
+pub(crate) fn test(rt: &HostRuntime, wanted: Wanted<'_>) -> u8 {
+    match scenarios_at(rt, wanted.asked.paths.as_slice()) {
         Ok(scenarios) => match run_all(rt, scenarios.as_slice(), wanted) {
-            Ok(trials) => end(rt, trials.as_slice(), wanted.junit),
+            Ok(trials) => end(rt, trials.as_slice(), wanted.asked.junit),
             Err(error) => status_of(rt, Err(error)),
         },
         Err(unfound) => unfound.tell(rt),
@@ -78,21 +79,39 @@ fn write_document(rt: &HostRuntime, path: &str, trials: &[Trial]) -> io::Result<
 }
 
 // Runs all, and tells a line each, and behind them what they show, where that is asked for.
-fn run_all(rt: &HostRuntime, scenarios: &[String], wanted: &Wanted<'_>) -> io::Result<Vec<Trial>> {
-    let alloc = rt.alloc();
-    let mut coverings = Coverings::new(rt, wanted.coverage, wanted.json);
+fn run_all(rt: &HostRuntime, scenarios: &[String], wanted: Wanted<'_>) -> io::Result<Vec<Trial>> {
+    let mut coverings = Coverings::new(rt, wanted.asked.coverage, wanted.asked.json);
     let teller = Teller::new(rt, wanted.colored, coverings.is_document(), scenarios.len());
-    teller.tell(rt, tap_plan(alloc, scenarios.len())?.as_bytes())?;
-    let mut trials = Vec::new(alloc);
+    teller.plan(rt)?;
+    let mut trials = Vec::new(rt.alloc());
     for scenario in scenarios {
-        let trial = run_one(rt, scenario.as_str(), wanted, &mut coverings)?;
-        let point = tap_point(alloc, trials.len().saturating_add(1), &trial)?;
-        teller.tell(rt, point.as_slice())?;
-        trials.push(trial)?;
-        teller.progress(rt, trials.len());
+        run_next(
+            rt,
+            scenario.as_str(),
+            wanted,
+            teller,
+            &mut coverings,
+            &mut trials,
+        )?;
     }
     coverings.tell(rt)?;
     Ok(trials)
+}
+
+// Runs a scenario behind those that were run, and tells a line.
+fn run_next(
+    rt: &HostRuntime,
+    scenario: &str,
+    wanted: Wanted<'_>,
+    teller: Teller,
+    coverings: &mut Coverings,
+    trials: &mut Vec<Trial>,
+) -> io::Result<()> {
+    let trial = run_one(rt, scenario, wanted, coverings)?;
+    teller.point(rt, trials.len().saturating_add(1), &trial)?;
+    trials.push(trial)?;
+    teller.progress(rt, trials.len());
+    Ok(())
 }
 
 // How lines are told.
@@ -114,6 +133,16 @@ impl Teller {
             progress: rt.stderr().is_terminal() && !rt.stdout().is_terminal(),
             all,
         }
+    }
+
+    // Tells how many are run.
+    fn plan(self, rt: &HostRuntime) -> io::Result<()> {
+        self.tell(rt, tap_plan(rt.alloc(), self.all)?.as_bytes())
+    }
+
+    // Tells the result of the scenario with this number.
+    fn point(self, rt: &HostRuntime, number: usize, trial: &Trial) -> io::Result<()> {
+        self.tell(rt, tap_point(rt.alloc(), number, trial)?.as_slice())
     }
 
     // Tells lines.
@@ -142,11 +171,11 @@ impl Teller {
     }
 }
 
-// A scenario, on the machine of a text.
+// A scenario, on a machine.
 #[derive(Clone, Copy)]
 struct Case<'a> {
     scenario: &'a str,
-    machine: &'a [u8],
+    machine: Machine<'a>,
     given: Given<'a>,
 }
 
@@ -154,159 +183,204 @@ struct Case<'a> {
 fn run_one(
     rt: &HostRuntime,
     scenario: &str,
-    wanted: &Wanted<'_>,
+    wanted: Wanted<'_>,
     coverings: &mut Coverings,
 ) -> Result<Trial, AllocError> {
     let beside = machine_beside(rt.alloc(), scenario)?;
     let list = match fs::exists(rt, beside.as_str()) {
-        Ok(false) => wanted.machine,
+        Ok(false) => wanted.asked.machine,
         _ => Some(beside.as_str()),
     };
-    let Some(path) = list else {
-        let case = Case {
-            scenario,
-            machine: MACHINE_A.as_bytes(),
-            given: wanted.given,
-        };
-        return run_whole(rt, case, None, coverings);
-    };
-    match read_start_list(rt, path, wanted.given) {
-        Ok(text) => run_whole(
-            rt,
-            Case {
-                scenario,
-                machine: &text,
-                given: wanted.given,
-            },
-            list,
-            coverings,
-        ),
-        Err(fault) => failed(rt, scenario, format!(in rt.alloc(); "{fault}\n")?),
-    }
+    run_listed(rt, scenario, list, wanted.given, coverings)
 }
 
-// Runs a scenario on a machine, by the path of its start list where that is a file's, and holds the policy that stands beside the
-// scenario against the machine.
+// Runs a scenario on the machine of a start list, or on the built-in machine.
+fn run_listed(
+    rt: &HostRuntime,
+    scenario: &str,
+    path: Option<&str>,
+    given: Given<'_>,
+    coverings: &mut Coverings,
+) -> Result<Trial, AllocError> {
+    let text = match path {
+        Some(list) => match read_start_list(rt, list, given) {
+            Ok(text) => MachineText::Read(text),
+            Err(fault) => return failed(rt, scenario, format!(in rt.alloc(); "{fault}\n")?),
+        },
+        None => MachineText::BuiltIn,
+    };
+    let case = Case {
+        scenario,
+        machine: Machine {
+            path,
+            text: text.bytes(),
+        },
+        given,
+    };
+    run_whole(rt, case, coverings)
+}
+
+// Runs a scenario, and holds the policy that stands beside it against the machine.
 fn run_whole(
     rt: &HostRuntime,
     case: Case<'_>,
-    list: Option<&str>,
     coverings: &mut Coverings,
 ) -> Result<Trial, AllocError> {
-    let mut trial = run_on(rt, case, list, coverings)?;
-    let policy = policy_beside(rt.alloc(), case.scenario)?;
-    if let Ok(false) = fs::exists(rt, policy.as_str()) {
-        return Ok(trial);
-    }
-    if let Ok(list) = StartList::read(rt.alloc(), case.machine) {
-        hold_beside(rt, &list, policy.as_str(), &mut trial)?;
-    }
+    let mut trial = run_on(rt, case, coverings)?;
+    hold_beside(rt, case, &mut trial)?;
     Ok(trial)
 }
 
-// Holds a policy against the machine of a trial. Where it isn't kept, the trial failed.
-fn hold_beside(
-    rt: &HostRuntime,
-    list: &StartList,
-    policy: &str,
-    trial: &mut Trial,
-) -> Result<(), AllocError> {
+// Holds the policy that stands beside a scenario against its machine. Where that isn't kept, the trial failed.
+fn hold_beside(rt: &HostRuntime, case: Case<'_>, trial: &mut Trial) -> Result<(), AllocError> {
     let alloc = rt.alloc();
-    match hold_against(rt, list, policy)? {
-        Standing::Held(broken) => {
-            for noted in broken.as_slice() {
-                let (line, text) = (noted.line, noted.text.as_str());
-                fail(trial, format!(in alloc; "{policy}:{line}: {text}\n")?)?;
-            }
-            Ok(())
+    let policy = policy_beside(alloc, case.scenario)?;
+    if let Ok(false) = fs::exists(rt, policy.as_str()) {
+        return Ok(());
+    }
+    match StartList::read(alloc, case.machine.text) {
+        Ok(list) => {
+            let standing = hold_against(rt, &list, policy.as_str())?;
+            note_standing(alloc, policy.as_str(), &standing, trial)
         }
-        Standing::Faulty(noted) => {
-            let (line, text) = (noted.line, noted.text.as_str());
-            fail(trial, format!(in alloc; "{policy}:{line}: {text}\n")?)
-        }
-        Standing::Unread(why) => fail(trial, format!(in alloc; "{policy}: {why}\n")?),
+        Err(_) => Ok(()),
     }
 }
 
-// Tells a line more of a trial, which failed by it.
-fn fail(trial: &mut Trial, line: String) -> Result<(), AllocError> {
+// Tells how a machine stands to the policy of a path.
+fn note_standing(
+    alloc: Global,
+    policy: &str,
+    standing: &Standing,
+    trial: &mut Trial,
+) -> Result<(), AllocError> {
+    match standing {
+        Standing::Held(broken) => {
+            for noted in broken.as_slice() {
+                note(alloc, policy, noted, trial)?;
+            }
+            Ok(())
+        }
+        Standing::Faulty(noted) => note(alloc, policy, noted, trial),
+        Standing::Unread(why) => {
+            trial.passed = false;
+            add_line(alloc, &mut trial.told, &format_args!("{policy}: {why}"))
+        }
+    }
+}
+
+// Tells a line of a policy, by which a trial failed.
+fn note(alloc: Global, policy: &str, noted: &Noted, trial: &mut Trial) -> Result<(), AllocError> {
+    let (line, text) = (noted.line, noted.text.as_str());
     trial.passed = false;
-    trial.told.extend_from_slice(line.as_bytes())?;
-    Ok(())
+    add_line(
+        alloc,
+        &mut trial.told,
+        &format_args!("{policy}:{line}: {text}"),
+    )
+}
+
+// Adds a line to what is told of a trial.
+fn add_line<D: Display>(alloc: Global, told: &mut Vec<u8>, line: &D) -> Result<(), AllocError> {
+    told.extend_from_slice(format!(in alloc; "{line}\n")?.as_bytes())
 }
 
 // Runs a scenario.
 fn run_on(
     rt: &HostRuntime,
     case: Case<'_>,
-    list: Option<&str>,
     coverings: &mut Coverings,
 ) -> Result<Trial, AllocError> {
-    let alloc = rt.alloc();
     let scenario = case.scenario;
     if let Some(whole) = read_whole(rt, scenario) {
-        return match unfold(alloc, &whole, case.given.known(alloc)?) {
-            Ok(lines) => run_from(rt, case, list, &mut lines.bytes(), coverings),
-            Err(Unfit::Fault(fault)) => {
-                failed(rt, scenario, format!(in alloc; "{scenario}:{fault}\n")?)
-            }
-            Err(Unfit::NoMemory) => Err(AllocError),
-        };
+        return run_text(rt, case, &whole, coverings);
     }
     match fs::open(rt, scenario) {
-        Ok(file) => run_from(rt, case, list, &mut Input::new(file), coverings),
-        Err(_) => failed(
-            rt,
-            scenario,
-            format!(in alloc; "{scenario}: Unreadable_scenario\n")?,
-        ),
+        Ok(file) => run_from(rt, case, Origin::File(file), coverings),
+        Err(_) => {
+            let told = format!(in rt.alloc(); "{scenario}: Unreadable_scenario\n")?;
+            failed(rt, scenario, told)
+        }
     }
 }
 
-// Runs a scenario of a source. What it shows is read from its trace.
-fn run_from<S: Source>(
+// Runs a scenario of a text, with its rounds unfolded.
+fn run_text(
     rt: &HostRuntime,
     case: Case<'_>,
-    list: Option<&str>,
-    source: &mut S,
+    text: &[u8],
     coverings: &mut Coverings,
 ) -> Result<Trial, AllocError> {
-    let alloc = rt.alloc();
-    let play = Play {
-        machine: case.machine,
-        scenario: case.scenario.as_bytes(),
-        given: case.given.known(alloc)?,
-    };
-    let mut complaints = Output::new(Vec::new(alloc));
-    let ended = if coverings.are_wanted() {
-        let mut traced = Output::new(Vec::new(alloc));
-        let ended = trace(alloc, play, source, &mut traced, &mut complaints);
-        let shown = traced.into_inner();
-        coverings.add(rt, case.machine, list, case.scenario, shown.as_slice())?;
-        ended
-    } else {
-        let mut nowhere = Output::new(io::sink());
-        run(alloc, play, REPLIES, source, &mut nowhere, &mut complaints)
-    };
-    let mut told = complaints.into_inner();
-    if let Some(line) = last_line(rt, case, list, &ended)? {
-        told.extend_from_slice(line.as_bytes())?;
+    let scenario = case.scenario;
+    match unfold(rt.alloc(), text, case.given.known(rt.alloc())?) {
+        Ok(lines) => run_from(rt, case, Origin::Held(lines.bytes()), coverings),
+        Err(Unfit::Fault(fault)) => {
+            let told = format!(in rt.alloc(); "{scenario}:{fault}\n")?;
+            failed(rt, scenario, told)
+        }
+        Err(Unfit::NoMemory) => Err(AllocError),
     }
+}
+
+// Runs the lines of an origin.
+fn run_from(
+    rt: &HostRuntime,
+    case: Case<'_>,
+    origin: Origin<'_>,
+    coverings: &mut Coverings,
+) -> Result<Trial, AllocError> {
+    let mut kept = played(rt, case, origin, coverings)?;
+    add_end(rt.alloc(), case, &kept.ended, &mut kept.text)?;
     Ok(Trial {
-        path: String::from_str(alloc, case.scenario)?,
-        passed: exit_status(&ended) == 0,
-        told,
+        path: String::from_str(rt.alloc(), case.scenario)?,
+        passed: exit_status(&kept.ended) == 0,
+        told: kept.text,
     })
 }
 
-// What is told of a play that didn't begin or didn't come to its end.
-fn last_line(
+// Plays the lines of an origin, and keeps its complaints. What they show is read from their trace.
+fn played(
     rt: &HostRuntime,
     case: Case<'_>,
-    list: Option<&str>,
+    origin: Origin<'_>,
+    coverings: &mut Coverings,
+) -> Result<Kept, AllocError> {
+    let play = Play {
+        machine: case.machine.text,
+        scenario: case.scenario.as_bytes(),
+        given: case.given.known(rt.alloc())?,
+    };
+    let mut reader = Input::new(origin);
+    let mut complaints = plain_writer(rt, Place::text(rt));
+    let ended = if coverings.are_wanted() {
+        let viewing = Viewing::Trace { json: false };
+        let shown = view_text(rt, play, viewing, &mut reader, &mut complaints);
+        coverings.add(rt, case.machine, case.scenario, shown.text.as_slice())?;
+        shown.ended
+    } else {
+        let mut nowhere = plain_writer(rt, Place::Dropped);
+        view(
+            rt,
+            play,
+            REPLIES,
+            &mut reader,
+            &mut nowhere,
+            &mut complaints,
+        )
+    };
+    Ok(Kept {
+        ended,
+        text: text_of(rt, complaints),
+    })
+}
+
+// Adds what is told of a play that didn't begin or didn't come to its end.
+fn add_end(
+    alloc: Global,
+    case: Case<'_>,
     ended: &Result<Ending, BootFault>,
-) -> Result<Option<String>, AllocError> {
-    let alloc = rt.alloc();
+    told: &mut Vec<u8>,
+) -> Result<(), AllocError> {
     match ended {
         Ok(ending) => match ending.fault {
             Some(fault) => {
@@ -315,23 +389,31 @@ fn last_line(
                     lines: ending.lines,
                     fault,
                 };
-                Ok(Some(format!(in alloc; "{stopped}\n")?))
+                add_line(alloc, told, &stopped)
             }
-            None => Ok(None),
+            None => Ok(()),
         },
-        Err(fault) => {
-            if let Some(path) = list {
-                if let Err(fault) = Review::read(alloc, case.machine) {
-                    let told = Told {
-                        path,
-                        fault: &fault,
-                    };
-                    return Ok(Some(format!(in alloc; "{told}\n")?));
-                }
-            }
-            Ok(Some(format!(in alloc; "boot: {fault}\n")?))
+        Err(fault) => add_unbooted(alloc, case.machine, fault, told),
+    }
+}
+
+// Adds why no machine was booted, with the place in its start list where that is a file's.
+fn add_unbooted(
+    alloc: Global,
+    machine: Machine<'_>,
+    fault: &BootFault,
+    told: &mut Vec<u8>,
+) -> Result<(), AllocError> {
+    if let Some(path) = machine.path {
+        if let Err(fault) = Review::read(alloc, machine.text) {
+            let placed = Told {
+                path,
+                fault: &fault,
+            };
+            return add_line(alloc, told, &placed);
         }
     }
+    add_line(alloc, told, &format_args!("boot: {fault}"))
 }
 
 // A scenario that failed before its first line.

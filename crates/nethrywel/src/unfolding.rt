@@ -1,5 +1,5 @@
 //! Scenarios with their rounds unfolded.
-use crate::ends::UNWRITTEN;
+use crate::ends::no_memory;
 use crate::given::Given;
 use rounds::{Unfit, Unfolded, unfold};
 
@@ -20,9 +20,6 @@ pub(crate) fn unfolded<'a>(
             let _ = eprintln!(rt; "{scenario}:{fault}");
             Err(UNUNFOLDED)
         }
-        Err(Unfit::NoMemory) => {
-            let _ = eprintln!(rt; "run: No_memory");
-            Err(UNWRITTEN)
-        }
+        Err(Unfit::NoMemory) => Err(no_memory(rt)),
     }
 }

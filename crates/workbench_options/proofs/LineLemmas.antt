@@ -1,5 +1,5 @@
 -- What matches tell of flags, values and commands.
-use Rattle.std.proofs.Common.{◌≡◌, ◌∙◌, ◌||◌, ◌++◌, ◌∷◌, [], ℕ, List, Bool, true, false, Option, Some, None, Result, Err, refl, sym, ap, ap₂, codes, option_map, unwrap_or, Box, is_some, true≢false}
+use Rattle.std.proofs.Common.{◌≡◌, ◌∙◌, ◌||◌, ℕ, List, Bool, true, false, Option, Some, None, Result, Err, refl, sym, ap, ap₂, codes, option_map, unwrap_or, Box, is_some, true≢false}
 use Rattle.std.specs.Borrow.{Bor}
 use Rattle.std.specs.Box.{box_value}
 use Rattle.std.specs.Str.{bytes_eq}

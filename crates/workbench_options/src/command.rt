@@ -1,7 +1,7 @@
 //! What is asked for.
 ghost use Rattle.std.specs.Prelude.{◌≡◌, ◌≢◌, [], IfErr, IfOk, Some, codes, map, true, unwrap_or};
 ghost use Rattle.clap.specs.Words.{FailsBy, all_of, fault_of, found_of, kind_of, rows_of, subcommand_of, subcommand_rows_of, takes};
-ghost use Rattle.workbench_options.specs.Line.{AsksAs, IsColor, IsCommand, first_or, is_set, program};
+ghost use Rattle.workbench_options.specs.Line.{Asks, AsksAs, IsColor, IsCommand, first_or, is_set, program};
 
 use crate::commands::commands;
 use clap::error::ErrorKind;
@@ -31,153 +31,190 @@ pub enum Color {
     Unknown,
 }
 
-/// What the workbench is asked to do. Paths are as they stand, and `-` is standard input.
-#[derive(Debug, PartialEq, Eq, Drop)]
+/// What the workbench is asked to do.
+#[derive(Debug, Drop)]
 pub enum Command<'a> {
     /// Answers a scenario, and tells where it isn't answered as it expects.
-    Run {
-        /// The path of a start list, or none for the built-in machine.
-        machine: Option<&'a str>,
-        /// The name whose lines alone are answered, or none for all lines.
-        only: Option<&'a str>,
-        /// Whether the account list is told after the last reply.
-        accounts: bool,
-        /// Whether the number of its line is told before what each line is told.
-        numbers: bool,
-        /// When lines are coloured.
-        color: Color,
-        /// The path of the scenario.
-        scenario: &'a str,
-    },
+    Run(Run<'a>),
     /// Writes a scenario with its replies.
-    Record {
-        /// The path of a start list, or none for the built-in machine.
-        machine: Option<&'a str>,
-        /// Whether each reply is written anew.
-        all: bool,
-        /// Whether it is written in place of the scenario.
-        write: bool,
-        /// The path of the scenario.
-        scenario: &'a str,
-    },
+    Record(Record<'a>),
     /// Tells what is wrong with a start list.
-    Check {
-        /// Whether a finding is a fault.
-        strict: bool,
-        /// Whether a document of JSON is written in place of lines.
-        json: bool,
-        /// The path of a policy that is held against it, or none.
-        policy: Option<&'a str>,
-        /// The path of the start list.
-        list: &'a str,
-    },
+    Check(Check<'a>),
     /// Shows the components of a start list, and where their wishes lead.
-    Tree {
-        /// Whether a graph is shown in place of a text.
-        dot: bool,
-        /// Whether a document of JSON is written in place of a text.
-        json: bool,
-        /// The path of the start list.
-        list: &'a str,
-    },
+    Tree(Tree<'a>),
     /// Tells which scripts reach which servers, and with which labels.
-    Reach {
-        /// Whether comma-separated values are written in place of a table.
-        csv: bool,
-        /// Whether a document of JSON is written in place of a table.
-        json: bool,
-        /// The paths of the scripts that are looked at; all where there are none.
-        from: Vec<&'a str>,
-        /// The paths of the servers that are looked at; all where there are none.
-        to: Vec<&'a str>,
-        /// The path of the start list.
-        list: &'a str,
-    },
+    Reach(Reach<'a>),
     /// Tells where one wish for a session leads, and by which rules.
-    Route {
-        /// The path of the start list.
-        list: &'a str,
-        /// The component that wishes.
-        client: &'a str,
-        /// The service.
-        service: &'a str,
-        /// The arguments of the session, or nothing.
-        args: &'a str,
-    },
+    Route(Route<'a>),
     /// Writes a table of all lines with what each left in use.
-    Trace {
-        /// The path of a start list, or none for the built-in machine.
-        machine: Option<&'a str>,
-        /// Whether documents of JSON are written in place of comma-separated values.
-        json: bool,
-        /// The path of the scenario.
-        scenario: &'a str,
-    },
+    Trace(Played<'a>),
     /// Tells all accounts after a scenario.
-    Accounts {
-        /// The path of a start list, or none for the built-in machine.
-        machine: Option<&'a str>,
-        /// Whether a document of JSON is written in place of lines.
-        json: bool,
-        /// The path of the scenario.
-        scenario: &'a str,
-    },
+    Accounts(Played<'a>),
     /// Tells what each account of a scenario needs.
-    Least {
-        /// The path of a start list, or none for the built-in machine.
-        machine: Option<&'a str>,
-        /// Whether sessions are given what the scenario donates, and not the least.
-        as_donated: bool,
-        /// Whether comma-separated values are written in place of a text.
-        csv: bool,
-        /// Whether a document of JSON is written in place of a text.
-        json: bool,
-        /// Whether the start list with the least budgets is written.
-        list: bool,
-        /// Whether the scenario with the least donations is written.
-        donations: bool,
-        /// The path of the scenario.
-        scenario: &'a str,
-    },
+    Least(Least<'a>),
     /// Shows what a component is told in the whole run and alone.
-    Alone {
-        /// The path of a start list, or none for the built-in machine.
-        machine: Option<&'a str>,
-        /// Whether all scripts are looked at, one after the other.
-        all: bool,
-        /// Whether the last line alone is told of each.
-        summary: bool,
-        /// The component; of all scripts the path of the scenario.
-        name: &'a str,
-        /// The path of the scenario; of all scripts none.
-        scenario: Option<&'a str>,
-    },
+    Alone(Alone<'a>),
     /// Tells what a change of a start list changes.
-    Diff {
-        /// Whether a document of JSON is written in place of lines.
-        json: bool,
-        /// The path of the start list before it.
-        before: &'a str,
-        /// The path of the start list after it.
-        after: &'a str,
-        /// The path of a scenario whose replies are compared, if one is.
-        scenario: Option<&'a str>,
-    },
+    Diff(Diff<'a>),
     /// Runs scenarios as tests.
-    Test {
-        /// The path of a start list for the scenarios beside which none stands, or none for the built-in machine.
-        machine: Option<&'a str>,
-        /// The path of the document of all results, or none.
-        junit: Option<&'a str>,
-        /// Whether it is told what the scenarios show of their machines.
-        coverage: bool,
-        /// Whether that is told as a document of JSON, in place of all lines.
-        json: bool,
-        /// When lines are coloured.
-        color: Color,
-        /// The paths of scenarios, and of folders with scenarios.
-        paths: Vec<&'a str>,
-    },
+    Test(Test<'a>),
+}
+
+/// How a scenario is answered. Paths are as they stand, and `-` is standard input.
+#[derive(Debug, Drop)]
+pub struct Run<'a> {
+    /// The path of a start list, or none for the built-in machine.
+    pub machine: Option<&'a str>,
+    /// The name whose lines alone are answered, or none for all lines.
+    pub only: Option<&'a str>,
+    /// Whether the account list is told after the last reply.
+    pub accounts: bool,
+    /// Whether the number of its line is told before what each line is told.
+    pub numbers: bool,
+    /// When lines are coloured.
+    pub color: Color,
+    /// The path of the scenario.
+    pub scenario: &'a str,
+}
+
+/// How a scenario is recorded.
+#[derive(Debug, Drop)]
+pub struct Record<'a> {
+    /// The path of a start list, or none for the built-in machine.
+    pub machine: Option<&'a str>,
+    /// Whether each reply is written anew.
+    pub all: bool,
+    /// Whether it is written in place of the scenario.
+    pub write: bool,
+    /// The path of the scenario.
+    pub scenario: &'a str,
+}
+
+/// How a start list is checked.
+#[derive(Debug, Drop)]
+pub struct Check<'a> {
+    /// Whether a finding is a fault.
+    pub strict: bool,
+    /// Whether a document of JSON is written in place of lines.
+    pub json: bool,
+    /// The path of a policy that is held against it, or none.
+    pub policy: Option<&'a str>,
+    /// The path of the start list.
+    pub list: &'a str,
+}
+
+/// How the components of a start list are shown.
+#[derive(Debug, Drop)]
+pub struct Tree<'a> {
+    /// Whether a graph is shown in place of a text.
+    pub dot: bool,
+    /// Whether a document of JSON is written in place of a text.
+    pub json: bool,
+    /// The path of the start list.
+    pub list: &'a str,
+}
+
+/// How it is told who reaches whom.
+#[derive(Debug, Drop)]
+pub struct Reach<'a> {
+    /// Whether comma-separated values are written in place of a table.
+    pub csv: bool,
+    /// Whether a document of JSON is written in place of a table.
+    pub json: bool,
+    /// The paths of the scripts that are looked at; all where there are none.
+    pub from: Vec<&'a str>,
+    /// The paths of the servers that are looked at; all where there are none.
+    pub to: Vec<&'a str>,
+    /// The path of the start list.
+    pub list: &'a str,
+}
+
+/// A wish for a session.
+#[derive(Debug, Drop)]
+pub struct Route<'a> {
+    /// The path of the start list.
+    pub list: &'a str,
+    /// The component that wishes.
+    pub client: &'a str,
+    /// The service.
+    pub service: &'a str,
+    /// The arguments of the session, or nothing.
+    pub args: &'a str,
+}
+
+/// How a scenario is told, by a table or by its accounts.
+#[derive(Debug, Drop)]
+pub struct Played<'a> {
+    /// The path of a start list, or none for the built-in machine.
+    pub machine: Option<&'a str>,
+    /// Whether documents of JSON are written in place of comma-separated values or lines.
+    pub json: bool,
+    /// The path of the scenario.
+    pub scenario: &'a str,
+}
+
+/// How it is told what accounts need.
+#[derive(Debug, Drop)]
+pub struct Least<'a> {
+    /// The path of a start list, or none for the built-in machine.
+    pub machine: Option<&'a str>,
+    /// Whether sessions are given what the scenario donates, and not the least.
+    pub as_donated: bool,
+    /// Whether comma-separated values are written in place of a text.
+    pub csv: bool,
+    /// Whether a document of JSON is written in place of a text.
+    pub json: bool,
+    /// Whether the start list with the least budgets is written.
+    pub list: bool,
+    /// Whether the scenario with the least donations is written.
+    pub donations: bool,
+    /// The path of the scenario.
+    pub scenario: &'a str,
+}
+
+/// How it is shown what a component is told alone.
+#[derive(Debug, Drop)]
+pub struct Alone<'a> {
+    /// The path of a start list, or none for the built-in machine.
+    pub machine: Option<&'a str>,
+    /// Whether all scripts are looked at, one after the other.
+    pub all: bool,
+    /// Whether the last line alone is told of each.
+    pub summary: bool,
+    /// The component; of all scripts the path of the scenario.
+    pub name: &'a str,
+    /// The path of the scenario; of all scripts none.
+    pub scenario: Option<&'a str>,
+}
+
+/// How two start lists are compared.
+#[derive(Debug, Drop)]
+pub struct Diff<'a> {
+    /// Whether a document of JSON is written in place of lines.
+    pub json: bool,
+    /// The path of the start list before it.
+    pub before: &'a str,
+    /// The path of the start list after it.
+    pub after: &'a str,
+    /// The path of a scenario whose replies are compared, if one is.
+    pub scenario: Option<&'a str>,
+}
+
+/// How scenarios are run as tests.
+#[derive(Debug, Drop)]
+pub struct Test<'a> {
+    /// The path of a start list for the scenarios beside which none stands, or none for the built-in machine.
+    pub machine: Option<&'a str>,
+    /// The path of the document of all results, or none.
+    pub junit: Option<&'a str>,
+    /// Whether it is told what the scenarios show of their machines.
+    pub coverage: bool,
+    /// Whether that is told as a document of JSON, in place of all lines.
+    pub json: bool,
+    /// When lines are coloured.
+    pub color: Color,
+    /// The paths of scenarios, and of folders with scenarios.
+    pub paths: Vec<&'a str>,
 }
 
 impl<'a> Request<'a> {
@@ -235,23 +272,39 @@ impl<'a> Command<'a> {
             IsCommand command name.entry.now (rows_of (found_of found.now))) }
     {
         match name {
-            "test" => Ok(Some(Command::Test {
-                machine: found.get_str("machine"),
-                junit: found.get_str("junit"),
-                coverage: is_set(found, "coverage"),
-                json: is_set(found, "json"),
-                color: colored(found),
-                paths: words(alloc, found, "path")?,
-            })),
-            "reach" => Ok(Some(Command::Reach {
-                csv: is_set(found, "csv"),
-                json: is_set(found, "json"),
-                from: words(alloc, found, "from")?,
-                to: words(alloc, found, "to")?,
-                list: path(found, "list"),
-            })),
+            "test" => Ok(Some(Command::test(alloc, found)?)),
+            "reach" => Ok(Some(Command::reach(alloc, found)?)),
             _ => Ok(Command::of(name, found)),
         }
+    }
+
+    // The command that runs scenarios as tests.
+    fn test(alloc: Global, found: &ArgMatches<'a>) -> Result<Command<'a>, AllocError>
+        ensures { IfOk result (λ command.
+            Asks command (codes "test") (rows_of (found_of found.now))) }
+    {
+        Ok(Command::Test(Test {
+            machine: found.get_str("machine"),
+            junit: found.get_str("junit"),
+            coverage: is_set(found, "coverage"),
+            json: is_set(found, "json"),
+            color: colored(found),
+            paths: words(alloc, found, "path")?,
+        }))
+    }
+
+    // The command that tells which scripts reach which servers.
+    fn reach(alloc: Global, found: &ArgMatches<'a>) -> Result<Command<'a>, AllocError>
+        ensures { IfOk result (λ command.
+            Asks command (codes "reach") (rows_of (found_of found.now))) }
+    {
+        Ok(Command::Reach(Reach {
+            csv: is_set(found, "csv"),
+            json: is_set(found, "json"),
+            from: words(alloc, found, "from")?,
+            to: words(alloc, found, "to")?,
+            list: path(found, "list"),
+        }))
     }
 
     // The same of one that takes no lists of words.
@@ -261,71 +314,141 @@ impl<'a> Command<'a> {
         ensures { IsCommand result name.entry.now (rows_of (found_of found.now)) }
     {
         match name {
-            "run" => Some(Command::Run {
-                machine: found.get_str("machine"),
-                only: found.get_str("only"),
-                accounts: is_set(found, "accounts"),
-                numbers: is_set(found, "numbers"),
-                color: colored(found),
-                scenario: path(found, "scenario"),
-            }),
-            "record" => Some(Command::Record {
-                machine: found.get_str("machine"),
-                all: is_set(found, "all"),
-                write: is_set(found, "write"),
-                scenario: path(found, "scenario"),
-            }),
-            "check" => Some(Command::Check {
-                strict: is_set(found, "strict"),
-                json: is_set(found, "json"),
-                policy: found.get_str("policy"),
-                list: path(found, "list"),
-            }),
-            "tree" => Some(Command::Tree {
-                dot: is_set(found, "dot"),
-                json: is_set(found, "json"),
-                list: path(found, "list"),
-            }),
-            "route" => Some(Command::Route {
-                list: path(found, "list"),
-                client: word(found, "client"),
-                service: word(found, "service"),
-                args: word(found, "args"),
-            }),
-            "trace" => Some(Command::Trace {
-                machine: found.get_str("machine"),
-                json: is_set(found, "json"),
-                scenario: path(found, "scenario"),
-            }),
-            "accounts" => Some(Command::Accounts {
-                machine: found.get_str("machine"),
-                json: is_set(found, "json"),
-                scenario: path(found, "scenario"),
-            }),
-            "least" => Some(Command::Least {
-                machine: found.get_str("machine"),
-                as_donated: is_set(found, "as-donated"),
-                csv: is_set(found, "csv"),
-                json: is_set(found, "json"),
-                list: is_set(found, "list"),
-                donations: is_set(found, "scenario"),
-                scenario: path(found, "played"),
-            }),
-            "alone" => Some(Command::Alone {
-                machine: found.get_str("machine"),
-                all: is_set(found, "all"),
-                summary: is_set(found, "summary"),
-                name: word(found, "name"),
-                scenario: found.get_str("scenario"),
-            }),
-            "diff" => Some(Command::Diff {
-                json: is_set(found, "json"),
-                before: word(found, "before"),
-                after: word(found, "after"),
-                scenario: found.get_str("scenario"),
-            }),
+            "run" => Some(Command::run(found)),
+            "record" => Some(Command::record(found)),
+            "check" => Some(Command::check(found)),
+            "tree" => Some(Command::tree(found)),
+            "route" => Some(Command::route(found)),
+            "trace" => Some(Command::trace(found)),
+            "accounts" => Some(Command::accounts(found)),
+            "least" => Some(Command::least(found)),
+            "alone" => Some(Command::alone(found)),
+            "diff" => Some(Command::diff(found)),
             _ => None,
         }
+    }
+
+    // The command that answers a scenario.
+    fn run(found: &ArgMatches<'a>) -> Command<'a>
+        ensures { Asks result (codes "run") (rows_of (found_of found.now)) }
+    {
+        Command::Run(Run {
+            machine: found.get_str("machine"),
+            only: found.get_str("only"),
+            accounts: is_set(found, "accounts"),
+            numbers: is_set(found, "numbers"),
+            color: colored(found),
+            scenario: path(found, "scenario"),
+        })
+    }
+
+    // The command that records a scenario.
+    fn record(found: &ArgMatches<'a>) -> Command<'a>
+        ensures { Asks result (codes "record") (rows_of (found_of found.now)) }
+    {
+        Command::Record(Record {
+            machine: found.get_str("machine"),
+            all: is_set(found, "all"),
+            write: is_set(found, "write"),
+            scenario: path(found, "scenario"),
+        })
+    }
+
+    // The command that tells what is wrong with a start list.
+    fn check(found: &ArgMatches<'a>) -> Command<'a>
+        ensures { Asks result (codes "check") (rows_of (found_of found.now)) }
+    {
+        Command::Check(Check {
+            strict: is_set(found, "strict"),
+            json: is_set(found, "json"),
+            policy: found.get_str("policy"),
+            list: path(found, "list"),
+        })
+    }
+
+    // The command that shows the components of a start list.
+    fn tree(found: &ArgMatches<'a>) -> Command<'a>
+        ensures { Asks result (codes "tree") (rows_of (found_of found.now)) }
+    {
+        Command::Tree(Tree {
+            dot: is_set(found, "dot"),
+            json: is_set(found, "json"),
+            list: path(found, "list"),
+        })
+    }
+
+    // The command that tells where a wish leads.
+    fn route(found: &ArgMatches<'a>) -> Command<'a>
+        ensures { Asks result (codes "route") (rows_of (found_of found.now)) }
+    {
+        Command::Route(Route {
+            list: path(found, "list"),
+            client: word(found, "client"),
+            service: word(found, "service"),
+            args: word(found, "args"),
+        })
+    }
+
+    // The command that tells a table of all lines.
+    fn trace(found: &ArgMatches<'a>) -> Command<'a>
+        ensures { Asks result (codes "trace") (rows_of (found_of found.now)) }
+    {
+        Command::Trace(Played {
+            machine: found.get_str("machine"),
+            json: is_set(found, "json"),
+            scenario: path(found, "scenario"),
+        })
+    }
+
+    // The command that tells all accounts.
+    fn accounts(found: &ArgMatches<'a>) -> Command<'a>
+        ensures { Asks result (codes "accounts") (rows_of (found_of found.now)) }
+    {
+        Command::Accounts(Played {
+            machine: found.get_str("machine"),
+            json: is_set(found, "json"),
+            scenario: path(found, "scenario"),
+        })
+    }
+
+    // The command that tells what accounts need.
+    fn least(found: &ArgMatches<'a>) -> Command<'a>
+        ensures { Asks result (codes "least") (rows_of (found_of found.now)) }
+    {
+        Command::Least(Least {
+            machine: found.get_str("machine"),
+            as_donated: is_set(found, "as-donated"),
+            csv: is_set(found, "csv"),
+            json: is_set(found, "json"),
+            list: is_set(found, "list"),
+            donations: is_set(found, "scenario"),
+            scenario: path(found, "played"),
+        })
+    }
+
+    // The command that shows what a component is told alone.
+    fn alone(found: &ArgMatches<'a>) -> Command<'a>
+        ensures { Asks result (codes "alone") (rows_of (found_of found.now)) }
+    {
+        Command::Alone(Alone {
+            machine: found.get_str("machine"),
+            all: is_set(found, "all"),
+            summary: is_set(found, "summary"),
+            name: word(found, "name"),
+            scenario: found.get_str("scenario"),
+        })
+    }
+
+    // The command that tells what a change changes.
+    fn diff(found: &ArgMatches<'a>) -> Command<'a>
+        ensures { Asks result (codes "diff") (rows_of (found_of found.now)) }
+    {
+        Command::Diff(Diff {
+            json: is_set(found, "json"),
+            before: word(found, "before"),
+            after: word(found, "after"),
+            scenario: found.get_str("scenario"),
+        })
     }
 }
 

@@ -2,7 +2,7 @@
 ghost use Rattle.std.specs.Prelude.{◌≡◌, IfOk, MatchResult, false, map};
 ghost use Rattle.clap.specs.Words.{app_of, kind_of, rule_of, with_rule, with_subcommand};
 ghost use Rattle.clap.specs.declared.builder.command.Command.TheViews.{out-Command};
-ghost use Rattle.workbench_options.specs.Line.{IsTold, bare as bare_app, command_told, program, rule_told, with_commands};
+ghost use Rattle.workbench_options.specs.Line.{IsTold, bare as bare_app, command_told, option_rule, program, rule_told, with_commands, word_rule};
 
 use crate::help;
 use crate::table::{COMMANDS, Form, Word};
@@ -95,23 +95,32 @@ fn argument<'a>(alloc: Global, word: Word<'a>) -> Arg<'a>
             .long(id)
             .action(ArgAction::SetTrue)
             .help(help),
-        Word::Value(id, value, help) => Arg::new(alloc, id).long(id).value_name(value).help(help),
-        Word::Values(id, value, help) => Arg::new(alloc, id)
-            .long(id)
-            .value_name(value)
-            .action(ArgAction::Append)
-            .help(help),
-        Word::Needed(id, value, help) => Arg::new(alloc, id)
+        Word::Value(id, value, help) => option(alloc, id, value, help),
+        Word::Values(id, value, help) => {
+            option(alloc, id, value, help).action(ArgAction::Append)
+        }
+        Word::Needed(id, value, help) => place(alloc, id, value, help).required(true),
+        Word::Optional(id, value, help) => place(alloc, id, value, help),
+        Word::Several(id, value, help) => place(alloc, id, value, help)
             .required(true)
-            .value_name(value)
-            .help(help),
-        Word::Optional(id, value, help) => Arg::new(alloc, id).value_name(value).help(help),
-        Word::Several(id, value, help) => Arg::new(alloc, id)
-            .required(true)
-            .value_name(value)
-            .action(ArgAction::Append)
-            .help(help),
+            .action(ArgAction::Append),
     }
+}
+
+// An option with a value.
+fn option<'a>(alloc: Global, id: &'a str, value: &'a str, help: &'a str) -> Arg<'a>
+    ensures rule { rule_of result ≡ option_rule id.entry.now }
+    ensures local { result.global ≡ false }
+{
+    Arg::new(alloc, id).long(id).value_name(value).help(help)
+}
+
+// A word that may be left out.
+fn place<'a>(alloc: Global, id: &'a str, value: &'a str, help: &'a str) -> Arg<'a>
+    ensures rule { rule_of result ≡ word_rule id.entry.now }
+    ensures local { result.global ≡ false }
+{
+    Arg::new(alloc, id).value_name(value).help(help)
 }
 
 /// The error of a command line that names no command.
@@ -145,16 +154,31 @@ pub fn color_is_one_of_three(alloc: Global) -> Result<Error, Error> {
 pub fn words_given<R: Env + AllocGlobal>(rt: &R) -> Result<Vec<String>, Error> {
     match env::args(rt) {
         Ok(words) => Ok(words.collect(rt.alloc())?),
-        Err(fault) if fault.kind() == io::ErrorKind::OutOfMemory => Err(Error::from(AllocError)),
-        Err(_) => Err(refused(
-            rt.alloc(),
-            ErrorKind::InvalidValue,
-            "invalid UTF-8 was detected in one or more arguments",
-        )?),
+        Err(fault) => Err(unread(rt.alloc(), &fault)),
+    }
+}
+
+// The error of words that can't be read.
+fn unread(alloc: Global, fault: &io::Error) -> Error {
+    if fault.kind() == io::ErrorKind::OutOfMemory {
+        return Error::from(AllocError);
+    }
+    match refused(
+        alloc,
+        ErrorKind::InvalidValue,
+        "invalid UTF-8 was detected in one or more arguments",
+    ) {
+        Ok(error) | Err(error) => error,
     }
 }
 
 // The error of a command line for this reason.
 fn refused(alloc: Global, kind: ErrorKind, why: &str) -> Result<Error, Error> {
-    Ok(commands(alloc)?.error(kind, why)?)
+    let mut words = commands(alloc)?;
+    error_of(&mut words, kind, why)
+}
+
+// The same for the command line of these commands.
+fn error_of(words: &mut Words<'_>, kind: ErrorKind, why: &str) -> Result<Error, Error> {
+    Ok(words.error(kind, why)?)
 }

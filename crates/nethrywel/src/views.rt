@@ -1,0 +1,77 @@
+//! What is told of a scenario.
+use crate::coloring::Coloring;
+use crate::streams::{Place, Reader, Writer, plain_writer, text_of};
+use init_core::BootFault;
+use workbench::{Ending, Play, Showing, accounts, alone, run, trace};
+
+/// What is told of a scenario.
+#[derive(Clone, Copy)]
+pub(crate) enum Viewing<'a> {
+    /// Its transcript, and where lines are coloured.
+    Run(Showing<'a>, Coloring),
+    /// A table of its lines.
+    Trace {
+        /// Whether it is told as documents of JSON.
+        json: bool,
+    },
+    /// The accounts after it.
+    Accounts {
+        /// Whether they are told as a document of JSON.
+        json: bool,
+    },
+    /// What the component of a name is told in it, and alone.
+    Alone(&'a [u8]),
+}
+
+impl<'a> Viewing<'a> {
+    /// Where lines are coloured: only a transcript has colours.
+    pub(crate) fn coloring(self) -> Coloring {
+        match self {
+            Viewing::Run(_, coloring) => coloring,
+            _ => Coloring::NOWHERE,
+        }
+    }
+}
+
+/// Plays a scenario, and tells of it what is to be told: a table as comma-separated values, and the accounts as lines.
+pub(crate) fn view(
+    rt: &HostRuntime,
+    play: Play<'_>,
+    viewing: Viewing<'_>,
+    reader: &mut Reader<'_>,
+    writer: &mut Writer<'_>,
+    complaints: &mut Writer<'_>,
+) -> Result<Ending, BootFault> {
+    let alloc = rt.alloc();
+    match viewing {
+        Viewing::Run(showing, _) => run(alloc, play, showing, reader, writer, complaints),
+        Viewing::Trace { .. } => trace(alloc, play, reader, writer, complaints),
+        Viewing::Accounts { .. } => accounts(alloc, play, reader, writer, complaints),
+        Viewing::Alone(name) => alone(alloc, play, name, reader, writer, complaints),
+    }
+}
+
+/// A play of which what is told is kept.
+#[derive(Drop)]
+pub(crate) struct Kept {
+    /// How it ended.
+    pub(crate) ended: Result<Ending, BootFault>,
+    /// What is told of it.
+    pub(crate) text: Vec<u8>,
+}
+
+/// Plays a scenario, and keeps what is to be told of it.
+pub(crate) fn view_text(
+    rt: &HostRuntime,
+    play: Play<'_>,
+    viewing: Viewing<'_>,
+    reader: &mut Reader<'_>,
+    complaints: &mut Writer<'_>,
+) -> Kept {
+    let mut writer = plain_writer(rt, Place::text(rt));
+    let ended = view(rt, play, viewing, reader, &mut writer, complaints);
+    Kept {
+        ended,
+        text: text_of(rt, writer),
+    }
+}
