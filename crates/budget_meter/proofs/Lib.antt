@@ -4,3 +4,6 @@ pub mod HeardLemmas
 pub mod RunLemmas
 pub mod SizeLemmas
 pub mod ReachedLemmas
+pub mod HexLemmas
+pub mod ToldLemmas
+pub mod SessionLemmas

@@ -1,11 +1,11 @@
 -- What reaches a session, under two donations, each up to its first want.
 use Rattle.std.proofs.lemmas.Bool.Decides.{nat_tests}
-use Rattle.std.proofs.Common.{arith, true≢false, ◌≡◌, ◌<◌, ◌≤◌, ◌⊎◌, inl, inr, Bool, true, false, cond, List, [], ◌∷◌, ◌++◌, suc, nat_lt, refl, sym, ap, ◌∙◌, subst, ◌||◌}
+use Rattle.std.proofs.Common.{arith, true≢false, ◌≡◌, ◌<◌, ◌≤◌, ◌⊎◌, inl, inr, Bool, true, false, cond, List, [], ◌∷◌, ◌++◌, suc, nat_lt, refl, sym, ap, ◌∙◌, ◌||◌}
 use Rattle.std.specs.List.{AllByRecursion}
 use Rattle.std.specs.Prelude.{ℕ, Option, Some, None, is_some}
 use Rattle.trade_base.specs.declared.refusal.Refusal.TheVariants.{InsufficientRamQuota, InsufficientCapQuota}
 use Rattle.own_model.specs.Amounts.{Amounts}
-use Rattle.own_model.specs.Session.{Session, served, session_ram, session_caps}
+use Rattle.own_model.specs.Session.{Session, session_ram, session_caps}
 use Rattle.budget_laws.proofs.CellLemmas.{Leads}
 use Rattle.budget_laws.proofs.EachLemmas.{of_first, of_second, of_both}
 use Rattle.budget_laws.proofs.SessionRunLemmas.{Donated, EachAlike, session_alike, session_moved, session_decides, first_donated}

@@ -4,3 +4,5 @@ pub mod Asked
 pub mod Metered
 pub mod Run
 pub mod Reached
+pub mod Told
+pub mod Sessions

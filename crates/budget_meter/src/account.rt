@@ -17,16 +17,12 @@ ghost use Rattle.budget_meter.specs.Metered.{HasHeard, IsToldBy, Stands, is_scri
 ghost use Rattle.budget_meter.specs.Needs.{amounts_of, shown_in, shown_of, together};
 ghost use Rattle.budget_meter.specs.Run.{IsLeft, Shows};
 
-use crate::asked::{LEAST_LARGE, asked_when_told, is_told, least_chunk};
+use crate::asked::{LEAST_LARGE, asked_when_told, is_told};
 use crate::budget::Budget;
+use crate::growth::{FIRST_PAGES, take_growth};
 use crate::meter::{Meter, limits_of};
 use pd_core::{Call, Quotas};
-use trade_base::{PAGE, Refusal};
-
-/// The growth number of a heap that has nothing, and the most that it becomes.
-const FIRST_PAGES: u32 = 4;
-
-const MOST_PAGES: u32 = 64;
+use trade_base::Refusal;
 
 /// The least budget that passes all tests which a component's account passed so far.
 #[derive(Clone, Copy)]
@@ -116,42 +112,12 @@ impl AccountMeter {
     {
         match chunk_size(call) {
             Some(n) => if tells_growth(reply, self.account, after) {
-                self.take_growth(n, after);
+                let before = self.account;
+                self.pages = take_growth(&mut self.meter, self.pages, n, before, after);
             },
             None => if let Some(asked) = asked_when_told(call, reply) {
                 self.meter.take(self.account, asked, false);
             },
-        }
-    }
-
-    // Takes the tests in of a heap that is to grow for so many bytes: the larger chunk, and where its bytes fail the least.
-    fn take_growth(&mut self, n: u64, after: Quotas)
-        ensures shown { (shape : Shape) → self.old.pages ≡ shape.growth → n < 65536 →
-            shown_in self.new.meter ≡ together (shown_in self.old.meter)
-            (shown_of (amounts_of self.old.meter.start) (quotas_account self.old.account)
-            (growth_tests n shape (quotas_account self.old.account))) }
-        ensures start { self.new.meter.start ≡ self.old.meter.start }
-        ensures pages { (shape : Shape) → self.old.pages ≡ shape.growth → n < 65536 →
-            self.new.pages ≡ (if nat_lt self.old.account.caps_used.0 after.caps_used.0
-            && nat_le (self.old.account.ram_used.0 + (larger_growth n shape).bytes)
-            self.old.account.ram_limit.0
-            then (larger_growth n shape).next else shape.growth) }
-        ensures script { self.new.is_script ≡ self.old.is_script }
-        ensures gone { self.new.is_gone ≡ self.old.is_gone }
-    {
-        let Some(least) = least_chunk(n) else {
-            return;
-        };
-        let larger = least.ram.max(u64::from(self.pages) * PAGE);
-        let asked = Budget {
-            ram: larger,
-            caps: 1,
-        };
-        self.meter.take(self.account, asked, least.ram < larger);
-        if !has_room(self.account, larger) {
-            self.meter.take(self.account, least, false);
-        } else if self.account.caps_used < after.caps_used {
-            self.pages = self.pages.saturating_mul(2).min(MOST_PAGES);
         }
     }
 }
@@ -174,16 +140,6 @@ fn is_exit(call: Call<'_>) -> bool
     matches!(call, Call::Exit)
 }
 
-// Whether an account covers so many bytes.
-fn has_room(account: Quotas, ram: u64) -> bool
-    ensures { result ≡ nat_le (account.ram_used.0 + ram) account.ram_limit.0 }
-{
-    match account.ram_used.0.checked_add(ram) {
-        Some(used) => used <= account.ram_limit.0,
-        None => false,
-    }
-}
-
 // Whether a reply to a call for a block of a chunk tells that the heap was to grow.
 fn tells_growth(reply: &[u8], before: Quotas, after: Quotas) -> bool
     ensures { result ≡ tells_growth reply.now (quotas_account before) (quotas_account after) }
@@ -193,17 +149,12 @@ fn tells_growth(reply: &[u8], before: Quotas, after: Quotas) -> bool
         || before.caps_used < after.caps_used
 }
 
-/// Whether a call that is answered so is in want: a request is refused by the reserve, and of a session its server replies.
-pub fn is_in_want(call: Call<'_>, reply: &[u8]) -> bool
+// Whether a call that is answered so is in want: a request is refused by the reserve, and of a session its server replies.
+fn is_in_want(call: Call<'_>, reply: &[u8]) -> bool
     ensures { result ≡ told_wants (model_call call.entry) reply.now }
 {
     match call {
         Call::Request(_) | Call::CallSession { .. } => false,
         _ => is_told(reply, Refusal::OutOfRam) || is_told(reply, Refusal::OutOfCaps),
     }
-}
-
-/// Whether a session isn't opened since its donation is too small.
-pub fn is_insufficient(reply: &[u8]) -> bool {
-    is_told(reply, Refusal::InsufficientRamQuota) || is_told(reply, Refusal::InsufficientCapQuota)
 }

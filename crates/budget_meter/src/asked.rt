@@ -1,5 +1,5 @@
 //! What calls and requests ask of an account.
-ghost use Rattle.std.specs.Prelude.{◌≡◌, ◌<◌, ◌+◌, ◌&&◌, nat_lt, false, true, None, IfSome, IsSome};
+ghost use Rattle.std.specs.Prelude.{◌≡◌, ◌<◌, ◌+◌, ◌-◌, ◌^◌, ◌&&◌, ℕ, min, nat_lt, false, true, None, IfSome, IsSome};
 ghost use Rattle.std.specs.Str.{bytes_eq};
 ghost use Rattle.trade_base.specs.Page.{page_of, is_valid_size};
 ghost use Rattle.trade_base.specs.Refusal.{refusal_name};
@@ -13,7 +13,7 @@ ghost use Rattle.own_model.specs.Sliced.{sliced_header, sliced_size};
 ghost use Rattle.own_model.specs.StartList.{Entry};
 ghost use Rattle.pd_core.specs.Call.{model_call};
 ghost use Rattle.budget_laws.specs.Test.{arguments_tests, entry_tests, test_of, tested_where};
-ghost use Rattle.budget_meter.specs.Asked.{asked_tests, is_of_chunk};
+ghost use Rattle.budget_meter.specs.Asked.{AsksAs, asked_tests, is_of_chunk};
 
 use crate::budget::Budget;
 use pd_core::Call;
@@ -118,7 +118,7 @@ pub fn named_by(args: &[u8]) -> Option<Budget>
 }
 
 /// Whole pages and a capability.
-fn whole_pages(n: u64) -> Option<Budget>
+pub(crate) fn whole_pages(n: u64) -> Option<Budget>
     ensures tests { asked_tests result ≡ tested_where (is_valid_size n) (test_of (page_of n) 1) }
     ensures ram { IfSome result (λ asked. asked.ram ≡ page_of n) }
     ensures caps { IfSome result (λ asked. asked.caps ≡ 1) }
@@ -142,19 +142,8 @@ pub fn least_chunk(n: u64) -> Option<Budget>
     whole_pages(LEAST_BLOCK.max(HEADER + (n + 15) / 16 * 16))
 }
 
-/// Whether a call for so many bytes of a heap took a larger chunk than the least: a choice, which passed.
-pub fn is_choice(n: u64, charged: u64) -> bool {
-    if n >= LEAST_LARGE {
-        return false;
-    }
-    match least_chunk(n) {
-        Some(least) => charged > least.ram,
-        None => false,
-    }
-}
-
 /// The file whose content a request may make longer.
-pub fn file_written<'a>(request: FileRequest<'a>) -> Option<&'a [u8]> {
+pub(crate) fn file_written<'a>(request: FileRequest<'a>) -> Option<&'a [u8]> {
     match request {
         FileRequest::Write { file, .. } | FileRequest::Put { file, .. } => Some(file),
         _ => None,
@@ -162,7 +151,7 @@ pub fn file_written<'a>(request: FileRequest<'a>) -> Option<&'a [u8]> {
 }
 
 /// What a request asks of its session's account, where the file that it writes has so many bytes.
-pub fn asked_by_request(request: FileRequest<'_>, size: u64) -> Option<Budget> {
+pub(crate) fn asked_by_request(request: FileRequest<'_>, size: u64) -> Option<Budget> {
     match request {
         FileRequest::Create(_) => least_chunk(NODE),
         FileRequest::Write { offset, hex, .. } => {
@@ -174,16 +163,11 @@ pub fn asked_by_request(request: FileRequest<'_>, size: u64) -> Option<Budget> {
     }
 }
 
-/// Whether a request of so much that was charged took a larger chunk for a file's node than the least.
-pub fn is_node_choice(request: FileRequest<'_>, charged: u64) -> bool {
-    match request {
-        FileRequest::Create(_) => charged > PAGE,
-        _ => false,
-    }
-}
-
-// A content of so many bytes that is longer than the old one.
-fn longer(size: u64, end: u64) -> Option<Budget> {
+/// What a content of so many bytes asks, as many as 64 bits hold, where it is longer than the old one.
+pub(crate) fn longer(size: u64, end: u64) -> Option<Budget>
+    ensures { (n : ℕ) → end ≡ min n (2 ^ 64 - 1) →
+        AsksAs result (tested_where (nat_lt size n) (test_of (sliced_size n) 1)) }
+{
     if end <= size {
         return None;
     }

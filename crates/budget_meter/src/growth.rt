@@ -1,46 +1,65 @@
 //! How far a heap grows.
+ghost use Rattle.std.specs.Prelude.{◌≡◌, ◌<◌, ◌&&◌, ◌+◌, if◌then◌else◌, nat_le, nat_lt};
+ghost use Rattle.own_model.specs.Growth.{Shape, larger_growth};
+ghost use Rattle.pd_core.specs.Answer.{quotas_account};
+ghost use Rattle.budget_laws.specs.Test.{growth_tests};
+ghost use Rattle.budget_meter.specs.Needs.{amounts_of, shown_in, shown_of, together};
 
 use crate::asked::least_chunk;
+use crate::budget::Budget;
+use crate::meter::Meter;
 use pd_core::Quotas;
 use trade_base::PAGE;
 
 /// The growth number of a heap that has nothing, and the most that it becomes.
-const FIRST_PAGES: u64 = 4;
+pub(crate) const FIRST_PAGES: u32 = 4;
 
-const MOST_PAGES: u64 = 64;
+const MOST_PAGES: u32 = 64;
 
-/// The growth number of a heap, by what its growths charged.
-#[derive(Clone, Copy, Debug)]
-pub(crate) struct Growth {
-    pages: u64,
+/// Takes the tests in of a heap of this growth number that is to grow for so many bytes: the larger chunk, and where its bytes fail
+/// the least. Answers the growth number after them.
+pub(crate) fn take_growth(
+    meter: &mut Meter,
+    pages: u32,
+    n: u64,
+    account: Quotas,
+    after: Quotas,
+) -> u32
+    ensures shown { (shape : Shape) → pages ≡ shape.growth → n < 65536 →
+        shown_in meter.new ≡ together (shown_in meter.old)
+        (shown_of (amounts_of meter.old.start) (quotas_account account)
+        (growth_tests n shape (quotas_account account))) }
+    ensures start { meter.new.start ≡ meter.old.start }
+    ensures pages { (shape : Shape) → pages ≡ shape.growth → n < 65536 →
+        result ≡ (if nat_lt account.caps_used.0 after.caps_used.0
+        && nat_le (account.ram_used.0 + (larger_growth n shape).bytes) account.ram_limit.0
+        then (larger_growth n shape).next else shape.growth) }
+{
+    let Some(least) = least_chunk(n) else {
+        return pages;
+    };
+    let larger = least.ram.max(u64::from(pages) * PAGE);
+    let asked = Budget {
+        ram: larger,
+        caps: 1,
+    };
+    meter.take(account, asked, least.ram < larger);
+    if !has_room(account, larger) {
+        meter.take(account, least, false);
+        return pages;
+    }
+    if account.caps_used < after.caps_used {
+        return pages.saturating_mul(2).min(MOST_PAGES);
+    }
+    pages
 }
 
-impl Growth {
-    /// That of a heap that has nothing.
-    pub(crate) fn new() -> Growth {
-        Growth { pages: FIRST_PAGES }
-    }
-
-    /// The bytes of the larger chunk for so many bytes.
-    fn larger(self, n: u64) -> Option<u64> {
-        let least = least_chunk(n)?;
-        Some(least.ram.max(self.pages.saturating_mul(PAGE)))
-    }
-
-    /// The bytes of the chunk that an account covers for so many bytes: the larger one, or else the least.
-    pub(crate) fn covered(self, n: u64, account: Quotas) -> Option<u64> {
-        let larger = self.larger(n)?;
-        if account.ram_used.0.saturating_add(larger) <= account.ram_limit.0 {
-            Some(larger)
-        } else {
-            Some(least_chunk(n)?.ram)
-        }
-    }
-
-    /// Takes in that a call for so many bytes charged so much.
-    pub(crate) fn grow(&mut self, n: u64, charged: u64) {
-        if charged > 0 && self.larger(n) == Some(charged) {
-            self.pages = self.pages.saturating_mul(2).min(MOST_PAGES);
-        }
+// Whether an account covers so many bytes.
+fn has_room(account: Quotas, ram: u64) -> bool
+    ensures { result ≡ nat_le (account.ram_used.0 + ram) account.ram_limit.0 }
+{
+    match account.ram_used.0.checked_add(ram) {
+        Some(used) => used <= account.ram_limit.0,
+        None => false,
     }
 }

@@ -9,12 +9,11 @@ mod laws;
 mod meter;
 mod session;
 mod sizes;
+mod told;
 
-pub use account::{AccountMeter, is_in_want, is_insufficient};
-pub use asked::{
-    asked_by_call, asked_by_request, file_written, is_choice, is_node_choice, named_by,
-};
+pub use account::AccountMeter;
+pub use asked::{asked_by_call, named_by};
 pub use budget::{Budget, Bytes};
 pub use laws::session_runs_are_exact;
-pub use meter::{Meter, charged, limits_of};
+pub use meter::Meter;
 pub use session::SessionMeter;

@@ -1,10 +1,14 @@
 //! The least start budget that the tests of an account need.
-ghost use Rattle.std.specs.Prelude.{◌≡◌, ◌+◌, ◌^◌, ◌<◌, ◌∷◌, [], max, IfSome, IfNone};
+ghost use Rattle.std.specs.Prelude.{◌≡◌, ◌+◌, ◌^◌, ◌<◌, ◌∷◌, [], IfSome, IfNone};
 ghost use Rattle.pd_core.specs.Answer.{quotas_account};
-ghost use Rattle.budget_meter.specs.Needs.{amounts_of, need_in, shown_in, shown_of, together};
+ghost use Rattle.budget_meter.specs.Needs.{amounts_of, need_in, shown_by, shown_in, shown_of, together};
+ghost use Rattle.budget_meter.specs.Reached.{opening_need};
 
 use crate::budget::Budget;
 use pd_core::Quotas;
+
+/// What a session uses of its account from the start.
+const SESSION: Budget = Budget { ram: 4096, caps: 2 };
 
 /// What the tests that passed so far need of the budget that an account started with.
 #[derive(Clone, Copy, Debug)]
@@ -28,6 +32,22 @@ impl Meter {
             least: Budget { ram: 0, caps: 0 },
             choice: 0,
         }
+    }
+
+    /// The test of a session's opening was made, of what was donated for it.
+    pub fn opened(donation: Budget) -> Meter
+        ensures start { result.start ≡ donation }
+        ensures shown { shown_in result
+            ≡ shown_by (amounts_of donation) (opening_need (amounts_of donation) ∷ []) }
+    {
+        let mut meter = Meter::new(donation);
+        if SESSION.ram <= donation.ram {
+            meter.least.ram = SESSION.ram;
+            if SESSION.caps <= donation.caps {
+                meter.least.caps = SESSION.caps;
+            }
+        }
+        meter
     }
 
     /// The need of a test that asks for so much beside what an account uses: that, and what is asked, less what the limit is above
@@ -73,33 +93,6 @@ impl Meter {
             self.least.caps = self.least.caps.max(self.start.caps.saturating_sub(caps));
         }
     }
-
-    /// Takes a test in that passed.
-    pub fn pass(&mut self, account: Quotas, asked: Budget)
-        ensures ram { account.ram_used.0 + asked.ram + self.old.start.ram < 2 ^ 64
-            → self.new.least.ram
-            ≡ max self.old.least.ram (need_in self.old.start (quotas_account account) asked).ram }
-        ensures caps { account.caps_used.0 + asked.caps + self.old.start.caps < 2 ^ 64
-            → self.new.least.caps
-            ≡ max self.old.least.caps (need_in self.old.start (quotas_account account) asked).caps }
-        ensures start { self.new.start ≡ self.old.start }
-        ensures choice { self.new.choice ≡ self.old.choice }
-    {
-        let need = self.need(account, asked);
-        self.least.ram = self.least.ram.max(need.ram);
-        self.least.caps = self.least.caps.max(need.caps);
-    }
-
-    /// Takes the test in that passed last, by what the account uses since.
-    pub fn pass_last(&mut self, account: Quotas) {
-        self.pass(account, Budget { ram: 0, caps: 0 });
-    }
-
-    /// Takes in that the test that passed last was a choice.
-    pub fn choose(&mut self, account: Quotas) {
-        let need = self.need(account, Budget { ram: 0, caps: 0 });
-        self.choice = self.choice.max(need.ram);
-    }
 }
 
 // How much is left of a limit behind what is used and what is asked, if that is covered.
@@ -108,11 +101,6 @@ fn covered(used: u64, asked: u64, limit: u64) -> Option<u64>
     ensures none { IfNone result (limit < used + asked) }
 {
     limit.checked_sub(used.checked_add(asked)?)
-}
-
-/// What a call charged.
-pub fn charged(before: Quotas, after: Quotas) -> u64 {
-    after.ram_used.0.saturating_sub(before.ram_used.0)
 }
 
 /// The limits of an account.

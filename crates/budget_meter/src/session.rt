@@ -1,122 +1,227 @@
 //! What a session's account needs, request by request.
+ghost use Rattle.std.specs.Prelude.{◌≡◌, ◌<◌, ◌^◌, ◌∷◌, ◌++◌, [], ℕ, true, false, List, Some, IfOk, OnOk, Option};
+ghost use Rattle.own_model.specs.Amounts.{Amounts};
+ghost use Rattle.own_model.specs.FileService.{Files};
+ghost use Rattle.own_model.specs.OwnState.{NamedBuffer, bytes_of_buffer};
+ghost use Rattle.own_model.specs.Session.{Session, Wish, new_session, served, too_small, upgraded};
+ghost use Rattle.pd_core.specs.Answer.{quotas_account};
+ghost use Rattle.session_proto.specs.File.{HasHex, model_request};
+ghost use Rattle.budget_laws.specs.Request.{donating};
+ghost use Rattle.budget_laws.specs.RequestLaws.{Reaches, session_run};
+ghost use Rattle.budget_laws.specs.RequestLaws.Reaches.{Asked, Raised};
+ghost use Rattle.budget_laws.specs.Request.{write_tests};
+ghost use Rattle.own_model.specs.FileService.{file_named};
+ghost use Rattle.budget_meter.specs.Asked.{AsksAs, is_create};
+ghost use Rattle.budget_meter.specs.Needs.{amounts_of, shown_in, shown_of, together};
+ghost use Rattle.budget_meter.specs.Reached.{Sent};
+ghost use Rattle.budget_meter.specs.Reached.Sent.{Asks, Raises};
+ghost use Rattle.budget_meter.specs.Sessions.{HasReached, IsLeft, IsServedBy, Shows};
+ghost use Rattle.budget_meter.specs.Sizes.{Keeps};
+ghost use Rattle.budget_meter.specs.Told.{told_growth, told_tests};
 
-use crate::asked::{NODE, asked_by_request, file_written};
+use crate::asked::{NODE, asked_by_request, file_written, longer, whole_pages};
 use crate::budget::Budget;
-use crate::growth::Growth;
-use crate::meter::{Meter, charged, limits_of};
+use crate::growth::{FIRST_PAGES, take_growth};
+use crate::meter::{Meter, limits_of};
 use crate::sizes::Sizes;
+use crate::told::{is_granted, is_short, tells_charge};
 use pd_core::Quotas;
 use session_proto::FileRequest;
 use std::alloc::{AllocError, Global};
 
-/// The least opening donation that passes all tests which a session's account passed so far.
+/// The least opening donation that passes all tests which a session's account passed so far, that of its opening among them.
 #[derive(Drop)]
 pub struct SessionMeter {
+    pub meter: Meter,
     alloc: Global,
-    meter: Meter,
     /// The account after the last line.
     account: Quotas,
-    growth: Growth,
+    /// The growth number of the heap of its files.
+    pages: u32,
     sizes: Sizes,
 }
 
 impl SessionMeter {
     /// A session that was just opened.
-    pub fn new(alloc: Global, account: Quotas) -> SessionMeter {
-        let mut meter = Meter::new(limits_of(account));
-        meter.pass_last(account);
+    pub fn new(alloc: Global, account: Quotas) -> SessionMeter
+        ensures { (wish : Wish) → too_small wish.ram wish.caps ≡ None →
+            quotas_account account ≡ (new_session wish).account →
+            HasReached [] (record { ram = wish.ram; caps = wish.caps }) (new_session wish) result }
+    {
         SessionMeter {
+            meter: Meter::opened(limits_of(account)),
             alloc,
-            meter,
             account,
-            growth: Growth::new(),
+            pages: FIRST_PAGES,
             sizes: Sizes::new(alloc),
         }
     }
 
     /// The least donation.
-    pub fn least(&self) -> Budget {
+    pub fn least(&self) -> Budget
+        ensures { result ≡ self.now.meter.least }
+    {
         self.meter.least
     }
 
-    /// Takes in that more was donated, which left this account.
-    pub fn raise(&mut self, account: Quotas) {
+    /// What a request asks of the session's account, by the size of the file that it writes.
+    pub fn asked(&self, request: &[u8]) -> Option<Budget> {
+        let request = FileRequest::read(request)?;
+        match file_written(request) {
+            Some(file) => asked_by_request(request, self.sizes.size(file)?),
+            None => asked_by_request(request, 0),
+        }
+    }
+
+    /// Takes in that more was donated, or not, which left this account.
+    pub fn raise(&mut self, account: Quotas)
+        ensures raised { (all : List Reaches) (donation more : Amounts) (session : Session) →
+            HasReached all donation session self.old →
+            quotas_account account
+            ≡ (upgraded (session_run all (donating donation session)) more.ram more.caps).account →
+            HasReached (all ++ Raised more ∷ []) donation session self.new }
+        ensures left { (sent rest : List Sent) (donation more : Amounts) (session now : Session)
+            (buffer : Option (List ℕ)) →
+            IsLeft sent (Raises more ∷ rest) donation session buffer now self.old →
+            quotas_account account ≡ (upgraded now more.ram more.caps).account →
+            IsLeft sent rest donation session buffer (upgraded now more.ram more.caps) self.new }
+        ensures refused { (all : List Reaches) (donation : Amounts) (session : Session) →
+            HasReached all donation session self.old →
+            quotas_account account ≡ (session_run all (donating donation session)).account →
+            HasReached all donation session self.new }
+    {
         self.account = account;
     }
 
     /// Takes a request in, with its reply and the account that it left.
-    pub fn hear(&mut self, request: &[u8], reply: &[u8], after: Quotas) -> Result<(), AllocError> {
-        if let Some(request) = FileRequest::read(request) {
-            self.hear_files(request, reply, after)?;
-        }
-        self.meter.pass_last(after);
+    pub fn hear(&mut self, request: &[u8], reply: &[u8], after: Quotas) -> Result<(), AllocError>
+        ensures { OnOk result ((all : List Reaches) (donation : Amounts) (session : Session)
+            (buffer : Option NamedBuffer) → HasReached all donation session self.old →
+            IsServedBy reply.now after buffer
+            (served (bytes_of_buffer buffer) (session_run all (donating donation session))
+            request.now) →
+            HasReached (all ++ Asked (bytes_of_buffer buffer) request.now ∷ []) donation session
+            self.new) }
+    {
+        let Some(request) = FileRequest::read(request) else {
+            self.account = after;
+            return Ok(());
+        };
+        self.take(request, reply, after);
         self.account = after;
+        self.sizes.keep(self.alloc, request, reply)?;
         Ok(())
     }
 
-    // Takes the tests of a request of files in that passed and left no trace, and what it did to the files.
-    fn hear_files(
+    /// Takes a request of a run in, and answers whether it is in want.
+    pub fn follow(
         &mut self,
+        request: &[u8],
+        reply: &[u8],
+        after: Quotas,
+    ) -> Result<bool, AllocError>
+        ensures on { IfOk result (λ wants. wants ≡ false →
+            (sent rest : List Sent) (donation : Amounts) (session now : Session)
+            (buffer : Option NamedBuffer) →
+            IsLeft sent (Asks request.now ∷ rest) donation session (bytes_of_buffer buffer) now
+            self.old →
+            IsServedBy reply.now after buffer (served (bytes_of_buffer buffer) now request.now) →
+            IsLeft sent rest donation session
+            (served (bytes_of_buffer buffer) now request.now).buffer
+            (served (bytes_of_buffer buffer) now request.now).session self.new) }
+        ensures end { IfOk result (λ wants. wants ≡ true →
+            (sent rest : List Sent) (donation : Amounts) (session now : Session)
+            (buffer : Option NamedBuffer) →
+            IsLeft sent (Asks request.now ∷ rest) donation session (bytes_of_buffer buffer) now
+            self.old →
+            IsServedBy reply.now after buffer (served (bytes_of_buffer buffer) now request.now) →
+            Shows sent session donation true self.new.meter) }
+    {
+        self.hear(request, reply, after)?;
+        Ok(is_short(reply))
+    }
+
+    // Takes the tests of a request in that is answered.
+    fn take(&mut self, request: FileRequest<'_>, reply: &[u8], after: Quotas)
+        requires { HasHex request }
+        ensures shown { (files : Files) → self.old.account.ram_limit.0 < 2 ^ 64 →
+            self.old.pages ≡ files.shape.growth → Keeps self.old.sizes files.files →
+            shown_in self.new.meter ≡ together (shown_in self.old.meter)
+            (shown_of (amounts_of self.old.meter.start) (quotas_account self.old.account)
+            (told_tests (Some (model_request request.entry)) reply.now
+            (quotas_account self.old.account) (quotas_account after) files)) }
+        ensures pages { (files : Files) → self.old.pages ≡ files.shape.growth →
+            self.new.pages ≡ told_growth (Some (model_request request.entry)) reply.now
+            (quotas_account self.old.account) (quotas_account after) files }
+        ensures start { self.new.meter.start ≡ self.old.meter.start }
+        ensures sizes { self.new.sizes ≡ self.old.sizes }
+    {
+        if is_create(request) {
+            if tells_charge(reply, self.account, after) {
+                let before = self.account;
+                self.pages = take_growth(&mut self.meter, self.pages, NODE, before, after);
+            }
+        } else if let Some(asked) = self.asked_when_told(request, reply, after) {
+            self.meter.take(self.account, asked, false);
+        }
+    }
+
+    // What a request that is answered so tests, if it makes one test and no more: all requests but those for a file.
+    fn asked_when_told(
+        &self,
         request: FileRequest<'_>,
         reply: &[u8],
         after: Quotas,
-    ) -> Result<(), AllocError> {
-        let asked = asked_by_request(request, self.size_written(request));
-        if reply.starts_with(b"OK") {
-            if file_written(request).is_some() {
-                if let Some(asked) = asked {
-                    self.meter.pass(self.account, asked);
-                }
-            }
-            return self.keep(request, after);
-        }
-        if reply == b"ERR OUT_OF_CAPS".as_slice() {
-            let ram = match request {
-                FileRequest::Create(_) => self.growth.covered(NODE, self.account),
-                _ => asked.map(|asked| asked.ram),
-            };
-            if let Some(ram) = ram {
-                self.meter.pass(self.account, Budget { ram, caps: 0 });
-            }
-        }
-        Ok(())
-    }
-
-    // Keeps what a request did to the files.
-    fn keep(&mut self, request: FileRequest<'_>, after: Quotas) -> Result<(), AllocError> {
+    ) -> Option<Budget>
+        requires { HasHex request }
+        ensures { is_create (model_request request.entry) ≡ false → (files : Files) →
+            Keeps self.now.sizes files.files →
+            AsksAs result (told_tests (Some (model_request request.entry)) reply.now
+            (quotas_account self.now.account) (quotas_account after) files) }
+    {
         match request {
-            FileRequest::Create(file) => {
-                self.growth.grow(NODE, charged(self.account, after));
-                self.sizes.add(self.alloc, file)?;
-            }
             FileRequest::Write { file, offset, hex } => {
-                self.lengthen(file, offset.saturating_add(hex.len() as u64 / 2));
+                self.content(file, offset, hex.len() as u64 / 2)
             }
             FileRequest::Put {
                 file,
                 offset,
                 len,
                 ..
-            } => self.lengthen(file, offset.saturating_add(len)),
-            FileRequest::Clear(file) => self.sizes.resize(file, 0),
-            FileRequest::Drop(file) => self.sizes.remove(file),
-            _ => (),
+            } => {
+                if is_granted(reply) || is_short(reply) {
+                    self.content(file, offset, len)
+                } else {
+                    None
+                }
+            }
+            FileRequest::Buffer(n) => {
+                if tells_charge(reply, self.account, after) {
+                    whole_pages(n)
+                } else {
+                    None
+                }
+            }
+            _ => None,
         }
-        Ok(())
     }
 
-    // The size of the file that a request writes, or 0.
-    fn size_written(&self, request: FileRequest<'_>) -> u64 {
-        match file_written(request) {
-            Some(name) => self.sizes.size(name).unwrap_or(0),
-            None => 0,
+    // What so many bytes from an offset of a file on ask, where they make it longer.
+    fn content(&self, file: &[u8], offset: u64, count: u64) -> Option<Budget>
+        ensures { (files : Files) → Keeps self.now.sizes files.files →
+            AsksAs result (write_tests offset count (file_named file.now files)) }
+    {
+        let size = self.sizes.size(file)?;
+        if size < offset {
+            return None;
         }
+        longer(size, offset.saturating_add(count))
     }
+}
 
-    // Makes a file at least so long.
-    fn lengthen(&mut self, name: &[u8], end: u64) {
-        if let Some(size) = self.sizes.size(name) {
-            self.sizes.resize(name, size.max(end));
-        }
-    }
+// Whether a request makes a file.
+fn is_create(request: FileRequest<'_>) -> bool
+    ensures { result ≡ is_create (model_request request.entry) }
+{
+    matches!(request, FileRequest::Create(_))
 }

@@ -1,10 +1,14 @@
 //! The sizes of a session's files, by their names.
-ghost use Rattle.std.specs.Prelude.{◌≡◌, ◌<◌, ◌∷◌, ◌++◌, [], ℕ, List, find, length, position, IfSome, OnOk};
+ghost use Rattle.std.specs.Prelude.{◌≡◌, ◌<◌, ◌∷◌, ◌++◌, [], ℕ, List, find, length, position, Some, IfSome, OnOk};
 ghost use Rattle.std.specs.Option.{option_map};
 ghost use Rattle.std.specs.Str.{bytes_eq};
 ghost use Rattle.own_model.specs.FileService.{File as ModelFile, is_named, rewritten, without};
+ghost use Rattle.session_proto.specs.File.{HasHex, model_request};
 ghost use Rattle.budget_meter.specs.Sizes.{Keeps, new_file};
+ghost use Rattle.budget_meter.specs.Told.{Changes, IsCreated, IsDone, IsWritten};
 
+use crate::told::is_granted;
+use session_proto::FileRequest;
 use std::alloc::{AllocError, Global};
 
 // A file of a session.
@@ -39,8 +43,8 @@ impl Sizes {
         Some(self.files[place].size)
     }
 
-    /// Adds an empty file.
-    pub(crate) fn add(&mut self, alloc: Global, name: &[u8]) -> Result<(), AllocError>
+    // Adds an empty file.
+    fn add(&mut self, alloc: Global, name: &[u8]) -> Result<(), AllocError>
         ensures { OnOk result ((files : List ModelFile) (chunk offset : ℕ) →
             Keeps self.old files →
             Keeps self.new (files ++ new_file name.now chunk offset ∷ [])) }
@@ -54,8 +58,8 @@ impl Sizes {
         Ok(())
     }
 
-    /// Gives the file of a name, if there is one, another size.
-    pub(crate) fn resize(&mut self, name: &[u8], size: u64)
+    // Gives the file of a name, if there is one, another size.
+    fn resize(&mut self, name: &[u8], size: u64)
         ensures { (files : List ModelFile) (bytes : List ℕ) → length bytes ≡ size →
             Keeps self.old files → Keeps self.new (rewritten name.now bytes files) }
     {
@@ -64,13 +68,86 @@ impl Sizes {
         }
     }
 
-    /// Takes the file of a name away, if there is one.
-    pub(crate) fn remove(&mut self, name: &[u8])
+    // Takes the file of a name away, if there is one.
+    fn remove(&mut self, name: &[u8])
         ensures { (files : List ModelFile) → Keeps self.old files →
             Keeps self.new (without name.now files) }
     {
         if let Some(place) = self.place(name) {
             let _ = self.files.remove(place);
+        }
+    }
+
+    /// Keeps what a request did to files that is answered so.
+    pub(crate) fn keep(
+        &mut self,
+        alloc: Global,
+        request: FileRequest<'_>,
+        reply: &[u8],
+    ) -> Result<(), AllocError>
+        requires { HasHex request }
+        ensures { OnOk result ((old new : List ModelFile) → Keeps self.old old →
+            Changes (Some (model_request request.entry)) reply.now old new → Keeps self.new new) }
+    {
+        match request {
+            FileRequest::Create(file) => self.create(alloc, file, reply)?,
+            FileRequest::Write { file, offset, hex } => {
+                self.write(file, offset, hex.len() as u64 / 2, reply);
+            }
+            FileRequest::Put {
+                file,
+                offset,
+                len,
+                ..
+            } => self.write(file, offset, len, reply),
+            FileRequest::Clear(file) => self.clear(file, reply),
+            FileRequest::Drop(file) => self.drop_file(file, reply),
+            _ => (),
+        }
+        Ok(())
+    }
+
+    // Keeps a new file, where it was made.
+    fn create(&mut self, alloc: Global, name: &[u8], reply: &[u8]) -> Result<(), AllocError>
+        ensures { OnOk result ((old new : List ModelFile) → Keeps self.old old →
+            IsCreated name.now reply.now old new → Keeps self.new new) }
+    {
+        if reply == b"OK".as_slice() {
+            self.add(alloc, name)?;
+        }
+        Ok(())
+    }
+
+    // Keeps that so many bytes of a file were written, from an offset on.
+    fn write(&mut self, name: &[u8], offset: u64, count: u64, reply: &[u8])
+        ensures { (old new : List ModelFile) → Keeps self.old old →
+            IsWritten name.now offset count reply.now old new → Keeps self.new new }
+    {
+        if !is_granted(reply) {
+            return;
+        }
+        if let Some(size) = self.size(name) {
+            self.resize(name, size.max(offset.saturating_add(count)));
+        }
+    }
+
+    // Keeps that a file was cleared.
+    fn clear(&mut self, name: &[u8], reply: &[u8])
+        ensures { (old new : List ModelFile) → Keeps self.old old →
+            IsDone reply.now (rewritten name.now [] old) old new → Keeps self.new new }
+    {
+        if is_granted(reply) {
+            self.resize(name, 0);
+        }
+    }
+
+    // Keeps that a file was dropped.
+    fn drop_file(&mut self, name: &[u8], reply: &[u8])
+        ensures { (old new : List ModelFile) → Keeps self.old old →
+            IsDone reply.now (without name.now old) old new → Keeps self.new new }
+    {
+        if is_granted(reply) {
+            self.remove(name);
         }
     }
 

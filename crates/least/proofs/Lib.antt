@@ -1,3 +1,5 @@
 pub mod RowLemmas
 pub mod RunLemmas
 pub mod AlikeLemmas
+pub mod HeldLemmas
+pub mod SessionLemmas

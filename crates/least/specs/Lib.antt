@@ -3,3 +3,4 @@ pub mod Run
 pub mod Rows
 pub mod Alike
 pub mod Own
+pub mod Sessions

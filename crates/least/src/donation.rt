@@ -1,4 +1,6 @@
 //! Donations as the arguments of sessions.
+ghost use Rattle.std.specs.Prelude.{◌≡◌, true, Some};
+ghost use Rattle.own_model.specs.SessionArgs.{Arguments, arguments_of};
 
 use budget_meter::Budget;
 use session_proto::SessionArgs;
@@ -22,4 +24,24 @@ pub(crate) fn args_with(
         }
     }
     Ok(text)
+}
+
+/// Whether a text names a donation, and the same label as another.
+pub(crate) fn donates(args: &[u8], donation: Budget, given: &[u8]) -> bool
+    ensures { result ≡ true → (arguments : Arguments) →
+        arguments_of given.now ≡ Some arguments →
+        arguments_of args.now
+        ≡ Some (record { ram = donation.ram; caps = donation.caps; label = arguments.label }) }
+{
+    let Ok(given) = SessionArgs::read(given) else {
+        return false;
+    };
+    match SessionArgs::read(args) {
+        Ok(args) => {
+            args.ram().0 == donation.ram
+                && u64::from(args.caps().0) == donation.caps
+                && args.label() == given.label()
+        }
+        Err(_) => false,
+    }
 }

@@ -12,6 +12,7 @@ mod report;
 mod rows;
 mod scene;
 mod script;
+mod session_rows;
 mod session_trial;
 mod shown;
 mod stage;

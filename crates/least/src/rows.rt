@@ -85,8 +85,8 @@ pub(crate) trait Trials {
             IsRun (each (record { ram = ram; caps = caps self.old }))
             (want (record { ram = ram; caps = caps self.old }))
             (record { ram = ram; caps = caps self.old }) trial) }
-        ensures still { (each : Amounts → List Need) (want : Amounts → Bool) →
-            AreRuns self.old each want → AreRuns self.new each want }
+        ensures still { OnOk result ((each : Amounts → List Need) (want : Amounts → Bool) →
+            AreRuns self.old each want → AreRuns self.new each want) }
         ensures caps { caps self.new ≡ caps self.old };
 }
 
@@ -169,8 +169,8 @@ impl Rows {
             AreRows self.old.rows.items →
             Follows each want (T.caps trials.old) ram top self.old.rows.items
             self.new.rows.items next) }
-        ensures still { (each : Amounts → List Need) (want : Amounts → Bool) →
-            T.AreRuns trials.old each want → T.AreRuns trials.new each want }
+        ensures still { OnOk result ((each : Amounts → List Need) (want : Amounts → Bool) →
+            T.AreRuns trials.old each want → T.AreRuns trials.new each want) }
         ensures caps { T.caps trials.new ≡ T.caps trials.old }
     {
         let trial = trials.run(alloc, ram)?;

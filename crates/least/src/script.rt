@@ -9,8 +9,8 @@ use crate::donation::args_with;
 use crate::draft::{Draft, LARGEST, reserve_of};
 use crate::opened::{Opened, Sessions};
 use crate::own_trials::{funded_trial, own_rows};
-use crate::rows::{Rows, Trials};
 use crate::scene::Step;
+use crate::session_rows::session_rows;
 use crate::session_trial::{Client, Reached};
 use crate::trial::Trial;
 use budget_meter::Budget;
@@ -118,13 +118,11 @@ impl Script<'_> {
         let reached = Reached { steps, opened };
         let given = reached.trial(alloc, client, opened.donation)?;
         let most = most_beside(reserve_of(self.list, self.component));
-        let mut trials = SessionTrials {
-            reached,
-            client,
+        let rest = Budget {
+            ram: most.ram.saturating_sub(opened.raised.ram),
             caps: most.caps.saturating_sub(opened.raised.caps),
         };
-        let top = most.ram.saturating_sub(opened.raised.ram);
-        let found = Rows::of(alloc, &mut trials, top, replies_of(&given))?;
+        let found = session_rows(alloc, client, reached, rest, replies_of(&given))?;
         Ok(Account {
             component: self.component,
             session: Some(Session {
@@ -198,24 +196,4 @@ fn donate(
     };
     step.open_with(args);
     Ok(())
-}
-
-// Runs of a session's account.
-#[derive(Drop)]
-struct SessionTrials<'a, R: Router + Drop> {
-    reached: Reached<'a>,
-    client: &'a mut Client<R>,
-    caps: u64,
-}
-
-impl<R: Router + Drop> Trials for SessionTrials<'_, R> {
-    ghost caps = { λ trials. trials.caps };
-
-    // Of these nothing is promised.
-    ghost AreRuns = { λ trials each want. ⊥ };
-
-    fn run(&mut self, alloc: Global, ram: u64) -> Result<Trial, BootFault> {
-        let caps = self.caps;
-        self.reached.trial(alloc, self.client, Budget { ram, caps })
-    }
 }

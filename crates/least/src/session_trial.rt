@@ -1,18 +1,39 @@
 //! A run of what reaches one session from a donation.
+ghost use Rattle.std.specs.Prelude.{◌≡◌, ◌<◌, ◌∷◌, ℕ, [], List, codes, None, Some, true, false, is_some, length, slice_get, IfOk, OnOk};
+ghost use Rattle.std.specs.FinMap.{get};
+ghost use Rattle.std.specs.Option.{option_map};
+ghost use Rattle.std.specs.Str.{bytes_eq};
+ghost use Rattle.own_model.specs.Amounts.{Amounts};
+ghost use Rattle.own_model.specs.Call.Call.{CallSession, Upgrade};
+ghost use Rattle.own_model.specs.OwnState.{session_named};
+ghost use Rattle.own_model.specs.Reply.{reply_text};
+ghost use Rattle.own_model.specs.Session.{Session, Wish, new_session, too_small as session_too_small};
+ghost use Rattle.own_model.specs.Transcript.{entry_at, state_at};
+ghost use Rattle.own_model.specs.World.{outcome_at, with_state};
+ghost use Rattle.pd_core.specs.Answer.{quotas_account};
+ghost use Rattle.pd_core.specs.Call.{model_call, IsWellFormed};
+ghost use Rattle.budget_meter.specs.Needs.{amounts_of, shown_by, shown_in};
+ghost use Rattle.budget_meter.specs.Reached.{Sent, opening_need, opened_needs, opened_in_want};
+ghost use Rattle.budget_meter.specs.Sessions.{Shows};
+ghost use Rattle.least.specs.Rows.{IsRun};
+ghost use Rattle.least.specs.Sessions.{HasSelectors, IsReady, held, opened_with, sent_at, tells_small};
+ghost use Rattle.least.specs.Steps.{call_said};
 
-use crate::donation::args_with;
+use crate::donation::{args_with, donates};
 use crate::opened::Opened;
 use crate::scene::Step;
-use crate::trial::{Refused, Shortage, Trial, is_told_by_limits, short_of};
-use budget_meter::{Budget, asked_by_request, charged, file_written, is_node_choice};
-use init_core::BootFault;
+use crate::trial::{Refused, Shortage, Trial, is_told_by_limits};
+use budget_meter::{Budget, Meter, SessionMeter, named_by};
+use init_core::{BootFault, Field};
 use pd_core::{Call, Core, Quotas, Reply, Router};
-use session_proto::FileRequest;
 use std::alloc::Global;
-use trade_base::read_number;
+use trade_base::Refusal;
 
 /// The selector of the only session of a component that has made no other call.
 const FIRST: u64 = 1;
+
+/// What a run is told that isn't what its session's lines make of the machine.
+const UNLIKE: BootFault = BootFault::BadConfig(Field::Start);
 
 /// A session with what reaches it.
 #[derive(Clone, Copy)]
@@ -25,59 +46,122 @@ pub(crate) struct Reached<'a> {
 
 impl Reached<'_> {
     /// The run of what reaches the session from a donation, by its client, which has enough and no other session.
+    ///
+    /// The opening is written anew with the donation, so before the run it is seen that it names just this.
     pub(crate) fn trial<R: Router + Drop>(
         self,
         alloc: Global,
         client: &mut Client<R>,
         donation: Budget,
-    ) -> Result<Trial, BootFault> {
-        let mut trial = Trial::new(alloc, donation);
+    ) -> Result<Trial, BootFault>
+        ensures run { IfOk result (λ trial. (session : Session) →
+            IsReady client.old.core client.old.client →
+            opened_with (entry_at client.old.core.entries client.old.client)
+            (slice_get self.entry.steps.now self.entry.opened.now.step) ≡ Some session →
+            IsRun (opened_needs (sent_at self.entry.steps.now self.entry.opened.now.steps.items) session
+            (amounts_of donation))
+            (opened_in_want (sent_at self.entry.steps.now self.entry.opened.now.steps.items) session
+            (amounts_of donation)) (amounts_of donation) trial) }
+        ensures ready { OnOk result ((session : Session) →
+            IsReady client.old.core client.old.client →
+            opened_with (entry_at client.old.core.entries client.old.client)
+            (slice_get self.entry.steps.now self.entry.opened.now.step) ≡ Some session →
+            IsReady client.new.core client.new.client) }
+        ensures entries { client.new.core.entries ≡ client.old.core.entries }
+        ensures same { client.new.client ≡ client.old.client }
+    {
         let Some(opening) = self.steps.get(self.opened.step) else {
-            return Ok(trial);
+            return Err(UNLIKE);
         };
-        let Some(Call::Open { service, args }) = opening.said() else {
-            return Ok(trial);
+        let Some(
+            Call::Open {
+                service,
+                args: given,
+            },
+        ) = opening.said()
+        else {
+            return Err(UNLIKE);
         };
-        let args = args_with(alloc, donation, args)?;
-        client.step(Call::Open {
-            service,
-            args: args.as_slice(),
-        });
-        trial.refused = unopened(opening.number, client.reply.text());
-        if trial.refused.is_none() {
-            self.go_through(client, &mut trial)?;
+        let named = args_with(alloc, donation, given)?;
+        let args = named.as_slice();
+        if !donates(args, donation, given) {
+            return Err(UNLIKE);
         }
-        // What it donated is the client's again.
-        client.step(Call::Close(FIRST));
-        Ok(trial)
+        client.step(Call::Open { service, args });
+        match client.account() {
+            Some(account) => self.run(alloc, client, donation, account),
+            None => unopened(alloc, opening.number, client.reply.text(), donation),
+        }
     }
 
-    // Makes the calls that reach the session, up to the first in want.
-    fn go_through<R: Router + Drop>(
+    // The run of the session once it is opened, with this account. Then it is closed, so that what it was donated is the client's again.
+    fn run<R: Router + Drop>(
         self,
+        alloc: Global,
         client: &mut Client<R>,
-        trial: &mut Trial,
-    ) -> Result<(), BootFault> {
-        if let Some(account) = client.account() {
-            trial.meter.pass_last(account);
-        }
-        for place in self.opened.steps.as_slice() {
-            if let Some(step) = self.steps.get(*place) {
-                if !client.goes_on(trial, step)? {
-                    return Ok(());
-                }
-            }
-        }
-        Ok(())
+        donation: Budget,
+        account: Quotas,
+    ) -> Result<Trial, BootFault>
+        ensures entries { client.new.core.entries ≡ client.old.core.entries }
+        ensures same { client.new.client ≡ client.old.client }
+        ensures run { IfOk result (λ trial. (wish : Wish) →
+            session_too_small wish.ram wish.caps ≡ None →
+            quotas_account account ≡ (new_session wish).account →
+            HasSelectors client.old.core client.old.client (held (new_session wish) None) →
+            Shows (sent_at self.entry.steps.now self.entry.opened.now.steps.items) (new_session wish)
+            (record { ram = wish.ram; caps = wish.caps }) (is_some trial.refused) trial.meter) }
+        ensures ready { OnOk result ((wish : Wish) →
+            session_too_small wish.ram wish.caps ≡ None →
+            quotas_account account ≡ (new_session wish).account →
+            HasSelectors client.old.core client.old.client (held (new_session wish) None) →
+            IsReady client.new.core client.new.client) }
+    {
+        let mut run = SessionRun {
+            heard: SessionMeter::new(alloc, account),
+            trial: Trial::new(alloc, donation),
+        };
+        client.go_through(&mut run, self.steps, self.opened.steps.as_slice())?;
+        client.step(Call::Close(FIRST));
+        let mut trial = run.trial;
+        trial.meter = run.heard.meter;
+        Ok(trial)
     }
 }
 
-// Why a session isn't opened, where its donation is too small, or the machine.
-fn unopened(line: u64, reply: &[u8]) -> Option<Refused> {
-    match short_of(line, reply, [Shortage::DonatedRam, Shortage::DonatedCaps]) {
-        Some(refused) => Some(refused),
-        None => short_of(line, reply, [Shortage::Ram, Shortage::Caps]),
+// The run of a session that isn't opened, since its donation is too small.
+fn unopened(alloc: Global, line: u64, reply: &[u8], donation: Budget) -> Result<Trial, BootFault>
+    ensures small { OnOk result (tells_small reply.now ≡ true) }
+    ensures refused { IfOk result (λ trial. is_some trial.refused ≡ true) }
+    ensures shown { IfOk result (λ trial. shown_in trial.meter
+        ≡ shown_by (amounts_of donation) (opening_need (amounts_of donation) ∷ [])) }
+{
+    let Some(shortage) = too_small(reply) else {
+        return Err(UNLIKE);
+    };
+    let mut trial = Trial::new(alloc, donation);
+    trial.refused = Some(Refused { line, shortage });
+    trial.meter = Meter::opened(donation);
+    Ok(trial)
+}
+
+// What a donation is too small in, where an opening is answered so.
+fn too_small(reply: &[u8]) -> Option<Shortage>
+    ensures { is_some result ≡ tells_small reply.now }
+{
+    if reply == Refusal::InsufficientRamQuota.name().as_bytes() {
+        return Some(Shortage::DonatedRam);
     }
+    if reply == Refusal::InsufficientCapQuota.name().as_bytes() {
+        return Some(Shortage::DonatedCaps);
+    }
+    None
+}
+
+// A session whose requests are heard.
+#[derive(Drop)]
+struct SessionRun {
+    heard: SessionMeter,
+    trial: Trial,
 }
 
 /// A client that has one session alone, one after another.
@@ -86,24 +170,46 @@ pub(crate) struct Client<R: Router + Drop> {
     core: Core<R>,
     client: usize,
     reply: Reply,
-    room: Vec<u8>,
 }
 
 impl<R: Router + Drop> Client<R> {
-    ghost use Rattle.pd_core.specs.Call.{IsWellFormed};
+    ghost use Rattle.std.specs.Prelude.{◌≡◌, ◌<◌, ℕ, List, None, Some, true, false, is_some, length, slice_get, IfOk, OnOk};
+    ghost use Rattle.std.specs.FinMap.{get};
+    ghost use Rattle.std.specs.Option.{option_map};
+    ghost use Rattle.own_model.specs.Amounts.{Amounts};
+    ghost use Rattle.own_model.specs.Call.Call.{CallSession, Upgrade};
+    ghost use Rattle.own_model.specs.OwnState.{session_named};
+    ghost use Rattle.own_model.specs.Reply.{reply_text};
+    ghost use Rattle.own_model.specs.Session.{Session};
+    ghost use Rattle.own_model.specs.Transcript.{state_at};
+    ghost use Rattle.own_model.specs.World.{outcome_at, with_state};
+    ghost use Rattle.pd_core.specs.Answer.{quotas_account};
+    ghost use Rattle.pd_core.specs.Call.{model_call, IsWellFormed};
+    ghost use Rattle.budget_meter.specs.Reached.{Sent};
+    ghost use Rattle.least.specs.Sessions.{HasEnded, HasLeft, sends, sent_at, sent_by};
+    ghost use Rattle.least.specs.Steps.{call_said};
 
     /// The component of a core, which has made no call.
-    pub(crate) fn new(alloc: Global, core: Core<R>, client: usize) -> Result<Client<R>, BootFault> {
+    pub(crate) fn new(alloc: Global, core: Core<R>, client: usize) -> Result<Client<R>, BootFault>
+        ensures core { IfOk result (λ made. made.core ≡ core) }
+        ensures client { IfOk result (λ made. made.client ≡ client) }
+    {
+        if client >= core.count() {
+            return Err(UNLIKE);
+        }
         Ok(Client {
             core,
             client,
             reply: Reply::boot(alloc)?,
-            room: Vec::new(alloc),
         })
     }
 
     // The session's account, while it is open.
-    fn account(&self) -> Option<Quotas> {
+    fn account(&self) -> Option<Quotas>
+        ensures { self.now.client < length self.now.core.entries →
+            option_map quotas_account result ≡ option_map (λ (s : Session). s.account)
+            (session_named (get (state_at self.now.core.states self.now.client).selectors 1)) }
+    {
         if self.client >= self.core.count() {
             return None;
         }
@@ -113,43 +219,129 @@ impl<R: Router + Drop> Client<R> {
     // Makes a call, if the client is there.
     fn step(&mut self, call: Call<'_>)
         requires { IsWellFormed call }
+        ensures same { self.new.client ≡ self.old.client }
+        ensures entries { self.new.core.entries ≡ self.old.core.entries }
+        ensures answered { self.old.client < length self.old.core.entries → self.new.reply.text
+            ≡ reply_text (outcome_at self.old.core self.old.client (model_call call.entry)).reply }
+        ensures stepped { self.old.client < length self.old.core.entries → self.new.core
+            ≡ with_state self.old.core self.old.client
+            (outcome_at self.old.core self.old.client (model_call call.entry)).next }
     {
         if self.client < self.core.count() {
             self.core.step(self.client, call, &mut self.reply);
         }
     }
 
+    // Makes the calls of the lines at these places, up to the first in want.
+    fn go_through(
+        &mut self,
+        run: &mut SessionRun,
+        steps: &[Step],
+        places: &[usize],
+    ) -> Result<(), BootFault>
+        requires none { run.old.trial.refused ≡ None }
+        ensures same { self.new.client ≡ self.old.client }
+        ensures entries { self.new.core.entries ≡ self.old.core.entries }
+        ensures ended { OnOk result ((sent : List Sent) (session : Session) (donation : Amounts) →
+            HasLeft self.old.core self.old.client run.old.heard sent (sent_at steps.now places.now)
+            session donation →
+            HasEnded self.new.core self.new.client sent session donation
+            (is_some run.new.trial.refused) run.new.heard.meter) }
+    {
+        for place in places {
+            if !self.reach(run, steps, *place)? {
+                return Ok(());
+            }
+        }
+        Ok(())
+    }
+
+    // Makes the call of the line at a place, if it is there, and answers whether the run goes on.
+    fn reach(
+        &mut self,
+        run: &mut SessionRun,
+        steps: &[Step],
+        place: usize,
+    ) -> Result<bool, BootFault>
+        requires none { run.old.trial.refused ≡ None }
+        ensures same { self.new.client ≡ self.old.client }
+        ensures entries { self.new.core.entries ≡ self.old.core.entries }
+        ensures on { IfOk result (λ goes_on. goes_on ≡ true → run.new.trial.refused ≡ None) }
+        ensures left { IfOk result (λ goes_on. goes_on ≡ true → (sent rest : List Sent)
+            (session : Session) (donation : Amounts) →
+            HasLeft self.old.core self.old.client run.old.heard sent
+            (sent_by (slice_get steps.now place) rest)
+            session donation →
+            HasLeft self.new.core self.new.client run.new.heard sent rest session donation) }
+        ensures ends { IfOk result (λ goes_on. goes_on ≡ false → (sent rest : List Sent)
+            (session : Session) (donation : Amounts) →
+            HasLeft self.old.core self.old.client run.old.heard sent
+            (sent_by (slice_get steps.now place) rest)
+            session donation →
+            HasEnded self.new.core self.new.client sent session donation
+            (is_some run.new.trial.refused) run.new.heard.meter) }
+    {
+        match steps.get(place) {
+            Some(step) => self.goes_on(run, step),
+            None => Ok(true),
+        }
+    }
+
     // Makes the call of a line, and answers whether the run goes on.
-    fn goes_on(&mut self, trial: &mut Trial, step: &Step) -> Result<bool, BootFault> {
-        match step.said() {
-            Some(Call::CallSession { request, .. }) => self.request(trial, step, request),
-            Some(Call::Upgrade { args, .. }) => {
-                if !step.is_left_out {
-                    self.step(Call::Upgrade {
-                        selector: FIRST,
-                        args,
-                    });
-                    trial.keep_reply(false, self.reply.text())?;
-                }
+    fn goes_on(&mut self, run: &mut SessionRun, step: &Step) -> Result<bool, BootFault>
+        requires none { run.old.trial.refused ≡ None }
+        ensures same { self.new.client ≡ self.old.client }
+        ensures entries { self.new.core.entries ≡ self.old.core.entries }
+        ensures on { IfOk result (λ goes_on. goes_on ≡ true → run.new.trial.refused ≡ None) }
+        ensures left { IfOk result (λ goes_on. goes_on ≡ true → (sent rest : List Sent)
+            (session : Session) (donation : Amounts) →
+            HasLeft self.old.core self.old.client run.old.heard sent
+            (sends step.now.is_left_out (call_said step.now.line.items) rest)
+            session donation →
+            HasLeft self.new.core self.new.client run.new.heard sent rest session donation) }
+        ensures ends { IfOk result (λ goes_on. goes_on ≡ false → (sent rest : List Sent)
+            (session : Session) (donation : Amounts) →
+            HasLeft self.old.core self.old.client run.old.heard sent
+            (sends step.now.is_left_out (call_said step.now.line.items) rest)
+            session donation →
+            HasEnded self.new.core self.new.client sent session donation
+            (is_some run.new.trial.refused) run.new.heard.meter) }
+    {
+        let Some(call) = step.said() else {
+            return Ok(true);
+        };
+        match call {
+            Call::CallSession { request, .. } => self.ask(run, step, request),
+            Call::Upgrade { args, .. } => {
+                self.raise(run, step.is_left_out, args)?;
                 Ok(true)
             }
-            _ => Ok(false),
+            _ => Ok(true),
         }
     }
 
     // Makes a request.
-    fn request(
-        &mut self,
-        trial: &mut Trial,
-        step: &Step,
-        request: &[u8],
-    ) -> Result<bool, BootFault> {
-        let Some(before) = self.account() else {
-            return Ok(false);
-        };
-        let asked = self.asked(request)?;
+    fn ask(&mut self, run: &mut SessionRun, step: &Step, request: &[u8]) -> Result<bool, BootFault>
+        requires none { run.old.trial.refused ≡ None }
+        ensures same { self.new.client ≡ self.old.client }
+        ensures entries { self.new.core.entries ≡ self.old.core.entries }
+        ensures on { IfOk result (λ goes_on. goes_on ≡ true → run.new.trial.refused ≡ None) }
+        ensures left { IfOk result (λ goes_on. goes_on ≡ true → (sent rest : List Sent)
+            (session : Session) (donation : Amounts) (selector : ℕ) →
+            HasLeft self.old.core self.old.client run.old.heard sent
+            (sends step.now.is_left_out (Some (CallSession selector request.now)) rest)
+            session donation →
+            HasLeft self.new.core self.new.client run.new.heard sent rest session donation) }
+        ensures ends { IfOk result (λ goes_on. goes_on ≡ false → (sent rest : List Sent)
+            (session : Session) (donation : Amounts) (selector : ℕ) →
+            HasLeft self.old.core self.old.client run.old.heard sent
+            (sends step.now.is_left_out (Some (CallSession selector request.now)) rest)
+            session donation →
+            HasEnded self.new.core self.new.client sent session donation
+            (is_some run.new.trial.refused) run.new.heard.meter) }
+    {
         if step.is_left_out {
-            trial.leave_out(step.number, before, asked)?;
+            run.leave_out(step.number, self.account(), request)?;
             return Ok(true);
         }
         let call = Call::CallSession {
@@ -157,74 +349,89 @@ impl<R: Router + Drop> Client<R> {
             request,
         };
         self.step(call);
-        trial.refused = short_of(
-            step.number,
-            self.reply.text(),
-            [Shortage::SessionRam, Shortage::SessionCaps],
-        );
-        if trial.refused.is_some() {
+        let Some(after) = self.account() else {
+            return Err(UNLIKE);
+        };
+        if run.heard.follow(request, self.reply.text(), after)? {
+            run.trial.refused = Some(refused_at(step.number, self.reply.text()));
             return Ok(false);
         }
-        trial.keep_reply(is_told_by_limits(call), self.reply.text())?;
-        if let Some(after) = self.account() {
-            self.take(trial, request, asked, before, after);
-        }
+        run.trial
+            .keep_reply(is_told_by_limits(call), self.reply.text())?;
         Ok(true)
     }
 
-    // Takes the tests of a request in that the session's account didn't refuse.
-    fn take(
-        &self,
-        trial: &mut Trial,
+    // Donates more, which the client covers.
+    fn raise(
+        &mut self,
+        run: &mut SessionRun,
+        is_left_out: bool,
+        args: &[u8],
+    ) -> Result<(), BootFault>
+        ensures same { self.new.client ≡ self.old.client }
+        ensures entries { self.new.core.entries ≡ self.old.core.entries }
+        ensures refused { run.new.trial.refused ≡ run.old.trial.refused }
+        ensures left { OnOk result ((sent rest : List Sent) (session : Session)
+            (donation : Amounts) (selector : ℕ) →
+            HasLeft self.old.core self.old.client run.old.heard sent
+            (sends is_left_out (Some (Upgrade selector args.now)) rest) session donation →
+            HasLeft self.new.core self.new.client run.new.heard sent rest session donation) }
+    {
+        if is_left_out {
+            return Ok(());
+        }
+        let Some(_) = named_by(args) else {
+            return Ok(());
+        };
+        self.step(Call::Upgrade {
+            selector: FIRST,
+            args,
+        });
+        if !is_done(self.reply.text()) {
+            return Err(UNLIKE);
+        }
+        let Some(account) = self.account() else {
+            return Err(UNLIKE);
+        };
+        run.heard.raise(account);
+        run.trial.keep_reply(false, self.reply.text())?;
+        Ok(())
+    }
+}
+
+impl SessionRun {
+    // Leaves a request out, by what it asks of the session's account.
+    fn leave_out(
+        &mut self,
+        line: u64,
+        account: Option<Quotas>,
         request: &[u8],
-        asked: Option<Budget>,
-        before: Quotas,
-        after: Quotas,
-    ) {
-        trial.meter.pass_last(after);
-        let Some(request) = FileRequest::read(request) else {
-            return;
-        };
-        if is_node_choice(request, charged(before, after)) {
-            trial.meter.choose(after);
-        }
-        if file_written(request).is_some() && self.reply.text().starts_with(b"OK") {
-            if let Some(asked) = asked {
-                trial.meter.pass(before, asked);
-            }
+    ) -> Result<(), BootFault>
+        ensures refused { self.new.trial.refused ≡ self.old.trial.refused }
+        ensures heard { self.new.heard ≡ self.old.heard }
+    {
+        match account {
+            Some(account) => self
+                .trial
+                .leave_out(line, account, self.heard.asked(request)),
+            None => Ok(()),
         }
     }
+}
 
-    // What a request asks of the session's account, by the size of the file that it writes.
-    fn asked(&mut self, request: &[u8]) -> Result<Option<Budget>, BootFault> {
-        let Some(request) = FileRequest::read(request) else {
-            return Ok(None);
-        };
-        match file_written(request) {
-            Some(file) => match self.size(file)? {
-                Some(size) => Ok(asked_by_request(request, size)),
-                None => Ok(None),
-            },
-            None => Ok(asked_by_request(request, 0)),
-        }
-    }
+// Whether a donation is told as done.
+fn is_done(reply: &[u8]) -> bool
+    ensures { result ≡ bytes_eq reply.now (codes "ok") }
+{
+    reply == b"ok".as_slice()
+}
 
-    // The size of a file, if the session has it.
-    fn size(&mut self, file: &[u8]) -> Result<Option<u64>, BootFault> {
-        self.room.clear();
-        self.room.extend_from_slice(b"SIZE ")?;
-        self.room.extend_from_slice(file)?;
-        if self.client < self.core.count() {
-            let request = self.room.as_slice();
-            let call = Call::CallSession {
-                selector: FIRST,
-                request,
-            };
-            self.core.step(self.client, call, &mut self.reply);
-        }
-        match self.reply.text().strip_prefix(b"OK ") {
-            Some(digits) => Ok(read_number(digits)),
-            None => Ok(None),
-        }
-    }
+// The refusal of a request in want, which is answered so.
+fn refused_at(line: u64, reply: &[u8]) -> Refused {
+    let shortage = if reply == Shortage::SessionRam.reply().as_bytes() {
+        Shortage::SessionRam
+    } else {
+        Shortage::SessionCaps
+    };
+    Refused { line, shortage }
 }

@@ -110,16 +110,6 @@ impl Trial {
     }
 }
 
-/// The refusal for one of these reasons that a line is answered, if it is one.
-pub(crate) fn short_of(line: u64, reply: &[u8], reasons: [Shortage; 2]) -> Option<Refused> {
-    for shortage in reasons {
-        if reply == shortage.reply().as_bytes() {
-            return Some(Refused { line, shortage });
-        }
-    }
-    None
-}
-
 /// Whether what a call is answered tells limits.
 pub(crate) fn is_told_by_limits(call: Call<'_>) -> bool {
     match call {

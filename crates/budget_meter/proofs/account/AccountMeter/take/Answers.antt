@@ -10,8 +10,8 @@ pub returns-then-tells_growth-clause-pages : goal.returns-then-tells_growth-clau
 returns-then-tells_growth-clause-pages c = λ entry s stands told on.
     let meter = c.args.self.now.meter in
     grown_pages (model_call c.args.call) entry s c.args.reply.now c.args.after (quotas_account c.args.self.now.account) stands.account told
-    (amounts_of meter.start) (shown_in meter) (shown_in meter) c.in-Some.n c.in-Some.ensures.some c.in-Some.ensures.small c.take_growth.new.self.pages
-    (sym c.tells_growth.ensures ∙ c.if-tells_growth.true) (c.take_growth.ensures.pages s.heap.shape stands.growth c.in-Some.ensures.small)
+    (amounts_of meter.start) (shown_in meter) (shown_in meter) c.in-Some.n c.in-Some.ensures.some c.in-Some.ensures.small c.take_growth-self.result
+    (sym c.tells_growth.ensures ∙ c.if-tells_growth.true) (c.take_growth-self.ensures.pages s.heap.shape stands.growth c.in-Some.ensures.small)
 
 pub returns-else-tells_growth-clause-shown : goal.returns-else-tells_growth-clause-shown
 returns-else-tells_growth-clause-shown c = λ entry s stands told.
