@@ -83,5 +83,5 @@ fn a_write_is_handed_on_at_once(rt: HostRuntime) {
     let mut output = Output::new(TakesOne { calls: 0 });
     assert!(rt; output.write(b"text") == Ok(1) && !output.failed());
     assert!(rt; output.write(b"ext") == Ok(1));
-    assert_eq!(rt; output.into_inner().calls, 2);
+    assert!(rt; output.into_inner().calls == 2);
 }

@@ -71,8 +71,8 @@ const CALLERS: &[&str] = &[
 
 #[test]
 fn rows_are_told_alone_as_among_others(rt: HostRuntime) -> Result<(), Fail> {
-    compare_all(&rt, memory::ROWS, CALLERS)?;
-    compare_all(&rt, sessions::ROWS, CALLERS)?;
-    compare_all(&rt, machines::ROWS, CALLERS)?;
-    compare_all(&rt, many::ROWS, CALLERS)
+    compare_all(&rt, memory::rows(), CALLERS)?;
+    compare_all(&rt, sessions::rows(), CALLERS)?;
+    compare_all(&rt, machines::rows(), CALLERS)?;
+    compare_all(&rt, many::rows(), CALLERS)
 }

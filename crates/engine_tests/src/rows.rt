@@ -76,10 +76,10 @@ fn check_all<R: Abort + AllocGlobal>(rt: &R, rows: &[Row<'_>]) -> Result<(), Fai
 
 #[test]
 fn worked_rows(rt: HostRuntime) -> Result<(), Fail> {
-    check_all(&rt, memory::ROWS)?;
-    check_all(&rt, sessions::ROWS)?;
-    check_all(&rt, machines::ROWS)?;
-    check_all(&rt, many::ROWS)
+    check_all(&rt, memory::rows())?;
+    check_all(&rt, sessions::rows())?;
+    check_all(&rt, machines::rows())?;
+    check_all(&rt, many::rows())
 }
 
 /// Adds so many equal pieces to a text.

@@ -220,6 +220,12 @@ fn are_told<R: Abort + AllocGlobal>(
     Ok(())
 }
 
+/// Why CONFIG isn't read, and the texts of that.
+const CONFIG_FAULTS: &[(ConfigFault, &str)] = &[
+    (ConfigFault::Unreadable, "Unreadable_config"),
+    (ConfigFault::NoMemory, "No_memory"),
+];
+
 #[test]
 fn failures_have_texts(rt: HostRuntime) -> Result<(), Fail> {
     are_told(
@@ -234,10 +240,7 @@ fn failures_have_texts(rt: HostRuntime) -> Result<(), Fail> {
                 "boot: Bad_config pages",
             ),
         ],
-        &[
-            (ConfigFault::Unreadable, "Unreadable_config"),
-            (ConfigFault::NoMemory, "No_memory"),
-        ],
+        CONFIG_FAULTS,
     )
 }
 

@@ -61,7 +61,7 @@ fn words_that_are_read(rt: HostRuntime) -> Result<(), Fail> {
         .err()
         .ok_or("refused")?;
     assert!(rt; refused.kind() == ErrorKind::UnknownArgument);
-    assert_eq!(rt; refused.exit_code(), 2);
+    assert!(rt; refused.exit_code() == 2);
     Ok(())
 }
 
@@ -95,31 +95,37 @@ impl Env for GivenWords<'_> {
     }
 }
 
+// Words that are texts are read.
+fn check_texts<R: Abort + AllocGlobal>(rt: &R) -> Result<(), Fail> {
+    let good: [&[u8]; 3] = [b"scenario_run", b"--check", b""];
+    let words = words_given(&(GivenWords(&good), rt.alloc()))?;
+    assert!(rt; words.len() == 3);
+    let options = Options::read(rt.alloc(), words.as_slice())?;
+    assert!(rt; options.check && options.path == Some(""));
+    Ok(())
+}
+
 #[test]
 fn a_word_that_is_no_text_is_a_bad_line(rt: HostRuntime) -> Result<(), Fail> {
-    let alloc = rt.alloc();
-    let good: [&[u8]; 3] = [b"scenario_run", b"--check", b""];
-    let words = words_given(&(GivenWords(&good), alloc))?;
-    assert!(rt; words.len() == 3);
-    let options = Options::read(alloc, words.as_slice())?;
-    assert!(rt; options.check && options.path == Some(""));
+    check_texts(&rt)?;
     let bad: [&[u8]; 3] = [b"scenario_run", b"--check", b"a\xffb"];
-    let refused = words_given(&(GivenWords(&bad), alloc))
+    let refused = words_given(&(GivenWords(&bad), rt.alloc()))
         .err()
         .ok_or("refused")?;
     assert!(rt; refused.exit_code() == 2);
-    assert_eq!(rt;
-        text_of(alloc, refused)?.as_str(),
-        "\
+    let told = text_of(rt.alloc(), refused)?;
+    assert!(rt; told.as_str() == NO_TEXT);
+    Ok(())
+}
+
+/// What is told of a word that is no text.
+const NO_TEXT: &str = "\
 error: invalid UTF-8 was detected in one or more arguments
 
 Usage: scenario_run [OPTIONS] [CONFIG]
 
 For more information, try '--help'.
-"
-    );
-    Ok(())
-}
+";
 
 // Reads a line twice, with an allocation refused somewhere (`rt try --test --fail-alloc N`): one of the two may want
 // memory, and is told so.

@@ -1,5 +1,5 @@
 //! The members of a start list's objects that nothing reads.
-ghost use Rattle.std.specs.Prelude.{◌≡◌, ◌++◌, [], OnOk};
+ghost use Rattle.std.specs.Prelude.{◌≡◌, ◌++◌, [], OnOk, Some};
 ghost use Rattle.std.specs.Option.{option_and_then, option_map};
 ghost use Rattle.serde_json.specs.Find.{as_object};
 ghost use Rattle.serde_json.specs.View.{members_view, view};
@@ -46,8 +46,7 @@ fn tell_entry(
 {
     let is_init = runs(entry.value, "init");
     let table = if is_init { Table::Init } else { Table::Entry };
-    let part = Part::Entry(number, entry.steps.copy(alloc)?);
-    tell_members(found, alloc, table, &part, Some(entry.value))?;
+    tell_own(found, alloc, number, entry, table)?;
     let rules = entry.value.get("route");
     tell_rules(found, alloc, Owner::Entry(number), &entry.steps, rules)?;
     if is_init {
@@ -61,6 +60,21 @@ fn tell_entry(
     } else {
         Ok(())
     }
+}
+
+// Tells those of an entry itself.
+fn tell_own(
+    found: &mut Vec<Finding>,
+    alloc: Global,
+    number: usize,
+    entry: &EntryValue<'_>,
+    table: Table,
+) -> Result<(), AllocError>
+    ensures { OnOk result (found.new.items ≡ found.old.items
+        ++ unread_in table (Part.Entry number entry.now.steps) (Some (view entry.now.value.now))) }
+{
+    let part = Part::Entry(number, entry.steps.copy(alloc)?);
+    tell_members(found, alloc, table, &part, Some(entry.value))
 }
 
 // Tells those of what an init starts, but for its entries.

@@ -53,8 +53,7 @@ pub const NESTED: &str = r#"{"machine":{"pages":64,"caps":64},"start":[
     {"name":"carol","binary":"script","quantum":"64K","caps":16},
     {"name":"dave","binary":"script","quantum":"32K","caps":8}]}}]}"#;
 
-/// The rows.
-pub const ROWS: &[Row<'static>] = &[
+const ROWS: &[Row<'static>] = &[
     Row {
         shows: "routes_decide_between_providers",
         list: TWO_FILE_SERVERS,
@@ -177,3 +176,8 @@ total ram 262144 caps 64
 ",
     },
 ];
+
+/// The rows.
+pub fn rows() -> &'static [Row<'static>] {
+    ROWS
+}

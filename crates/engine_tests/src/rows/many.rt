@@ -9,8 +9,7 @@ const FORTY: &str = r#"{"machine":{"pages":128,"caps":128},
  "start":[{"name":"log","quantum":"16K","caps":8,"provides":["LOG"]},
           {"name":"alice","binary":"script","quantum":"400K","caps":80}]}"#;
 
-/// The rows.
-pub const ROWS: &[Row<'static>] = &[
+const ROWS: &[Row<'static>] = &[
     Row {
         shows: "region_limit_comes_first",
         list: MACHINE_A,
@@ -374,3 +373,8 @@ alice: ram 0/245760 caps 0/0
 ",
     },
 ];
+
+/// The rows.
+pub fn rows() -> &'static [Row<'static>] {
+    ROWS
+}

@@ -7,8 +7,7 @@ use init_core::MACHINE_A;
 pub const MACHINE_B: &str = r#"{"machine":{"pages":64,"caps":64},
  "start":[{"name":"alice","binary":"script","quantum":"160K","caps":40}]}"#;
 
-/// The rows.
-pub const ROWS: &[Row<'static>] = &[
+const ROWS: &[Row<'static>] = &[
     Row {
         shows: "empty_budget_is_told",
         list: MACHINE_A,
@@ -397,3 +396,8 @@ alice: data 0000000000000000
 ",
     },
 ];
+
+/// The rows.
+pub fn rows() -> &'static [Row<'static>] {
+    ROWS
+}

@@ -44,8 +44,7 @@ bob call 1 WRITE x 0 00
 alice quota
 ";
 
-/// The rows.
-pub const ROWS: &[Row<'static>] = &[
+const ROWS: &[Row<'static>] = &[
     Row {
         shows: "donation_pays_for_the_file_service",
         list: MACHINE_A,
@@ -334,3 +333,8 @@ alice: ram 0/65536 caps 0/16
 ",
     },
 ];
+
+/// The rows.
+pub fn rows() -> &'static [Row<'static>] {
+    ROWS
+}
