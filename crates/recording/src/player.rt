@@ -145,11 +145,9 @@ impl<'a> Player<'a> {
             (stage_in self.old.stand world) (stage_in self.new.stand world)
             (marks_view self.old.marks.marks.items) (marks_view self.new.marks.marks.items)) }
     {
-        match directive {
-            Directive::Repeat => self.miss(number, Why::Repeat(column_of(line))),
-            Directive::End => self.miss(number, Why::End(column_of(line))),
-            Directive::Unknown => self.miss(number, Why::Directive(column_of(line))),
-            _ => self.stand.follow(directive),
+        match directive.misplaced() {
+            Some(why) => self.miss(number, Why::Misplaced(column_of(line), why)),
+            None => self.stand.follow(directive),
         }
     }
 

@@ -1,7 +1,7 @@
 //! Lines that aren't read.
 
 use friendly_lines::{Fault, signs_of};
-use scenario_names::NameFault;
+use scenario_names::{Misplaced, NameFault};
 use thiserror::Error;
 
 /// Why a line isn't read, behind its column.
@@ -16,15 +16,10 @@ pub enum Why {
     /// A name in it has one.
     #[error("{0}")]
     Name(NameFault),
-    /// It is `@repeat`, and wasn't so before it was filled; this is its column.
-    #[error("{0}: @repeat stands in a scenario of a file alone")]
-    Repeat(usize),
-    /// It is `@end`, and wasn't so before it was filled; this is its column.
-    #[error("{0}: @end stands in a scenario of a file alone")]
-    End(usize),
-    /// It begins with `@` and is no directive; this is its column.
-    #[error("{0}: none of @set NAME VALUE, @repeat N [as NAME] and @end")]
-    Directive(usize),
+    /// It is a directive that can't be followed, and wasn't so before it was filled; or it begins with `@` and is none. This is
+    /// its column.
+    #[error("{0}: {1}")]
+    Misplaced(usize, Misplaced),
 }
 
 /// A line that isn't read.

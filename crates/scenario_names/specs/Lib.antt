@@ -7,3 +7,4 @@ pub mod Learning
 pub mod Directives
 pub mod Views
 pub mod Laws
+pub mod Misplaced

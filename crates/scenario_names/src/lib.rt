@@ -10,6 +10,7 @@ mod holes;
 mod known;
 mod laws;
 mod learning;
+mod misplaced;
 mod names;
 mod pieces;
 mod sums;
@@ -23,4 +24,5 @@ pub use known::Known;
 pub use laws::{
     bound_names_stand, given_names_count, marked_lines_stay, plain_lines_stay, rounds_are_forgotten,
 };
+pub use misplaced::Misplaced;
 pub use names::is_name;

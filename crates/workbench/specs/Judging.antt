@@ -10,7 +10,8 @@ use Rattle.friendly_lines.specs.Friendly.Said.{Nothing, Log, Call}
 use Rattle.friendly_lines.specs.declared.fault.Fault.{Fault}
 use Rattle.scenario_lines.specs.Answer.{AnswersLine}
 use Rattle.scenario_lines.specs.declared.answering.LineAnswer.{LineAnswer}
-use Rattle.workbench.specs.Turns.{Deed, is_misplaced}
+use Rattle.scenario_names.specs.Misplaced.{is_misplaced}
+use Rattle.workbench.specs.Turns.{Deed}
 use Rattle.workbench.specs.Turns.Deed.{TooLong, Unnamed, Follows, Says}
 
 -- the log lines that the next call is expected to finish, each as it is printed, and the line of the scenario in which the first

@@ -104,16 +104,6 @@ followed_by stand directive = record {
   known = followed stand.known directive;
 }
 
--- it can't be followed: it stands in a scenario of a file alone, or is none
-abbrev pub is_misplaced : Directive → Bool
-is_misplaced (Set binding) = false
-is_misplaced (Enter line counter) = false
-is_misplaced (Again line counter) = false
-is_misplaced (Leave line) = false
-is_misplaced Repeat = true
-is_misplaced End = true
-is_misplaced Unknown = true
-
 -- a line has names that its reply binds
 abbrev pub has_holes : Filled → Bool
 has_holes filled = nat_lt 0 (length filled.holes)

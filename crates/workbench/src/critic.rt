@@ -15,7 +15,7 @@ use crate::near::near_component;
 use friendly_lines::{Fault, end_of, is_passed, meets};
 use init_core::StartList;
 use scenario_lines::{LineAnswer, PlayFault, Sink};
-use scenario_names::{Known, NameFault};
+use scenario_names::{Known, Misplaced, NameFault};
 use std::alloc::Global;
 use trade_base::Refusal;
 
@@ -191,7 +191,7 @@ impl<'a> Critic<'a> {
     pub(crate) fn tell_misplaced<E: Sink>(
         &mut self,
         given: Given<'_>,
-        words: &[u8],
+        why: Misplaced,
         sink: &mut E,
     ) -> Result<bool, PlayFault>
         requires { E.has_failed sink.old ≡ false }
@@ -200,7 +200,7 @@ impl<'a> Critic<'a> {
         ensures works { OnOk result (E.has_failed sink.new ≡ false) }
         ensures failing { Fails result (E.has_failed sink.new) false }
     {
-        self.complain(given.start(), words, sink)
+        self.complain(given.start(), why.words().as_bytes(), sink)
     }
 
     /// Tells that a line is too long to be read.

@@ -1,7 +1,7 @@
 //! Where a play is in its scenario, and what names stand for there.
-ghost use Rattle.std.specs.Prelude.{◌≡◌, ◌≤◌, ℕ, IfErr, IfNone, IfSome, OnErr, OnOk, true, false};
+ghost use Rattle.std.specs.Prelude.{◌≡◌, ◌≤◌, ℕ, IfErr, IfSome, OnErr, OnOk, true};
 ghost use Rattle.scenario_names.specs.Views.{directive_view, filled_view};
-ghost use Rattle.workbench.specs.Turns.{first_with, followed_by, has_holes, is_misplaced, learnt_by, low, line_told};
+ghost use Rattle.workbench.specs.Turns.{first_with, followed_by, has_holes, learnt_by, low, line_told};
 ghost use Rattle.scenario_lines.specs.declared.play_fault.PlayFault.TheVariants.{NoMemory as NoRoom};
 
 use scenario_lines::{LineAnswer, PlayFault};
@@ -53,19 +53,6 @@ fn line_told(directive: Directive<'_>) -> Option<u64>
     match directive {
         Directive::Enter { line, .. } | Directive::Again { line, .. } | Directive::Leave { line } =>
             { Some((line as u64).min(LOW)) }
-        _ => None,
-    }
-}
-
-/// Why a directive can't be followed, if it can't.
-pub(crate) fn misplaced(directive: Directive<'_>) -> Option<&'static [u8]>
-    ensures none { IfNone result (is_misplaced (directive_view directive.entry) ≡ false) }
-    ensures some { IfSome result (λ _. is_misplaced (directive_view directive.entry) ≡ true) }
-{
-    match directive {
-        Directive::Repeat => Some(b"@repeat stands in a scenario of a file alone"),
-        Directive::End => Some(b"@end stands in a scenario of a file alone"),
-        Directive::Unknown => Some(b"none of @set NAME VALUE, @repeat N [as NAME] and @end"),
         _ => None,
     }
 }

@@ -11,20 +11,21 @@ ghost use Rattle.scenario_lines.specs.Answer.{AnswersLine};
 ghost use Rattle.scenario_lines.specs.Answered.{after_all};
 ghost use Rattle.scenario_lines.specs.Gathered.{TellsUnless};
 ghost use Rattle.call_lines.specs.Read.{IsReadAs, Reads};
+ghost use Rattle.scenario_names.specs.Misplaced.{is_misplaced};
 ghost use Rattle.scenario_names.specs.Views.{directive_view, filled_view};
 ghost use Rattle.scenario_lines.specs.Next.{OutputsWork};
 ghost use Rattle.workbench.specs.Faults.{takes_in};
 ghost use Rattle.scenario_lines.specs.Faults.{Fails};
 ghost use Rattle.workbench.specs.Judging.{IsJudged, IsJudgedSaid, awaited_after, is_other, nothing_awaited};
 ghost use Rattle.workbench.specs.Played.{told_of_calls};
-ghost use Rattle.workbench.specs.Turns.{StaysLow, call_in, call_of, deed_of, followed_by, has_holes, is_misplaced, learnt_by, learnt_from, left_behind, low, next_stand};
+ghost use Rattle.workbench.specs.Turns.{StaysLow, call_in, call_of, deed_of, followed_by, has_holes, learnt_by, learnt_from, left_behind, low, next_stand};
 ghost use Rattle.workbench.specs.Turns.Deed.{Says};
 ghost use Rattle.workbench.specs.Watching.{Watches};
 
 use crate::critic::Critic;
 use crate::given::{Asked, Given};
 use crate::notes::{Desk, Tools};
-use crate::stand::{Stand, learn, misplaced};
+use crate::stand::{Stand, learn};
 use crate::watch::{Heard, Watch};
 use friendly_lines::{Said, plain_call, read_friendly};
 use init_core::StartList;
@@ -256,8 +257,8 @@ fn follow<E: Sink>(
         ≡ is_misplaced (directive_view directive.entry)) }
     ensures keeps { tools.new.critic.expected ≡ tools.old.critic.expected }
 {
-    match misplaced(directive) {
-        Some(words) => tools.critic.tell_misplaced(given, words, complaints),
+    match directive.misplaced() {
+        Some(why) => tools.critic.tell_misplaced(given, why, complaints),
         None => {
             stand.follow(directive)?;
             Ok(false)
