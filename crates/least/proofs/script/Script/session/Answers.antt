@@ -16,4 +16,5 @@ returns c = λ session script opens donation few up.
     let first = ap (λ e. opened_with e line) fresh.entry ∙ opens in
     let left = c.trial.new.client in
     let entry : entry_at left.core.entries left.client ≡ entry_at made.core.entries made.client = λ i. entry_at (c.trial.ensures.entries i) (c.trial.ensures.same i) in
-    c.in_ok-found.ensures session (c.in_ok-given.ensures.ready session fresh.ready first) (ap (λ e. opened_with e line) entry ∙ first) donation few up
+    c.in_ok-found.ensures session (c.in_ok-given.ensures.ready session fresh.ready first) (ap (λ e. opened_with e line) entry ∙ first) donation
+    (subst (λ n. donation.caps ≤ n) (sym c.saturating_sub-2.ensures) few) (subst (λ n. donation.ram ≤ n) (sym c.saturating_sub.ensures) up)
