@@ -4,6 +4,8 @@ ghost use Rattle.std.specs.Option.{option_map_or};
 ghost use Rattle.std.specs.Result.{result_err};
 ghost use Rattle.own_model.specs.Listed.{start_list_of};
 ghost use Rattle.own_model.specs.StartList.{entries_of};
+ghost use Rattle.own_model.specs.World.{start_world};
+ghost use Rattle.init_core.specs.Boot.{quota_fault};
 ghost use Rattle.init_core.specs.declared.fault.BootFault.TheVariants.{NoMemory};
 ghost use Rattle.scenario.specs.Answer.{answer_text};
 ghost use Rattle.scenario.specs.Gathered.{TellsUnless};
@@ -22,13 +24,13 @@ ghost use Rattle.scenario.specs.declared.play_fault.PlayFault.TheVariants.{NoMem
 use crate::bench::Bench;
 use crate::ending::Ending;
 use crate::machine::Play;
-use crate::notes::Notes;
 use crate::playing::play as play_lines;
+use crate::stage::Stage;
 use crate::text::{add, add_number, put_number, put_three};
 use crate::texts::{put_text_behind, shown_in};
 use crate::watch::{Heard, Watch};
 use arrayvec::ArrayVec;
-use init_core::{BootFault, StartList, boot};
+use init_core::{BootFault, RouteTable, StartList, boot};
 use pd_core::{Core, Reply, Router};
 use scenario::{DeviceFault, Gather, LineAnswer, MAX_LINES, PlayFault, Run, Sink, Source};
 use std::alloc::Global;
@@ -48,6 +50,32 @@ pub(crate) struct SecondMachine<'a, Q: Router + Drop> {
     /// The first line of the scenario that was answered otherwise, if there is one.
     difference: Option<u64>,
     ghost listed: { core.entries ≡ entries_of (start_list_of list.now) },
+}
+
+impl<'a> SecondMachine<'a, RouteTable<'a>> {
+    // The machine of a list, before the first line of a name.
+    fn new(
+        alloc: Global,
+        list: &'a StartList,
+        name: &'a [u8],
+    ) -> Result<SecondMachine<'a, RouteTable<'a>>, BootFault>
+        ensures named { IfOk result (λ second. second.name.now ≡ name.now) }
+        ensures sees { IfOk result (λ second. SeesAlone second.name.now second.core second.lines
+            second.difference (start_world (start_list_of list.now)) []) }
+        ensures fault { IfErr result
+            (λ fault. fault ≢ NoMemory → quota_fault list.now ≡ Some fault) }
+    {
+        let core = boot(alloc, list)?;
+        let reply = Reply::boot(alloc)?;
+        Ok(SecondMachine {
+            list,
+            name,
+            core,
+            reply,
+            lines: 0,
+            difference: None,
+        })
+    }
 }
 
 impl<Q: Router + Drop> Watch for SecondMachine<'_, Q> {
@@ -219,40 +247,35 @@ pub fn alone<S: Source, K: Sink, E: Sink>(
         × (complaints.new ≡ complaints.old)) }
 {
     let list = StartList::read(alloc, play.machine)?;
-    let mut core = boot(alloc, &list)?;
-    let mut notes = Notes::new(alloc, play.scenario, play.given)?;
+    let mut stage = Stage::new(alloc, &list, play.scenario, play.given)?;
+    let mut second = SecondMachine::new(alloc, &list, name)?;
     let run = Run {
         list: &list,
         only: None,
     };
-    let second = boot(alloc, &list)?;
-    let reply = Reply::boot(alloc)?;
-    Ok(play_beside(
-        &run, &mut core, second, reply, name, &mut notes, reader, writer, complaints,
-    ))
+    Ok(play_beside(&run, &mut stage, &mut second, reader, writer, complaints))
 }
 
 // The same on two machines that have booted.
-fn play_beside<'a, R: Router + Drop, Q: Router + Drop, S: Source, K: Sink, E: Sink>(
-    run: &Run<'a>,
-    core: &mut Core<R>,
-    second: Core<Q>,
-    reply: Reply,
-    name: &'a [u8],
-    notes: &mut Notes<'_>,
+fn play_beside<Q: Router + Drop, S: Source, K: Sink, E: Sink>(
+    run: &Run<'_>,
+    stage: &mut Stage<'_, '_>,
+    second: &mut SecondMachine<'_, Q>,
     reader: &mut S,
     writer: &mut K,
     complaints: &mut E,
 ) -> Ending
-    requires listed { core.old.entries ≡ entries_of (start_list_of run.now.list.now) }
+    requires listed { stage.old.core.entries ≡ entries_of (start_list_of run.now.list.now) }
     requires all { run.now.only ≡ None }
-    requires first { notes.old.stand.number ≡ 1 }
-    requires same { second ≡ core.old }
+    requires first { stage.old.notes.stand.number ≡ 1 }
+    requires sees { SeesAlone second.old.name.now second.old.core second.old.lines
+        second.old.difference stage.old.core [] }
     ensures played { fault_before (S.has_failed reader.old)
         (K.has_failed writer.old || E.has_failed complaints.old) ≡ None →
-        IsPlayedFrom (turns_of None core.old notes.old.stand)
-        (λ turns. told_of_turns (alone_tells name.now core.old) None [] turns)
-        (λ turns. alone_sum name.now (length (calls_answered (Some name.now) turns)))
+        IsPlayedFrom (turns_of None stage.old.core stage.old.notes.stand)
+        (λ turns. told_of_turns (alone_tells second.old.name.now stage.old.core) None [] turns)
+        (λ turns. alone_sum second.old.name.now
+        (length (calls_answered (Some second.old.name.now) turns)))
         false result (S.remaining reader.old) (S.remaining reader.new)
         (S.has_failed reader.new) (K.contents writer.old) (K.contents writer.new) }
     ensures few { result.lines ≤ MAX_LINES }
@@ -265,22 +288,17 @@ fn play_beside<'a, R: Router + Drop, Q: Router + Drop, S: Source, K: Sink, E: Si
         × (reader.new ≡ reader.old) × (writer.new ≡ writer.old)
         × (complaints.new ≡ complaints.old)) }
 {
-    let mut watch = SecondMachine {
-        list: run.list,
-        name,
-        core: second,
-        reply,
-        lines: 0,
-        difference: None,
-    };
+    let name = second.name;
     let mut bench = Bench {
         complaints,
         run: &*run,
-        notes,
-        watch: &mut watch,
+        notes: &mut stage.notes,
+        watch: second,
+        rooms: &mut stage.rooms,
+        reply: &mut stage.reply,
         complained: 0,
     };
-    let ending = play_lines(&mut bench, core, b"", reader, writer);
+    let ending = play_lines(&mut bench, &mut stage.core, b"", reader, writer);
     close_with_sum(
         ending,
         name,

@@ -12,14 +12,14 @@ returns-clause-played g c = λ works.
     let played = c.play_accounting.ensures.played works in (
       played.0,
       is_played None (first_with c.args.play.given) (λ _ _. []) (λ listed start turns. accounts_text played.0 listed start (calls_answered None turns)) c.play_accounting.result _ _ _ _ _
-          c.in_ok-list.ensures.ok c.in_ok-core.ensures.covered c.in_ok-core.ensures.started c.in_ok-notes.ensures.stand played.1,
+          c.in_ok-list.ensures.ok c.in_ok-stage.ensures.covered c.in_ok-stage.ensures.started c.in_ok-stage.ensures.first played.1,
     )
 
 pub play_accounting-requires-clause-sees : goal.play_accounting-requires-clause-sees
 play_accounting-requires-clause-sees g c = record {
   peaks =
-      sees_first c.in_ok-list.list c.in_ok-core.ensures.started c.in_ok-peaks.ensures.init c.in_ok-peaks.ensures.count c.in_ok-peaks.ensures.components c.in_ok-peaks.ensures.sessions;
-  needs = c.in_ok-needs.ensures c.in_ok-list.list c.in_ok-core.ensures.started;
+      sees_first c.in_ok-list.list c.in_ok-stage.ensures.started c.in_ok-peaks.ensures.init c.in_ok-peaks.ensures.count c.in_ok-peaks.ensures.components c.in_ok-peaks.ensures.sessions;
+  needs = c.in_ok-needs.ensures c.in_ok-list.list c.in_ok-stage.ensures.started;
 }
 
 pub returns-clause-ok : goal.returns-clause-ok
@@ -28,4 +28,4 @@ returns-clause-ok g c =
     (unplayed_with c.play_accounting.result _ _ _ _ _ (ap g.S.Source.has_failed) c.play_accounting.ensures.before) c.play_accounting.ensures.writing
 
 pub returns-clause-before : goal.returns-clause-before
-returns-clause-before g c = unplayed_on _ c.play_accounting.result _ _ _ _ c.in_ok-list.ensures.ok c.in_ok-core.ensures.covered c.play_accounting.ensures.before
+returns-clause-before g c = unplayed_on _ c.play_accounting.result _ _ _ _ c.in_ok-list.ensures.ok c.in_ok-stage.ensures.covered c.play_accounting.ensures.before

@@ -10,7 +10,7 @@ use Rattle.workbench.proofs.beside.alone.Goals as goal
 pub returns-clause-played : goal.returns-clause-played
 returns-clause-played g c = λ works.
     is_played None (first_with c.args.play.given) (λ start turns. told_of_turns (alone_tells c.args.name.now start) None [] turns) (λ _ _ turns. alone_sum c.args.name.now (length (calls_answered (Some c.args.name.now) turns))) c.play_beside.result _ _ _ _ _
-    c.in_ok-list.ensures.ok c.in_ok-core.ensures.covered c.in_ok-core.ensures.started c.in_ok-notes.ensures.stand (c.play_beside.ensures.played works)
+    c.in_ok-list.ensures.ok c.in_ok-stage.ensures.covered c.in_ok-stage.ensures.started c.in_ok-stage.ensures.first (rw c.in_ok-second.ensures.named at (c.play_beside.ensures.played works))
 
 pub returns-clause-alike : goal.returns-clause-alike
 returns-clause-alike g c = are_alike c.args.name.now
@@ -18,21 +18,18 @@ returns-clause-alike g c = are_alike c.args.name.now
 pub returns-in_err-list-clause-alike : goal.returns-in_err-list-clause-alike
 returns-in_err-list-clause-alike g c = are_alike c.args.name.now
 
-pub returns-in_err-core-clause-alike : goal.returns-in_err-core-clause-alike
-returns-in_err-core-clause-alike g c = are_alike c.args.name.now
-
-pub returns-in_err-notes-clause-alike : goal.returns-in_err-notes-clause-alike
-returns-in_err-notes-clause-alike g c = are_alike c.args.name.now
+pub returns-in_err-stage-clause-alike : goal.returns-in_err-stage-clause-alike
+returns-in_err-stage-clause-alike g c = are_alike c.args.name.now
 
 pub returns-in_err-second-clause-alike : goal.returns-in_err-second-clause-alike
 returns-in_err-second-clause-alike g c = are_alike c.args.name.now
 
-pub returns-in_err-reply-clause-alike : goal.returns-in_err-reply-clause-alike
-returns-in_err-reply-clause-alike g c = are_alike c.args.name.now
+pub play_beside-requires-clause-sees : goal.play_beside-requires-clause-sees
+play_beside-requires-clause-sees g c = rw c.in_ok-stage.ensures.started c.in_ok-second.ensures.sees
 
 pub returns-clause-ok : goal.returns-clause-ok
 returns-clause-ok g c =
     ends_for_cause _ _ _ c.play_beside.ensures.played (unplayed_with c.play_beside.result _ _ _ _ _ (ap g.S.Source.has_failed) c.play_beside.ensures.before) c.play_beside.ensures.writing
 
 pub returns-clause-before : goal.returns-clause-before
-returns-clause-before g c = unplayed_on _ c.play_beside.result _ _ _ _ c.in_ok-list.ensures.ok c.in_ok-core.ensures.covered c.play_beside.ensures.before
+returns-clause-before g c = unplayed_on _ c.play_beside.result _ _ _ _ c.in_ok-list.ensures.ok c.in_ok-stage.ensures.covered c.play_beside.ensures.before
