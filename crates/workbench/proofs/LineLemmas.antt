@@ -96,9 +96,9 @@ module _ {only : Option (List ℕ)} {tells : World → List (List ℕ) → ℕ �
 
 -- ---- what is complained of it, and what comes of it
 
-answers_in : {only : Option (List ℕ)} {world : World} {number : ℕ} {calls : List (List ℕ)} (o : Option Heard) → IsHeard only world number calls o → AnswersIn only world calls (answer_of o)
-answers_in (Some it) is = (it.line.now, is.said, is.answers)
-answers_in None none = none
+answers_in : (only : Option (List ℕ)) (world : World) (number : ℕ) (calls : List (List ℕ)) (o : Option Heard) → IsHeard only world number calls o → AnswersIn only world calls (answer_of o)
+answers_in only world number calls (Some it) is = (it.line.now, is.said, is.answers)
+answers_in only world number calls None none = none
 
 -- what takes room without its call takes some
 takes_wider : (calls : Bool) (deed : Deed) → takes_in false deed ≡ true → takes_in calls deed ≡ true
@@ -112,9 +112,9 @@ takes_wider false (Says f (Ok (Call line reply))) takes = takes
 takes_wider calls (Says f (Err fault)) takes = takes
 
 -- and so does a call that is told, where that takes some
-told_takes : {only : Option (List ℕ)} {world : World} {number : ℕ} (calls : Bool) (deed : Deed) (o : Option Heard) → IsHeard only world number (calls_in deed) o → (is_some o && calls) ≡ true → takes_in calls deed ≡ true
-told_takes calls deed None none takes = absurd (let e : false ≡ true = takes in cc)
-told_takes {only} calls deed (Some it) is takes = of deed is.said
+told_takes : (only : Option (List ℕ)) (world : World) (number : ℕ) (calls : Bool) (deed : Deed) (o : Option Heard) → IsHeard only world number (calls_in deed) o → (is_some o && calls) ≡ true → takes_in calls deed ≡ true
+told_takes only world number calls deed None none takes = absurd (let e : false ≡ true = takes in cc)
+told_takes only world number calls deed (Some it) is takes = of deed is.said
   where
     unsaid : {A : Type 0} → said_by only [] ≡ it.line.now ∷ [] → A
     unsaid said = absurd (let e : [] ≡ it.line.now ∷ [] = sym (said_none only) ∙ said in cc)
@@ -129,7 +129,7 @@ told_takes {only} calls deed (Some it) is takes = of deed is.said
     of (Says f (Err fault)) said = unsaid said
 
 module _ {only : Option (List ℕ)} {tells : World → List (List ℕ) → ℕ → List ℕ → List ℕ} {calls : Bool} {seen now_seen : World → List (List ℕ) → Type 0} {old new : World} {stand next : Stand} {awaited now_awaited : Awaited}
-    {w w' : Option (List ℕ)} {g g' : List ℕ} {told_failed own_failed : Bool} (deed : Deed) (o : Option Heard) (heard : IsHeard only old stand.number (calls_in deed) o) where
+    {w w' : Option (List ℕ)} {g g' : List ℕ} (told_failed own_failed : Bool) (deed : Deed) (o : Option Heard) (heard : IsHeard only old stand.number (calls_in deed) o) where
   -- a line was told and judged
   pub turn_judged : {T : Type 0} {done : T} (r : Result Bool PlayFault) → Hears only tells seen now_seen stand.number (calls_in deed) old new (Ok done) w g w' g' → told_failed ≡ false →
       IfOk r (λ complained. complained ≡ is_complained deed (answer_of o) awaited) → OnOk r (now_awaited ≡ awaited_after stand.number deed awaited) →
@@ -144,11 +144,11 @@ module _ {only : Option (List ℕ)} {tells : World → List (List ℕ) → ℕ �
   }
     where
       stands_on : (r : Result Bool PlayFault) → OnOk r (next ≡ stand_with (passed stand) deed (answer_of o)) → OnOk r (next ≡ stand_after only old (passed stand) deed)
-      stands_on (Ok complained) stands = stands ∙ stands_answered only old (passed stand) deed _ (answers_in o heard)
+      stands_on (Ok complained) stands = stands ∙ stands_answered only old (passed stand) deed _ (answers_in only old stand.number (calls_in deed) o heard)
       stands_on (Err fault) stands = tt
 
       judged_on : (r : Result Bool PlayFault) → IfOk r (λ complained. complained ≡ is_complained deed (answer_of o) awaited) → IfOk r (IsJudged only old deed awaited)
-      judged_on (Ok complained) judged = (_, answers_in o heard, judged)
+      judged_on (Ok complained) judged = (_, answers_in only old stand.number (calls_in deed) o heard, judged)
       judged_on (Err fault) judged = tt
 
   -- or it couldn't be told
@@ -159,7 +159,7 @@ module _ {only : Option (List ℕ)} {tells : World → List (List ℕ) → ℕ �
     stands = tt;
     judged = tt;
     expects = tt;
-    failing = fails_before fault told_failed own_failed (is_some o && calls) _ works fails (told_takes calls deed o heard);
+    failing = fails_before _ _ fault told_failed own_failed (is_some o && calls) _ works fails (told_takes only old stand.number calls deed o heard);
   }
 
 -- what a line is may be told in other words

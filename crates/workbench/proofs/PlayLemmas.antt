@@ -36,10 +36,10 @@ pub numbered : (stand : Stand) (more : ℕ) → StaysBelow stand more → stand.
 numbered stand more below = omega (arith, below.within, below.below)
 
 -- one line less can be numbered
-pub ready_next : {A : Type 0} {only : Option (List ℕ)} {world : World} (judged : Result Bool PlayFault) (stand next : Stand) (deed : Deed) (more : ℕ) → A → StaysBelow stand (more + 1) → OnOk judged (next ≡ stand_after only world (passed stand) deed) →
+pub ready_next : {A : Type 0} (only : Option (List ℕ)) (world : World) (judged : Result Bool PlayFault) (stand next : Stand) (deed : Deed) (more : ℕ) → A → StaysBelow stand (more + 1) → OnOk judged (next ≡ stand_after only world (passed stand) deed) →
     OnOk (counted judged) (A × StaysBelow next more)
-ready_next {only = only} {world = world} (Ok complained) stand next deed more a below stands = (a, subst (λ (s : Stand). StaysBelow s more) (sym stands) (below_next only world stand deed more below))
-ready_next (Err fault) stand next deed more a below stands = tt
+ready_next only world (Ok complained) stand next deed more a below stands = (a, subst (λ (s : Stand). StaysBelow s more) (sym stands) (below_next only world stand deed more below))
+ready_next only world (Err fault) stand next deed more a below stands = tt
 
 module _ (only : Option (List ℕ)) (start mid : World) (first stand : Stand) (xs : List (List ℕ)) (line : List ℕ)
     (left : mid ≡ after_all only start (calls_said (turns_of only start first xs))) (stands : stand ≡ stand_behind only start first xs) where
@@ -92,9 +92,9 @@ module _ (only : Option (List ℕ)) (start mid : World) (first stand : Stand) (x
       tells_counted text (Err fault) told = told
 
 -- what a watch has seen where it watches
-sees_on : {T E : Type 0} (r : Result T E) {seen : World → List (List ℕ) → Type 0} {start world : World} {calls : List (List ℕ)} → OnOk r (Watches seen start calls world) → OnOk r (seen start calls)
-sees_on (Ok x) watches = watches.sees
-sees_on (Err fault) watches = tt
+sees_on : {T E : Type 0} (r : Result T E) (seen : World → List (List ℕ) → Type 0) (start world : World) (calls : List (List ℕ)) → OnOk r (Watches seen start calls world) → OnOk r (seen start calls)
+sees_on (Ok x) seen start world calls watches = watches.sees
+sees_on (Err fault) seen start world calls watches = tt
 
 -- the same for a player that is the one that began
 pub bench_line : {R A : Type 0} (only_of : R → Option (List ℕ)) (seen_old seen_new : R → World → List (List ℕ) → Type 0) {at run : R} {telling now_telling : World → List (List ℕ) → ℕ → List ℕ → List ℕ} (start : World) {first : Stand} (xs : List (List ℕ)) (line : List ℕ)
@@ -104,7 +104,7 @@ pub bench_line : {R A : Type 0} (only_of : R → Option (List ℕ)) (seen_old se
     (λ fault lines. A × StopsTurns calls (only_of at) start new.world first fault lines) xs line (counted judged) old.written old.gathered new.written new.gathered
 bench_line only_of seen_old seen_new {at} {run} {telling} {now_telling} start {first} xs line calls judged {failed} {old} {new} kept run_is tells_is led plays =
     bench_plays (only_of at) start old.world first old.stand xs line led.world_is led.stands (telling start) calls (seen_new at start) new.world new.stand judged failed old.written new.written old.gathered new.gathered kept
-    here.hears.world (here.hears.told start _ watches) (sees_on judged (here.hears.sees start _ watches)) here.stands here.failing
+    here.hears.world (here.hears.told start _ watches) (sees_on judged _ _ _ _ (here.hears.sees start _ watches)) here.stands here.failing
   where
     here : PlaysTurn (only_of at) telling calls (seen_old at) (seen_new at) (deed_of old.stand line) failed judged old new
     here =

@@ -23,5 +23,5 @@ returns-clause-failing g c = rw c.count.ensures (counted_fails c.play_line-judge
 pub returns-clause-ready : goal.returns-clause-ready
 returns-clause-ready g c = λ more ready.
     let plays = c.play_line-judged.ensures.plays in
-    rw c.count.ensures (ready_next c.play_line-judged.result c.args.self.now.notes.now.stand c.play_line-judged.new.self.notes.now.stand (deed_of c.args.self.now.notes.now.stand c.args.line.now) more
+    rw c.count.ensures (ready_next _ _ c.play_line-judged.result c.args.self.now.notes.now.stand c.play_line-judged.new.self.notes.now.stand (deed_of c.args.self.now.notes.now.stand c.args.line.now) more
     (ap (λ w. w.entries) plays.hears.world ∙ ready.0 ∙ ap (λ run. entries_of (start_list_of run.list.now)) (sym c.play_line-judged.ensures.remains.run_is)) ready.1 plays.stands)

@@ -18,5 +18,5 @@ returns-clause-played g c = λ first start earlier line long led.
     let only = option_copied now.run.now.only in
     rw c.count.ensures (bench_line (λ run. option_copied run.only) (λ run. g.W.Watch.sees now.watch.now run.list.now) (λ run. g.W.Watch.sees now.watch.now run.list.now)
     start earlier line g.W.Watch.takes c.take_in-judged.result (record { name_is = led.0.name_is; run_is = led.0.run_is; tells_is = led.0.tells_is; holds_is = led.0.holds_is }) led.0.run_is led.0.tells_is led.1
-    (plays_as (sym (deed_of-long now.notes.now.stand line long)) (turn_judged TooLong None (said_none only) c.take_in-judged.result (hears_none told (sym (left_none only c.args._core.now)) (said_none only)) c.requires.works.writes
+    (plays_as (sym (deed_of-long now.notes.now.stand line long)) (turn_judged _ _ TooLong None (said_none only) c.take_in-judged.result (hears_none told (sym (left_none only c.args._core.now)) (said_none only)) c.requires.works.writes
     c.take_in-judged.ensures.judged c.take_in-judged.ensures.expects c.take_in-judged.ensures.stands c.take_in-judged.ensures.failing)))
