@@ -1,14 +1,16 @@
 -- The run of a session on a core, by a client that has no other.
-use Rattle.std.proofs.lemmas.List.{drop_all}
+use Rattle.std.proofs.lemmas.List.{drop_all, get_or-map, length-map}
 use Rattle.std.proofs.lemmas.Option.{none-some, same_Some}
-use Rattle.std.proofs.Common.{arith, cond, ◌||◌, ◌≡◌, ℕ, ◌+◌, ◌<◌, ◌≤◌, Bool, true, false, List, [], ◌∷◌, length, drop, get_or, drop-cons, add-one, refl, sym, ap, ◌∙◌, subst, get_or-set_same, length-set}
+use Rattle.std.proofs.Common.{arith, cond, ◌||◌, ◌≡◌, ℕ, suc, ◌+◌, ◌<◌, ◌≤◌, Bool, true, false, true≢false, List, [], ◌∷◌, length, drop, get_or, drop-cons, add-one, refl, sym, ap, ◌∙◌, subst, get_or-set_same, length-set}
 use Rattle.std.specs.Prelude.{Option, Some, None, is_some, slice_get, codes, IfOk, OnOk, Result, Ok, Err}
 use Rattle.std.specs.FinMap as map
 use Rattle.std.specs.FinMap.{get}
 use Rattle.std.specs.Option.{option_map}
 use Rattle.std.specs.Str.{bytes_eq}
+use Rattle.trade_base.specs.declared.refusal.Refusal.{Refusal}
 use Rattle.own_model.proofs.NatMapLemmas.{get-empty}
-use Rattle.own_model.specs.Amounts.{Amounts}
+use Rattle.own_model.specs.Account.{Account}
+use Rattle.own_model.specs.Amounts.{Amounts, no_amounts}
 use Rattle.own_model.specs.Call.{Call}
 use Rattle.own_model.specs.Call.Call.{Open, Upgrade, CallSession, Close}
 use Rattle.own_model.specs.NatMap.{NatMap}
@@ -18,11 +20,14 @@ use Rattle.own_model.specs.Reply.{reply_text}
 use Rattle.own_model.specs.Session.{Session, Wish, Served, served, upgraded, new_session, too_small, wish, wish_in, wish_of}
 use Rattle.own_model.specs.SessionArgs.{Arguments, arguments_of}
 use Rattle.own_model.specs.Routes.{Level, ServerAt, provider}
-use Rattle.own_model.specs.StartList.{Entry}
-use Rattle.own_model.specs.Transcript.{entry_at, state_at, nothing}
-use Rattle.own_model.specs.World.{World, outcome_at, with_state}
+use Rattle.own_model.specs.Listed.{Listed, start_list_of}
+use Rattle.own_model.specs.StartList.{Entry, StartEntry, entries_of, start_state}
+use Rattle.own_model.specs.StartList.Kind.{Script}
+use Rattle.own_model.specs.Transcript.{entry_at, state_at, nobody, nothing}
+use Rattle.own_model.specs.World.{World, outcome_at, start_world, with_state}
 use Rattle.pd_core.specs.Answer.{quotas_account}
 use Rattle.server_frame.specs.declared.quotas.Quotas.{Quotas}
+use Rattle.budget_laws.specs.Request.{donating}
 use Rattle.budget_meter.proofs.HeardLemmas.{there}
 use Rattle.budget_meter.proofs.SessionLemmas.{all_left, none_left}
 use Rattle.budget_meter.specs.Metered.{is_script}
@@ -33,9 +38,11 @@ use Rattle.budget_meter.specs.Reached.{Sent, opens_none, opening_need, run_needs
 use Rattle.budget_meter.specs.Reached.Sent.{Asks, Raises}
 use Rattle.budget_meter.specs.Sessions.{IsLeft, IsServedBy, HasReached, Shows}
 use Rattle.budget_meter.specs.declared.budget.Budget.{Budget}
+use Rattle.budget_meter.specs.declared.meter.Meter.{Meter}
 use Rattle.budget_meter.specs.declared.session.SessionMeter.{SessionMeter}
+use Rattle.least.specs.Alike.{own_entry}
 use Rattle.least.specs.Rows.{IsRun}
-use Rattle.least.specs.Sessions.{HasEnded, HasLeft, HasSelectors, IsReady, held, made_by, sent_at, sent_by, tells_small}
+use Rattle.least.specs.Sessions.{HasEnded, HasLeft, HasSelectors, IsReady, held, made_by, opened_with, sent_at, sent_by, tells_small}
 use Rattle.least.specs.declared.scene.Step.{Step}
 use Rattle.least.specs.declared.trial.Trial.{Trial}
 use Rattle.least.proofs.HeldLemmas.{named_of, bytes_back, named_there, called, called_has, closed, closed_has, raised, raised_has, opens, opened_has, small_told}
@@ -380,3 +387,38 @@ each_on (Err e) f is = tt
 pub each_three : {X E : Type 0} {A : Type 0} {P Q S : X → Type 0} (r : Result X E) → ((x : X) → A → P x → Q x → S x) → OnOk r A → IfOk r P → IfOk r Q → IfOk r S
 each_three (Ok x) f a p q = f x a p q
 each_three (Err e) f a p q = tt
+
+-- ---- before its first session
+
+nothing_listed : StartEntry
+nothing_listed = record { entry = nobody; ram = 0; caps = 0; reserve = no_amounts }
+
+ready_at_first : (list : Listed) (component : ℕ) → component < length (entries_of (start_list_of list)) → (own_entry list component).kind ≡ Script → IsReady (start_world (start_list_of list)) component
+ready_at_first list component within script =
+    let starts = (start_list_of list).starts in
+    let inside : component < length starts = omega (arith, within, length-map starts (λ start. start.entry)) in
+    let state = get_or-map start_state starts component nothing_listed nothing inside in
+    record {
+      script = script;
+      entry = within;
+      there = omega (arith, inside, length-map starts start_state);
+      here = ap (λ t. t.gone) state;
+      selectors = ap (λ t. t.selectors) state;
+    }
+
+-- as a client of it has it
+pub record IsFresh (list : Listed) (component : ℕ) (core : World) (client : ℕ) : Type 0 where
+  pub ready : IsReady core client
+  pub entry : entry_at core.entries client ≡ own_entry list component
+
+pub is_fresh : (list : Listed) (component : ℕ) (core world : World) (client : ℕ) → world ≡ start_world (start_list_of list) → core ≡ world → client ≡ component → component < length world.entries →
+    (own_entry list component).kind ≡ Script → IsFresh list component core client
+is_fresh list component core world client started same is within script =
+    let whole : core ≡ start_world (start_list_of list) = same ∙ started in
+    record {
+      ready =
+          subst (λ w. IsReady w client) (sym whole)
+          (subst (λ p. IsReady (start_world (start_list_of list)) p) (sym is)
+          (ready_at_first list component (subst (λ w. component < length w.entries) started within) script));
+      entry = λ i. entry_at (whole i).entries (is i);
+    }

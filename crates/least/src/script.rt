@@ -1,8 +1,10 @@
 //! The accounts of a script: its sessions', and its own.
-ghost use Rattle.std.specs.Prelude.{◌≡◌, ◌-◌, IfOk};
+ghost use Rattle.std.specs.Prelude.{◌≡◌, ◌-◌, Some, slice_get, IfOk};
+ghost use Rattle.own_model.specs.Session.{Session as ASession};
 ghost use Rattle.own_model.specs.StartList.Kind.{Script as AScript};
 ghost use Rattle.least.specs.Alike.{own_entry};
 ghost use Rattle.least.specs.Own.{AreExact};
+ghost use Rattle.least.specs.Sessions.{AreExactOf, opened_with, sent_at};
 
 use crate::account::{Account, Given, Session};
 use crate::donation::args_with;
@@ -15,7 +17,7 @@ use crate::session_trial::{Client, Reached};
 use crate::trial::Trial;
 use budget_meter::Budget;
 use init_core::{BootFault, StartList, boot};
-use pd_core::{Call, Router};
+use pd_core::Call;
 use std::alloc::Global;
 use trade_base::PAGE;
 
@@ -65,9 +67,8 @@ impl Script<'_> {
         self.draft.fund(alloc, self.list, self.component, most)?;
         let ample = self.draft.list(alloc)?;
         let sessions = Sessions::of(alloc, &ample, self.component, steps)?;
-        let mut client = Client::new(alloc, boot(alloc, &ample)?, self.component)?;
         for opened in sessions.opened.as_slice() {
-            let account = self.session(alloc, &mut client, steps, opened)?;
+            let account = self.session(alloc, &ample, steps, opened, most)?;
             if !as_donated {
                 donate_least(alloc, steps, opened.step, &account)?;
             }
@@ -107,22 +108,33 @@ impl Script<'_> {
         })
     }
 
-    // What a session's account needs, whose client has enough.
-    fn session<R: Router + Drop>(
+    // What a session's account needs, by the runs of a client on a list that gives it this much: exactly the donations, of no more
+    // than that and what is donated later, that open the session and leave its own run in no want.
+    fn session(
         &self,
         alloc: Global,
-        client: &mut Client<R>,
+        ample: &StartList,
         steps: &[Step],
         opened: &Opened,
-    ) -> Result<Account, BootFault> {
+        most: Budget,
+    ) -> Result<Account, BootFault>
+        ensures { IfOk result (λ account. (session : ASession) →
+            (own_entry ample.now self.now.component).kind ≡ AScript →
+            opened_with (own_entry ample.now self.now.component)
+            (slice_get steps.now opened.now.step) ≡ Some session →
+            AreExactOf (sent_at steps.now opened.now.steps.items) session
+            (most.caps - opened.now.raised.caps) (most.ram - opened.now.raised.ram)
+            account.found.rows.items) }
+    {
+        let core = boot(alloc, ample)?;
+        let mut client = Client::new(alloc, core, self.component)?;
         let reached = Reached { steps, opened };
-        let given = reached.trial(alloc, client, opened.donation)?;
-        let most = most_beside(reserve_of(self.list, self.component));
+        let given = reached.trial(alloc, &mut client, opened.donation)?;
         let rest = Budget {
             ram: most.ram.saturating_sub(opened.raised.ram),
             caps: most.caps.saturating_sub(opened.raised.caps),
         };
-        let found = session_rows(alloc, client, reached, rest, replies_of(&given))?;
+        let found = session_rows(alloc, &mut client, reached, rest, replies_of(&given))?;
         Ok(Account {
             component: self.component,
             session: Some(Session {

@@ -193,6 +193,7 @@ impl<R: Router + Drop> Client<R> {
     pub(crate) fn new(alloc: Global, core: Core<R>, client: usize) -> Result<Client<R>, BootFault>
         ensures core { IfOk result (λ made. made.core ≡ core) }
         ensures client { IfOk result (λ made. made.client ≡ client) }
+        ensures there { IfOk result (λ made. client < length core.entries) }
     {
         if client >= core.count() {
             return Err(UNLIKE);
