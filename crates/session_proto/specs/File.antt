@@ -1,5 +1,8 @@
 -- The file service's requests, as the model's words.
-use Rattle.std.specs.Prelude.{ℕ, List, IsSome}
+use Rattle.std.specs.Prelude.{ℕ, Bool, List, Option, Some, None, IsSome, ◌&&◌, if◌then◌else◌, codes}
+use Rattle.std.specs.Option.{is_none, option_and_then, option_map}
+use Rattle.std.specs.Str.{bytes_eq}
+use Rattle.own_model.specs.Text.{number_of}
 use Rattle.own_model.specs.BufferService as model
 use Rattle.own_model.specs.BufferService.{SessionRequest}
 use Rattle.own_model.specs.BufferService.SessionRequest.{OfFiles, OfBuffer}
@@ -32,3 +35,12 @@ HasHex _ = Unit {0}
 -- a request of these bytes, at these places
 abbrev pub request_of_move : (List ℕ → ℕ → ℕ → ℕ → model.BufferRequest) → Move → model.BufferRequest
 request_of_move request move = request move.file.now move.offset move.place move.len
+
+-- the request of files of a form behind `SIZE`, and its arguments
+abbrev pub later_request_of : List ℕ → Option (List ℕ) → Option files.FileRequest
+later_request_of form arguments =
+    if bytes_eq form (codes "CLEAR") then option_map files.FileRequest.Clear (option_and_then files.file_word arguments)
+    else (if bytes_eq form (codes "DROP") then option_map files.FileRequest.Drop (option_and_then files.file_word arguments)
+    else (if bytes_eq form (codes "NAME") then option_map files.FileRequest.Name (option_and_then number_of arguments)
+    else (if bytes_eq form (codes "STAT") && is_none arguments then Some files.FileRequest.Stat
+    else None)))

@@ -1,12 +1,13 @@
 //! The file service's requests of a session's buffer.
 ghost use Rattle.std.specs.Prelude.{◌≡◌, ℕ, List, IfSome};
-ghost use Rattle.std.specs.Option.{option_map, option_copied};
+ghost use Rattle.std.specs.Option.{option_and_then, option_map, option_copied};
 ghost use Rattle.own_model.specs.BufferService.{BufferRequest, buffer_request_of, move_of};
 ghost use Rattle.own_model.specs.BufferService.SessionRequest.{OfBuffer};
 ghost use Rattle.own_model.specs.FileText.{of_file};
+ghost use Rattle.session_proto.specs.declared.file.FileRequest.TheVariants.{Put, Get};
 ghost use Rattle.session_proto.specs.File.{model_request, request_of_move, HasHex};
 
-use crate::file::{FileRequest, file_word};
+use crate::file::{FileRequest, file_word, number_in};
 use text_codec::split_first_word;
 use trade_base::read_number;
 
@@ -20,46 +21,60 @@ pub(crate) fn buffer_request_from<'a>(
     ensures hex { IfSome result HasHex }
 {
     if form == b"BUFFER".as_slice() {
-        Some(FileRequest::Buffer(read_number(arguments?)?))
+        Some(FileRequest::Buffer(number_in(arguments)?))
     } else if form == b"UNBUFFER".as_slice() && arguments.is_none() {
         Some(FileRequest::Unbuffer)
     } else if form == b"PUT".as_slice() {
-        let Move {
-            file,
-            offset,
-            place,
-            len,
-        } = read_move(arguments?)?;
-        Some(FileRequest::Put {
-            file,
-            offset,
-            place,
-            len,
-        })
+        Some(move_in(arguments)?.put())
     } else if form == b"GET".as_slice() {
-        let Move {
-            file,
-            offset,
-            place,
-            len,
-        } = read_move(arguments?)?;
-        Some(FileRequest::Get {
-            file,
-            offset,
-            place,
-            len,
-        })
+        Some(move_in(arguments)?.get())
     } else {
         None
     }
 }
 
 /// So many bytes between an offset of a file and a place in the buffer.
+#[derive(Clone, Copy)]
 struct Move<'a> {
     file: &'a [u8],
     offset: u64,
     place: u64,
     len: u64,
+}
+
+impl<'a> Move<'a> {
+    /// From the buffer to the file.
+    fn put(self) -> FileRequest<'a>
+        ensures { result ≡ Put self.entry.file self.entry.offset self.entry.place self.entry.len }
+    {
+        FileRequest::Put {
+            file: self.file,
+            offset: self.offset,
+            place: self.place,
+            len: self.len,
+        }
+    }
+
+    /// From the file to the buffer.
+    fn get(self) -> FileRequest<'a>
+        ensures { result ≡ Get self.entry.file self.entry.offset self.entry.place self.entry.len }
+    {
+        FileRequest::Get {
+            file: self.file,
+            offset: self.offset,
+            place: self.place,
+            len: self.len,
+        }
+    }
+}
+
+/// The move that the arguments are, if they are one.
+fn move_in(arguments: Option<&[u8]>) -> Option<Move<'_>>
+    ensures { (request : List ℕ → ℕ → ℕ → ℕ → BufferRequest) →
+        option_map (request_of_move request) result
+        ≡ option_and_then (of_file (move_of request)) (option_copied arguments.entry) }
+{
+    read_move(arguments?)
 }
 
 /// A file word, an offset, a place and a length, parted by spaces.

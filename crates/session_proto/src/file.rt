@@ -1,11 +1,12 @@
 //! The file service's requests.
 ghost use Rattle.std.specs.Prelude.{◌≡◌, ◌==◌, not, IfSome};
-ghost use Rattle.std.specs.Option.{option_map, option_copied};
+ghost use Rattle.std.specs.Option.{option_and_then, option_map, option_copied};
 ghost use Rattle.std.specs.List.{list_all};
+ghost use Rattle.trade_base.specs.Amount.{number_of};
 ghost use Rattle.own_model.specs.BufferService.{session_request};
 ghost use Rattle.own_model.specs.BufferService.SessionRequest.{OfFiles};
 ghost use Rattle.own_model.specs.FileText.{file_word, of_file, read_of, write_of, request_of};
-ghost use Rattle.session_proto.specs.File.{model_request, HasHex};
+ghost use Rattle.session_proto.specs.File.{model_request, later_request_of, HasHex};
 
 use crate::buffer::buffer_request_from;
 use crate::hex_text::hex_or_nothing;
@@ -85,24 +86,49 @@ fn request_from<'a>(form: &[u8], arguments: Option<&'a [u8]>) -> Option<FileRequ
     ensures hex { IfSome result HasHex }
 {
     if form == b"CREATE".as_slice() {
-        Some(FileRequest::Create(file_word(arguments?)?))
+        Some(FileRequest::Create(file_in(arguments)?))
     } else if form == b"WRITE".as_slice() {
         read_write(arguments?)
     } else if form == b"READ".as_slice() {
         read_read(arguments?)
     } else if form == b"SIZE".as_slice() {
-        Some(FileRequest::Size(file_word(arguments?)?))
-    } else if form == b"CLEAR".as_slice() {
-        Some(FileRequest::Clear(file_word(arguments?)?))
+        Some(FileRequest::Size(file_in(arguments)?))
+    } else {
+        later_request_from(form, arguments)
+    }
+}
+
+/// The same of a form behind `SIZE`.
+fn later_request_from<'a>(form: &[u8], arguments: Option<&'a [u8]>) -> Option<FileRequest<'a>>
+    ensures request { option_map model_request result
+        ≡ option_map OfFiles (later_request_of form.now (option_copied arguments.entry)) }
+    ensures hex { IfSome result HasHex }
+{
+    if form == b"CLEAR".as_slice() {
+        Some(FileRequest::Clear(file_in(arguments)?))
     } else if form == b"DROP".as_slice() {
-        Some(FileRequest::Drop(file_word(arguments?)?))
+        Some(FileRequest::Drop(file_in(arguments)?))
     } else if form == b"NAME".as_slice() {
-        Some(FileRequest::Name(read_number(arguments?)?))
+        Some(FileRequest::Name(number_in(arguments)?))
     } else if form == b"STAT".as_slice() && arguments.is_none() {
         Some(FileRequest::Stat)
     } else {
         None
     }
+}
+
+/// The file word that the arguments are, if they are one.
+fn file_in(arguments: Option<&[u8]>) -> Option<&[u8]>
+    ensures { option_copied result ≡ option_and_then file_word (option_copied arguments.entry) }
+{
+    file_word(arguments?)
+}
+
+/// The number that the arguments are, if they are one.
+pub(crate) fn number_in(arguments: Option<&[u8]>) -> Option<u64>
+    ensures { result ≡ option_and_then number_of (option_copied arguments.entry) }
+{
+    read_number(arguments?)
 }
 
 /// A file word, if a text is one: one or more bytes without a space.
