@@ -25,7 +25,7 @@ use Rattle.own_model.specs.Sliced.{sliced_size, sliced_refusal}
 use Rattle.own_model.specs.StartList.{Entry, Kind}
 use Rattle.own_model.specs.StartList.Kind.{Script, Server, Init}
 use Rattle.pd_core.specs.Answer.{quotas_account}
-use Rattle.server_frame.specs.declared.quotas.Quotas.{Quotas}
+use Rattle.calls.specs.declared.quotas.Quotas.{Quotas}
 use Rattle.budget_laws.specs.Need.{Need, budgeted, limited, needs}
 use Rattle.budget_laws.specs.Test.{test_of, entry_tests, growth_tests, tests_unless, tests}
 use Rattle.budget_meter.specs.Asked.{asked_tests, is_of_chunk, tells_growth}

@@ -7,7 +7,7 @@ use Rattle.own_model.specs.BufferService.{SessionRequest, session_request}
 use Rattle.own_model.specs.OwnState.{NamedBuffer, bytes_of_buffer}
 use Rattle.own_model.specs.Session.{Session, Served, served, upgraded}
 use Rattle.pd_core.specs.Answer.{quotas_account}
-use Rattle.server_frame.specs.declared.quotas.Quotas.{Quotas}
+use Rattle.calls.specs.declared.quotas.Quotas.{Quotas}
 use Rattle.budget_laws.specs.Request.{donating, tells_short}
 use Rattle.budget_laws.specs.RequestLaws.{Reaches, session_after, needs_of_one, session_needs, session_run, one_in_want, session_in_want}
 use Rattle.budget_laws.specs.RequestLaws.Reaches.{Asked, Raised}

@@ -5,7 +5,7 @@ use Rattle.own_model.specs.OwnState.{NamedBuffer}
 use Rattle.own_model.specs.OwnStep.{completed}
 use Rattle.own_model.specs.Session.{Session, Served}
 use Rattle.pd_core.specs.Answer.{quotas_account}
-use Rattle.server_frame.specs.declared.quotas.Quotas.{Quotas}
+use Rattle.calls.specs.declared.quotas.Quotas.{Quotas}
 use Rattle.budget_laws.specs.Request.{donating}
 use Rattle.budget_laws.specs.RequestLaws.{Reaches, session_needs, session_run, session_in_want}
 use Rattle.budget_meter.specs.Needs.{amounts_of, shown_by, shown_in}

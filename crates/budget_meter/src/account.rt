@@ -8,7 +8,7 @@ ghost use Rattle.own_model.specs.OwnState.{OwnState};
 ghost use Rattle.own_model.specs.OwnStep.{entry_step, own_run, own_step};
 ghost use Rattle.own_model.specs.StartList.{Entry};
 ghost use Rattle.pd_core.specs.Answer.{quotas_account};
-ghost use Rattle.pd_core.specs.Call.{model_call};
+ghost use Rattle.calls.specs.Call.{model_call};
 ghost use Rattle.budget_laws.specs.Need.{budgeted};
 ghost use Rattle.budget_laws.specs.Want.{told_wants};
 ghost use Rattle.budget_laws.specs.Test.{entry_tests, growth_tests};

@@ -11,7 +11,7 @@ ghost use Rattle.own_model.specs.Reply.{reply_text};
 ghost use Rattle.own_model.specs.SessionArgs.{arguments_of};
 ghost use Rattle.own_model.specs.Sliced.{sliced_header, sliced_size};
 ghost use Rattle.own_model.specs.StartList.{Entry};
-ghost use Rattle.pd_core.specs.Call.{model_call};
+ghost use Rattle.calls.specs.Call.{model_call};
 ghost use Rattle.budget_laws.specs.Test.{arguments_tests, entry_tests, test_of, tested_where};
 ghost use Rattle.budget_meter.specs.Asked.{AsksAs, asked_tests, is_of_chunk};
 

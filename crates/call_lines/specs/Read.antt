@@ -2,7 +2,7 @@
 use Rattle.std.specs.Prelude.{◌≡◌, ℕ, ◌<◌, ◌≤◌, ◌⊎◌, List, length, Option, Some, None}
 use Rattle.own_model.specs.Call.{Spoken, spoken}
 use Rattle.own_model.specs.Transcript.{longest_line}
-pub use Rattle.pd_core.specs.Call.{IsWellFormed, model_call}
+pub use Rattle.calls.specs.Call.{IsWellFormed, model_call}
 use Rattle.call_lines.specs.declared.line.NamedCall.{NamedCall}
 
 -- a line of any length is no call

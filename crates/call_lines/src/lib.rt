@@ -3,5 +3,5 @@
 
 mod line;
 
+pub use calls::Call;
 pub use line::{LONGEST_LINE, NamedCall, call_in, read_line, read_named};
-pub use pd_core::Call;

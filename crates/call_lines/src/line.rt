@@ -5,10 +5,10 @@ ghost use Rattle.trade_base.specs.declared.refusal.Refusal.TheVariants.{BadLine}
 ghost use Rattle.own_model.specs.Text.{address_of, number_of};
 ghost use Rattle.own_model.specs.Call.{call_in, call_of, form_of, forms, name_of, of_none, of_text, of_two, some_bytes_of_hex, spoken, Spoken};
 ghost use Rattle.own_model.specs.Call.Call.{AttachAt, Peek, Poke, Open, Upgrade, CallSession};
-ghost use Rattle.pd_core.specs.Call.{model_call, IsWellFormed};
+ghost use Rattle.calls.specs.Call.{model_call, IsWellFormed};
 ghost use Rattle.call_lines.specs.Read.{IsReadAs, spoken_as};
 
-use pd_core::Call;
+use calls::Call;
 use text_codec::{read_address, read_hex, split_first_word, split_name, split_path};
 use trade_base::{Refusal, read_number};
 

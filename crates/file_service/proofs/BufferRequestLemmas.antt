@@ -17,7 +17,7 @@ use Rattle.region_map.specs.Regions.{Regions}
 use Rattle.dataspace_core.specs.Store.{Store, space_at}
 use Rattle.server_frame.specs.Lent.{bytes_lent}
 use Rattle.server_frame.specs.Session.{holding_of}
-use Rattle.server_frame.specs.Told.{Told, nothing_told}
+use Rattle.calls.specs.Told.{Told, nothing_told}
 use Rattle.server_frame.specs.declared.effect.Effect.TheVariants.{Nothing}
 use Rattle.session_proto.specs.File.{model_request}
 use Rattle.session_proto.specs.declared.file.FileRequest.{FileRequest}

@@ -18,7 +18,7 @@ use Rattle.own_model.proofs.LogLemmas.{bytes_of_digits}
 use Rattle.own_model.proofs.NatMapLemmas.{some_of}
 use Rattle.region_map.specs.Regions.{Regions}
 use Rattle.dataspace_core.specs.Store.{Store}
-use Rattle.server_frame.specs.Told.{Told, nothing_told}
+use Rattle.calls.specs.Told.{Told, nothing_told}
 use Rattle.file_service.specs.Rooms.{stock_of}
 use Rattle.file_service.specs.Session.{files_in, served_in, HasFiles, Serves}
 use Rattle.file_service.proofs.ServeLemmas.{serves_same}

@@ -30,7 +30,7 @@ use Rattle.region_map.specs.Regions.{Regions}
 use Rattle.dataspace_core.specs.Store.{Store}
 use Rattle.server_frame.specs.Lent.{IsEffect, bytes_lent}
 use Rattle.server_frame.specs.Session.{holding_of}
-use Rattle.server_frame.specs.Told.{Told, nothing_told}
+use Rattle.calls.specs.Told.{Told, nothing_told}
 use Rattle.server_frame.specs.declared.effect.Effect.{Effect}
 use Rattle.file_service.specs.declared.session.FileSession.{FileSession}
 

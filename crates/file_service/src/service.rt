@@ -10,9 +10,9 @@ ghost use Rattle.own_model.specs.Text.{bytes_of_hex, hex_bytes};
 ghost use Rattle.dataspace_core.specs.Store.{account_in, IsOpenIn};
 ghost use Rattle.sliced_heap.specs.Heap.{payer_of};
 ghost use Rattle.file_service.specs.Aside.{lends_aside};
-ghost use Rattle.server_frame.specs.Quotas.{quotas_account};
+ghost use Rattle.calls.specs.Quotas.{quotas_account};
 ghost use Rattle.server_frame.specs.Session.{service_step};
-ghost use Rattle.server_frame.specs.Told.{nothing_told};
+ghost use Rattle.calls.specs.Told.{nothing_told};
 ghost use Rattle.session_proto.specs.FileReply.{model_reply};
 ghost use Rattle.file_service.specs.Rooms.{stock_of, AreFurnished, KeepsRooms};
 ghost use Rattle.file_service.specs.Lent.{buffer_key};
@@ -20,9 +20,10 @@ ghost use Rattle.file_service.specs.Session.{HasFiles, IsReady, IsAnswered, IsTo
 
 use crate::rooms::Rooms;
 use crate::session::FileSession;
+use calls::{Quotas, Reply};
 use dataspace_core::Memory;
 use region_map::RegionMap;
-use server_frame::{Effect, Quotas, Reply, Service};
+use server_frame::{Effect, Service};
 use session_proto::{FileError, FileReply, FileRequest};
 use sliced_heap::SlicedHeap;
 use text_codec::decode_hex;

@@ -15,9 +15,9 @@ use Rattle.own_model.specs.StartList.Kind.{Script}
 use Rattle.own_model.specs.Transcript.{entry_at, state_at, nothing}
 use Rattle.own_model.specs.World.{World, account_by, account_at, outcome_at, start_world, with_state}
 use Rattle.pd_core.specs.Answer.{quotas_account}
-use Rattle.pd_core.specs.Call.{model_call}
-use Rattle.pd_core.specs.declared.call.Call.{Call as Called}
-use Rattle.server_frame.specs.declared.quotas.Quotas.{Quotas}
+use Rattle.calls.specs.Call.{model_call}
+use Rattle.calls.specs.declared.call.Call.{Call as Called}
+use Rattle.calls.specs.declared.quotas.Quotas.{Quotas}
 use Rattle.budget_laws.specs.Need.{budgeted, limited}
 use Rattle.budget_meter.proofs.RunLemmas.{all_left, none_left}
 use Rattle.budget_meter.specs.Metered.{HasHeard, IsToldBy, is_script}

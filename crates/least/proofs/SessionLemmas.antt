@@ -22,7 +22,7 @@ use Rattle.own_model.specs.StartList.{Entry}
 use Rattle.own_model.specs.Transcript.{entry_at, state_at, nothing}
 use Rattle.own_model.specs.World.{World, outcome_at, with_state}
 use Rattle.pd_core.specs.Answer.{quotas_account}
-use Rattle.server_frame.specs.declared.quotas.Quotas.{Quotas}
+use Rattle.calls.specs.declared.quotas.Quotas.{Quotas}
 use Rattle.budget_meter.proofs.HeardLemmas.{there}
 use Rattle.budget_meter.proofs.SessionLemmas.{all_left, none_left}
 use Rattle.budget_meter.specs.Metered.{is_script}

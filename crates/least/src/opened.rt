@@ -1,5 +1,5 @@
 //! Which lines of a component reach which of its sessions, where every account is ample.
-ghost use Rattle.pd_core.specs.Call.{IsWellFormed};
+ghost use Rattle.calls.specs.Call.{IsWellFormed};
 
 use crate::donation::args_with;
 use crate::scene::Step;
@@ -205,7 +205,7 @@ struct Client<'a, R: Router + Drop> {
 }
 
 impl<R: Router + Drop> Client<'_, R> {
-    ghost use Rattle.pd_core.specs.Call.{IsWellFormed};
+    ghost use Rattle.calls.specs.Call.{IsWellFormed};
 
     // Makes a call.
     fn step(&mut self, call: Call<'_>)

@@ -1,6 +1,6 @@
 //! The lines of a scenario, component by component.
 ghost use Rattle.std.specs.Prelude.{◌≡◌, Some};
-ghost use Rattle.pd_core.specs.Call.{model_call, IsWellFormed};
+ghost use Rattle.calls.specs.Call.{model_call, IsWellFormed};
 ghost use Rattle.least.specs.Steps.{with_args};
 
 use crate::stage::Stage;
@@ -29,7 +29,7 @@ pub(crate) struct Step {
 impl Step {
     ghost use Rattle.std.specs.Prelude.{◌≡◌, IfSome};
     ghost use Rattle.std.specs.Option.{option_map};
-    ghost use Rattle.pd_core.specs.Call.{model_call, IsWellFormed};
+    ghost use Rattle.calls.specs.Call.{model_call, IsWellFormed};
     ghost use Rattle.least.specs.Steps.{call_of, call_said, with_args};
 
     /// The call that it makes.

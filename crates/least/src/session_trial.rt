@@ -11,7 +11,7 @@ ghost use Rattle.own_model.specs.Session.{Session, Wish, new_session, too_small 
 ghost use Rattle.own_model.specs.Transcript.{entry_at, state_at};
 ghost use Rattle.own_model.specs.World.{outcome_at, with_state};
 ghost use Rattle.pd_core.specs.Answer.{quotas_account};
-ghost use Rattle.pd_core.specs.Call.{model_call, IsWellFormed};
+ghost use Rattle.calls.specs.Call.{model_call, IsWellFormed};
 ghost use Rattle.budget_meter.specs.Needs.{amounts_of, shown_by, shown_in};
 ghost use Rattle.budget_meter.specs.Reached.{Sent, opening_need, opened_needs, opened_in_want};
 ghost use Rattle.budget_meter.specs.Sessions.{Shows};
@@ -184,7 +184,7 @@ impl<R: Router + Drop> Client<R> {
     ghost use Rattle.own_model.specs.Transcript.{state_at};
     ghost use Rattle.own_model.specs.World.{outcome_at, with_state};
     ghost use Rattle.pd_core.specs.Answer.{quotas_account};
-    ghost use Rattle.pd_core.specs.Call.{model_call, IsWellFormed};
+    ghost use Rattle.calls.specs.Call.{model_call, IsWellFormed};
     ghost use Rattle.budget_meter.specs.Reached.{Sent};
     ghost use Rattle.least.specs.Sessions.{HasEnded, HasLeft, sends, sent_at, sent_by};
     ghost use Rattle.least.specs.Steps.{call_said};

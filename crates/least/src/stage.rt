@@ -16,7 +16,7 @@ pub(crate) struct Stage<R: Router + Drop> {
 }
 
 impl<R: Router + Drop> Stage<R> {
-    ghost use Rattle.pd_core.specs.Call.{IsWellFormed};
+    ghost use Rattle.calls.specs.Call.{IsWellFormed};
 
     /// A machine that has answered nothing.
     pub(crate) fn new(

@@ -10,7 +10,7 @@ use Rattle.sliced_heap.specs.Heap.{payer_of}
 use Rattle.sliced_heap.specs.Sliced.{IsLinked}
 use Rattle.sliced_heap.specs.declared.heap.SlicedHeap.{SlicedHeap}
 use Rattle.server_frame.specs.Session.{HasBlocksAlone}
-use Rattle.server_frame.specs.Told.{Told}
+use Rattle.calls.specs.Told.{Told}
 
 -- its label, its line that isn't finished yet, and the sliced heap of its account, as it came
 pub record LabelledLine : Type 0 where

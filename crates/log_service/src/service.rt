@@ -7,12 +7,13 @@ ghost use Rattle.log_service.specs.Session.{lines_text, as_kept, IsSession};
 ghost use Rattle.server_frame.proofs.LentLaws.{lends_nothing};
 ghost use Rattle.server_frame.specs.Session.{service_step};
 ghost use Rattle.sliced_heap.specs.Heap.{payer_of};
-ghost use Rattle.server_frame.specs.Told.{nothing_told};
+ghost use Rattle.calls.specs.Told.{nothing_told};
 
 use crate::session::LogSession;
+use calls::Reply;
 use dataspace_core::Memory;
 use region_map::RegionMap;
-use server_frame::{Effect, Reply, Service};
+use server_frame::{Effect, Service};
 use session_proto::{LogReply, LogRequest};
 use sliced_heap::SlicedHeap;
 use trade_base::DsId;

@@ -24,7 +24,7 @@ use Rattle.own_model.proofs.StepBalanceLemmas.{with_state_same, world_on}
 use Rattle.own_model.proofs.StepLimitLemmas.{limits_move}
 use Rattle.dataspace_core.specs.Store.{Store, part, root_in, account_in, account_of}
 use Rattle.dataspace_core.proofs.PartLaws.{account_of-part}
-use Rattle.server_frame.specs.Told.{Told}
+use Rattle.calls.specs.Told.{Told}
 use Rattle.trade_base.specs.declared.refusal.Refusal.{Refusal}
 use Rattle.pd_core.specs.Answer.{told_alone}
 use Rattle.pd_core.specs.Component.{entry_of, kind_of, served_by, service_of, places_in, own_in, own, HasPlaces}

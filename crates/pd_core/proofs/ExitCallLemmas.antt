@@ -22,7 +22,7 @@ use Rattle.own_model.specs.World.{World, with_state}
 use Rattle.own_model.proofs.NatMapLemmas.{get-empty}
 use Rattle.cap_space.specs.declared.cap.Cap.{Cap}
 use Rattle.dataspace_core.specs.Store.{Store, parent_in, ram_limits_in, caps_limits_in}
-use Rattle.server_frame.specs.Told.{Told}
+use Rattle.calls.specs.Told.{Told}
 use Rattle.pd_core.specs.Answer.{told_alone}
 use Rattle.pd_core.specs.Component.{Place, entry_of, kind_of, payer_of, reserve_of, caps_in, caps_of, own_in, own, NamesItsSessions}
 use Rattle.pd_core.specs.Core.{Places, roles_of, entries_of, rows_at, sessions_in, world_of, IsCore}

@@ -24,7 +24,7 @@ use Rattle.own_model.proofs.NatMapLemmas.{get-picked}
 use Rattle.cap_space.specs.declared.cap.Cap.{Cap}
 use Rattle.cap_space.specs.declared.cap.Cap.TheVariants.{Dataspace, RpcObject, Session, Buffer}
 use Rattle.dataspace_core.specs.Store.{Store, Part}
-use Rattle.server_frame.specs.Told.{Told}
+use Rattle.calls.specs.Told.{Told}
 use Rattle.pd_core.specs.Answer.{told_alone, reply_of}
 use Rattle.pd_core.specs.declared.answer.Granted.{Granted}
 use Rattle.pd_core.specs.Component.{Place, entry_of, own_in}

@@ -31,7 +31,7 @@ use Rattle.server_frame.specs.Lent.{IsEffect}
 use Rattle.server_frame.specs.declared.effect.Effect.{Effect}
 use Rattle.server_frame.specs.declared.effect.Effect.TheVariants.{Nothing, Buffer as MakesBuffer, Gone as GivesBuffer}
 use Rattle.server_frame.specs.Session.{Served, service_step}
-use Rattle.server_frame.specs.Told.{Told}
+use Rattle.calls.specs.Told.{Told}
 use Rattle.pd_core.specs.Component.{kind_of, served_by, caps_of, caps_in, rows_in, rows_of, StaysServer}
 use Rattle.pd_core.specs.Core.{Places, roles_of}
 use Rattle.pd_core.specs.Own.{Lent, lent_in, own_of}

@@ -8,8 +8,8 @@ use Rattle.own_model.specs.OwnState.{OwnState}
 use Rattle.own_model.specs.OwnStep.{Outcome}
 use Rattle.own_model.specs.Reply.{Reply as Modelled, reply_text, log_text}
 use Rattle.own_model.specs.Reply.Reply.{Selected as ModelledSelected, Attached as ModelledAttached, Done as ModelledDone, Quotas as ModelledQuotas, Reserved as ModelledReserved, Refused as ModelledRefused}
-pub use Rattle.server_frame.specs.Quotas.{quotas_account}
-use Rattle.server_frame.specs.Told.{Told as Written}
+pub use Rattle.calls.specs.Quotas.{quotas_account}
+use Rattle.calls.specs.Told.{Told as Written}
 use Rattle.pd_core.specs.declared.answer.Granted.{Granted}
 use Rattle.pd_core.specs.declared.answer.Granted.TheVariants.{Selected, Attached, Done, Quotas, Reserved}
 use Rattle.pd_core.specs.declared.answer.Reserve.{Reserve as ReserveTold}

@@ -5,11 +5,11 @@ use Rattle.own_model.specs.Call.Call.{Poke}
 use Rattle.own_model.specs.OwnStep.{Outcome, script_step}
 use Rattle.own_model.specs.Reply.{Reply}
 use Rattle.dataspace_core.specs.Store.{Store}
-use Rattle.server_frame.specs.Told.{Told}
-use Rattle.pd_core.specs.declared.call.Call.{Call as Called}
+use Rattle.calls.specs.Told.{Told}
+use Rattle.calls.specs.declared.call.Call.{Call as Called}
 use Rattle.pd_core.specs.declared.script.Script.{Script}
 use Rattle.pd_core.specs.Answer.{told, told_of}
-use Rattle.pd_core.specs.Call.{IsPlain, IsWellFormed}
+use Rattle.calls.specs.Call.{IsPlain, IsWellFormed}
 use Rattle.pd_core.specs.Own.{Sessions, HasSessions, own_at}
 use Rattle.pd_core.specs.Sound.{IsSoundScript, OthersStay, SparesOthers, Keeps}
 

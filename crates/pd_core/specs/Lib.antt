@@ -1,4 +1,3 @@
-pub mod Call
 pub mod Answer
 pub mod Own
 pub mod Bytes

@@ -19,7 +19,7 @@ use Rattle.cap_space.specs.declared.cap.Cap.{Cap}
 use Rattle.cap_space.specs.declared.cap.Cap.TheVariants.{Session as ASession, Buffer as ABuffer}
 use Rattle.region_map.specs.Regions.{all_detached}
 use Rattle.dataspace_core.specs.Store.{Store, root_in, IsChildIn}
-use Rattle.server_frame.specs.Told.{Told}
+use Rattle.calls.specs.Told.{Told}
 use Rattle.pd_core.specs.Answer.{told_alone, reply_of}
 use Rattle.pd_core.specs.declared.answer.Granted.{Granted}
 use Rattle.pd_core.specs.Component.{Pays, script_in, service_of, caps_in}

@@ -15,8 +15,8 @@ use crate::answer::Reserve;
 use crate::component::{Component, Role};
 use crate::machine::Core;
 use crate::router::Router;
+use calls::Quotas;
 use dataspace_core::Memory;
-use server_frame::Quotas;
 use trade_base::{AccountId, Caps, Ram, SessionId};
 
 /// The limits and the use of an account.

@@ -5,7 +5,7 @@ ghost use Rattle.own_model.specs.Reply.Reply.{Selected};
 ghost use Rattle.trade_base.specs.Refusal.{refusal_name};
 ghost use Rattle.pd_core.specs.Answer.{quotas_account, reply_of, told_alone};
 
-use server_frame::{Quotas, Reply};
+use calls::{Quotas, Reply};
 use text_codec::{MOST_HEX_DIGITS, write_hex};
 use trade_base::{Caps, Ram, Refusal, Selector};
 

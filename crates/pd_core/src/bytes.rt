@@ -7,8 +7,8 @@ ghost use Rattle.pd_core.specs.Bytes.{PutsBytes};
 ghost use Rattle.pd_core.specs.Answer.{told_alone};
 
 use crate::answer::tell_text;
+use calls::Reply;
 use dataspace_core::Memory;
-use server_frame::Reply;
 use text_codec::decode_hex;
 use trade_base::DsId;
 

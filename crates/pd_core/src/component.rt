@@ -1,15 +1,15 @@
 //! A component: what it is, and what its calls do.
 
 use crate::answer::refuse;
-use crate::call::Call;
 use crate::label::{LONGEST_CLIENT, name_of};
 use crate::script::Script;
 use arrayvec::ArrayVec;
+use calls::{Call, Reply};
 use cap_space::{Cap, CapSpace};
 use dataspace_core::Memory;
 use heap_core::Heap;
 use region_map::RegionMap;
-use server_frame::{Reply, Server};
+use server_frame::Server;
 use services::{FileService, Host, LogService};
 use sliced_heap::SlicedHeap;
 use std::mem;
@@ -45,7 +45,7 @@ impl Component {
     ghost use Rattle.trade_base.specs.declared.service.Service.TheVariants.{Log as LogKind, Files as FilesKind};
     ghost use Rattle.own_model.specs.StartList.Kind.{Script as AScript, Server as AServer, Init as AnInit};
     ghost use Rattle.pd_core.specs.Answer.{told, told_of};
-    ghost use Rattle.pd_core.specs.Call.{model_call, IsPlain, IsWellFormed};
+    ghost use Rattle.calls.specs.Call.{model_call, IsPlain, IsWellFormed};
     ghost use Rattle.dataspace_core.specs.Store.{Store, parents_in, parent_in, ram_limits_in, caps_limits_in, IsLeafIn};
     ghost use Rattle.pd_core.specs.Exit.{places_told, refusal_of, IsScriptRole, HasSelectorsTo, ClosesBoth};
     ghost use Rattle.pd_core.specs.Sound.{session_at, buffer_at};

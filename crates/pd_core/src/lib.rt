@@ -4,7 +4,6 @@
 mod accounts;
 mod answer;
 mod bytes;
-mod call;
 mod component;
 mod exiting;
 mod label;
@@ -16,10 +15,9 @@ mod script;
 mod session_calls;
 
 pub use answer::Reserve;
-pub use call::Call;
+pub use calls::{Call, Quotas, Reply};
 pub use component::Component;
 pub use label::{LONGEST_CLIENT, label_of};
 pub use machine::Core;
 pub use router::Router;
-pub use server_frame::{Quotas, Reply};
 pub use services::Host;

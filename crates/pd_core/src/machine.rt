@@ -1,17 +1,16 @@
 //! The core: the memory, and the components whose calls it carries out.
-ghost use Rattle.pd_core.specs.Call.{model_call, IsWellFormed};
+ghost use Rattle.calls.specs.Call.{model_call, IsWellFormed};
 ghost use Rattle.pd_core.specs.Core.{IsCoreAt};
 ghost use Rattle.pd_core.specs.SessionCalls.{Agrees, Goes};
 
 use crate::answer::tell;
-use crate::call::Call;
 use crate::component::Component;
 use crate::exiting::exit;
 use crate::reserves::{Way, reserve, shift};
 use crate::router::Router;
 use crate::session_calls::{self, close, open, upgrade};
+use calls::{Call, Reply};
 use dataspace_core::Memory;
-use server_frame::Reply;
 use std::boxed::BoxedSlice;
 use std::marker::Model;
 
@@ -51,7 +50,7 @@ impl<R: Router + Drop> Core<R> {
     ghost use Rattle.own_model.specs.Reply.{reply_text, log_text};
     ghost use Rattle.own_model.specs.StartList.{StartList};
     ghost use Rattle.own_model.specs.World.{outcome_at, with_state, IsBalanced, IsBalancedFor};
-    ghost use Rattle.pd_core.specs.Call.{model_call, IsWellFormed};
+    ghost use Rattle.calls.specs.Call.{model_call, IsWellFormed};
     ghost use Rattle.pd_core.specs.Fresh.{started_world, AreFresh};
     ghost use Rattle.pd_core.specs.SessionCalls.{Agrees};
 

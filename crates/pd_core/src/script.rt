@@ -3,12 +3,11 @@
 use crate::accounts::quotas_of;
 use crate::answer::{Granted, refuse, tell};
 use crate::bytes::{MOST_BYTES, put_hex, tell_range};
-use crate::call::Call;
+use calls::{Call, Quotas, Reply};
 use cap_space::{Cap, CapSpace};
 use dataspace_core::Memory;
 use heap_core::Heap;
 use region_map::RegionMap;
-use server_frame::{Quotas, Reply};
 use sliced_heap::SlicedHeap;
 use trade_base::{AccountId, DsId, Refusal};
 
@@ -35,7 +34,7 @@ impl Script {
     ghost use Rattle.own_model.specs.Text.{bytes_of_hex};
     ghost use Rattle.dataspace_core.specs.Store.{account_in, ram_limits_in};
     ghost use Rattle.pd_core.specs.Answer.{quotas_account, reply_of};
-    ghost use Rattle.pd_core.specs.Call.{model_call, bytes_in};
+    ghost use Rattle.calls.specs.Call.{model_call, bytes_in};
     ghost use Rattle.pd_core.specs.Does.{Does, DoesPoke, DoesTold, CanDo};
     ghost use Rattle.pd_core.specs.Own.{part_at, own_heap_at, sliced_at, lent_in, sized_at, range_refusal, IsFound};
     ghost use Rattle.pd_core.specs.Sound.{IsSoundScript, SparesOthers, Keeps};

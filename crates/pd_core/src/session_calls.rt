@@ -8,8 +8,9 @@ use crate::answer::{Granted, refuse};
 use crate::component::{Component, Role};
 use crate::label::label_of;
 use crate::router::Router;
+use calls::Reply;
 use dataspace_core::Memory;
-use server_frame::{Effect, Reply};
+use server_frame::Effect;
 use session_proto::SessionArgs;
 use trade_base::{Refusal, Selector};
 

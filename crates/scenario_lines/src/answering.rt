@@ -6,7 +6,7 @@ ghost use Rattle.own_model.specs.Listed.{start_list_of};
 ghost use Rattle.own_model.specs.SaidBy.{is_under};
 ghost use Rattle.own_model.specs.StartList.{entries_of};
 ghost use Rattle.own_model.specs.World.{World, world_after_heard};
-ghost use Rattle.pd_core.specs.Call.{model_call, IsWellFormed};
+ghost use Rattle.calls.specs.Call.{model_call, IsWellFormed};
 ghost use Rattle.scenario_lines.specs.Answer.{AnswersLine, IsAnswer, IsRefusal};
 ghost use Rattle.scenario_lines.specs.Answered.{BeginsAsSaid, BeginsWithName, IsUnsaid, after_all, hears, is_meant};
 ghost use Rattle.call_lines.specs.Read.{IsNoCall, IsReadAs, Reads};

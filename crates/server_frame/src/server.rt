@@ -11,12 +11,12 @@ ghost use Rattle.region_map.specs.Regions.{fresh_regions};
 ghost use Rattle.dataspace_core.specs.Store.{Store, account_in, ram_limits_in, IsOpenIn, room_in, RaisesPart};
 ghost use Rattle.server_frame.specs.Frame.{sessions_of, row_served, AtSession, IsServer, IsNoSession, OpensSession, ServesSession, ClosesSession};
 ghost use Rattle.server_frame.specs.Lent.{key_of};
-ghost use Rattle.server_frame.specs.Told.{nothing_told};
+ghost use Rattle.calls.specs.Told.{nothing_told};
 
 use crate::effect::Effect;
 use crate::furniture::{dismiss, furnish, test_donation};
-use crate::reply::Reply;
 use crate::service::{LONGEST_LABEL, Service};
+use calls::Reply;
 use dataspace_core::Memory;
 use region_map::RegionMap;
 use slab::Slab;

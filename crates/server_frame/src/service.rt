@@ -7,10 +7,10 @@ ghost use Rattle.sliced_heap.specs.Heap.{payer_of, KeepsOthers};
 ghost use Rattle.server_frame.specs.Lent.{AllLendAside, IsEffect, bytes_lent, key_of};
 ghost use Rattle.server_frame.specs.Session.{Served, IsSessionAccount, IsSessionHeap, HasBlocksAlone, PaysFor, holding_at, holding_of};
 ghost use Rattle.sliced_heap.specs.Sliced.{IsLinked};
-ghost use Rattle.server_frame.specs.Told.{nothing_told};
+ghost use Rattle.calls.specs.Told.{nothing_told};
 
 use crate::effect::Effect;
-use crate::reply::Reply;
+use calls::Reply;
 use dataspace_core::Memory;
 use region_map::RegionMap;
 use sliced_heap::SlicedHeap;

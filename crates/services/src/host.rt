@@ -10,12 +10,13 @@ ghost use Rattle.server_frame.specs.Frame.{AtRow, row_served, sessions_of, IsSer
 ghost use Rattle.services.specs.Host.{CanOpen};
 ghost use Rattle.server_frame.specs.Lent.{key_of};
 ghost use Rattle.server_frame.specs.Session.{service_step};
-ghost use Rattle.server_frame.specs.Told.{nothing_told};
+ghost use Rattle.calls.specs.Told.{nothing_told};
 
+use calls::Reply;
 use dataspace_core::Memory;
 use file_service::FileService;
 use log_service::LogService;
-use server_frame::{Effect, LONGEST_LABEL, Reply, Server};
+use server_frame::{Effect, LONGEST_LABEL, Server};
 use std::alloc::Global;
 use trade_base::{AccountId, Caps, DsId, NoMemory, Ram, Refusal, Service, SessionId};
 

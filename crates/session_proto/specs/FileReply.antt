@@ -1,7 +1,7 @@
 -- The file service's replies, as the model's words.
 use Rattle.std.specs.Prelude.{ℕ, ◌+◌, ◌*◌, length}
 use Rattle.own_model.specs.FileText as model
-use Rattle.server_frame.specs.Quotas.{quotas_account}
+use Rattle.calls.specs.Quotas.{quotas_account}
 use Rattle.session_proto.specs.declared.file_reply.FileError.{FileError}
 use Rattle.session_proto.specs.declared.file_reply.FileError.TheVariants.{BadRequest, BadName, Exists, NotFound, Gap, TooLong, End, TooManyChunks, OutOfRam, OutOfCaps, InvalidSize, NoBuffer, BadRange}
 use Rattle.session_proto.specs.declared.file_reply.FileReply.{FileReply}

@@ -3,7 +3,7 @@ ghost use Rattle.std.specs.Prelude.{◌≡◌, ◌+◌, ◌*◌, ◌≤◌, ◌+
 ghost use Rattle.own_model.specs.FileText.{file_reply, bytes_reply, error_name};
 ghost use Rattle.session_proto.specs.FileReply.{model_reply, model_error, room_for};
 
-use server_frame::{Quotas, Reply};
+use calls::{Quotas, Reply};
 
 /// Why a request is refused.
 #[derive(Clone, Copy, Debug, PartialEq, Eq)]

@@ -5,7 +5,7 @@ ghost use Rattle.own_model.specs.LogText.{log_request};
 ghost use Rattle.session_proto.specs.LogReply.{log_reply_text};
 
 use crate::hex_text::hex_or_nothing;
-use server_frame::Reply;
+use calls::Reply;
 use text_codec::split_first_word;
 
 /// The most bytes of a request.

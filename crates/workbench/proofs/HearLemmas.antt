@@ -10,7 +10,7 @@ use Rattle.own_model.specs.Transcript.{Heard, calls_in, entry_at, heard, heard_s
 use Rattle.own_model.specs.Transcript.Heard.{NoCall, Stranger, Caller}
 use Rattle.own_model.specs.World.{World, account_at}
 use Rattle.pd_core.specs.Answer.{quotas_account}
-use Rattle.server_frame.specs.declared.quotas.Quotas.{Quotas}
+use Rattle.calls.specs.declared.quotas.Quotas.{Quotas}
 use Rattle.budget_meter.specs.Metered.{HasHeard, IsToldBy}
 use Rattle.budget_meter.specs.declared.account.AccountMeter.{AccountMeter}
 use Rattle.scenario_lines.specs.declared.answering.LineAnswer.{LineAnswer}

@@ -16,9 +16,9 @@ use Rattle.own_model.specs.Listed.{Listed, route_of, start_list_of}
 use Rattle.own_model.specs.Routes.{label_with}
 use Rattle.own_model.specs.StartList.{Entry, Kind}
 use Rattle.own_model.specs.StartList.Kind.{Script, Server, Init}
-use Rattle.pd_core.specs.Call.{model_call}
-use Rattle.pd_core.specs.declared.call.Call.{Call as Calling}
-use Rattle.pd_core.specs.declared.call.Call.TheVariants.{Open as Opening}
+use Rattle.calls.specs.Call.{model_call}
+use Rattle.calls.specs.declared.call.Call.{Call as Calling}
+use Rattle.calls.specs.declared.call.Call.TheVariants.{Open as Opening}
 use Rattle.own_model.specs.Session.{Session, given}
 use Rattle.own_model.specs.StartList.{no_account}
 use Rattle.own_model.specs.Transcript.{Heard, entry_at, heard, heard_call, heard_of, heard_spoken, longest_line}

@@ -20,7 +20,7 @@ use Rattle.own_model.specs.Transcript.{Heard, calls_in, calls_of, entry_at, hear
 use Rattle.own_model.specs.Transcript.Heard.{NoCall, Stranger, Caller}
 use Rattle.own_model.specs.World.{World, account_at, account_by, world_running}
 use Rattle.pd_core.specs.Answer.{quotas_account}
-use Rattle.server_frame.specs.declared.quotas.Quotas.{Quotas}
+use Rattle.calls.specs.declared.quotas.Quotas.{Quotas}
 use Rattle.budget_meter.specs.Metered.{HasHeard, IsToldBy}
 use Rattle.budget_meter.specs.declared.account.AccountMeter.{AccountMeter}
 use Rattle.scenario_lines.specs.Accounts.{listed_at, unlisted}

@@ -9,7 +9,7 @@ ghost use Rattle.own_model.specs.OwnStep.{own_run, own_step};
 ghost use Rattle.own_model.specs.StartList.{Entry as AnEntry, entries_of};
 ghost use Rattle.own_model.specs.World.{World, account_at};
 ghost use Rattle.pd_core.specs.Answer.{quotas_account};
-ghost use Rattle.pd_core.specs.Call.{model_call};
+ghost use Rattle.calls.specs.Call.{model_call};
 ghost use Rattle.scenario_lines.specs.Accounts.{listed_at};
 ghost use Rattle.scenario_lines.specs.Machine.{world_of};
 ghost use Rattle.call_lines.specs.Read.{IsReadAs};

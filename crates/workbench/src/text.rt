@@ -6,7 +6,7 @@ ghost use Rattle.own_model.specs.Listed.{start_list_of};
 ghost use Rattle.own_model.specs.StartList.{entries_of};
 ghost use Rattle.own_model.specs.Transcript.{calls_in, heard, heard_spoken};
 ghost use Rattle.own_model.specs.Transcript.Heard.{Caller};
-ghost use Rattle.pd_core.specs.Call.{model_call};
+ghost use Rattle.calls.specs.Call.{model_call};
 ghost use Rattle.scenario_lines.specs.Gathered.{TellsUnless};
 ghost use Rattle.call_lines.specs.Read.{IsReadAs};
 ghost use Rattle.workbench.specs.Said.{heard_as, said_in};

@@ -2,7 +2,7 @@
 ghost use Rattle.std.specs.Prelude.{◌≡◌, [], false, is_err};
 ghost use Rattle.std.specs.Option.{option_map, option_map_or, unwrap_or};
 ghost use Rattle.own_model.specs.Text.{hex_bytes};
-ghost use Rattle.pd_core.specs.Call.{model_call};
+ghost use Rattle.calls.specs.Call.{model_call};
 ghost use Rattle.scenario_lines.specs.Gathered.{TellsUnless};
 ghost use Rattle.call_lines.specs.Read.{IsReadAs};
 ghost use Rattle.workbench.specs.Texts.{bytes_told, bytes_written, in_brackets, line_text, signs_text};

@@ -8,7 +8,7 @@ ghost use Rattle.own_model.specs.StartList.{entries_of};
 ghost use Rattle.own_model.specs.Text.{hex_bytes};
 ghost use Rattle.own_model.specs.Transcript.{heard, heard_spoken, state_at};
 ghost use Rattle.init_core.specs.declared.fault.BootFault.TheVariants.{NoMemory};
-ghost use Rattle.pd_core.specs.Call.{model_call};
+ghost use Rattle.calls.specs.Call.{model_call};
 ghost use Rattle.scenario_lines.specs.Gathered.{TellsUnless};
 ghost use Rattle.scenario_lines.specs.Machine.{boot_fault};
 ghost use Rattle.call_lines.specs.Read.{IsReadAs};

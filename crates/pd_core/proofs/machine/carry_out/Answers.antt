@@ -6,7 +6,7 @@ use Rattle.trade_base.specs.declared.refusal.Refusal.{Refusal}
 use Rattle.own_model.specs.Reply.{reply_text}
 use Rattle.pd_core.specs.declared.answer.Granted.{Granted}
 use Rattle.pd_core.specs.Answer.{reply_of, told_alone}
-use Rattle.pd_core.specs.Call.{model_call}
+use Rattle.calls.specs.Call.{model_call}
 use Rattle.pd_core.specs.Core.{roles_of, sessions_in}
 use Rattle.pd_core.proofs.CorePlainLemmas.{plain_goes}
 use Rattle.pd_core.proofs.CoreHeldLemmas.{names_open, reserve_apart}

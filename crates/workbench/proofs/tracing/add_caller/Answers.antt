@@ -3,7 +3,7 @@ use Rattle.std.proofs.Common.{◌++◌, codes, None, Some, refl, sym, ap, ◌∙
 use Rattle.csv.specs.Writing.{default_writer, fields_text}
 use Rattle.own_model.specs.Transcript.{state_at}
 use Rattle.pd_core.specs.Answer.{quotas_account}
-use Rattle.pd_core.specs.Call.{model_call}
+use Rattle.calls.specs.Call.{model_call}
 use Rattle.workbench.specs.Tracing.{account_cells, session_cells, session_of}
 use Rattle.workbench.proofs.RowLemmas.{cells_both, five_empty}
 use Rattle.workbench.proofs.tracing.add_caller.Goals as goal

@@ -4,8 +4,8 @@ use Rattle.own_model.specs.OwnState.{OwnState}
 use Rattle.own_model.specs.OwnStep.{own_step, own_run}
 use Rattle.own_model.specs.StartList.{Entry}
 use Rattle.own_model.specs.Call.{Call}
-use Rattle.pd_core.specs.Call.{model_call}
-use Rattle.server_frame.specs.declared.quotas.Quotas.{Quotas}
+use Rattle.calls.specs.Call.{model_call}
+use Rattle.calls.specs.declared.quotas.Quotas.{Quotas}
 use Rattle.budget_laws.proofs.ToldLemmas.{wants_told}
 use Rattle.budget_laws.specs.Need.{budgeted}
 use Rattle.budget_laws.specs.Want.{told_wants, wants}

@@ -2,7 +2,7 @@
 use Rattle.std.proofs.lemmas.Bool.Decides.{nat_tests}
 use Rattle.std.proofs.Common.{arith, ◌≡◌, ◌∷◌, ◌++◌, [], false, sym, ◌∙◌, subst, true≢false}
 use Rattle.own_model.specs.OwnStep.{own_run}
-use Rattle.pd_core.specs.Call.{model_call}
+use Rattle.calls.specs.Call.{model_call}
 use Rattle.budget_laws.specs.Need.{budgeted}
 use Rattle.budget_meter.specs.Metered.{HasHeard}
 use Rattle.budget_meter.proofs.HeardLemmas.{heard, unheard}

@@ -1,7 +1,7 @@
 -- What a heap tells of its growth, and what no other call changes.
 use Rattle.std.proofs.Common.{refl, sym, ◌∙◌}
 use Rattle.pd_core.specs.Answer.{quotas_account}
-use Rattle.pd_core.specs.Call.{model_call}
+use Rattle.calls.specs.Call.{model_call}
 use Rattle.budget_meter.specs.Needs.{amounts_of, shown_in}
 use Rattle.budget_meter.proofs.HeardLemmas.{grown_pages, number_left, quiet_pages, quiet_shown}
 use Rattle.budget_meter.proofs.account.AccountMeter.take.Goals as goal

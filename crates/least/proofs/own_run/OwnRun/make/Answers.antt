@@ -1,7 +1,7 @@
 -- A call in want ends the run.
 use Rattle.std.proofs.Common.{◌∙◌}
 use Rattle.own_model.specs.Transcript.{entry_at, state_at}
-use Rattle.pd_core.specs.Call.{model_call}
+use Rattle.calls.specs.Call.{model_call}
 use Rattle.least.proofs.RunLemmas.{is_told}
 use Rattle.least.proofs.own_run.OwnRun.make.Goals as goal
 

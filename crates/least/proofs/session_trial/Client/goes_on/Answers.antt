@@ -2,7 +2,7 @@
 use Rattle.std.proofs.lemmas.Bool.Decides.{nat_tests}
 use Rattle.std.proofs.Common.{arith, ◌≡◌, sym, ap, ◌∙◌, subst}
 use Rattle.std.specs.Prelude.{Some}
-use Rattle.pd_core.specs.Call.{model_call}
+use Rattle.calls.specs.Call.{model_call}
 use Rattle.least.specs.Sessions.{HasLeft, sends}
 use Rattle.least.proofs.SessionLemmas.{each_ok}
 use Rattle.least.proofs.session_trial.Client.goes_on.Goals as goal

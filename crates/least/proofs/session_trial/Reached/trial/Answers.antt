@@ -4,7 +4,7 @@ use Rattle.std.proofs.Common.{None, refl, sym, ap, ◌∙◌, subst}
 use Rattle.std.specs.Prelude.{Some}
 use Rattle.own_model.specs.Session.{Wish, new_session}
 use Rattle.own_model.specs.Transcript.{entry_at}
-use Rattle.pd_core.specs.Call.{model_call}
+use Rattle.calls.specs.Call.{model_call}
 use Rattle.budget_meter.specs.Needs.{amounts_of}
 use Rattle.least.specs.Sessions.{HasSelectors, IsReady, held, opened_by, opened_with, sent_at, tells_small}
 use Rattle.least.proofs.SessionLemmas.{account_told, none_told, each_ok, each_on, each_three, shows_run, small_run, was_not, was_opened, wish_again}

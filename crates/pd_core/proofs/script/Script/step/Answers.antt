@@ -7,13 +7,13 @@ use Rattle.own_model.specs.OwnStep.{script_step, Outcome}
 use Rattle.own_model.specs.Reply.{reply_text}
 use Rattle.own_model.specs.Reply.Reply.{Quotas}
 use Rattle.dataspace_core.specs.Store.{Store, part, account_in}
-use Rattle.server_frame.specs.Told.{Told as Written}
+use Rattle.calls.specs.Told.{Told as Written}
 use Rattle.pd_core.specs.declared.answer.Granted.{Granted}
 use Rattle.pd_core.specs.declared.answer.Granted.TheVariants.{Quotas as QuotasAnswered}
-use Rattle.server_frame.specs.declared.quotas.Quotas.{Quotas as QuotasTold}
+use Rattle.calls.specs.declared.quotas.Quotas.{Quotas as QuotasTold}
 use Rattle.pd_core.specs.declared.script.Script.{Script}
 use Rattle.pd_core.specs.Answer.{told, told_of, told_alone, reply_of, quotas_account}
-use Rattle.pd_core.specs.Call.{model_call}
+use Rattle.calls.specs.Call.{model_call}
 use Rattle.pd_core.specs.Does.{Does, DoesBeside, DoesTold}
 use Rattle.pd_core.specs.Own.{own_of, own_at}
 use Rattle.pd_core.specs.Sound.{SparesOthers, Keeps}

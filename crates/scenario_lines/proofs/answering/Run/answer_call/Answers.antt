@@ -2,7 +2,7 @@
 use Rattle.std.proofs.Common.{Some, refl, ap, sym, ◌∙◌}
 use Rattle.own_model.specs.Listed.{start_list_of}
 use Rattle.own_model.specs.StartList.{entries_of}
-use Rattle.pd_core.specs.Call.{model_call}
+use Rattle.calls.specs.Call.{model_call}
 use Rattle.scenario_lines.proofs.AnsweringLemmas.{answered_call, answered_stranger, left_by_stranger, left_by_call}
 use Rattle.scenario_lines.proofs.CallerLemmas.{init_is_nobody, other_is_called}
 use Rattle.scenario_lines.proofs.answering.Run.answer_call.Goals as goal

@@ -1,5 +1,5 @@
 -- What its meters have heard then, whether or not there was room for what is kept of sessions.
-use Rattle.pd_core.specs.Call.{model_call}
+use Rattle.calls.specs.Call.{model_call}
 use Rattle.workbench.proofs.HearLemmas.{on_ok, sees_more}
 use Rattle.workbench.proofs.needs.Needs.hear.Goals as goal
 

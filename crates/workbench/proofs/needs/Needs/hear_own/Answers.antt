@@ -1,7 +1,7 @@
 -- The meter that is put back has heard one call more than the one that was read.
 use Rattle.std.proofs.Common.{subst, sym, ◌++◌, ◌∷◌, [], get_or-set_same}
 use Rattle.std.proofs.lemmas.List.{get_or_read}
-use Rattle.pd_core.specs.Call.{model_call}
+use Rattle.calls.specs.Call.{model_call}
 use Rattle.budget_meter.specs.Metered.{HasHeard}
 use Rattle.workbench.specs.Meters.{no_meter}
 use Rattle.workbench.specs.Needs.{limits}

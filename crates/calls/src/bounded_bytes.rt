@@ -22,7 +22,7 @@ pub(crate) struct BoundedBytes {
 impl Model for BoundedBytes {
     ghost use Rattle.std.specs.Prelude.{◌≤◌, take};
     ghost use Rattle.std.specs.Box.{boxed_slice_items, boxed_slice_len};
-    ghost use Rattle.server_frame.specs.Written.{Written};
+    ghost use Rattle.calls.specs.Written.{Written};
 
     ghost Value = { Written };
 

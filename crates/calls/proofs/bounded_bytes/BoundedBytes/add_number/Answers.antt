@@ -3,8 +3,8 @@ use Rattle.std.proofs.Common.{ap, arith, rules, length, length-append}
 use Rattle.std.proofs.lemmas.Grind.{common_steps}
 use Rattle.std.proofs.lemmas.Fmt.{length-decimal-le}
 use Rattle.std.specs.Fmt.{decimal}
-use Rattle.server_frame.specs.Written.{Written}
-use Rattle.server_frame.proofs.bounded_bytes.BoundedBytes.add_number.Goals as goal
+use Rattle.calls.specs.Written.{Written}
+use Rattle.calls.proofs.bounded_bytes.BoundedBytes.add_number.Goals as goal
 
 pub write_number-end-requires : goal.write_number-end-requires
 write_number-end-requires c = search (rules, length-decimal-le 20)

@@ -1,8 +1,8 @@
 //! What a call is answered: finished log lines, and the text of a reply.
 ghost use Rattle.std.specs.Prelude.{◌≡◌, ◌+◌, ◌*◌, ◌≤◌, [], ◌++◌, length, decimal, IfOk};
 ghost use Rattle.own_model.specs.Reply.{hex_text, log_text, quota_text, share_text};
-ghost use Rattle.server_frame.specs.Quotas.{quotas_account};
-ghost use Rattle.server_frame.specs.Told.{nothing_told};
+ghost use Rattle.calls.specs.Quotas.{quotas_account};
+ghost use Rattle.calls.specs.Told.{nothing_told};
 
 use crate::bounded_bytes::BoundedBytes;
 use crate::quotas::Quotas;
@@ -25,7 +25,7 @@ pub struct Reply {
 
 impl Model for Reply {
     ghost use Rattle.std.specs.Prelude.{◌≡◌};
-    ghost use Rattle.server_frame.specs.Told.{Told};
+    ghost use Rattle.calls.specs.Told.{Told};
 
     ghost Value = { Told };
 

@@ -1,6 +1,6 @@
 -- Use and limits as the model sees them.
 use Rattle.own_model.specs.Account.{Account}
-use Rattle.server_frame.specs.declared.quotas.Quotas.{Quotas}
+use Rattle.calls.specs.declared.quotas.Quotas.{Quotas}
 
 -- the account that has these quotas
 abbrev pub quotas_account : Quotas → Account

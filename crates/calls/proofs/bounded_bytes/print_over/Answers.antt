@@ -3,7 +3,7 @@ use Rattle.std.proofs.Common.{sym, subst, arith, ◌≡◌, ◌<◌, length, set
 use Rattle.std.proofs.lemmas.List.{get_or_default}
 use Rattle.std.proofs.lemmas.List.Edits.{map_over_more}
 use Rattle.own_model.specs.Reply.{printed}
-use Rattle.server_frame.proofs.bounded_bytes.print_over.Goals as goal
+use Rattle.calls.proofs.bounded_bytes.print_over.Goals as goal
 
 pub loop-byte-preserved : goal.loop-byte-preserved
 loop-byte-preserved c =

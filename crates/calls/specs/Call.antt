@@ -4,8 +4,8 @@ use Rattle.std.specs.Option.{unwrap_or}
 use Rattle.own_model.specs.Call.{Call as Modelled, is_of_session, is_exit}
 use Rattle.own_model.specs.Call.Call.{Alloc as ModelledAlloc, Free as ModelledFree, Attach as ModelledAttach, AttachAt as ModelledAttachAt, Detach as ModelledDetach, Peek as ModelledPeek, Poke as ModelledPoke, Capalloc as ModelledCapalloc, Capfree as ModelledCapfree, New as ModelledNew, Del as ModelledDel, Snew as ModelledSnew, Sdel as ModelledSdel, Quota as ModelledQuota, Reserve as ModelledReserve, Request as ModelledRequest, Yield as ModelledYield, Open as ModelledOpen, Upgrade as ModelledUpgrade, CallSession as ModelledCallSession, Close as ModelledClose, Exit as ModelledExit}
 use Rattle.own_model.specs.Text.{bytes_of_hex}
-use Rattle.pd_core.specs.declared.call.Call.{Call}
-use Rattle.pd_core.specs.declared.call.Call.TheVariants.{Alloc, Free, Attach, AttachAt, Detach, Peek, Poke, Capalloc, Capfree, New, Del, Snew, Sdel, Quota, Reserve, Request, Yield, Open, Upgrade, CallSession, Close, Exit}
+use Rattle.calls.specs.declared.call.Call.{Call}
+use Rattle.calls.specs.declared.call.Call.TheVariants.{Alloc, Free, Attach, AttachAt, Detach, Peek, Poke, Capalloc, Capfree, New, Del, Snew, Sdel, Quota, Reserve, Request, Yield, Open, Upgrade, CallSession, Close, Exit}
 
 -- the bytes that a text of hexadecimal digits stands for
 abbrev pub bytes_in : List ℕ → List ℕ

@@ -1,0 +1,4 @@
+pub mod Call
+pub mod Quotas
+pub mod Told
+pub mod Written
