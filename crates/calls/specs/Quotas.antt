@@ -1,6 +1,8 @@
--- Use and limits as the model sees them.
+-- Use, limits and reserves as the model sees them.
 use Rattle.own_model.specs.Account.{Account}
+use Rattle.own_model.specs.Amounts.{Amounts}
 use Rattle.calls.specs.declared.quotas.Quotas.{Quotas}
+use Rattle.calls.specs.declared.reserve.Reserve.{Reserve}
 
 -- the account that has these quotas
 abbrev pub quotas_account : Quotas → Account
@@ -10,3 +12,7 @@ quotas_account quotas = record {
   caps_limit = quotas.caps_limit.0;
   caps_used = quotas.caps_used.0;
 }
+
+-- the amounts that are told of a reserve
+abbrev pub reserve_amounts : Reserve → Amounts
+reserve_amounts reserve = record { ram = reserve.ram.0; caps = reserve.caps.0 }

@@ -7,7 +7,7 @@ use crate::row::{Answered, Row};
 use crate::table::rows_of;
 use crate::wish::decided_by;
 use csv::{ByteRecord, ReaderBuilder};
-use init_core::StartList;
+use start_lists::StartList;
 use std::alloc::{AllocError, Global};
 
 /// What a scenario shows of a machine.

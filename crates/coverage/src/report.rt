@@ -5,7 +5,7 @@ ghost use Rattle.coverage.specs.Reported.{is_met_in};
 use crate::covering::Coverage;
 use crate::event::{Event, Route, RuleAt};
 use crate::row::Row;
-use init_core::StartList;
+use start_lists::StartList;
 use std::alloc::{AllocError, Global};
 
 /// What the scenarios of some files show.

@@ -7,7 +7,7 @@ use crate::asked::{Asked, REQUESTS};
 use crate::event::{Event, Route, RuleAt};
 use crate::form::{FORMS, Form};
 use crate::row::Row;
-use init_core::{Entry, StartList};
+use start_lists::{Entry, StartList};
 use std::alloc::{AllocError, Global};
 
 /// The rows of a machine: of the table of calls, of that of requests, and of each rule of its start list.

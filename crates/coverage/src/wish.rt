@@ -8,10 +8,10 @@ ghost use Rattle.coverage.specs.Rules.{decided_by, default_of, init_of, init_pla
 
 use crate::event::{Route, RuleAt};
 use call_lines::read_line;
-use init_core::{Entry, StartList};
-use pd_core::Call;
+use calls::Call;
 use reach::{Course, Hop};
 use session_proto::SessionArgs;
+use start_lists::{Entry, StartList};
 use std::alloc::{AllocError, Global};
 use trade_base::Refusal;
 

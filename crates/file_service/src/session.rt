@@ -3,7 +3,7 @@
 use crate::node::Node;
 use crate::rooms::Rooms;
 use arrayvec::ArrayVec;
-use server_frame::LONGEST_LABEL;
+use calls::LONGEST_LABEL;
 use sliced_heap::SlicedHeap;
 use trade_base::DsId;
 

@@ -25,9 +25,10 @@ use Rattle.pd_core.specs.Core.{IsInitOf, IsInits, inits_of, roles_of}
 use Rattle.pd_core.specs.Fresh.{start_of as start_in, starts_of, IsFresh}
 use Rattle.pd_core.specs.declared.component.Role.TheVariants.{Gone}
 use Rattle.pd_core.specs.declared.component.Component.{Component}
-use Rattle.init_core.specs.Depth.{IsHome, is_init, is_list, runs_init}
-use Rattle.init_core.specs.declared.fault.BootFault.TheVariants.{QuotaExceeded}
-use Rattle.init_core.specs.Boot.{HasStarted, IsMade, Opens, IsInitAt, places_at, place_of, to_come, first_or, first_uncovered, quota_fault}
+use Rattle.start_lists.specs.Depth.{IsHome, is_init, is_list, runs_init}
+use Rattle.start_lists.specs.declared.fault.BootFault.TheVariants.{QuotaExceeded}
+use Rattle.init_core.specs.Boot.{HasStarted, IsMade, Opens, IsInitAt, places_at, place_of, to_come}
+use Rattle.start_lists.specs.Quota.{first_or, first_uncovered, quota_fault}
 use Rattle.init_core.proofs.StartLemmas.{Beside, IsOpened, IsNewTo, HasReserve, account_after, start_after, fresh_after, fresh_stays, init_after, is_new, new_before, open_by_part, opened_here, opened_beside, opens_beside, beside_then, caps_few, apart_after, still_open}
 use Rattle.init_core.proofs.InitLemmas.{enumerated-push, enumerated_alone, map_twice, init_by_kind, with_head, more_heads, heads_after, are_heads_after, init_open, home_within, init_at_home, inits_after, made_init, states_stay, homes_after}
 

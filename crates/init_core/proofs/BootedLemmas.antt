@@ -31,7 +31,8 @@ use Rattle.pd_core.specs.Fresh.{start_of as start_in, started_world, AreFresh}
 use Rattle.pd_core.specs.SessionCalls.{Agrees}
 use Rattle.pd_core.specs.SessionCalls.{server_at as server_at_place, service_at as service_at_place}
 use Rattle.pd_core.specs.declared.component.Component.{Component}
-use Rattle.init_core.specs.Boot.{HasStarted, places_at, place_of, to_come, first_uncovered}
+use Rattle.init_core.specs.Boot.{HasStarted, places_at, place_of, to_come}
+use Rattle.start_lists.specs.Quota.{first_uncovered}
 use Rattle.init_core.proofs.InitLemmas.{map_twice, within}
 use Rattle.init_core.proofs.BootLemmas.{counted}
 

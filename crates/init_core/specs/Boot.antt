@@ -3,11 +3,9 @@ use Rattle.std.specs.Prelude.{◌≡◌, ℕ, zero, suc, ◌+◌, ◌*◌, ◌�
 use Rattle.std.specs.List.{All, slice_get}
 use Rattle.std.specs.Option.{option_map}
 use Rattle.std.specs.FinMap.{get}
-use Rattle.trade_base.specs.declared.refusal.Refusal.{Refusal}
 use Rattle.trade_base.specs.declared.id.AccountId.{AccountId}
-use Rattle.own_model.specs.Account.{Account, shortage}
 use Rattle.own_model.specs.Listed.{Listed, ListedEntry, service_of, kind_of, levels_within, most_lists, start_of, start_list_of}
-use Rattle.own_model.specs.StartList.{StartEntry, AllCovered, Boots, budget, init_at, inits_at_first, inits_keep, inits_kept, start_state, with_started}
+use Rattle.own_model.specs.StartList.{StartEntry, AllCovered, Boots, inits_at_first, inits_keep, inits_kept, start_state}
 use Rattle.dataspace_core.specs.Store.{Store, OpensPart, accounts_in, root_in, room_in, ram_limits_in, caps_limits_in, IsOpenIn, IsChildIn}
 use Rattle.pd_core.specs.Component.{Place, entry_of, payer_of, reserve_of, tables_of, HasNewHeap}
 use Rattle.pd_core.specs.Component.{service_of as service_in}
@@ -15,28 +13,7 @@ use Rattle.pd_core.specs.Core.{Heads, Places, Roles, IsInitOf, IsInits, entries_
 use Rattle.pd_core.specs.Fresh.{starts_of, AreEmpty, AreFreshBelow, IsNewServer}
 use Rattle.pd_core.specs.SessionCalls.{AreAtHome}
 use Rattle.pd_core.specs.declared.component.Component.{Component}
-use Rattle.init_core.specs.declared.fault.BootFault.{BootFault}
-use Rattle.init_core.specs.declared.fault.BootFault.TheVariants.{QuotaExceeded}
-
--- ---- which lists don't boot
-
--- an entry that isn't covered, or else the first of those behind it
-abbrev pub first_or : Option Refusal → StartEntry → Option StartEntry → Option StartEntry
-first_or (Some refusal) start behind = Some start
-first_or None start behind = behind
-
--- the first entry that what is left of its init's account doesn't cover
-abbrev pub first_uncovered : List Account → List StartEntry → Option StartEntry
-first_uncovered inits [] = None
-first_uncovered inits (start ∷ starts) =
-    first_or (shortage (init_at inits start.entry.home) (budget start).ram (budget start).caps) start
-    (first_uncovered (with_started inits start) starts)
-
--- the fault of a list with an entry that isn't covered
-abbrev pub quota_fault : Listed → Option BootFault
-quota_fault list =
-    let starts = start_list_of list in
-    option_map (λ start. QuotaExceeded start.entry.name) (first_uncovered (inits_at_first starts) starts.starts)
+use Rattle.start_lists.specs.Quota.{first_uncovered}
 
 -- ---- how far a boot is
 

@@ -1,11 +1,1 @@
-pub mod Finder
-pub mod Members
-pub mod Rules
-pub mod Entries
-pub mod Depth
-pub mod StartText
-pub mod View
-pub mod Range
 pub mod Boot
-pub mod Misread
-pub mod ListLaws

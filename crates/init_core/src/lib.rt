@@ -1,32 +1,14 @@
-//! Start lists: what a JSON text says of a machine and its components, where their wishes for sessions lead, and how the
-//! machine starts.
+//! How a machine starts: its inits, and what each starts by its list; with start lists, and where their wishes for sessions lead.
 #![tactic(auto)]
 
-mod config;
-mod entry;
-mod fault;
-mod finder;
-mod head;
-mod laws;
-mod list;
-mod machine_a;
-mod member;
-mod name;
-mod place;
-mod reading;
-mod reserve;
-mod routing;
-mod rule;
 mod startup;
 mod table;
 
-pub use entry::{Binary, Entry};
-pub use fault::{BootFault, Field};
-pub use laws::{inits_give_their_own, lists_are_listed, quota_faults_are_of_lacks};
-pub use list::{StartList, entry_at_fault};
-pub use machine_a::{MACHINE_A, machine_a_is_read};
-pub use name::{Name, Path};
-pub use routing::{MOST_LISTS, route, target_child};
-pub use rule::{Rule, Target};
+pub use routes::{MOST_LISTS, route, target_child};
+pub use start_lists::{
+    Binary, BootFault, Entry, Field, MACHINE_A, Name, Path, Rule, StartList, Target,
+    entry_at_fault, inits_give_their_own, lists_are_listed, machine_a_is_read,
+    quota_faults_are_of_lacks,
+};
 pub use startup::boot;
 pub use table::RouteTable;

@@ -7,17 +7,16 @@ ghost use Rattle.own_model.specs.Listed.Binary.{Script as AScript, Server as ASe
 ghost use Rattle.own_model.specs.World.{start_world, IsBalancedFor};
 ghost use Rattle.own_model.specs.StartList.{Boots};
 ghost use Rattle.dataspace_core.specs.Store.{IsOpenIn, account_in, room_in};
-ghost use Rattle.init_core.specs.Boot.{HasStarted, IsMade, Opens, quota_fault};
-ghost use Rattle.init_core.specs.declared.fault.BootFault.TheVariants.{NoMemory, QuotaExceeded};
+ghost use Rattle.init_core.specs.Boot.{HasStarted, IsMade, Opens};
+ghost use Rattle.start_lists.specs.Quota.{quota_fault};
+ghost use Rattle.start_lists.specs.declared.fault.BootFault.TheVariants.{NoMemory, QuotaExceeded};
 
-use crate::entry::{Binary, Entry};
-use crate::fault::BootFault;
-use crate::list::StartList;
 use crate::table::RouteTable;
 use cap_space::CapSpace;
 use dataspace_core::Memory;
 use pd_core::{Component, Core, Host};
 use region_map::RegionMap;
+use start_lists::{Binary, BootFault, Entry, StartList};
 use std::alloc::Global;
 use trade_base::{AccountId, Caps, Ram, Service};
 

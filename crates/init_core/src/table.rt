@@ -3,9 +3,9 @@ ghost use Rattle.std.specs.Prelude.{◌≡◌, ◌≤◌, ℕ, List, Option, len
 ghost use Rattle.own_model.specs.Listed.{route_of};
 ghost use Rattle.init_core.specs.Boot.{places_at};
 
-use crate::list::StartList;
-use crate::routing::route;
 use pd_core::Router;
+use routes::route;
+use start_lists::StartList;
 
 /// Where the wishes of a machine's components lead, by the rules of its start list. It takes no memory.
 #[derive(Clone, Copy)]

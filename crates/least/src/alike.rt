@@ -3,7 +3,7 @@ ghost use Rattle.std.specs.Prelude.{◌≡◌, map, true};
 ghost use Rattle.std.specs.Option.{option_copied, option_map};
 ghost use Rattle.least.specs.Alike.{bare, but_budgets};
 
-use init_core::{Entry, Name, Rule, StartList, Target};
+use start_lists::{Entry, Name, Rule, StartList, Target};
 
 /// Whether two lists have the same entries and rules, whatever their machines are and what their entries are given.
 pub(crate) fn is_alike(one: &StartList, other: &StartList) -> bool

@@ -1,8 +1,8 @@
 //! Start lists whose budgets are others.
 
 use budget_meter::{Budget, Bytes};
-use init_core::{Binary, BootFault, StartList};
 use serde_json::{Value, put};
+use start_lists::{Binary, BootFault, StartList};
 use std::alloc::Global;
 
 /// The most pages of a machine, and the most capabilities.

@@ -4,8 +4,10 @@ ghost use Rattle.calls.specs.Call.{IsWellFormed};
 use crate::donation::args_with;
 use crate::scene::Step;
 use budget_meter::{Budget, named_by};
-use init_core::{BootFault, StartList, boot};
-use pd_core::{Call, Core, Reply, Router};
+use calls::{Call, Reply};
+use init_core::boot;
+use pd_core::{Core, Router};
+use start_lists::{BootFault, StartList};
 use std::alloc::Global;
 use trade_base::read_number;
 

@@ -15,8 +15,10 @@ ghost use Rattle.least.specs.Run.{Begins, HasLeft};
 use crate::scene::Step;
 use crate::trial::{Refused, Shortage, Trial, is_told_by_limits};
 use budget_meter::{AccountMeter, Budget, asked_by_call};
-use init_core::{BootFault, StartList, boot};
-use pd_core::{Call, Core, Reply, Router};
+use calls::{Call, Reply};
+use init_core::boot;
+use pd_core::{Core, Router};
+use start_lists::{BootFault, StartList};
 use std::alloc::Global;
 
 impl Trial {

@@ -15,7 +15,7 @@ use crate::rows::{Rows, Trials};
 use crate::scene::Step;
 use crate::trial::Trial;
 use budget_meter::Budget;
-use init_core::{BootFault, Entry, Field, StartList};
+use start_lists::{BootFault, Entry, Field, StartList};
 use std::alloc::Global;
 
 /// The run of a script's lines from a budget, on the largest machine, on which it alone has one.

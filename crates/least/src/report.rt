@@ -6,9 +6,10 @@ use crate::scene::{Misread, Scene, Step};
 use crate::script::Script;
 use crate::shown::Csv;
 use budget_meter::Budget;
-use init_core::{Binary, BootFault, Entry, StartList, boot};
-use pd_core::Call;
+use calls::Call;
+use init_core::boot;
 use scenario_names::Known;
+use start_lists::{Binary, BootFault, Entry, StartList};
 use std::alloc::Global;
 use trade_base::PAGE;
 

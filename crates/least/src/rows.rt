@@ -8,7 +8,7 @@ ghost use Rattle.least.specs.Rows.{covers, is_below, serves, AreRows, Follows, I
 
 use crate::trial::{LeftOut, Refused, Trial};
 use budget_meter::Budget;
-use init_core::BootFault;
+use start_lists::BootFault;
 use std::alloc::Global;
 
 /// Whether what is answered under the budgets of a row is what is answered under the given one.

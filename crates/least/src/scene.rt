@@ -5,10 +5,11 @@ ghost use Rattle.least.specs.Steps.{with_args};
 
 use crate::stage::Stage;
 use call_lines::{LONGEST_LINE, read_line};
+use calls::Call;
 use friendly_lines::{Fault, Line, Said, meets, read_friendly};
-use init_core::{BootFault, StartList};
-use pd_core::{Call, Core, Router};
+use pd_core::{Core, Router};
 use scenario_names::{Directive, Filled, Known, NameFault, directive_of, fill, source_column};
+use start_lists::{BootFault, StartList};
 use std::alloc::Global;
 use text_codec::find_byte;
 use thiserror::Error;

@@ -14,8 +14,10 @@ use crate::session_rows::session_rows;
 use crate::session_trial::{Client, Reached};
 use crate::trial::Trial;
 use budget_meter::Budget;
-use init_core::{BootFault, StartList, boot};
-use pd_core::{Call, Router};
+use calls::Call;
+use init_core::boot;
+use pd_core::Router;
+use start_lists::{BootFault, StartList};
 use std::alloc::Global;
 use trade_base::PAGE;
 

@@ -8,8 +8,8 @@ use crate::rows::{Rows, Trials};
 use crate::session_trial::{Client, Reached};
 use crate::trial::Trial;
 use budget_meter::Budget;
-use init_core::BootFault;
 use pd_core::Router;
+use start_lists::BootFault;
 use std::alloc::Global;
 
 /// Exactly the donations, of no more than the most, that open a session and leave its run in no want.

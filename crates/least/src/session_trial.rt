@@ -24,8 +24,9 @@ use crate::opened::Opened;
 use crate::scene::Step;
 use crate::trial::{Refused, Shortage, Trial, is_told_by_limits};
 use budget_meter::{Budget, Meter, SessionMeter, named_by};
-use init_core::{BootFault, Field};
-use pd_core::{Call, Core, Quotas, Reply, Router};
+use calls::{Call, Quotas, Reply};
+use pd_core::{Core, Router};
+use start_lists::{BootFault, Field};
 use std::alloc::Global;
 use trade_base::Refusal;
 

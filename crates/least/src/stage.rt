@@ -1,8 +1,9 @@
 //! The run of a scenario that its names are bound by.
 
-use init_core::BootFault;
-use pd_core::{Call, Core, Reply, Router};
+use calls::{Call, Reply};
+use pd_core::{Core, Router};
 use scenario_names::{Directive, Filled, Known};
+use start_lists::BootFault;
 use std::alloc::Global;
 
 /// A machine on which all lines are answered in turn, and what names stand for.

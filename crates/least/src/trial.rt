@@ -2,9 +2,9 @@
 ghost use Rattle.std.specs.Prelude.{◌≡◌, None};
 
 use budget_meter::{Budget, Meter};
-use init_core::BootFault;
-use pd_core::{Call, Quotas};
+use calls::{Call, Quotas};
 use session_proto::FileRequest;
+use start_lists::BootFault;
 use std::alloc::Global;
 
 /// Why an account doesn't cover a call or a request.

@@ -2,9 +2,9 @@
 use crate::fates::Change;
 use crate::reaches::Lead;
 use crate::texts::Differences;
-use init_core::{Entry, StartList};
 use json_documents::{Field, Listing};
 use reach::Reach;
+use start_lists::{Entry, StartList};
 use std::alloc::{AllocError, Global};
 
 /// A member of a document.

@@ -3,11 +3,11 @@ ghost use Rattle.std.specs.Prelude.{◌≡◌, ◌++◌, IfOk, OnOk};
 ghost use Rattle.std.specs.List.{enumerate_from, flat_map};
 ghost use Rattle.list_diff.specs.Changes.{arrival, binary_name, changes_of, fate, same_flag, same_means, same_reserves};
 ghost use Rattle.std.specs.Option.{option_map};
-ghost use Rattle.init_core.specs.View.{model_binary};
-ghost use Rattle.pd_core.specs.Answer.{reserve_amounts};
+ghost use Rattle.start_lists.specs.View.{model_binary};
+ghost use Rattle.calls.specs.Quotas.{reserve_amounts};
 
-use init_core::{Binary, Entry, StartList};
-use pd_core::Reserve;
+use calls::Reserve;
+use start_lists::{Binary, Entry, StartList};
 use std::alloc::{AllocError, Global};
 
 /// What became of an entry. Numbers are those of the start lists, in which an init stands directly before its own.

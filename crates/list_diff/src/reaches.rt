@@ -1,6 +1,6 @@
 //! Who reaches whom, and didn't, or no longer does.
-use init_core::{Entry, StartList};
 use reach::{Cell, Reach};
+use start_lists::{Entry, StartList};
 use std::alloc::{AllocError, Global};
 
 /// A start list with the cells of its table.

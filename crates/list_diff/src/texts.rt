@@ -1,8 +1,8 @@
 //! Differences as people read them.
 use crate::fates::Change;
 use crate::reaches::Lead;
-use init_core::{Entry, StartList};
 use reach::Reach;
+use start_lists::{Entry, StartList};
 use std::fmt;
 
 /// All that is told of two start lists, a line each.

@@ -6,8 +6,7 @@ ghost use Rattle.own_model.specs.Text.{bytes_of_hex, hex_bytes};
 ghost use Rattle.log_service.specs.Session.{Writes};
 
 use arrayvec::ArrayVec;
-use calls::{MOST_LINES, Reply};
-use server_frame::LONGEST_LABEL;
+use calls::{LONGEST_LABEL, MOST_LINES, Reply};
 use sliced_heap::SlicedHeap;
 use std::marker::Model;
 use text_codec::{decode_hex_from, find_byte};

@@ -19,8 +19,9 @@ use Rattle.own_model.proofs.StepLemmas.{covers}
 use Rattle.dataspace_core.specs.Store.{Store, part, account_of, account_in, opened_part, parted_part, raised_part, parents_in, ram_limits_in, caps_limits_in, IsChildIn, IsOpenIn, AreSiblingsIn, ShiftsPart}
 use Rattle.dataspace_core.proofs.PartLaws.{account_of-part}
 use Rattle.dataspace_core.proofs.RoomLaws.{room_is_shifted}
-use Rattle.pd_core.specs.Answer.{told_alone, reserve_amounts}
-use Rattle.pd_core.specs.declared.answer.Reserve.{Reserve as ReserveTold}
+use Rattle.pd_core.specs.Answer.{told_alone}
+use Rattle.calls.specs.Quotas.{reserve_amounts}
+use Rattle.calls.specs.declared.reserve.Reserve.{Reserve as ReserveTold}
 use Rattle.pd_core.specs.Component.{Pays, amounts_in, with_reserve, payer_in, reserve_in, kind_of, entry_of, caps_in, own_in, own, IsSoundRole}
 use Rattle.pd_core.specs.Core.{Places, Roles, roles_of, sessions_in, IsBelowHead, IsCore}
 use Rattle.pd_core.specs.Core.Owner.{Place, ReserveAt}

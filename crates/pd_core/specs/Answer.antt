@@ -3,20 +3,14 @@ use Rattle.std.specs.Prelude.{◌≡◌, ◌+◌, ℕ, List, [], Result, Ok, Err
 use Rattle.std.specs.List.{flat_map}
 use Rattle.trade_base.specs.declared.refusal.Refusal.{Refusal}
 use Rattle.own_model.specs.Account.{Account}
-use Rattle.own_model.specs.Amounts.{Amounts}
 use Rattle.own_model.specs.OwnState.{OwnState}
 use Rattle.own_model.specs.OwnStep.{Outcome}
 use Rattle.own_model.specs.Reply.{Reply as Modelled, reply_text, log_text}
 use Rattle.own_model.specs.Reply.Reply.{Selected as ModelledSelected, Attached as ModelledAttached, Done as ModelledDone, Quotas as ModelledQuotas, Reserved as ModelledReserved, Refused as ModelledRefused}
-pub use Rattle.calls.specs.Quotas.{quotas_account}
+pub use Rattle.calls.specs.Quotas.{quotas_account, reserve_amounts}
 use Rattle.calls.specs.Told.{Told as Written}
 use Rattle.pd_core.specs.declared.answer.Granted.{Granted}
 use Rattle.pd_core.specs.declared.answer.Granted.TheVariants.{Selected, Attached, Done, Quotas, Reserved}
-use Rattle.pd_core.specs.declared.answer.Reserve.{Reserve as ReserveTold}
-
--- the amounts that are told of a reserve
-abbrev pub reserve_amounts : ReserveTold → Amounts
-reserve_amounts reserve = record { ram = reserve.ram.0; caps = reserve.caps.0 }
 
 -- the model's word for an answer
 abbrev pub model_answer : Granted → Modelled

@@ -8,14 +8,14 @@ ghost use Rattle.own_model.specs.Transcript.{state_at};
 ghost use Rattle.own_model.specs.World.{account_at};
 ghost use Rattle.dataspace_core.specs.Store.{account_in, IsOpenIn};
 ghost use Rattle.own_model.specs.StartList.{init_at};
-ghost use Rattle.pd_core.specs.Answer.{quotas_account, reserve_amounts, CountsLimits};
+ghost use Rattle.pd_core.specs.Answer.{quotas_account, CountsLimits};
+ghost use Rattle.calls.specs.Quotas.{reserve_amounts};
 ghost use Rattle.pd_core.specs.Core.{Places, world_of, IsCoreAt};
 
-use crate::answer::Reserve;
 use crate::component::{Component, Role};
 use crate::machine::Core;
 use crate::router::Router;
-use calls::Quotas;
+use calls::{Quotas, Reserve};
 use dataspace_core::Memory;
 use trade_base::{AccountId, Caps, Ram, SessionId};
 
@@ -43,7 +43,8 @@ impl<R: Router + Drop> Core<R> {
     ghost use Rattle.own_model.specs.Transcript.{state_at};
     ghost use Rattle.own_model.specs.World.{account_at, machine_init};
     ghost use Rattle.own_model.specs.StartList.{init_at};
-    ghost use Rattle.pd_core.specs.Answer.{quotas_account, reserve_amounts, CountsLimits};
+    ghost use Rattle.pd_core.specs.Answer.{quotas_account, CountsLimits};
+    ghost use Rattle.calls.specs.Quotas.{reserve_amounts};
 
     /// How many components there are: each has an entry, an own state, and a place among inits, where the machine's comes first.
     pub fn count(&self) -> usize
@@ -126,7 +127,8 @@ impl Component {
     ghost use Rattle.std.specs.Prelude.{◌≡◌, ◌≤◌, IfSome};
     ghost use Rattle.dataspace_core.specs.Store.{IsOpenIn};
     ghost use Rattle.server_frame.specs.Frame.{AtRow};
-    ghost use Rattle.pd_core.specs.Answer.{quotas_account, reserve_amounts};
+    ghost use Rattle.pd_core.specs.Answer.{quotas_account};
+    ghost use Rattle.calls.specs.Quotas.{reserve_amounts};
     ghost use Rattle.pd_core.specs.Component.{kind_of, reserve_of, rows_of, own, IsSound, Serves};
     ghost use Rattle.own_model.specs.World.{account_by};
     ghost use Rattle.pd_core.specs.Core.{init_in};

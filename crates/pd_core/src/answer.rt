@@ -1,13 +1,13 @@
 //! The answers to calls, and their texts.
 ghost use Rattle.std.specs.Prelude.{◌≡◌, ◌+◌, ◌≤◌, ◌++◌, length, codes};
-ghost use Rattle.own_model.specs.Reply.{address_text, quota_text, reply_text};
+ghost use Rattle.own_model.specs.Reply.{address_text, amounts_text, quota_text, reply_text};
 ghost use Rattle.own_model.specs.Reply.Reply.{Selected};
 ghost use Rattle.trade_base.specs.Refusal.{refusal_name};
 ghost use Rattle.pd_core.specs.Answer.{quotas_account, reply_of, told_alone};
 
-use calls::{Quotas, Reply};
+use calls::{Quotas, Reply, Reserve};
 use text_codec::{MOST_HEX_DIGITS, write_hex};
-use trade_base::{Caps, Ram, Refusal, Selector};
+use trade_base::{Refusal, Selector};
 
 /// What a call that isn't refused is answered.
 #[derive(Clone, Copy)]
@@ -22,15 +22,6 @@ pub(crate) enum Granted {
     Quotas(Quotas),
     /// What the caller has in reserve.
     Reserved(Reserve),
-}
-
-/// What a component has in reserve: limits of which nothing is in use.
-#[derive(Clone, Copy, Debug)]
-pub struct Reserve {
-    /// Bytes of RAM.
-    pub ram: Ram,
-    /// Capabilities.
-    pub caps: Caps,
 }
 
 /// Writes what a call is answered in place of what the reply was. It finishes no log line. Who calls it takes it in, so that an
@@ -77,25 +68,19 @@ impl Granted {
             Granted::Attached(address) => tell_address(address, reply),
             Granted::Done => tell_text(b"ok", reply),
             Granted::Quotas(quotas) => tell_quotas(quotas, reply),
-            Granted::Reserved(reserve) => reserve.tell(reply),
+            Granted::Reserved(reserve) => tell_reserve(reserve, reply),
         }
     }
 }
 
-impl Reserve {
-    ghost use Rattle.std.specs.Prelude.{◌≡◌};
-    ghost use Rattle.own_model.specs.Reply.{amounts_text};
-    ghost use Rattle.pd_core.specs.Answer.{reserve_amounts, told_alone};
-
-    /// Writes the amounts in place of what the reply was.
-    fn tell(self, reply: &mut Reply)
-        ensures { reply.new ≡ told_alone (amounts_text (reserve_amounts self)) }
-    {
-        tell_text(b"ram ", reply);
-        reply.add_number(self.ram.0);
-        reply.add_text(b" caps ");
-        reply.add_number(u64::from(self.caps.0));
-    }
+/// Writes the amounts of a reserve in place of what the reply was.
+fn tell_reserve(reserve: Reserve, reply: &mut Reply)
+    ensures { reply.new ≡ told_alone (amounts_text (reserve_amounts reserve)) }
+{
+    tell_text(b"ram ", reply);
+    reply.add_number(reserve.ram.0);
+    reply.add_text(b" caps ");
+    reply.add_number(u64::from(reserve.caps.0));
 }
 
 /// Writes use and limit of each in place of what the reply was.

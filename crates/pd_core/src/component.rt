@@ -1,10 +1,10 @@
 //! A component: what it is, and what its calls do.
+ghost use Rattle.std.specs.Prelude.{◌≡◌, ◌≤◌, length};
 
 use crate::answer::refuse;
-use crate::label::{LONGEST_CLIENT, name_of};
 use crate::script::Script;
 use arrayvec::ArrayVec;
-use calls::{Call, Reply};
+use calls::{Call, LONGEST_CLIENT, Reply};
 use cap_space::{Cap, CapSpace};
 use dataspace_core::Memory;
 use heap_core::Heap;
@@ -332,4 +332,14 @@ impl Component {
             Role::Gone => refuse(Refusal::Gone, reply),
         }
     }
+}
+
+// A component's name.
+fn name_of(name: &[u8]) -> ArrayVec<u8, LONGEST_CLIENT>
+    requires { length name.now ≤ 140 }
+    ensures { result.items ≡ name.now }
+{
+    let mut copy = ArrayVec::<u8, LONGEST_CLIENT>::new();
+    let _ = copy.try_extend_from_slice(name);
+    copy
 }

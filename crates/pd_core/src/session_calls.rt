@@ -6,9 +6,8 @@ ghost use Rattle.pd_core.specs.SessionCalls.{Agrees, Goes, GoesWith};
 
 use crate::answer::{Granted, refuse};
 use crate::component::{Component, Role};
-use crate::label::label_of;
 use crate::router::Router;
-use calls::Reply;
+use calls::{Reply, label_of};
 use dataspace_core::Memory;
 use server_frame::Effect;
 use session_proto::SessionArgs;

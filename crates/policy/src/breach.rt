@@ -6,8 +6,9 @@ ghost use Rattle.reach.specs.Ways.{TellsReach};
 ghost use Rattle.policy.specs.Demand.{IsBreach, IsKept, LeadsThere, concerns, leads_there, service_at};
 
 use crate::demand::{Demand, Line, concerns};
-use init_core::{Binary, StartList, route};
 use reach::{Label, Reach, Ways, Wishes};
+use routes::route;
+use start_lists::{Binary, StartList};
 use std::alloc::{AllocError, Global};
 
 /// A client and a server whose reach isn't as a line demands, with a label that leads there, if that is wrong, or the one that

@@ -3,8 +3,8 @@ ghost use Rattle.std.specs.Prelude.{◌≡◌};
 ghost use Rattle.std.specs.List.{list_any};
 ghost use Rattle.policy.specs.Demand.{concerns, is_only, is_script, names, same_number};
 
-use init_core::{Binary, StartList};
 use reach::Label;
+use start_lists::{Binary, StartList};
 
 /// What is demanded of the wishes of scripts for a server.
 #[derive(Debug, Drop)]

@@ -1,8 +1,8 @@
 //! The text of a policy, line by line.
 use crate::demand::{Demand, Line};
 use crate::fault::{Flaw, PolicyFault};
-use init_core::StartList;
 use reach::{Label, Sought, numbers};
+use start_lists::StartList;
 use std::alloc::Global;
 
 /// A policy: its lines in order.

@@ -1,7 +1,7 @@
 //! What is told of a breach.
 use crate::breach::{Breach, service_at};
-use init_core::StartList;
 use reach::{Brief, Course};
+use start_lists::StartList;
 use std::alloc::{AllocError, Global};
 use std::fmt;
 

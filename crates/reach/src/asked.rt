@@ -8,7 +8,7 @@ ghost use Rattle.reach.specs.Asked.{agrees, agrees_within, asked_by, asked_of, a
 use crate::key::{MOST_LISTS, asks_service, init_entry, rules_of};
 use crate::label::{Label, behind};
 use crate::wishes::Wishes;
-use init_core::{Entry, Rule, StartList};
+use start_lists::{Entry, Rule, StartList};
 use std::alloc::{AllocError, Global};
 use std::marker::Model;
 

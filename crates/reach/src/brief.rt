@@ -1,7 +1,7 @@
 //! The rules by which a wish leads where it leads, in a line.
 use crate::course::{Course, Hop, route_name};
 use crate::key::init_entry;
-use init_core::Entry;
+use start_lists::Entry;
 use std::fmt;
 
 /// By which rules a wish leads to a server or nowhere.

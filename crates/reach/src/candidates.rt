@@ -15,7 +15,8 @@ use crate::label::{LONGEST_GIVEN, Label, behind};
 use crate::rules::{rules_for, same_child};
 use crate::wishes::Wishes;
 use arrayvec::ArrayVec;
-use init_core::{Entry, Rule, route};
+use routes::route;
+use start_lists::{Entry, Rule};
 use std::alloc::{AllocError, Global};
 
 /// Labels that stand for all that can be given; none where no byte can stand between two texts for all that can.

@@ -3,7 +3,7 @@ ghost use Rattle.std.specs.Prelude.{◌≡◌};
 ghost use Rattle.reach.specs.Paths.{is_chosen, names, same_number};
 
 use crate::named::{Sought, Unnamed, add_paths};
-use init_core::StartList;
+use start_lists::StartList;
 use std::alloc::Global;
 
 /// Scripts and servers of a start list by their numbers; where none are named, all of them.

@@ -10,7 +10,7 @@ use crate::key::key_of;
 use crate::label::{LONGEST_GIVEN, Label};
 use crate::longer::longer_key;
 use crate::wishes::Wishes;
-use init_core::route;
+use routes::route;
 use std::alloc::{AllocError, Global};
 use text_codec::is_quotable;
 

@@ -1,6 +1,6 @@
 //! Where one wish leads, and by which rules, list by list outward.
 ghost use Rattle.std.specs.Prelude.{◌≡◌, ◌+◌, ◌*◌, ◌<◌, ◌≤◌, ◌++◌, length, position, IfOk, OnOk};
-ghost use Rattle.init_core.specs.View.{model_target};
+ghost use Rattle.start_lists.specs.View.{model_target};
 ghost use Rattle.own_model.specs.Listed.{asks_for};
 ghost use Rattle.reach.specs.Hops.{hops_of, hops_within, is_parent, leads_out};
 ghost use Rattle.reach.specs.Reach.{leads_to};
@@ -8,8 +8,9 @@ ghost use Rattle.reach.specs.Reach.{leads_to};
 use crate::key::{MOST_LISTS, init_entry, rules_of};
 use crate::label::{LONGEST_GIVEN, LONGEST_SEEN, label_with};
 use arrayvec::ArrayVec;
-use init_core::{Binary, Entry, Rule, StartList, Target, route};
+use routes::route;
 use session_proto::SessionArgs;
+use start_lists::{Binary, Entry, Rule, StartList, Target};
 use std::alloc::{AllocError, Global};
 use std::fmt;
 use std::marker::Model;

@@ -9,7 +9,7 @@ ghost use Rattle.reach.specs.Keys.{whole_mark, front_mark, end_mark, filled, is_
 
 use crate::label::{Label, label_with};
 use crate::wishes::Wishes;
-use init_core::{Entry, Rule, StartList};
+use start_lists::{Entry, Rule, StartList};
 use std::alloc::{AllocError, Global};
 
 /// How many lists there are at most between a client and the machine, both of theirs among them.

@@ -6,7 +6,7 @@ ghost use Rattle.reach.specs.Keys.{key_of, key_within, marks_by, marks_of};
 use crate::key::{MOST_LISTS, add_rule, filled, init_entry, rules_of};
 use crate::label::{Label, label_with};
 use crate::wishes::Wishes;
-use init_core::{Entry, Rule, StartList};
+use start_lists::{Entry, Rule, StartList};
 use std::alloc::{AllocError, Global};
 
 /// The key of the longer label.

@@ -1,7 +1,7 @@
 //! Scripts and servers by the paths that people write.
 use crate::near::near_path;
 use crate::paths::selects;
-use init_core::{Binary, Entry, Path, StartList};
+use start_lists::{Binary, Entry, Path, StartList};
 use std::alloc::Global;
 use std::fmt;
 

@@ -1,6 +1,6 @@
 //! Which path may have been meant by one that nobody has.
 use crate::named::{Sought, Unnamed, is_sought};
-use init_core::{Path, StartList};
+use start_lists::{Path, StartList};
 use std::alloc::{AllocError, Global};
 use strsim::levenshtein;
 

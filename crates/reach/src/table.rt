@@ -7,7 +7,7 @@ use crate::chosen::Chosen;
 use crate::label::Label;
 use crate::ways::{Reach, Ways};
 use crate::wishes::Wishes;
-use init_core::{Binary, StartList};
+use start_lists::{Binary, StartList};
 use std::alloc::{AllocError, Global};
 use std::fmt;
 use trade_base::SERVICES;

@@ -9,7 +9,7 @@ use crate::course::Course;
 use crate::deciding::{Trail, Trails};
 use crate::label::Label;
 use crate::wishes::Wishes;
-use init_core::{Binary, StartList};
+use start_lists::{Binary, StartList};
 use std::alloc::{AllocError, Global};
 use std::fmt;
 use trade_base::SERVICES;

@@ -1,5 +1,5 @@
 //! The wishes of one client for one service.
-use init_core::StartList;
+use start_lists::StartList;
 
 /// The wishes of a component of a start list, by its number, for a service.
 #[derive(Clone, Copy)]

@@ -7,7 +7,7 @@ use Rattle.own_model.specs.Reply.{log_text}
 use Rattle.own_model.specs.StartList.{Boots}
 use Rattle.own_model.specs.Transcript.{heard as heard_call, longest_line}
 use Rattle.own_model.specs.World.{World, start_world}
-use Rattle.init_core.specs.StartText.{list_in}
+use Rattle.start_lists.specs.StartText.{list_in}
 use Rattle.friendly_lines.specs.Friendly.{Said, said_of}
 use Rattle.friendly_lines.specs.declared.fault.Fault.{Fault}
 use Rattle.scenario_lines.specs.Answer.{finished_lines}

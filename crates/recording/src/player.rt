@@ -1,7 +1,7 @@
 //! A play of a scenario that is recorded.
 ghost use Rattle.std.specs.Prelude.{◌≡◌, ◌∷◌, [], None, false, OnOk, IfOk, IfErr, if◌then◌else◌};
 ghost use Rattle.std.specs.Option.{option_copied};
-ghost use Rattle.init_core.specs.declared.fault.BootFault.TheVariants.{NoMemory};
+ghost use Rattle.start_lists.specs.declared.fault.BootFault.TheVariants.{NoMemory};
 ghost use Rattle.friendly_lines.specs.Friendly.{said_of};
 ghost use Rattle.scenario_names.specs.Views.{directive_view, filled_view};
 ghost use Rattle.recording.specs.Marked.{TurnsTo, all_marked};
@@ -19,11 +19,12 @@ use crate::pieces::first_piece;
 use crate::recording::Recording;
 use crate::stand::Stand;
 use crate::unread::{Unread, Why, column_of};
+use calls::Reply;
 use friendly_lines::{Fault, Line, Said, read_friendly};
-use init_core::{BootFault, StartList};
-use pd_core::{Core, Reply, Router};
+use pd_core::{Core, Router};
 use scenario_lines::{LONGEST_LINE, LineAnswer, Run};
 use scenario_names::{Directive, Filled, Known, directive_of, fill, source_column};
+use start_lists::{BootFault, StartList};
 use std::alloc::{AllocError, Global};
 
 /// A play of a scenario that is recorded.

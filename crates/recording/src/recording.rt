@@ -2,15 +2,16 @@
 ghost use Rattle.std.specs.Prelude.{◌≡◌, ◌≢◌, ◌++◌, ◌∷◌, [], false, IfErr, IfOk, OnOk, Some};
 ghost use Rattle.own_model.specs.Listed.{start_list_of};
 ghost use Rattle.own_model.specs.StartList.{entries_of};
-ghost use Rattle.init_core.specs.declared.fault.BootFault.TheVariants.{NoMemory};
+ghost use Rattle.start_lists.specs.declared.fault.BootFault.TheVariants.{NoMemory};
 ghost use Rattle.scenario_lines.specs.Machine.{boot_fault};
 ghost use Rattle.recording.specs.Recorded.{IsRecorded};
 
 use crate::marks::Marks;
 use crate::player::Player;
 use crate::unread::Unread;
-use init_core::{BootFault, StartList, boot};
+use init_core::boot;
 use scenario_names::Known;
+use start_lists::{BootFault, StartList};
 use std::alloc::Global;
 
 /// A scenario that is to be recorded.

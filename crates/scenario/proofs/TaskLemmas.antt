@@ -8,7 +8,7 @@ use Rattle.own_model.specs.AccountList.{account_list_text}
 use Rattle.own_model.specs.World.{World, start_world, world_running}
 use Rattle.own_model.proofs.StepBalanceLemmas.{totals, lines_balanced}
 use Rattle.own_model.proofs.StartLemmas.{start_balanced_for}
-use Rattle.init_core.specs.StartText.{list_in}
+use Rattle.start_lists.specs.StartText.{list_in}
 use Rattle.std.proofs.lemmas.List.Elements.{All-nil}
 use Rattle.scenario_lines.specs.Lines.{longest_read}
 use Rattle.scenario.specs.Program.{IsAnswered, IsBoundedFor, IsDone, FailsFor, StopsScenario, TotalsAre, lines_run, ok_line, scenario_text}

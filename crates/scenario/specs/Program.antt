@@ -10,7 +10,7 @@ use Rattle.own_model.specs.Transcript.{told_after}
 use Rattle.own_model.specs.SaidBy.{said_by}
 use Rattle.std.specs.Option.{option_copied}
 use Rattle.own_model.specs.World.{World, start_world, world_running, all_ram, all_caps}
-use Rattle.init_core.specs.declared.fault.BootFault.TheVariants.{NoMemory}
+use Rattle.start_lists.specs.declared.fault.BootFault.TheVariants.{NoMemory}
 use Rattle.scenario_lines.specs.Lines.{AreReadable}
 use Rattle.scenario.specs.Stops.{Stops}
 use Rattle.scenario_lines.specs.Causes.{AppendsPart}

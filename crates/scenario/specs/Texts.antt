@@ -1,7 +1,7 @@
 -- The texts of failures.
 use Rattle.std.specs.Prelude.{ℕ, ◌++◌, List, Option, Some, codes}
 use Rattle.std.specs.Fmt.{option_append}
-use Rattle.init_core.specs.declared.fault.BootFault.{BootFault}
+use Rattle.start_lists.specs.declared.fault.BootFault.{BootFault}
 use Rattle.scenario.specs.declared.config.ConfigFault.{ConfigFault}
 use Rattle.scenario.specs.declared.config.ConfigFault.TheVariants.{Unreadable, NoMemory}
 use Rattle.scenario.specs.declared.program.Failure.{Failure}

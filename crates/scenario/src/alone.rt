@@ -7,9 +7,10 @@ ghost use Rattle.scenario_lines.specs.Causes.{HasCause, is_write_fault};
 ghost use Rattle.scenario.specs.Stops.{Stops};
 
 use crate::running::{Summary, run_said_by};
-use init_core::StartList;
-use pd_core::{Core, Reply, Router};
+use calls::Reply;
+use pd_core::{Core, Router};
 use scenario_lines::{Run, RunFault, Sink, Source};
+use start_lists::StartList;
 
 /// Answers the lines of one name alone: those of at most `LONGEST_LINE` bytes that `read_line` reads as calls under it.
 /// Every other line is counted, and skipped: nothing is told of it, and it is read no further than the name goes. All

@@ -8,11 +8,11 @@ use crate::options::{Options, words_given};
 use crate::program::{Failure, Task, boot_and_run, exit_status, task_of};
 use crate::running::Summary;
 use clap::Error;
-use init_core::MACHINE_A;
 use scenario_lines::{Input, MAX_LINES, Output};
+use start_lists::MACHINE_A;
 use std::convert::AsStr;
-use std::io;
 use std::io::Eprint;
+use std::io;
 use std::process::{ExitCode, Termination};
 use std::rt::{Env, Files};
 

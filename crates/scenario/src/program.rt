@@ -5,8 +5,8 @@ ghost use Rattle.std.specs.Io.KnownBytes.{Appends};
 ghost use Rattle.own_model.specs.Listed.{Listed as Machine, start_list_of};
 ghost use Rattle.own_model.specs.StartList.{entries_of};
 ghost use Rattle.own_model.specs.Text.{lines_of};
-ghost use Rattle.init_core.specs.declared.fault.BootFault.{BootFault as Unbooted};
-ghost use Rattle.init_core.specs.declared.fault.BootFault.TheVariants.{NoMemory as NoRoom};
+ghost use Rattle.start_lists.specs.declared.fault.BootFault.{BootFault as Unbooted};
+ghost use Rattle.start_lists.specs.declared.fault.BootFault.TheVariants.{NoMemory as NoRoom};
 ghost use Rattle.scenario.specs.Program.{AsksFor, FailsFor, FailsIn, IsAnswered, IsBoundedFor, IsDone, StopsScenario, ok_line, scenario_text, status_of, written_for};
 ghost use Rattle.scenario_lines.specs.Machine.{IsMachine, world_of};
 ghost use Rattle.scenario_lines.specs.Causes.{AppendsPart, is_write_fault};
@@ -17,12 +17,14 @@ ghost use Rattle.scenario_lines.specs.declared.run_fault.RunFault.TheVariants.{W
 
 use crate::options::Options;
 use crate::running::{Summary, run_said_by};
-use init_core::{BootFault, StartList, boot};
-use pd_core::{Core, Reply, Router};
+use calls::Reply;
+use init_core::boot;
+use pd_core::{Core, Router};
 use scenario_lines::{MAX_LINES, Output, Run, RunFault, Sink, Source, write_accounts, write_out};
+use start_lists::{BootFault, StartList};
 use std::alloc::Global;
-use std::fmt;
 use std::fmt::{Display, Formatter};
+use std::fmt;
 use thiserror::Error;
 use trade_base::NoMemory;
 

@@ -12,8 +12,9 @@ ghost use Rattle.scenario_lines.specs.Causes.{HasCause, is_write_fault};
 ghost use Rattle.scenario.specs.Stops.{Stops};
 ghost use Rattle.scenario_lines.specs.declared.play_fault.PlayFault.TheVariants.{NoMemory as NoRoom, WriteFault as Unwritten};
 
-use init_core::StartList;
-use pd_core::{Core, Reply, Router};
+use calls::Reply;
+use pd_core::{Core, Router};
+use start_lists::StartList;
 use scenario_lines::{
     Buffers, Gather, LineAnswer, PlayFault, Played, Player, Run, RunFault, Sink, Source, play,
 };

@@ -3,8 +3,8 @@ use Rattle.std.proofs.Common.{◌≡◌, ℕ, Bool, true, false, true≢false, O
 use Rattle.std.proofs.lemmas.Option.{get_or_from_slice_get, none-some, slice_get_within}
 use Rattle.std.specs.List.{slice_get}
 use Rattle.std.specs.Option.{option_map}
-use Rattle.init_core.proofs.ListLemmas.{same_entry}
-use Rattle.init_core.specs.Depth.{is_init, runs_init}
+use Rattle.start_lists.proofs.ListLemmas.{same_entry}
+use Rattle.start_lists.specs.Depth.{is_init, runs_init}
 use Rattle.own_model.specs.Call.{Spoken}
 use Rattle.own_model.specs.Listed.{Binary, Listed, ListedEntry, kind_of, start_list_of}
 use Rattle.own_model.specs.Listed.Binary.{Script, Server, Init}

@@ -3,10 +3,10 @@ use Rattle.std.proofs.Common.{◌≡◌, ◌≢◌, ℕ, List, Some, Ok, Err, re
 use Rattle.own_model.specs.Listed.{Listed}
 use Rattle.own_model.specs.StartList.{StartList, entries_of}
 use Rattle.own_model.specs.World.{World, start_world}
-use Rattle.init_core.specs.Boot.{quota_fault}
-use Rattle.init_core.specs.StartText.{list_in}
-use Rattle.init_core.specs.declared.fault.BootFault.{BootFault}
-use Rattle.init_core.specs.declared.fault.BootFault.TheVariants.{NoMemory}
+use Rattle.start_lists.specs.Quota.{quota_fault}
+use Rattle.start_lists.specs.StartText.{list_in}
+use Rattle.start_lists.specs.declared.fault.BootFault.{BootFault}
+use Rattle.start_lists.specs.declared.fault.BootFault.TheVariants.{NoMemory}
 use Rattle.scenario_lines.specs.Machine.{boot_fault}
 
 -- each way in which a fault of a list is told

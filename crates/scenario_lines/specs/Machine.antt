@@ -4,9 +4,9 @@ use Rattle.own_model.specs.AccountList.{account_list_text}
 use Rattle.own_model.specs.Listed.{Listed, start_list_of}
 use Rattle.own_model.specs.StartList.{Boots}
 use Rattle.own_model.specs.World.{World, start_world}
-use Rattle.init_core.specs.Boot.{quota_fault}
-use Rattle.init_core.specs.StartText.{list_in}
-use Rattle.init_core.specs.declared.fault.BootFault.{BootFault}
+use Rattle.start_lists.specs.Quota.{quota_fault}
+use Rattle.start_lists.specs.StartText.{list_in}
+use Rattle.start_lists.specs.declared.fault.BootFault.{BootFault}
 
 -- a text is read as this start list, and the list boots
 pub record IsMachine (text : List ℕ) (list : Listed) : Type 0 where

@@ -7,7 +7,8 @@ ghost use Rattle.own_model.specs.Listed.{start_list_of};
 ghost use Rattle.own_model.specs.StartList.{entries_of};
 ghost use Rattle.own_model.specs.Transcript.{state_at};
 ghost use Rattle.own_model.specs.World.{account_at, all_ram, all_caps, machine_init};
-ghost use Rattle.pd_core.specs.Answer.{quotas_account, reserve_amounts};
+ghost use Rattle.pd_core.specs.Answer.{quotas_account};
+ghost use Rattle.calls.specs.Quotas.{reserve_amounts};
 ghost use Rattle.scenario_lines.specs.Accounts.{account_front, account_line_with, component_lines_with, list_with, listed_at, selected_line, session_front, session_lines_with};
 ghost use Rattle.scenario_lines.specs.Gathered.{TellsUnless};
 ghost use Rattle.scenario_lines.specs.Causes.{AppendsPart, is_write_fault};
@@ -21,8 +22,9 @@ use crate::device::{DeviceFault, Sink};
 use crate::gather::Gather;
 use crate::run_fault::RunFault;
 use arrayvec::ArrayVec;
-use init_core::StartList;
-use pd_core::{Core, Quotas, Reserve, Router};
+use calls::{Quotas, Reserve};
+use pd_core::{Core, Router};
+use start_lists::StartList;
 use text_codec::{add, add_number};
 
 /// Room for what follows the name in a line.

@@ -4,9 +4,11 @@ ghost use Rattle.own_model.specs.Limits.{ram_limits, caps_limits};
 ghost use Rattle.own_model.specs.Transcript.{state_at};
 ghost use Rattle.own_model.specs.StartList.{init_at};
 ghost use Rattle.own_model.specs.World.{all_ram, all_caps};
-ghost use Rattle.pd_core.specs.Answer.{quotas_account, reserve_amounts};
+ghost use Rattle.pd_core.specs.Answer.{quotas_account};
+ghost use Rattle.calls.specs.Quotas.{reserve_amounts};
 
-use pd_core::{Core, Quotas, Reserve, Router};
+use calls::{Quotas, Reserve};
+use pd_core::{Core, Router};
 
 /// Limits of several accounts together: RAM in bytes, and capabilities. They are wider than an account's, so that no sum
 /// is too large for them, whatever the accounts have.
@@ -18,7 +20,8 @@ pub struct Sums {
 
 impl Sums {
     ghost use Rattle.std.specs.Prelude.{◌≡◌, ◌+◌, ◌*◌, ◌^◌, ◌<◌, ◌≤◌};
-    ghost use Rattle.pd_core.specs.Answer.{quotas_account, reserve_amounts};
+    ghost use Rattle.pd_core.specs.Answer.{quotas_account};
+    ghost use Rattle.calls.specs.Quotas.{reserve_amounts};
 
     // The limits of one account.
     fn of(account: Quotas) -> Sums

@@ -5,7 +5,7 @@ ghost use Rattle.own_model.specs.Reply.{amounts_text, quota_text, share_text};
 ghost use Rattle.pd_core.specs.Answer.{quotas_account};
 
 use arrayvec::ArrayVec;
-use pd_core::Quotas;
+use calls::Quotas;
 use text_codec::{add, add_number};
 use trade_base::{Caps, Ram};
 

@@ -12,8 +12,9 @@ ghost use Rattle.scenario_lines.specs.Answered.{BeginsAsSaid, BeginsWithName, Is
 ghost use Rattle.call_lines.specs.Read.{IsNoCall, IsReadAs, Reads};
 
 use call_lines::{LONGEST_LINE, NamedCall, read_named};
-use init_core::StartList;
-use pd_core::{Call, Core, Reply, Router};
+use calls::{Call, Reply};
+use pd_core::{Core, Router};
+use start_lists::StartList;
 use trade_base::Refusal;
 
 /// The name before the reply to what is no call.

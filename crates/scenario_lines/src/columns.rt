@@ -6,7 +6,7 @@ ghost use Rattle.scenario_lines.specs.Gathered.{TellsUnless};
 
 use crate::device::{DeviceFault, Sink};
 use crate::gather::Gather;
-use init_core::StartList;
+use start_lists::StartList;
 
 /// Whose account a line of an account list tells.
 #[derive(Clone, Copy, Debug, PartialEq, Eq)]

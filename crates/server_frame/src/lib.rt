@@ -7,8 +7,8 @@ mod laws;
 mod server;
 mod service;
 
-pub use calls::{MOST_LINES, Quotas, Reply};
+pub use calls::{LONGEST_LABEL, MOST_LINES, Quotas, Reply};
 pub use effect::Effect;
 pub use laws::{lent_bytes_are_the_clients, sessions_find_places};
 pub use server::Server;
-pub use service::{LONGEST_LABEL, Service};
+pub use service::Service;

@@ -15,8 +15,8 @@ ghost use Rattle.calls.specs.Told.{nothing_told};
 
 use crate::effect::Effect;
 use crate::furniture::{dismiss, furnish, test_donation};
-use crate::service::{LONGEST_LABEL, Service};
-use calls::Reply;
+use crate::service::Service;
+use calls::{LONGEST_LABEL, Reply};
 use dataspace_core::Memory;
 use region_map::RegionMap;
 use slab::Slab;

@@ -10,14 +10,11 @@ ghost use Rattle.sliced_heap.specs.Sliced.{IsLinked};
 ghost use Rattle.calls.specs.Told.{nothing_told};
 
 use crate::effect::Effect;
-use calls::Reply;
+use calls::{LONGEST_LABEL, Reply};
 use dataspace_core::Memory;
 use region_map::RegionMap;
 use sliced_heap::SlicedHeap;
 use trade_base::DsId;
-
-/// The most bytes of a session's label: four names of 32 bytes and 64 bytes that its client gave, parted by arrows of four.
-pub const LONGEST_LABEL: usize = 208;
 
 /// A service: what a server keeps for each session, and what it answers to a session's requests.
 ///

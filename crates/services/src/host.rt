@@ -12,11 +12,11 @@ ghost use Rattle.server_frame.specs.Lent.{key_of};
 ghost use Rattle.server_frame.specs.Session.{service_step};
 ghost use Rattle.calls.specs.Told.{nothing_told};
 
-use calls::Reply;
+use calls::{LONGEST_LABEL, Reply};
 use dataspace_core::Memory;
 use file_service::FileService;
 use log_service::LogService;
-use server_frame::{Effect, LONGEST_LABEL, Server};
+use server_frame::{Effect, Server};
 use std::alloc::Global;
 use trade_base::{AccountId, Caps, DsId, NoMemory, Ram, Refusal, Service, SessionId};
 

@@ -9,12 +9,12 @@ use Rattle.own_model.specs.Listed.{Binary, ListedEntry}
 use Rattle.own_model.specs.Listed.Binary.{Script, Server, Init}
 use Rattle.trade_base.specs.Service.{served_by_binary}
 use Rattle.trade_base.specs.declared.service.Service.{Service}
-use Rattle.init_core.specs.declared.fault.BootFault.{BootFault}
-use Rattle.init_core.specs.declared.fault.BootFault.TheVariants.{BadConfig, BadJson, DuplicateName, NoMemory, QuotaExceeded, UnknownBinary}
-use Rattle.init_core.specs.declared.fault.Field.{Field}
-use Rattle.init_core.specs.declared.fault.Field.TheVariants as field
-use Rattle.init_core.specs.Entries.{◌>>=◌, Own, Place, SoFar, binary_of, binary_told, config_of, default_route, head_of, if_script, is_taken, new_name, no_binary, object_of, own_of, own_route, own_told, provided, reserve_told, starts_in, value_or}
-use Rattle.init_core.specs.Members.{amount_at, amount_in, is_object, name_at, name_in, whole_at, whole_in}
+use Rattle.start_lists.specs.declared.fault.BootFault.{BootFault}
+use Rattle.start_lists.specs.declared.fault.BootFault.TheVariants.{BadConfig, BadJson, DuplicateName, NoMemory, QuotaExceeded, UnknownBinary}
+use Rattle.start_lists.specs.declared.fault.Field.{Field}
+use Rattle.start_lists.specs.declared.fault.Field.TheVariants as field
+use Rattle.start_lists.specs.Entries.{◌>>=◌, Own, Place, SoFar, binary_of, binary_told, config_of, default_route, head_of, if_script, is_taken, new_name, no_binary, object_of, own_of, own_route, own_told, provided, reserve_told, starts_in, value_or}
+use Rattle.start_lists.specs.Members.{amount_at, amount_in, is_object, name_at, name_in, whole_at, whole_in}
 
 -- ---- one step after another
 

@@ -9,15 +9,15 @@ use Rattle.std.proofs.lemmas.Option.{slice_get_cases}
 use Rattle.serde_json.specs.Data.{Data}
 use Rattle.serde_json.specs.Find.{get}
 use Rattle.own_model.specs.Listed.{Listed}
-use Rattle.init_core.specs.declared.fault.BootFault.{BootFault}
-use Rattle.init_core.specs.declared.fault.BootFault.TheVariants.{BadConfig, BadJson, DuplicateName, NoMemory, QuotaExceeded, UnknownBinary}
-use Rattle.init_core.specs.declared.fault.Field.{Field}
-use Rattle.init_core.specs.declared.fault.Field.TheVariants as field
-use Rattle.init_core.specs.Entries.{◌>>=◌, Head, Misread, Own, Place, Reads, SoFar, all_read, at_entry, deepest, default_route, entries_read, head_of, outermost, own_of, place_within, read_own, read_within, then_read, value_or, with_head}
-use Rattle.init_core.specs.Entries as engine
-use Rattle.init_core.specs.Members.{whole_at}
-use Rattle.init_core.specs.Misread.{entry_at_fault, place_of_fault, starts_of}
-use Rattle.init_core.specs.StartText.{fault_of, list_of, machine_of, object_in}
+use Rattle.start_lists.specs.declared.fault.BootFault.{BootFault}
+use Rattle.start_lists.specs.declared.fault.BootFault.TheVariants.{BadConfig, BadJson, DuplicateName, NoMemory, QuotaExceeded, UnknownBinary}
+use Rattle.start_lists.specs.declared.fault.Field.{Field}
+use Rattle.start_lists.specs.declared.fault.Field.TheVariants as field
+use Rattle.start_lists.specs.Entries.{◌>>=◌, Head, Misread, Own, Place, Reads, SoFar, all_read, at_entry, deepest, default_route, entries_read, head_of, outermost, own_of, place_within, read_own, read_within, then_read, value_or, with_head}
+use Rattle.start_lists.specs.Entries as engine
+use Rattle.start_lists.specs.Members.{whole_at}
+use Rattle.start_lists.specs.Misread.{entry_at_fault, place_of_fault, starts_of}
+use Rattle.start_lists.specs.StartText.{fault_of, list_of, machine_of, object_in}
 use Rattle.start_review.specs.Places.{FaultsHavePlaces, field_of, spot_at, spot_in, spot_of}
 use Rattle.start_review.specs.Values.{EntryValue, found_at, found_in, found_within, runs, starts_in, step_down, with_own}
 use Rattle.start_review.specs.declared.part.Step.{Step}

@@ -9,8 +9,8 @@ use Rattle.trade_base.specs.declared.service.Service.{Service}
 use Rattle.own_model.proofs.ServiceLemmas.{is_named}
 use Rattle.own_model.specs.Listed.{ListedRule, Target}
 use Rattle.own_model.specs.Listed.Target.{Child, AnyChild, Parent}
-use Rattle.init_core.specs.Members.{is_object, is_true, name_in, name_of, text_if_told}
-use Rattle.init_core.specs.Rules.{rule_of, service_asked, target_named}
+use Rattle.start_lists.specs.Members.{is_object, is_true, name_in, name_of, text_if_told}
+use Rattle.start_lists.specs.Rules.{rule_of, service_asked, target_named}
 use Rattle.start_review.specs.RuleFaults.{Bad, FaultsAreTheEngines, member_fault, rule_fault, service_fault, target_fault, text_fault}
 
 -- ---- of one member

@@ -12,14 +12,14 @@ use Rattle.own_model.specs.Listed.{Binary, ListedRule}
 use Rattle.own_model.specs.Listed.Binary.{Script, Server, Init}
 use Rattle.trade_base.specs.Service.{served_by_binary}
 use Rattle.trade_base.specs.declared.service.Service.{Service}
-use Rattle.init_core.specs.declared.fault.BootFault.{BootFault}
-use Rattle.init_core.specs.declared.fault.BootFault.TheVariants.{BadConfig}
-use Rattle.init_core.specs.declared.fault.Field.TheVariants as field
-use Rattle.init_core.specs.Depth.{runs_init}
-use Rattle.init_core.specs.Entries.{◌>>=◌, Head, Own, Place, SoFar, binary_of, binary_told, config_of, default_route, head_of, new_name, no_binary, nothing_own, object_of, own_of, own_route, own_told, provided, reserve_told, value_or}
-use Rattle.init_core.specs.Entries as engine
-use Rattle.init_core.proofs.HeadLemmas.{Gives, gave, new_is, value_ok}
-use Rattle.init_core.specs.Members.{amount_at, at_most_32, elements, is_object, name_at, name_in, name_of, whole_at}
+use Rattle.start_lists.specs.declared.fault.BootFault.{BootFault}
+use Rattle.start_lists.specs.declared.fault.BootFault.TheVariants.{BadConfig}
+use Rattle.start_lists.specs.declared.fault.Field.TheVariants as field
+use Rattle.start_lists.specs.Depth.{runs_init}
+use Rattle.start_lists.specs.Entries.{◌>>=◌, Head, Own, Place, SoFar, binary_of, binary_told, config_of, default_route, head_of, new_name, no_binary, nothing_own, object_of, own_of, own_route, own_told, provided, reserve_told, value_or}
+use Rattle.start_lists.specs.Entries as engine
+use Rattle.start_lists.proofs.HeadLemmas.{Gives, gave, new_is, value_ok}
+use Rattle.start_lists.specs.Members.{amount_at, at_most_32, elements, is_object, name_at, name_in, name_of, whole_at}
 use Rattle.own_model.specs.Text.{is_name}
 use Rattle.start_review.specs.Hiding.{has}
 use Rattle.start_review.specs.Values.{elements_in, runs, starts_in}

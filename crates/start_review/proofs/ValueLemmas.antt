@@ -7,7 +7,7 @@ use Rattle.serde_json.specs.Data.{Data}
 use Rattle.serde_json.specs.Find.{as_array, get}
 use Rattle.serde_json.specs.View.{items_view, view}
 use Rattle.serde_json.specs.declared.value.Value.{Value}
-use Rattle.init_core.proofs.MemberLemmas.{elements_of_items}
+use Rattle.start_lists.proofs.MemberLemmas.{elements_of_items}
 use Rattle.start_review.specs.Values.{EntryValue, elements_in, found_at, found_within, runs, starts_in, step_down, with_own}
 use Rattle.start_review.specs.declared.part.Step.{Step}
 

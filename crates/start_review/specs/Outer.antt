@@ -3,7 +3,7 @@ use Rattle.std.specs.Prelude.{ℕ, ◌+◌, ◌&&◌, ◌||◌, Bool, true, fals
 use Rattle.std.specs.List.{enumerate_from, ends_with, list_all, list_any, starts_with}
 use Rattle.std.specs.Option.{is_some, option_map}
 use Rattle.std.specs.Str.{bytes_eq}
-use Rattle.init_core.specs.Depth.{is_init}
+use Rattle.start_lists.specs.Depth.{is_init}
 use Rattle.own_model.specs.Listed.{Binary, Listed, ListedEntry, ListedRule}
 use Rattle.own_model.specs.Listed.Binary.{Script, Server, Init}
 use Rattle.own_model.specs.SessionArgs.{is_quotable}

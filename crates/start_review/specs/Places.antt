@@ -5,15 +5,15 @@ use Rattle.std.specs.Option.{option_and_then, option_copied, unwrap_or, IsSome}
 use Rattle.std.specs.Result.{result_ok}
 use Rattle.serde_json.specs.Data.{Data}
 use Rattle.serde_json.specs.Find.{get}
-use Rattle.init_core.specs.Boot.{quota_fault}
-use Rattle.init_core.specs.Members.{is_object, short_list}
-use Rattle.init_core.specs.Misread.{entry_at_fault}
-use Rattle.init_core.specs.Rules.{rule_of}
-use Rattle.init_core.specs.StartText.{list_in, list_of}
-use Rattle.init_core.specs.declared.fault.BootFault.{BootFault}
-use Rattle.init_core.specs.declared.fault.BootFault.TheVariants.{BadJson, BadConfig, DuplicateName, UnknownBinary, QuotaExceeded, NoMemory}
-use Rattle.init_core.specs.declared.fault.Field.{Field}
-use Rattle.init_core.specs.declared.fault.Field.TheVariants as field
+use Rattle.start_lists.specs.Quota.{quota_fault}
+use Rattle.start_lists.specs.Members.{is_object, short_list}
+use Rattle.start_lists.specs.Misread.{entry_at_fault}
+use Rattle.start_lists.specs.Rules.{rule_of}
+use Rattle.start_lists.specs.StartText.{list_in, list_of}
+use Rattle.start_lists.specs.declared.fault.BootFault.{BootFault}
+use Rattle.start_lists.specs.declared.fault.BootFault.TheVariants.{BadJson, BadConfig, DuplicateName, UnknownBinary, QuotaExceeded, NoMemory}
+use Rattle.start_lists.specs.declared.fault.Field.{Field}
+use Rattle.start_lists.specs.declared.fault.Field.TheVariants as field
 use Rattle.own_model.specs.Listed.{Listed}
 use Rattle.start_review.specs.Left.{first_lack}
 use Rattle.start_review.specs.RuleFaults.{rule_fault}

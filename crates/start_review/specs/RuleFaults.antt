@@ -3,8 +3,8 @@ use Rattle.std.specs.Prelude.{◌≡◌, ℕ, List, codes, is_some, not, if◌th
 use Rattle.std.specs.Option.{option_or}
 use Rattle.serde_json.specs.Data.{Data}
 use Rattle.serde_json.specs.Find.{get}
-use Rattle.init_core.specs.Members.{is_object, is_true, name_of, text_if_told}
-use Rattle.init_core.specs.Rules.{rule_of}
+use Rattle.start_lists.specs.Members.{is_object, is_true, name_of, text_if_told}
+use Rattle.start_lists.specs.Rules.{rule_of}
 
 -- nothing, or a member, or the whole value
 abbrev pub Bad : Type 0

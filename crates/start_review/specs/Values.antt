@@ -6,8 +6,8 @@ use Rattle.std.specs.Str.{bytes_eq}
 use Rattle.serde_json.specs.Data.{Data}
 use Rattle.serde_json.specs.Find.{as_array, as_str, get}
 use Rattle.serde_json.specs.View.{view}
-use Rattle.init_core.specs.Entries.{deepest}
-use Rattle.init_core.specs.Members.{elements, name_at}
+use Rattle.start_lists.specs.Entries.{deepest}
+use Rattle.start_lists.specs.Members.{elements, name_at}
 use Rattle.start_review.specs.Hiding.{has}
 use Rattle.start_review.specs.declared.part.Step.{Step}
 use Rattle.start_review.specs.declared.values.EntryValue.{EntryValue as SeenValue}

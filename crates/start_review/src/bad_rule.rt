@@ -4,14 +4,14 @@ ghost use Rattle.std.specs.List.{enumerate_from, find};
 ghost use Rattle.std.specs.Option.{option_copied, option_map};
 ghost use Rattle.serde_json.specs.Find.{get};
 ghost use Rattle.serde_json.specs.View.{view};
-ghost use Rattle.init_core.specs.Members.{short_list};
-ghost use Rattle.init_core.specs.Rules.{rule_of};
+ghost use Rattle.start_lists.specs.Members.{short_list};
+ghost use Rattle.start_lists.specs.Rules.{rule_of};
 ghost use Rattle.start_review.specs.Places.{bad_rule};
 ghost use Rattle.start_review.specs.RuleFaults.{FaultsAreTheEngines, name_fault, rule_fault, service_fault, target_fault, text_fault, true_fault};
 
 use crate::flaw::Expected;
-use init_core::Name;
 use serde_json::Value;
+use start_lists::Name;
 
 /// The first value of a short list that is no rule, with its place.
 pub(crate) fn bad_rule(list: Option<&Value>) -> Option<(usize, &Value)>

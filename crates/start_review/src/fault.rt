@@ -1,15 +1,15 @@
 //! Why a start list isn't read, or doesn't boot, and where.
 ghost use Rattle.std.specs.Prelude.{◌≡◌};
-ghost use Rattle.init_core.specs.declared.fault.BootFault.TheVariants.{NoMemory};
+ghost use Rattle.start_lists.specs.declared.fault.BootFault.TheVariants.{NoMemory};
 
 use crate::flaw::Flaw;
 use crate::left::Lack;
 use arrayvec::ArrayString;
-use init_core::BootFault;
 use serde_json::Error;
+use start_lists::BootFault;
 use std::alloc::AllocError;
-use std::fmt;
 use std::fmt::Write;
+use std::fmt;
 
 /// The most bytes of what the reader of JSON tells: its reason, the line and the column.
 const MOST_TOLD: usize = 80;

@@ -4,7 +4,7 @@ ghost use Rattle.std.specs.Prelude.{◌≡◌, IfOk};
 use crate::asked::Asked;
 use crate::part::Part;
 use crate::quoted::{Quoted, show_within};
-use init_core::Name;
+use start_lists::Name;
 use std::alloc::{AllocError, Global};
 use std::fmt;
 use std::marker::Model;

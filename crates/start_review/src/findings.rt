@@ -18,7 +18,7 @@ use crate::reached::{is_led_to, leads_somewhere};
 use crate::strays::tell_target;
 use crate::views::{View, views_of};
 use crate::wishes::before;
-use init_core::{Binary, Entry, Rule, StartList};
+use start_lists::{Binary, Entry, Rule, StartList};
 use std::alloc::{AllocError, Global};
 use trade_base::Service;
 

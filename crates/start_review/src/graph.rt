@@ -2,7 +2,7 @@
 use crate::leads::{Decided, all_decided, show_denied};
 use crate::left::{Inits, kept, left_of};
 use crate::tree::{Amount, show_kept, show_reserve};
-use init_core::{Binary, Entry, StartList};
+use start_lists::{Binary, Entry, StartList};
 use std::alloc::{AllocError, Global};
 use std::fmt;
 

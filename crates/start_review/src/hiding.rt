@@ -5,7 +5,7 @@ ghost use Rattle.std.specs.Option.{is_none, option_copied};
 ghost use Rattle.std.specs.Str.{bytes_eq};
 ghost use Rattle.start_review.specs.Hiding.{asks_service, covers, covers_labels, covers_prefix, covers_suffix, decides_some, has, hides, is_decided_before, HiddenNeverDecide};
 
-use init_core::{Name, Rule};
+use start_lists::{Name, Rule};
 
 /// Whether a rule asks for a service.
 pub(crate) fn asks_service(rule: &Rule, service: &[u8]) -> bool

@@ -8,7 +8,7 @@ ghost use Rattle.start_review.specs.Views.{ShowAll, ViewOf};
 
 use crate::part::Owner;
 use crate::views::View;
-use init_core::{Entry, StartList};
+use start_lists::{Entry, StartList};
 
 /// Whether the rule at a place of an owner's list decides nothing: for no script, no service that a rule asks for nor any other,
 /// and no label.

@@ -3,8 +3,9 @@ ghost use Rattle.std.specs.Prelude.{◌<◌, length};
 
 use crate::quoted::Quoted;
 use crate::wishes::{init_entry, is_parent, rules_of};
-use init_core::{Binary, Entry, MOST_LISTS, Rule, StartList};
 use reach::{Label, Trail, Trails, Wishes};
+use routes::MOST_LISTS;
+use start_lists::{Binary, Entry, Rule, StartList};
 use std::alloc::{AllocError, Global};
 use std::fmt;
 use trade_base::SERVICES;

@@ -4,14 +4,14 @@ ghost use Rattle.std.specs.Option.{is_some, option_map};
 ghost use Rattle.own_model.specs.Account.{parted_with, shortage};
 ghost use Rattle.own_model.specs.Listed.{start_list_of, start_of};
 ghost use Rattle.own_model.specs.StartList.{init_account, init_at, inits_kept, machine_account, no_account, with_started};
-ghost use Rattle.init_core.specs.Boot.{quota_fault};
-ghost use Rattle.init_core.specs.declared.fault.BootFault.TheVariants.{QuotaExceeded};
+ghost use Rattle.start_lists.specs.Quota.{quota_fault};
+ghost use Rattle.start_lists.specs.declared.fault.BootFault.TheVariants.{QuotaExceeded};
 ghost use Rattle.start_review.specs.Left.{budget_of, first_lack, lack_of};
 
 use crate::asked::Asked;
 use crate::part::{Steps, steps_to};
 use arrayvec::ArrayVec;
-use init_core::{Entry, Path, StartList};
+use start_lists::{Entry, Path, StartList};
 use std::alloc::{AllocError, Global};
 use std::fmt;
 use std::marker::Model;

@@ -5,7 +5,7 @@ ghost use Rattle.start_review.specs.Findings.{case_of, other_case};
 ghost use Rattle.start_review.specs.Near.{is_away, names_in, nearest};
 
 use crate::finding::{Known, Remark};
-use init_core::{Entry, Name};
+use start_lists::{Entry, Name};
 use std::alloc::{AllocError, Global};
 use strsim::levenshtein;
 use trade_base::{SERVICES, Service};

@@ -3,14 +3,14 @@ ghost use Rattle.std.specs.Prelude.{◌≡◌, ◌+◌, drop, find, length, nat_
 ghost use Rattle.std.specs.List.{ends_with, list_all, list_any, starts_with};
 ghost use Rattle.std.specs.Option.{option_copied, option_map};
 ghost use Rattle.own_model.specs.SessionArgs.{is_quotable};
-ghost use Rattle.init_core.specs.View.{model_binary};
+ghost use Rattle.start_lists.specs.View.{model_binary};
 ghost use Rattle.start_review.specs.Hiding.{has};
 ghost use Rattle.start_review.specs.Outer.{chosen_end, has_arrow, is_asked_by, is_below, is_let_in, is_named, is_no_label, is_server, let_in_by, most_seen, names_from, no_label_in, outer_init, why_idle, wide_front};
 
 use crate::finding::{Known, Remark, Written};
 use crate::idle::is_of;
 use crate::part::Owner;
-use init_core::{Binary, Entry, Rule, StartList};
+use start_lists::{Binary, Entry, Rule, StartList};
 use std::alloc::{AllocError, Global};
 use text_codec::is_quotable;
 

@@ -4,7 +4,8 @@ ghost use Rattle.std.specs.List.{slice_get};
 ghost use Rattle.start_review.specs.Steps.{part_of, place_in, rule_at, rule_part, steps_above, steps_to, steps_within};
 
 use crate::quoted::show_within;
-use init_core::{Entry, MOST_LISTS, Name, StartList};
+use routes::MOST_LISTS;
+use start_lists::{Entry, Name, StartList};
 use std::alloc::{AllocError, Global};
 use std::fmt;
 use std::marker::Model;

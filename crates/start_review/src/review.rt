@@ -2,9 +2,9 @@
 ghost use Rattle.std.specs.Prelude.{◌≡◌, ◌≢◌, ◌++◌, Err, IfErr, IfOk, None, Ok, Some};
 ghost use Rattle.std.specs.Option.{option_map};
 ghost use Rattle.serde_json.specs.View.{view};
-ghost use Rattle.init_core.specs.Boot.{quota_fault};
-ghost use Rattle.init_core.specs.StartText.{json_in, list_in, list_of};
-ghost use Rattle.init_core.specs.declared.fault.BootFault.TheVariants.{BadJson, NoMemory};
+ghost use Rattle.start_lists.specs.Quota.{quota_fault};
+ghost use Rattle.start_lists.specs.StartText.{json_in, list_in, list_of};
+ghost use Rattle.start_lists.specs.declared.fault.BootFault.TheVariants.{BadJson, NoMemory};
 ghost use Rattle.start_review.specs.Findings.{findings_of};
 ghost use Rattle.start_review.specs.Places.{IsPlaced, fault_in, fault_of};
 ghost use Rattle.start_review.specs.Repeated.{repeated_in};
@@ -21,8 +21,8 @@ use crate::repeated::tell_repeated;
 use crate::spare::{Advice, Spare, spare_of};
 use crate::tree::Tree;
 use crate::unread::tell_unread;
-use init_core::{BootFault, Field, StartList};
 use serde_json::Value;
+use start_lists::{BootFault, Field, StartList};
 use std::alloc::{AllocError, Global};
 
 /// The most bytes of a start list's text.

@@ -1,7 +1,7 @@
 //! Rules that lead to no child: which isn't there, or doesn't provide what it is asked for.
 ghost use Rattle.std.specs.Prelude.{◌≡◌, ◌++◌, IfOk, OnOk, None};
 ghost use Rattle.trade_base.specs.Service.{service_name};
-ghost use Rattle.init_core.specs.View.{model_target};
+ghost use Rattle.start_lists.specs.View.{model_target};
 ghost use Rattle.start_review.specs.Findings.{has_name, misled, no_child, stray_findings, strays, strays_if_provided, target_findings};
 ghost use Rattle.start_review.specs.Steps.{part_of};
 
@@ -11,7 +11,8 @@ use crate::hiding::decides_some;
 use crate::near::near_name;
 use crate::part::About;
 use crate::wishes::is_provided;
-use init_core::{Entry, Name, Rule, StartList, Target, target_child};
+use routes::target_child;
+use start_lists::{Entry, Name, Rule, StartList, Target};
 use std::alloc::{AllocError, Global};
 use trade_base::{SERVICES, Service};
 

@@ -1,7 +1,7 @@
 //! The components of a start list, and where their wishes for sessions lead, as text.
 use crate::leads::{Decided, all_decided, show_indent};
 use crate::left::{Inits, kept, left_of};
-use init_core::{Entry, StartList};
+use start_lists::{Entry, StartList};
 use std::alloc::{AllocError, Global};
 use std::fmt;
 

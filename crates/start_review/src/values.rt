@@ -3,13 +3,13 @@ ghost use Rattle.std.specs.Prelude.{◌≡◌, ◌∷◌, ◌++◌, [], codes, m
 ghost use Rattle.std.specs.Option.{option_and_then, option_copied, option_map};
 ghost use Rattle.serde_json.specs.Find.{as_array, as_str, get};
 ghost use Rattle.serde_json.specs.View.{items_view, view};
-ghost use Rattle.init_core.specs.Entries.{deepest};
-ghost use Rattle.init_core.specs.Members.{name_at};
+ghost use Rattle.start_lists.specs.Entries.{deepest};
+ghost use Rattle.start_lists.specs.Members.{name_at};
 ghost use Rattle.start_review.specs.Values.{elements_in, found_at, found_in, found_within, runs, seen, starts_in, step_down};
 
 use crate::part::{Step, Steps};
-use init_core::Name;
 use serde_json::Value;
+use start_lists::Name;
 use std::alloc::{AllocError, Global};
 
 /// How deep inits nest below the machine's.

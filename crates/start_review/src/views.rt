@@ -7,8 +7,8 @@ ghost use Rattle.start_review.specs.Views.{IsShown, ShowAll, Shows, asking_by, a
 
 use crate::finding::Written;
 use crate::wishes::is_script;
-use init_core::{Entry, Name, Rule, StartList};
 use reach::{Trails, Wishes};
+use start_lists::{Entry, Name, Rule, StartList};
 use std::alloc::{AllocError, Global};
 use std::marker::Model;
 use trade_base::SERVICES;

@@ -2,10 +2,10 @@
 ghost use Rattle.std.specs.Prelude.{◌≡◌, take};
 ghost use Rattle.std.specs.Option.{option_copied};
 ghost use Rattle.own_model.specs.Listed.{init_entry, rules_for};
-ghost use Rattle.init_core.specs.View.{model_binary, model_target};
+ghost use Rattle.start_lists.specs.View.{model_binary, model_target};
 ghost use Rattle.start_review.specs.Wishes.{is_parent, is_provided, is_script};
 
-use init_core::{Binary, Entry, Rule, StartList, Target};
+use start_lists::{Binary, Entry, Rule, StartList, Target};
 
 /// Whether some entry of an init's list provides a service.
 pub(crate) fn is_provided(list: &StartList, init: usize, service: &[u8]) -> bool

@@ -10,7 +10,7 @@ use Rattle.own_model.specs.Listed.{Binary, Listed, ListedEntry, kind_of, start_l
 use Rattle.own_model.specs.Listed.Binary.{Script, Server, Init}
 use Rattle.own_model.specs.StartList.{Entry, StartEntry, entries_of}
 use Rattle.own_model.specs.Transcript.{entry_at, heard_call, heard_of, heard_spoken, nobody}
-use Rattle.init_core.specs.Depth.{is_init, runs_init}
+use Rattle.start_lists.specs.Depth.{is_init, runs_init}
 use Rattle.workbench.specs.Said.{heard_as}
 
 -- an init makes no calls

@@ -7,7 +7,7 @@ use Rattle.own_model.specs.Listed.{Listed, start_list_of}
 use Rattle.own_model.specs.StartList.{Boots}
 use Rattle.own_model.specs.Text.{lines_of}
 use Rattle.own_model.specs.World.{World}
-use Rattle.init_core.specs.StartText.{list_in}
+use Rattle.start_lists.specs.StartText.{list_in}
 use Rattle.scenario_lines.specs.Gathered.{Tells, TellsPart}
 use Rattle.scenario_lines.specs.Lines.{AreReadable, longest_read}
 use Rattle.scenario_lines.specs.Machine.{world_of}

@@ -1,6 +1,6 @@
 -- The exit status of a play.
 use Rattle.std.specs.Prelude.{ℕ, nat_lt, is_some, if◌then◌else◌, Result, Ok, Err}
-use Rattle.init_core.specs.declared.fault.BootFault.{BootFault}
+use Rattle.start_lists.specs.declared.fault.BootFault.{BootFault}
 use Rattle.workbench.specs.declared.ending.Ending.{Ending}
 
 -- a fault of the run comes before any complaint

@@ -3,7 +3,7 @@ ghost use Rattle.std.specs.Io.KnownBytes.{Appends};
 ghost use Rattle.std.specs.Prelude.{◌≡◌, ◌≢◌, ◌≤◌, ◌||◌, [], false, true, IfNone, IfOk, IfErr, IfSome, OnErr, OnOk, None, Some};
 ghost use Rattle.own_model.specs.Listed.{start_list_of};
 ghost use Rattle.own_model.specs.StartList.{entries_of};
-ghost use Rattle.init_core.specs.declared.fault.BootFault.TheVariants.{NoMemory};
+ghost use Rattle.start_lists.specs.declared.fault.BootFault.TheVariants.{NoMemory};
 ghost use Rattle.scenario_lines.specs.Machine.{boot_fault};
 ghost use Rattle.scenario_lines.specs.Causes.{HasCause, AppendsPart, is_write_fault as is_writing};
 ghost use Rattle.scenario_lines.specs.Faults.{is_write_fault};
@@ -24,9 +24,10 @@ use crate::needs::Needs;
 use crate::notes::Notes;
 use crate::peaks::Peaks;
 use crate::playing::play as play_lines;
-use init_core::{BootFault, StartList, boot};
+use init_core::boot;
 use pd_core::{Core, Router};
 use scenario_lines::{MAX_LINES, PlayFault, Run, RunFault, Sink, Source, write_columns};
+use start_lists::{BootFault, StartList};
 use std::alloc::Global;
 
 /// Plays a scenario, and then writes the account list: the account of the machine's init, those of the components with their

@@ -9,9 +9,9 @@ use crate::peaks::Peaks;
 use crate::text::{add, add_number};
 use crate::watch::{Heard, Watch};
 use arrayvec::ArrayVec;
-use init_core::StartList;
 use pd_core::{Core, Router};
 use scenario_lines::{Columns, DeviceFault, Gather, Owner, PlayFault, Sink};
+use start_lists::StartList;
 
 /// Room for what an account needs.
 const LONGEST_NEED: usize = 80;

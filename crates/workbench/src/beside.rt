@@ -4,7 +4,7 @@ ghost use Rattle.std.specs.Option.{option_map_or};
 ghost use Rattle.std.specs.Result.{result_err};
 ghost use Rattle.own_model.specs.Listed.{start_list_of};
 ghost use Rattle.own_model.specs.StartList.{entries_of};
-ghost use Rattle.init_core.specs.declared.fault.BootFault.TheVariants.{NoMemory};
+ghost use Rattle.start_lists.specs.declared.fault.BootFault.TheVariants.{NoMemory};
 ghost use Rattle.scenario_lines.specs.Answer.{answer_text};
 ghost use Rattle.scenario_lines.specs.Gathered.{TellsUnless};
 ghost use Rattle.scenario_lines.specs.Machine.{boot_fault};
@@ -28,9 +28,11 @@ use crate::text::{add, add_number, put_number, put_three};
 use crate::texts::{put_text_behind, shown_in};
 use crate::watch::{Heard, Watch};
 use arrayvec::ArrayVec;
-use init_core::{BootFault, StartList, boot};
-use pd_core::{Core, Reply, Router};
+use calls::Reply;
+use init_core::boot;
+use pd_core::{Core, Router};
 use scenario_lines::{DeviceFault, Gather, LineAnswer, MAX_LINES, PlayFault, Run, Sink, Source};
+use start_lists::{BootFault, StartList};
 use std::alloc::Global;
 
 /// Room for a number with the words behind it.

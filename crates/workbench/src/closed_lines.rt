@@ -14,8 +14,8 @@ use crate::needs::Figure;
 use crate::peak_columns::{name_at, put_session as put_noted};
 use crate::peaks::Session;
 use crate::text::{put_number, put_three};
-use init_core::StartList;
 use scenario_lines::{DeviceFault, Gather, RunFault, Sink};
+use start_lists::StartList;
 
 /// Writes the lines of sessions that were closed. A write that fails leaves a part of them.
 pub(crate) fn write_closed<K: Sink>(

@@ -13,9 +13,9 @@ use crate::expected::Expected;
 use crate::given::{Asked, Given};
 use crate::near::near_component;
 use friendly_lines::{Fault, end_of, is_passed, meets};
-use init_core::StartList;
 use scenario_lines::{LineAnswer, PlayFault, Sink};
 use scenario_names::{Known, Misplaced, NameFault};
+use start_lists::StartList;
 use std::alloc::Global;
 use trade_base::Refusal;
 

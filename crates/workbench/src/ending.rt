@@ -2,8 +2,8 @@
 ghost use Rattle.std.specs.Prelude.{◌≡◌};
 ghost use Rattle.workbench.specs.Ending.{status_of};
 
-use init_core::BootFault;
 use scenario_lines::PlayFault;
+use start_lists::BootFault;
 
 /// How a play ended.
 #[derive(Clone, Copy, Debug, PartialEq, Eq)]

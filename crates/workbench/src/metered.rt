@@ -4,7 +4,8 @@ ghost use Rattle.workbench.specs.Meters.{needed_of_session};
 
 use crate::peaks::{Peaks, Session};
 use budget_meter::{Budget, SessionMeter};
-use pd_core::{Call, Core, Router};
+use calls::Call;
+use pd_core::{Core, Router};
 use std::alloc::{AllocError, Global};
 use std::mem;
 use trade_base::read_number;

@@ -3,7 +3,7 @@ ghost use Rattle.std.specs.Prelude.{◌≡◌, true, IfSome};
 ghost use Rattle.friendly_lines.specs.Forms.{is_one_edit};
 
 use friendly_lines::is_one_edit;
-use init_core::StartList;
+use start_lists::StartList;
 
 /// The component that may be meant by a name that none has: the first of the list, but for inits, to whose path one byte more,
 /// less or other leads.

@@ -24,9 +24,10 @@ use crate::peaks::Peaks;
 use crate::text::made_in;
 use crate::watch::Heard;
 use budget_meter::{AccountMeter, Budget};
-use init_core::{Binary, Entry, StartList};
-use pd_core::{Call, Core, Quotas, Router};
+use calls::{Call, Quotas};
+use pd_core::{Core, Router};
 use scenario_lines::Owner;
+use start_lists::{Binary, Entry, StartList};
 use std::alloc::{AllocError, Global};
 
 /// What an account needs, and whether its component has exited.

@@ -4,8 +4,8 @@ ghost use Rattle.workbench.specs.Turns.{first_with};
 
 use crate::critic::Critic;
 use crate::stand::Stand;
+use calls::Reply;
 use friendly_lines::Line;
-use pd_core::Reply;
 use scenario_names::Known;
 use std::alloc::Global;
 use trade_base::NoMemory;

@@ -9,8 +9,8 @@ ghost use Rattle.workbench.specs.PeakList.{name_at, noted_text, peak_text, serve
 use crate::peaks::{Peak, Peaks, Session};
 use crate::text::{add, put_three};
 use arrayvec::ArrayVec;
-use init_core::StartList;
 use scenario_lines::{Columns, DeviceFault, Gather, Owner, Sink, add_amounts};
+use start_lists::StartList;
 
 /// Room for a peak.
 const LONGEST_PEAK: usize = 60;

@@ -13,10 +13,12 @@ ghost use Rattle.workbench.specs.Peaks.{session_at};
 
 use crate::text::{caller_of, said_in};
 use crate::watch::{Heard, Watch};
-use init_core::{StartList, route};
-use pd_core::{Call, Core, Quotas, Router};
+use calls::{Call, Quotas};
+use pd_core::{Core, Router};
+use routes::route;
 use scenario_lines::{Gather, NamedCall, PlayFault, Sink};
 use session_proto::SessionArgs;
+use start_lists::StartList;
 use std::alloc::{AllocError, Global};
 use std::mem;
 use trade_base::{Caps, Ram};

@@ -8,7 +8,7 @@ ghost use Rattle.workbench.specs.Tracing.{account_cells, cell_text};
 
 use crate::text::{add, add_number};
 use arrayvec::ArrayVec;
-use pd_core::Quotas;
+use calls::Quotas;
 use scenario_lines::{DeviceFault, Gather, Sink};
 
 /// Gathers a cell more with a text, in quotes where it needs them.

@@ -12,10 +12,10 @@ ghost use Rattle.call_lines.specs.Read.{IsReadAs};
 ghost use Rattle.workbench.specs.Said.{heard_as, said_in};
 
 use arrayvec::ArrayVec;
-use init_core::StartList;
+use calls::Call;
 use itoa::{Buffer, Integer};
-use pd_core::Call;
 use scenario_lines::{DeviceFault, Gather, NamedCall, Sink};
+use start_lists::StartList;
 
 /// Gathers a number in decimal digits.
 pub(crate) fn put_number<I: Integer, K: Sink>(

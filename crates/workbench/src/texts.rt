@@ -10,7 +10,7 @@ ghost use Rattle.workbench.specs.Tracing.{cell_text};
 
 use crate::shown::Shown;
 use crate::text::said_in;
-use pd_core::Call;
+use calls::Call;
 use scenario_lines::{DeviceFault, Gather, NamedCall, Sink};
 use session_proto::{FileRequest, LogRequest};
 

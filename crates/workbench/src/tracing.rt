@@ -7,7 +7,7 @@ ghost use Rattle.own_model.specs.Listed.{start_list_of};
 ghost use Rattle.own_model.specs.StartList.{entries_of};
 ghost use Rattle.own_model.specs.Text.{hex_bytes};
 ghost use Rattle.own_model.specs.Transcript.{heard, heard_spoken, state_at};
-ghost use Rattle.init_core.specs.declared.fault.BootFault.TheVariants.{NoMemory};
+ghost use Rattle.start_lists.specs.declared.fault.BootFault.TheVariants.{NoMemory};
 ghost use Rattle.calls.specs.Call.{model_call};
 ghost use Rattle.scenario_lines.specs.Gathered.{TellsUnless};
 ghost use Rattle.scenario_lines.specs.Machine.{boot_fault};
@@ -33,9 +33,11 @@ use crate::text::{add, caller_of, put_number, said_in};
 use crate::texts::{put_text_cell, shown_in};
 use crate::watch::{Heard, Watch};
 use arrayvec::ArrayVec;
-use init_core::{BootFault, StartList, boot};
-use pd_core::{Call, Core, Router};
+use calls::Call;
+use init_core::boot;
+use pd_core::{Core, Router};
 use scenario_lines::{DeviceFault, Gather, MAX_LINES, NamedCall, PlayFault, Run, Sink, Source};
+use start_lists::{BootFault, StartList};
 use std::alloc::Global;
 
 /// The names of the columns.

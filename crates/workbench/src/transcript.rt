@@ -4,7 +4,7 @@ ghost use Rattle.std.specs.Option.{option_copied};
 ghost use Rattle.own_model.specs.AccountList.{account_list_text};
 ghost use Rattle.own_model.specs.Listed.{start_list_of};
 ghost use Rattle.own_model.specs.StartList.{entries_of};
-ghost use Rattle.init_core.specs.declared.fault.BootFault.TheVariants.{NoMemory};
+ghost use Rattle.start_lists.specs.declared.fault.BootFault.TheVariants.{NoMemory};
 ghost use Rattle.scenario_lines.specs.Answer.{answer_text};
 ghost use Rattle.scenario_lines.specs.Gathered.{TellsUnless};
 ghost use Rattle.scenario_lines.specs.Machine.{boot_fault};
@@ -22,7 +22,8 @@ use crate::notes::Notes;
 use crate::playing::play as play_lines;
 use crate::text::put_number;
 use crate::watch::{Heard, Watch};
-use init_core::{BootFault, StartList, boot};
+use init_core::boot;
+use start_lists::{BootFault, StartList};
 use pd_core::{Core, Router};
 use scenario_lines::{
     DeviceFault, Gather, MAX_LINES, PlayFault, Run, Sink, Source, write_accounts,

@@ -27,11 +27,12 @@ use crate::given::{Asked, Given};
 use crate::notes::{Desk, Tools};
 use crate::stand::{Stand, learn};
 use crate::watch::{Heard, Watch};
+use calls::Reply;
 use friendly_lines::{Said, plain_call, read_friendly};
-use init_core::StartList;
-use pd_core::{Core, Reply, Router};
+use pd_core::{Core, Router};
 use scenario_lines::{Gather, LONGEST_LINE, LineAnswer, NamedCall, PlayFault, Run, Sink};
 use scenario_names::{Directive, Filled, Known, directive_of, fill};
+use start_lists::StartList;
 
 /// Plays a line that isn't too long, and tells whether there was a complaint. Most are calls as they stand.
 pub(crate) fn play_line<R: Router + Drop, W: Watch, K: Sink, E: Sink>(

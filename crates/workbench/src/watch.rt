@@ -8,9 +8,9 @@ ghost use Rattle.call_lines.specs.Read.{IsReadAs};
 ghost use Rattle.scenario_lines.specs.Faults.{Fails};
 ghost use Rattle.workbench.specs.Watching.{IsToldOf};
 
-use init_core::StartList;
 use pd_core::{Core, Router};
 use scenario_lines::{Gather, LineAnswer, NamedCall, PlayFault, Sink};
+use start_lists::StartList;
 
 /// A call that was answered.
 #[derive(Clone, Copy, Debug)]

@@ -1,7 +1,7 @@
 -- The account's line is told, and then that of the reserve or nothing.
 use Rattle.own_model.specs.Transcript.{state_at}
 use Rattle.own_model.specs.World.{account_at}
-use Rattle.pd_core.specs.Answer.{reserve_amounts}
+use Rattle.calls.specs.Quotas.{reserve_amounts}
 use Rattle.scenario_lines.specs.Accounts.{listed_at}
 use Rattle.scenario_lines.proofs.AccountLemmas.{entries_within, told_as, told_by, told_first}
 use Rattle.scenario_lines.proofs.ComponentLines.{account_first, listed_gives, listed_name, reserve_then, reserve_untold}

@@ -1,6 +1,6 @@
 use Rattle.std.proofs.Common.{is_some, not, sym, ◌∙◌}
 use Rattle.serde_json.specs.View.{view}
-use Rattle.init_core.specs.Rules.{rule_of}
+use Rattle.start_lists.specs.Rules.{rule_of}
 use Rattle.start_review.proofs.ValueLemmas.{found_here, found_later}
 use Rattle.start_review.proofs.bad_rule.first_bad_rule.Goals as goal
 

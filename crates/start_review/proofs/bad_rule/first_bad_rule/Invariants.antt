@@ -1,7 +1,7 @@
 use Rattle.std.proofs.Common.{◌≡◌, drop, map, is_some, not}
 use Rattle.std.specs.List.{enumerate_from, find}
 use Rattle.serde_json.specs.View.{view}
-use Rattle.init_core.specs.Rules.{rule_of}
+use Rattle.start_lists.specs.Rules.{rule_of}
 use Rattle.start_review.proofs.bad_rule.first_bad_rule.Given as goal
 
 abbrev pub invariant-loop-place : goal.invariant-loop-place

@@ -2,7 +2,7 @@ use Rattle.std.proofs.Common.{map, ap, ◌∙◌, arith}
 use Rattle.std.specs.Prelude.{Some}
 use Rattle.std.proofs.Math.ListN.{length-map}
 use Rattle.serde_json.specs.View.{view}
-use Rattle.init_core.proofs.MemberLemmas.{short_list-read, short_list-refused}
+use Rattle.start_lists.proofs.MemberLemmas.{short_list-read, short_list-refused}
 use Rattle.start_review.proofs.bad_rule.short_list.Goals as goal
 
 pub returns-then-len-le32 : goal.returns-then-len-le32

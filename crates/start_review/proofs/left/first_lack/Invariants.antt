@@ -1,7 +1,7 @@
 use Rattle.std.proofs.Common.{◌≡◌, ◌+◌, drop, length, map}
 use Rattle.own_model.specs.Listed.{start_of, start_list_of}
 use Rattle.own_model.specs.StartList.{inits_at_first}
-use Rattle.init_core.specs.Boot.{first_uncovered}
+use Rattle.start_lists.specs.Quota.{first_uncovered}
 use Rattle.start_review.specs.Left.{first_lack, lack_from}
 use Rattle.start_review.proofs.left.first_lack.Given as goal
 

@@ -1,4 +1,4 @@
-use Rattle.init_core.proofs.JsonLemmas.{json_in-text, json_in-none}
+use Rattle.start_lists.proofs.JsonLemmas.{json_in-text, json_in-none}
 use Rattle.start_review.proofs.review.read_json.Goals as goal
 
 pub returns-in-Ok-clause-ok : goal.returns-in-Ok-clause-ok

@@ -1,6 +1,0 @@
--- Entry by entry, of an init that is there and of one that starts later.
-use Rattle.init_core.proofs.GivenLemmas.{inits_give_their_own}
-use Rattle.init_core.proofs.laws.inits_give_their_own.Goals as goal
-
-pub returns : goal.returns
-returns c = inits_give_their_own

@@ -1,6 +1,0 @@
--- The text is read by computing.
-use Rattle.init_core.proofs.MachineLemmas.{text_is_read}
-use Rattle.init_core.proofs.machine_a.machine_a_is_read.Goals as goal
-
-pub returns : goal.returns
-returns c = text_is_read

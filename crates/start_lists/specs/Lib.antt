@@ -1,0 +1,11 @@
+pub mod Finder
+pub mod Members
+pub mod Rules
+pub mod Entries
+pub mod Depth
+pub mod StartText
+pub mod View
+pub mod Range
+pub mod Quota
+pub mod Misread
+pub mod ListLaws

@@ -1,0 +1,29 @@
+-- Where the fault of a value that is no start list is.
+use Rattle.std.specs.Prelude.{ℕ, List, codes, Option, Some, None, Result, Ok, Err}
+use Rattle.std.specs.Option.{option_and_then}
+use Rattle.std.specs.Result.{result_ok}
+use Rattle.serde_json.specs.Data.{Data}
+use Rattle.start_lists.specs.declared.fault.BootFault.{BootFault}
+use Rattle.start_lists.specs.declared.fault.BootFault.TheVariants.{BadConfig}
+use Rattle.start_lists.specs.declared.fault.Field.TheVariants as field
+use Rattle.start_lists.specs.Entries.{◌>>=◌, Misread, SoFar, entries_read, own_of, value_or}
+use Rattle.start_lists.specs.Members.{whole_at}
+use Rattle.start_lists.specs.StartText.{machine_of}
+
+-- the values of the entries, where nothing before them has a fault
+abbrev pub starts_of : Data → Result (List Data) BootFault
+starts_of d = do
+  machine ← machine_of d
+  pages ← value_or (BadConfig field.Pages) (whole_at (codes "pages") 16 4096 machine)
+  caps ← value_or (BadConfig field.Caps) (whole_at (codes "caps") 16 4096 machine)
+  own ← own_of 0 d
+  Ok own.starts
+
+-- of the how manieth entry of all lists the fault is, an init counting before its own
+abbrev pub place_of_fault : Result SoFar Misread → Option ℕ
+place_of_fault (Ok so_far) = None
+place_of_fault (Err misread) = Some misread.entry
+
+-- the same of the entry whose fault is told, if it is an entry's
+abbrev pub entry_at_fault : Data → Option ℕ
+entry_at_fault d = option_and_then (λ starts. place_of_fault (entries_read starts)) (result_ok (starts_of d))

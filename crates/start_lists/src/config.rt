@@ -1,0 +1,102 @@
+//! What a list of entries is told by: the machine's by two members of the text, and an init's by the same of its entry's `config`.
+ghost use Rattle.std.specs.Prelude.{◌≡◌, ◌≢◌, ◌+◌, ◌<◌, ◌≤◌, true, length, map, IfOk, IfErr, IfSome, Ok, Err, Some, None};
+ghost use Rattle.std.specs.Option.{option_map};
+ghost use Rattle.serde_json.specs.View.{view};
+ghost use Rattle.start_lists.specs.Depth.{runs_init};
+ghost use Rattle.start_lists.specs.Entries.{config_of, default_route, own_of, own_told, starts_in};
+ghost use Rattle.start_lists.specs.View.{model_binary, model_own};
+ghost use Rattle.start_lists.specs.declared.fault.BootFault.TheVariants.{NoMemory, BadConfig};
+
+use crate::entry::Binary;
+use crate::fault::{BootFault, Field};
+use crate::member::short_list;
+use crate::rule::{Rule, read_rules};
+use serde_json::Value;
+use std::alloc::Global;
+
+/// The most entries of all lists together.
+const MOST_ENTRIES: usize = 32;
+
+/// The default route of a list, and the values of its entries.
+#[derive(Drop)]
+pub(crate) struct Own<'v> {
+    pub(crate) route: Vec<Rule>,
+    pub(crate) starts: &'v [Value],
+}
+
+/// What an entry of a binary starts, which is nothing unless it is an init. There may be such a list where inits may nest deeper.
+pub(crate) fn read_config<'v>(
+    alloc: Global,
+    binary: Binary,
+    deeper: bool,
+    met: usize,
+    member: Option<&'v Value>,
+) -> Result<Own<'v>, BootFault>
+    requires { met ≤ 32 }
+    ensures ok { IfOk result (λ own. own_told (model_binary binary) deeper met
+        (option_map (λ value. view value.now) member.entry) ≡ Ok (model_own own)) }
+    ensures err { IfErr result
+        (λ fault. fault ≢ NoMemory → own_told (model_binary binary) deeper met
+        (option_map (λ value. view value.now) member.entry) ≡ Err fault) }
+    ensures few { IfOk result (λ own. met + length own.starts.now ≤ 32) }
+    ensures some { IfOk result (λ own. 0 < length own.starts.now
+        → (deeper ≡ true) × (runs_init (model_binary binary) ≡ true)) }
+{
+    if binary != Binary::Init {
+        return Ok(Own {
+            route: Vec::new(alloc),
+            starts: &[],
+        });
+    }
+    match member {
+        Some(config) if deeper && config.is_object() => read_own(alloc, met, config),
+        _ => Err(BootFault::BadConfig(Field::Config)),
+    }
+}
+
+/// What two members of an object start, where the lists that were met have so many entries together.
+pub(crate) fn read_own(alloc: Global, met: usize, object: &Value) -> Result<Own<'_>, BootFault>
+    requires { met ≤ 32 }
+    ensures ok { IfOk result (λ own. own_of met (view object.now) ≡ Ok (model_own own)) }
+    ensures err { IfErr result
+        (λ fault. fault ≢ NoMemory → own_of met (view object.now) ≡ Err fault) }
+    ensures few { IfOk result (λ own. met + length own.starts.now ≤ 32) }
+{
+    let route = read_default_route(alloc, object.get("default-route"))?;
+    let starts = starts_in(met, object.get("start")).ok_or(BootFault::BadConfig(Field::Start))?;
+    Ok(Own { route, starts })
+}
+
+/// The values of a list's entries. It is `None` where there are none, or too many for those of all lists that were met.
+fn starts_in(met: usize, member: Option<&Value>) -> Option<&[Value]>
+    requires { met ≤ 32 }
+    ensures value { option_map (λ starts. map view starts.now) result
+        ≡ starts_in met (option_map (λ value. view value.now) member.entry) }
+    ensures few { IfSome result (λ starts. met + length starts.now ≤ 32) }
+{
+    let starts = short_list(member?)?;
+    if met + starts.len() <= MOST_ENTRIES {
+        Some(starts.as_slice())
+    } else {
+        None
+    }
+}
+
+/// The rules for those without a route of their own: none without the member.
+fn read_default_route(alloc: Global, member: Option<&Value>) -> Result<Vec<Rule>, BootFault>
+    ensures ok { IfOk result
+        (λ rules. default_route (option_map (λ value. view value.now) member.entry)
+        ≡ Some rules.items) }
+    ensures refused { IfErr result
+        (λ fault. fault ≢ NoMemory → fault ≡ BadConfig Field.DefaultRoute) }
+    ensures none { IfErr result (λ fault. fault ≢ NoMemory
+        → default_route (option_map (λ value. view value.now) member.entry) ≡ None) }
+{
+    match member {
+        Some(value) => match read_rules(alloc, value)? {
+            Some(rules) => Ok(rules),
+            None => Err(BootFault::BadConfig(Field::DefaultRoute)),
+        },
+        None => Ok(Vec::new(alloc)),
+    }
+}

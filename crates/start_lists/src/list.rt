@@ -1,0 +1,314 @@
+//! Start lists, read of JSON.
+ghost use Rattle.std.specs.Prelude.{◌≡◌, ◌≢◌, ◌<◌, ◌≤◌, is_some, length, map, IfOk, IfErr, Ok, Some, None};
+ghost use Rattle.std.specs.Option.{option_map};
+ghost use Rattle.std.specs.List.{position, slice_get};
+ghost use Rattle.std.specs.Result.{result_map_both};
+ghost use Rattle.std.specs.Str.{bytes_eq};
+ghost use Rattle.serde_json.specs.View.{view};
+ghost use Rattle.own_model.specs.Listed.{default_of, rules_for, start_list_of};
+ghost use Rattle.own_model.specs.StartList.{entries_of};
+ghost use Rattle.own_model.specs.Transcript.{entry_at};
+ghost use Rattle.start_lists.specs.Depth.{IsHome, is_init};
+ghost use Rattle.start_lists.specs.Entries.{entries_read};
+ghost use Rattle.start_lists.specs.ListLaws.{IsListed};
+ghost use Rattle.start_lists.specs.Misread.{entry_at_fault, place_of_fault, starts_of};
+ghost use Rattle.start_lists.specs.StartText.{json_in, list_in, list_of, machine_of};
+ghost use Rattle.start_lists.specs.declared.fault.BootFault.TheVariants.{NoMemory, BadConfig, BadJson};
+
+use crate::config::read_own;
+use crate::entry::Entry;
+use crate::fault::{BootFault, Field};
+use crate::finder::Finder;
+use crate::member::whole_at;
+use crate::place::Place;
+use crate::reading::Reading;
+use crate::rule::Rule;
+use serde_json::Value;
+use std::alloc::Global;
+use std::marker::Model;
+
+/// The most bytes of a start list's text.
+const LONGEST_TEXT: usize = 65_536;
+
+/// The fewest pages of a machine, and the fewest capabilities.
+const SMALLEST: u32 = 16;
+
+/// The most pages of a machine, and the most capabilities.
+const LARGEST: u32 = 4096;
+
+/// How deep inits nest at most below the machine's.
+const DEEPEST: usize = 3;
+
+/// A machine, and the components that its inits start on it: the entries of all lists, an init directly before its own.
+#[derive(Debug, Drop)]
+pub struct StartList {
+    pages: u32,
+    caps: u32,
+    default_route: Vec<Rule>,
+    entries: Vec<Entry>,
+    /// Of the entries.
+    finder: Finder,
+}
+
+impl Model for StartList {
+    ghost use Rattle.own_model.specs.Listed.{Listed};
+
+    ghost Value = { Listed };
+
+    ghost view = { λ list. record {
+      pages = list.pages;
+      caps = list.caps;
+      default_route = list.default_route.items;
+      entries = list.entries.items;
+    } };
+
+    ghost use Rattle.std.specs.Prelude.{vec_len};
+    ghost use Rattle.start_lists.specs.Depth.{HaveHomes};
+    ghost use Rattle.start_lists.specs.Finder.{AreFirst};
+    ghost use Rattle.start_lists.specs.Range.{IsInRange};
+
+    ghost invariant = { λ list. IsInRange list.pages list.caps (vec_len list.entries)
+        × HaveHomes list.entries.items × AreFirst list.finder.firsts list.entries.items };
+}
+
+impl StartList {
+    /// The start list that a text is, or why it is none. Wherever the host has no room, that is told instead.
+    pub fn read(alloc: Global, text: &[u8]) -> Result<StartList, BootFault>
+        ensures ok { IfOk result (λ list. list_in text.now ≡ Ok list) }
+        ensures listed { IfOk result (λ list. IsListed list) }
+        ensures err { IfErr result
+            (λ fault. fault ≢ NoMemory → list_in text.now ≡ Err fault) }
+    {
+        if text.len() > LONGEST_TEXT {
+            return Err(BootFault::BadConfig(Field::Size));
+        }
+        let value = read_json(alloc, text)?;
+        StartList::of_value(alloc, &value)
+    }
+
+    /// The start list that a value is, or why it is none. Wherever the host has no room, that is told instead.
+    pub fn of_value(alloc: Global, value: &Value) -> Result<StartList, BootFault>
+        ensures ok { IfOk result (λ list. list_of (view value.now) ≡ Ok list) }
+        ensures err { IfErr result
+            (λ fault. fault ≢ NoMemory → list_of (view value.now) ≡ Err fault) }
+    {
+        let machine = machine_of(value)?;
+        let pages = whole_at(machine, "pages", SMALLEST, LARGEST).ok_or(BootFault::BadConfig(
+            Field::Pages,
+        ))?;
+        let caps = whole_at(machine, "caps", SMALLEST, LARGEST).ok_or(BootFault::BadConfig(
+            Field::Caps,
+        ))?;
+        let own = read_own(alloc, 0, value)?;
+        let mut reading = Reading::new(alloc, own.starts.len());
+        reading.read_list(alloc, &Place::outermost(), DEEPEST, own.starts)?;
+        Ok(StartList {
+            pages,
+            caps,
+            default_route: own.route,
+            finder: Finder::of(reading.entries.as_slice()),
+            entries: reading.entries,
+        })
+    }
+
+    /// How many pages the machine has: 16 to 4096.
+    pub fn pages(&self) -> u32
+        ensures value { result ≡ self.now.pages }
+        ensures least { 16 ≤ result }
+        ensures most { result ≤ 4096 }
+    {
+        self.pages
+    }
+
+    /// How many capabilities the machine has: 16 to 4096.
+    pub fn caps(&self) -> u32
+        ensures value { result ≡ self.now.caps }
+        ensures least { 16 ≤ result }
+        ensures most { result ≤ 4096 }
+    {
+        self.caps
+    }
+
+    /// How many components there are: at most 32.
+    pub fn count(&self) -> usize
+        ensures value { result ≡ length self.now.entries }
+        ensures listed { result ≡ length (entries_of (start_list_of self.now)) }
+        ensures most { result ≤ 32 }
+    {
+        self.entries.len()
+    }
+
+    /// The entries in order, an init directly before its own.
+    pub fn entries(&self) -> &[Entry]
+        ensures { result.now ≡ self.now.entries }
+    {
+        self.entries.as_slice()
+    }
+
+    /// The name of a component by its number, as lines have it: the path of its entry.
+    pub fn name(&self, component: usize) -> &[u8]
+        requires { component < length self.now.entries }
+        ensures value { option_map (λ entry. entry.path) (slice_get self.now.entries component)
+            ≡ Some result.now }
+        ensures listed { result.now
+            ≡ (entry_at (entries_of (start_list_of self.now)) component).name }
+        ensures short { length result.now ≤ 131 }
+    {
+        self.entries[component].path()
+    }
+
+    /// The label of a component by its number, under which it opens sessions.
+    pub fn label(&self, component: usize) -> &[u8]
+        requires { component < length self.now.entries }
+        ensures value { option_map (λ entry. entry.label) (slice_get self.now.entries component)
+            ≡ Some result.now }
+        ensures listed { result.now
+            ≡ (entry_at (entries_of (start_list_of self.now)) component).label }
+        ensures short { length result.now ≤ 140 }
+    {
+        self.entries[component].label()
+    }
+
+    /// The number of a component's init: 0 of the machine's, and of one that is itself a component the number after its own, which
+    /// is a lower one.
+    pub fn home(&self, component: usize) -> usize
+        requires { component < length self.now.entries }
+        ensures value { option_map (λ entry. entry.home) (slice_get self.now.entries component)
+            ≡ Some result }
+        ensures listed { result
+            ≡ (entry_at (entries_of (start_list_of self.now)) component).home }
+        ensures home { IsHome self.now.entries component result }
+    {
+        self.entries[component].home()
+    }
+
+    /// Whether a component by its number starts others.
+    pub fn is_init(&self, component: usize) -> bool
+        requires { component < length self.now.entries }
+        ensures { option_map is_init (slice_get self.now.entries component) ≡ Some result }
+    {
+        self.entries[component].is_init()
+    }
+
+    /// Whether the list gives a component by its number one of the two members of a reserve.
+    pub fn gives_reserve(&self, component: usize) -> bool
+        requires { component < length self.now.entries }
+        ensures { option_map (λ entry. is_some entry.reserve)
+            (slice_get self.now.entries component)
+            ≡ Some result }
+    {
+        self.entries[component].reserve().is_some()
+    }
+
+    /// The number of the component of a name, as lines have it, if there is one.
+    pub fn find(&self, name: &[u8]) -> Option<usize>
+        ensures value { result
+            ≡ position (λ entry. bytes_eq entry.path name.now) self.now.entries }
+        ensures listed { result
+            ≡ position (λ entry. bytes_eq entry.name name.now)
+            (entries_of (start_list_of self.now)) }
+    {
+        self.finder.find(self.entries.as_slice(), name)
+    }
+
+    /// The rules for those of the machine's own list that have no route of their own.
+    pub fn default_route(&self) -> &[Rule]
+        ensures { result.now ≡ self.now.default_route }
+    {
+        self.default_route.as_slice()
+    }
+
+    /// The rules for those of an init's list that have no route of their own: none where there is no such init.
+    pub fn default_of(&self, init: usize) -> &[Rule]
+        ensures { result.now ≡ default_of self.now init }
+    {
+        if init == 0 {
+            return self.default_route.as_slice();
+        }
+        match self.entries.as_slice().get(init - 1) {
+            Some(entry) => entry.inner_route(),
+            None => &[],
+        }
+    }
+
+    /// The rules for a client by its number: its own route, or else the default route of its list.
+    pub fn rules_for(&self, client: usize) -> &[Rule]
+        requires { client < length self.now.entries }
+        ensures { option_map (rules_for self.now) (slice_get self.now.entries client)
+            ≡ Some result.now }
+    {
+        let entry = &self.entries[client];
+        match entry.route() {
+            Some(rules) => rules,
+            None => self.default_of(entry.home()),
+        }
+    }
+}
+
+/// The value that a text is.
+fn read_json(alloc: Global, text: &[u8]) -> Result<Value, BootFault>
+    ensures ok { IfOk result (λ value. json_in text.now ≡ Some (view value)) }
+    ensures refused { IfErr result (λ fault. fault ≢ NoMemory → fault ≡ BadJson) }
+    ensures none { IfErr result (λ fault. fault ≢ NoMemory → json_in text.now ≡ None) }
+{
+    match Value::from_slice(alloc, text) {
+        Ok(value) => Ok(value),
+        Err(error) => if error.is_memory() {
+            Err(BootFault::NoMemory)
+        } else {
+            Err(BootFault::BadJson)
+        },
+    }
+}
+
+/// The place, among the entries of all lists, of the entry whose fault is told of a value that is no start list: an init counts
+/// before its own. It is `None` where the fault isn't an entry's. `NoMemory` is told where the host has no room.
+pub fn entry_at_fault(alloc: Global, value: &Value) -> Result<Option<usize>, BootFault>
+    ensures place { IfOk result (λ place. place ≡ entry_at_fault (view value.now)) }
+    ensures memory { IfErr result (λ fault. fault ≡ NoMemory) }
+{
+    match starts_of(alloc, value) {
+        Ok(starts) => place_of_fault(alloc, starts),
+        Err(BootFault::NoMemory) => Err(BootFault::NoMemory),
+        Err(_) => Ok(None),
+    }
+}
+
+/// The same by the values of the machine's list.
+fn place_of_fault(alloc: Global, starts: &[Value]) -> Result<Option<usize>, BootFault>
+    requires { length starts.now ≤ 32 }
+    ensures place { IfOk result
+        (λ place. place ≡ place_of_fault (entries_read (map view starts.now))) }
+    ensures memory { IfErr result (λ fault. fault ≡ NoMemory) }
+{
+    let mut reading = Reading::new(alloc, starts.len());
+    match reading.read_list(alloc, &Place::outermost(), DEEPEST, starts) {
+        Ok(()) => Ok(None),
+        Err(BootFault::NoMemory) => Err(BootFault::NoMemory),
+        Err(_) => Ok(Some(reading.entries.len())),
+    }
+}
+
+/// The values of the entries of the machine's list, where nothing before them has a fault.
+fn starts_of(alloc: Global, value: &Value) -> Result<&[Value], BootFault>
+    ensures ok { IfOk result (λ starts. starts_of (view value.now) ≡ Ok (map view starts.now)) }
+    ensures err { IfErr result
+        (λ fault. fault ≢ NoMemory → starts_of (view value.now) ≡ Err fault) }
+    ensures few { IfOk result (λ starts. length starts.now ≤ 32) }
+{
+    let machine = machine_of(value)?;
+    whole_at(machine, "pages", SMALLEST, LARGEST).ok_or(BootFault::BadConfig(Field::Pages))?;
+    whole_at(machine, "caps", SMALLEST, LARGEST).ok_or(BootFault::BadConfig(Field::Caps))?;
+    Ok(read_own(alloc, 0, value)?.starts)
+}
+
+/// The machine of a start list.
+fn machine_of(list: &Value) -> Result<&Value, BootFault>
+    ensures { result_map_both (λ machine. view machine.now) (λ fault. fault) result
+        ≡ machine_of (view list.now) }
+{
+    match list.get("machine") {
+        Some(machine) if machine.is_object() => Ok(machine),
+        _ => Err(BootFault::BadConfig(Field::Machine)),
+    }
+}
