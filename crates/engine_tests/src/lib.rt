@@ -2,9 +2,9 @@
 #![tactic(auto)]
 
 #[cfg(test)]
-mod calls;
-#[cfg(test)]
 mod configs;
+#[cfg(test)]
+mod device_calls;
 #[cfg(test)]
 mod devices;
 #[cfg(test)]
