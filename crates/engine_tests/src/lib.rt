@@ -18,4 +18,8 @@ mod rows;
 #[cfg(test)]
 mod tasks;
 #[cfg(test)]
+mod wants;
+#[cfg(test)]
+mod wishes;
+#[cfg(test)]
 mod words;

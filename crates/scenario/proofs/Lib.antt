@@ -1,5 +1,3 @@
 pub mod ConfigLemmas
 pub mod OptionsLemmas
-pub mod Ending
-pub mod EngineLemmas
 pub mod TaskLemmas

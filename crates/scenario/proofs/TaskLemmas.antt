@@ -14,9 +14,9 @@ use Rattle.scenario_lines.specs.Lines.{longest_read}
 use Rattle.scenario.specs.Program.{IsAnswered, IsBoundedFor, IsDone, FailsFor, StopsScenario, TotalsAre, lines_run, ok_line, scenario_text}
 use Rattle.scenario_lines.specs.Machine.{IsMachine, world_of}
 use Rattle.scenario.specs.Ending.{CameOf}
-use Rattle.scenario.specs.Runs.{Completes}
+use Rattle.engine_run.specs.Runs.{Completes}
 use Rattle.std.specs.Option.{option_copied}
-use Rattle.scenario.specs.Stops.{Stops}
+use Rattle.engine_run.specs.Stops.{Stops}
 use Rattle.scenario_lines.specs.Causes.{AppendsPart}
 use Rattle.scenario.specs.declared.program.Failure.{Failure}
 use Rattle.scenario.specs.declared.program.Failure.TheVariants as failure
@@ -24,7 +24,7 @@ use Rattle.scenario.specs.declared.program.Task.{Task}
 use Rattle.scenario.specs.declared.program.Task.TheVariants as task
 use Rattle.scenario_lines.specs.declared.run_fault.RunFault.{RunFault}
 use Rattle.scenario_lines.specs.declared.run_fault.RunFault.TheVariants.{WriteFault}
-use Rattle.scenario.specs.declared.running.Summary.{Summary}
+use Rattle.engine_run.specs.declared.running.Summary.{Summary}
 use Rattle.scenario_lines.proofs.GatheredLemmas.{Appends-more}
 
 -- a scenario from the machine's start

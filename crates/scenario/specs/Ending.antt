@@ -6,7 +6,7 @@ use Rattle.clap.specs.declared.error.kind.ErrorKind.TheVariants.{DisplayHelp, Di
 use Rattle.scenario.specs.Program.{FailsFor, IsDone, status_of}
 use Rattle.scenario.specs.declared.program.Failure.{Failure}
 use Rattle.scenario.specs.declared.program.Task.{Task}
-use Rattle.scenario.specs.declared.running.Summary.{Summary}
+use Rattle.engine_run.specs.declared.running.Summary.{Summary}
 use Rattle.scenario.specs.declared.host.ProgramEnd.{ProgramEnd}
 use Rattle.scenario.specs.declared.host.ProgramEnd.TheVariants.{Refused, NoConfig, Ended}
 

@@ -12,7 +12,7 @@ use Rattle.std.specs.Option.{option_copied}
 use Rattle.own_model.specs.World.{World, start_world, world_running, all_ram, all_caps}
 use Rattle.start_lists.specs.declared.fault.BootFault.TheVariants.{NoMemory}
 use Rattle.scenario_lines.specs.Lines.{AreReadable}
-use Rattle.scenario.specs.Stops.{Stops}
+use Rattle.engine_run.specs.Stops.{Stops}
 use Rattle.scenario_lines.specs.Causes.{AppendsPart}
 use Rattle.scenario.specs.declared.program.Failure.{Failure}
 use Rattle.scenario.specs.declared.program.Failure.TheVariants as failure
@@ -20,7 +20,7 @@ use Rattle.scenario.specs.declared.program.Task.{Task}
 use Rattle.scenario.specs.declared.program.Task.TheVariants as task
 use Rattle.scenario_lines.specs.declared.run_fault.RunFault.{RunFault}
 use Rattle.scenario_lines.specs.declared.run_fault.RunFault.TheVariants.{WriteFault}
-use Rattle.scenario.specs.declared.running.Summary.{Summary}
+use Rattle.engine_run.specs.declared.running.Summary.{Summary}
 
 -- a task is what the options of the command line ask for
 abbrev pub AsksFor : Bool → Bool → Option (List ℕ) → Task → Type 0

@@ -16,8 +16,8 @@ ghost use Rattle.scenario.specs.declared.program.Task.TheVariants.{Check as Chec
 ghost use Rattle.scenario_lines.specs.declared.run_fault.RunFault.TheVariants.{WriteFault as Unwritten};
 
 use crate::options::Options;
-use crate::running::{Summary, run_said_by};
 use calls::Reply;
+use engine_run::{Summary, run_said_by};
 use init_core::boot;
 use pd_core::{Core, Router};
 use scenario_lines::{MAX_LINES, Output, Run, RunFault, Sink, Source, write_accounts, write_out};

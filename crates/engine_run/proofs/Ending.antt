@@ -9,16 +9,16 @@ use Rattle.own_model.proofs.StepBalanceLemmas.{lines_balanced, lines_balanced_fo
 use Rattle.own_model.proofs.RunningLemmas.{Tracks-none, told_after-running, length-states_running, states_running-at}
 use Rattle.scenario_lines.specs.Answered.{told_of_all, after_all}
 use Rattle.scenario_lines.specs.Lines.{AreReadable}
-use Rattle.scenario.specs.Runs.{Completes, EndsWith, KeepsWorld, Runs}
+use Rattle.engine_run.specs.Runs.{Completes, EndsWith, KeepsWorld, Runs}
 use Rattle.scenario_lines.specs.Causes.{HasCause, AppendsPart, StopsFor, is_write_fault}
 use Rattle.scenario_lines.specs.Faults.{is_write_fault as is_unwritten, play_fault}
-use Rattle.scenario.specs.declared.running.Summary.{Summary}
+use Rattle.engine_run.specs.declared.running.Summary.{Summary}
 use Rattle.scenario_lines.proofs.CauseLemmas.{within_bounds}
 use Rattle.scenario_lines.proofs.FaultLemmas.{or_first}
 use Rattle.scenario_lines.specs.Plays.{EndsAs, PlaysAll, StopsAs, StopsAt, WritesTold}
 use Rattle.scenario_lines.proofs.PlayLemmas.{unplayed}
 use Rattle.scenario_lines.proofs.ToldLemmas.{left_none, told_none}
-use Rattle.scenario.specs.Stops.{Stops, IsWritten}
+use Rattle.engine_run.specs.Stops.{Stops, IsWritten}
 use Rattle.scenario_lines.specs.declared.run_fault.RunFault.{RunFault}
 use Rattle.scenario_lines.proofs.ReachLemmas.{close_as, keeps_up_as}
 use Rattle.scenario_lines.proofs.GatheredLemmas.{Appends-none}

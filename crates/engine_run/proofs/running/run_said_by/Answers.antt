@@ -1,9 +1,9 @@
 -- What is promised of a run that has ended.
 use Rattle.std.proofs.Common.{◌∙◌, refl, sym}
 use Rattle.std.specs.Option.{option_copied}
-use Rattle.scenario.proofs.Ending.{has_room, runs, runs_unread, runs_unwritten}
+use Rattle.engine_run.proofs.Ending.{has_room, runs, runs_unread, runs_unwritten}
 use Rattle.scenario_lines.proofs.ToldLemmas.{left_none, told_none}
-use Rattle.scenario.proofs.running.run_said_by.Goals as goal
+use Rattle.engine_run.proofs.running.run_said_by.Goals as goal
 
 pub returns-clause-runs : goal.returns-clause-runs
 returns-clause-runs g c =

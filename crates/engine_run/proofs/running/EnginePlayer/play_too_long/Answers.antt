@@ -2,8 +2,8 @@
 use Rattle.std.proofs.Common.{ap, inl}
 use Rattle.std.specs.Option.{option_copied}
 use Rattle.scenario_lines.proofs.AnsweringLemmas.{left_no_call}
-use Rattle.scenario.proofs.EngineLemmas.{engine_plays}
-use Rattle.scenario.proofs.running.EnginePlayer.play_too_long.Goals as goal
+use Rattle.engine_run.proofs.EngineLemmas.{engine_plays}
+use Rattle.engine_run.proofs.running.EnginePlayer.play_too_long.Goals as goal
 
 pub returns-clause-played : goal.returns-clause-played
 returns-clause-played g c = λ first start earlier line long led.

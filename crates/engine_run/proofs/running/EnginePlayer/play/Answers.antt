@@ -1,8 +1,8 @@
 -- The line is answered, and its answer told.
 use Rattle.std.proofs.Common.{ap}
 use Rattle.std.specs.Option.{option_copied}
-use Rattle.scenario.proofs.EngineLemmas.{engine_plays}
-use Rattle.scenario.proofs.running.EnginePlayer.play.Goals as goal
+use Rattle.engine_run.proofs.EngineLemmas.{engine_plays}
+use Rattle.engine_run.proofs.running.EnginePlayer.play.Goals as goal
 
 pub returns-clause-played : goal.returns-clause-played
 returns-clause-played g c = λ first start earlier led.

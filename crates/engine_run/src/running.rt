@@ -7,17 +7,17 @@ ghost use Rattle.scenario_lines.specs.Answer.{answer_text};
 ghost use Rattle.scenario_lines.specs.Answered.{after_all, told_of_all};
 ghost use Rattle.scenario_lines.specs.Faults.{Fails};
 ghost use Rattle.scenario_lines.specs.Gathered.{TellsUnless};
-ghost use Rattle.scenario.specs.Runs.{Completes, EndsWith, FaultBefore, KeepsWorld, Runs};
+ghost use Rattle.engine_run.specs.Runs.{Completes, EndsWith, FaultBefore, KeepsWorld, Runs};
 ghost use Rattle.scenario_lines.specs.Causes.{HasCause, is_write_fault};
-ghost use Rattle.scenario.specs.Stops.{Stops};
+ghost use Rattle.engine_run.specs.Stops.{Stops};
 ghost use Rattle.scenario_lines.specs.declared.play_fault.PlayFault.TheVariants.{NoMemory as NoRoom, WriteFault as Unwritten};
 
 use calls::Reply;
 use pd_core::{Core, Router};
-use start_lists::StartList;
 use scenario_lines::{
     Buffers, Gather, LineAnswer, PlayFault, Played, Player, Run, RunFault, Sink, Source, play,
 };
+use start_lists::StartList;
 
 /// What a run did.
 #[derive(Clone, Copy, Debug, PartialEq, Eq)]
@@ -70,7 +70,7 @@ pub fn run<R: Router + Drop, S: Source, K: Sink>(
 }
 
 /// A run of all lines, or of those of one name alone.
-pub(crate) fn run_said_by<R: Router + Drop, S: Source, K: Sink>(
+pub fn run_said_by<R: Router + Drop, S: Source, K: Sink>(
     run: &Run<'_>,
     core: &mut Core<R>,
     reply: &mut Reply,

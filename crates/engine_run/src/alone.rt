@@ -2,9 +2,9 @@
 ghost use Rattle.std.specs.Prelude.{◌≡◌, ◌≤◌, ◌||◌, true, false, IfSome, IfOk, IfErr, OnOk, Some};
 ghost use Rattle.own_model.specs.Listed.{start_list_of};
 ghost use Rattle.own_model.specs.StartList.{entries_of};
-ghost use Rattle.scenario.specs.Runs.{Completes, FaultBefore, KeepsWorld};
+ghost use Rattle.engine_run.specs.Runs.{Completes, FaultBefore, KeepsWorld};
 ghost use Rattle.scenario_lines.specs.Causes.{HasCause, is_write_fault};
-ghost use Rattle.scenario.specs.Stops.{Stops};
+ghost use Rattle.engine_run.specs.Stops.{Stops};
 
 use crate::running::{Summary, run_said_by};
 use calls::Reply;

@@ -8,12 +8,12 @@ use Rattle.own_model.specs.Transcript.{told_after, calls_of, state_at, state_aft
 use Rattle.own_model.specs.World.{World, IsBalanced, IsBalancedFor, world_running}
 use Rattle.scenario_lines.specs.Faults.{play_fault}
 use Rattle.scenario_lines.specs.Lines.{AreReadable}
-use Rattle.scenario.specs.Stops.{Stops}
+use Rattle.engine_run.specs.Stops.{Stops}
 use Rattle.scenario_lines.specs.Causes.{is_write_fault, HasCause}
 use Rattle.scenario_lines.specs.declared.play_fault.PlayFault.{PlayFault}
 use Rattle.scenario_lines.specs.declared.run_fault.RunFault.{RunFault}
 use Rattle.scenario_lines.specs.declared.run_fault.RunFault.TheVariants.{ReadFault, WriteFault}
-use Rattle.scenario.specs.declared.running.Summary.{Summary}
+use Rattle.engine_run.specs.declared.running.Summary.{Summary}
 
 -- a run came to the end of its input
 pub record Completes (only : Option (List ℕ)) (lines : ℕ) (old new : World) (input : List ℕ)
