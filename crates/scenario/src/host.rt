@@ -11,8 +11,8 @@ use engine_run::Summary;
 use scenario_lines::{Input, MAX_LINES, Output};
 use start_lists::MACHINE_A;
 use std::convert::AsStr;
-use std::io::Eprint;
 use std::io;
+use std::io::Eprint;
 use std::process::{ExitCode, Termination};
 use std::rt::{Env, Files};
 

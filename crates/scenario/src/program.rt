@@ -23,8 +23,8 @@ use pd_core::{Core, Router};
 use scenario_lines::{MAX_LINES, Output, Run, RunFault, Sink, Source, write_accounts, write_out};
 use start_lists::{BootFault, StartList};
 use std::alloc::Global;
-use std::fmt::{Display, Formatter};
 use std::fmt;
+use std::fmt::{Display, Formatter};
 use thiserror::Error;
 use trade_base::NoMemory;
 

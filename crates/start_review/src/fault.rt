@@ -8,8 +8,8 @@ use arrayvec::ArrayString;
 use serde_json::Error;
 use start_lists::BootFault;
 use std::alloc::AllocError;
-use std::fmt::Write;
 use std::fmt;
+use std::fmt::Write;
 
 /// The most bytes of what the reader of JSON tells: its reason, the line and the column.
 const MOST_TOLD: usize = 80;

@@ -23,11 +23,11 @@ use crate::playing::play as play_lines;
 use crate::text::put_number;
 use crate::watch::{Heard, Watch};
 use init_core::boot;
-use start_lists::{BootFault, StartList};
 use pd_core::{Core, Router};
 use scenario_lines::{
     DeviceFault, Gather, MAX_LINES, PlayFault, Run, Sink, Source, write_accounts,
 };
+use start_lists::{BootFault, StartList};
 use std::alloc::Global;
 
 /// What of a play is told.
