@@ -3,7 +3,8 @@ ghost use Rattle.std.specs.Prelude.{◌≡◌, ◌+◌, ◌≤◌, ◌++◌, len
 ghost use Rattle.own_model.specs.Reply.{address_text, amounts_text, quota_text, reply_text};
 ghost use Rattle.own_model.specs.Reply.Reply.{Selected};
 ghost use Rattle.trade_base.specs.Refusal.{refusal_name};
-ghost use Rattle.pd_core.specs.Answer.{quotas_account, reply_of, told_alone};
+ghost use Rattle.calls.specs.Quotas.{quotas_account, reserve_amounts};
+ghost use Rattle.pd_core.specs.Answer.{reply_of, told_alone};
 
 use calls::{Quotas, Reply, Reserve};
 use text_codec::{MOST_HEX_DIGITS, write_hex};
