@@ -3,7 +3,7 @@
 use std::fmt;
 
 /// What an account starts with.
-#[derive(Clone, Copy, Debug, PartialEq, Eq)]
+#[derive(Clone, Copy, PartialEq, Eq)]
 pub struct Budget {
     /// Bytes of RAM.
     pub ram: u64,
@@ -12,7 +12,7 @@ pub struct Budget {
 }
 
 /// Bytes as they are told: in K where they are whole K.
-#[derive(Clone, Copy, Debug)]
+#[derive(Clone, Copy)]
 pub struct Bytes(pub u64);
 
 impl fmt::Display for Bytes {

@@ -11,7 +11,7 @@ use pd_core::Quotas;
 const SESSION: Budget = Budget { ram: 4096, caps: 2 };
 
 /// What the tests that passed so far need of the budget that an account started with.
-#[derive(Clone, Copy, Debug)]
+#[derive(Clone, Copy)]
 pub struct Meter {
     /// What the account started with.
     pub start: Budget,

@@ -16,7 +16,7 @@ use trade_base::{Refusal, read_number};
 pub const LONGEST_LINE: usize = 8192;
 
 /// A call, with the path of the component that makes it.
-#[derive(Clone, Copy, Debug)]
+#[derive(Clone, Copy)]
 pub struct NamedCall<'a> {
     /// The component's path.
     pub name: &'a [u8],

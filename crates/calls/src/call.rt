@@ -1,7 +1,7 @@
 //! The calls of a component.
 
 /// A call of a component. Its texts are slices of the line that made it.
-#[derive(Clone, Copy, Debug)]
+#[derive(Clone, Copy)]
 pub enum Call<'a> {
     /// A dataspace of so many bytes.
     Alloc(u64),

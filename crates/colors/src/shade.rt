@@ -7,7 +7,7 @@ use friendly_lines::meets;
 use text_codec::split_first_word;
 
 /// The colour of a line.
-#[derive(Clone, Copy, Debug, PartialEq, Eq)]
+#[derive(Clone, Copy, PartialEq, Eq)]
 pub enum Shade {
     /// None.
     Plain,
@@ -18,7 +18,7 @@ pub enum Shade {
 }
 
 /// Lines, by what they tell.
-#[derive(Clone, Copy, Debug, PartialEq, Eq)]
+#[derive(Clone, Copy, PartialEq, Eq)]
 pub enum Lines {
     /// A transcript's: those of refusals are red.
     Replies,

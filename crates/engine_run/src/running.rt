@@ -20,7 +20,7 @@ use scenario_lines::{
 use start_lists::StartList;
 
 /// What a run did.
-#[derive(Clone, Copy, Debug, PartialEq, Eq)]
+#[derive(Clone, Copy, PartialEq, Eq)]
 pub struct Summary {
     /// How many lines were answered, or skipped where those of one name alone are answered.
     pub lines: u64,

@@ -16,7 +16,7 @@ use crate::words::{behind, is_blank, word_length};
 use text_codec::{find_byte, find_either, split_first_word};
 
 /// A text in quotes with which an expectation ends, and what stands before it.
-#[derive(Clone, Copy, Debug)]
+#[derive(Clone, Copy)]
 pub(crate) struct Written<'a> {
     pub front: &'a [u8],
     pub inside: &'a [u8],

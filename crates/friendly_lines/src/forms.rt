@@ -76,7 +76,7 @@ pub enum Form {
 }
 
 /// What a word behind a form has to be.
-#[derive(Clone, Copy, Debug, PartialEq, Eq)]
+#[derive(Clone, Copy, PartialEq, Eq)]
 pub(crate) enum Kind {
     /// A number.
     Number,

@@ -20,7 +20,7 @@ use crate::words::{behind, next_word, skip_blanks};
 use text_codec::split_first_word;
 
 /// What follows the first words of a call.
-#[derive(Clone, Copy, Debug)]
+#[derive(Clone, Copy)]
 pub(crate) enum Tail<'a> {
     /// More words.
     Words(&'a [u8]),
@@ -39,7 +39,7 @@ pub(crate) enum Tail<'a> {
 }
 
 /// A call by its first words.
-#[derive(Clone, Copy, Debug)]
+#[derive(Clone, Copy)]
 pub(crate) struct Parts<'a> {
     pub name: &'a [u8],
     pub form: &'a [u8],

@@ -10,7 +10,7 @@ use crate::words::{behind, is_blank, next_word};
 use text_codec::find_byte;
 
 /// How a byte stands to quotes.
-#[derive(Clone, Copy, Debug, PartialEq, Eq)]
+#[derive(Clone, Copy, PartialEq, Eq)]
 pub(crate) enum Quoting {
     /// Outside of them.
     Outside,
@@ -55,7 +55,7 @@ impl Quoting {
 }
 
 /// What a text has outside of quotes.
-#[derive(Clone, Copy, Debug)]
+#[derive(Clone, Copy)]
 pub(crate) struct Marks {
     /// How what follows the text stands.
     pub end: Quoting,

@@ -22,7 +22,7 @@ use crate::words::{behind, skip_blanks};
 use call_lines::{NamedCall, call_in};
 
 /// What a line of a scenario in the friendly form says.
-#[derive(Clone, Copy, Debug)]
+#[derive(Clone, Copy)]
 pub enum Said<'a> {
     /// Nothing: it is blank, or a comment.
     Nothing,

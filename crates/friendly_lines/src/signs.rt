@@ -12,7 +12,7 @@ use crate::words::behind;
 use text_codec::encode_hex;
 
 /// A sign: the byte that it stands for, and how many bytes it has.
-#[derive(Clone, Copy, Debug, PartialEq, Eq)]
+#[derive(Clone, Copy, PartialEq, Eq)]
 pub(crate) struct Sign {
     pub byte: u8,
     pub size: usize,

@@ -6,7 +6,7 @@ use budget_meter::Budget;
 use std::alloc::{AllocError, Global};
 
 /// A session, as its client knows it.
-#[derive(Clone, Copy, Debug, PartialEq, Eq)]
+#[derive(Clone, Copy, PartialEq, Eq)]
 pub struct Session {
     /// Its selector.
     pub selector: u64,
@@ -15,7 +15,7 @@ pub struct Session {
 }
 
 /// The given budget, and the first line in want under it.
-#[derive(Clone, Copy, Debug)]
+#[derive(Clone, Copy)]
 pub struct Given {
     /// The budget.
     pub budget: Budget,

@@ -15,7 +15,7 @@ use trade_base::PAGE;
 
 /// What is asked: the text of a start list, that of a scenario, and whether sessions are given what the scenario donates, and
 /// not the least.
-#[derive(Clone, Copy, Debug)]
+#[derive(Clone, Copy)]
 pub struct Question<'a> {
     /// The start list.
     pub machine: &'a [u8],

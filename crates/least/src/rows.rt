@@ -12,7 +12,7 @@ use start_lists::BootFault;
 use std::alloc::Global;
 
 /// Whether what is answered under the budgets of a row is what is answered under the given one.
-#[derive(Clone, Copy, Debug, PartialEq, Eq)]
+#[derive(Clone, Copy, PartialEq, Eq)]
 pub enum Likeness {
     /// It is.
     Same,
@@ -23,7 +23,7 @@ pub enum Likeness {
 }
 
 /// Budgets under which an account is in no want.
-#[derive(Clone, Copy, Debug, PartialEq, Eq)]
+#[derive(Clone, Copy, PartialEq, Eq)]
 pub struct Row {
     /// The least RAM in bytes.
     pub ram_from: u64,
@@ -36,7 +36,7 @@ pub struct Row {
 }
 
 /// RAM between two rows, under which an account is in want.
-#[derive(Clone, Copy, Debug, PartialEq, Eq)]
+#[derive(Clone, Copy, PartialEq, Eq)]
 pub struct Hole {
     /// The least of it in bytes.
     pub ram_from: u64,

@@ -94,7 +94,7 @@ pub enum Why {
 }
 
 /// A line that is no call.
-#[derive(Clone, Copy, Debug)]
+#[derive(Clone, Copy)]
 pub struct Misread {
     /// Which line of the scenario it is, from 1 on.
     pub number: u64,

@@ -8,7 +8,7 @@ use start_lists::BootFault;
 use std::alloc::Global;
 
 /// Why an account doesn't cover a call or a request.
-#[derive(Clone, Copy, Debug, PartialEq, Eq)]
+#[derive(Clone, Copy, PartialEq, Eq)]
 pub enum Shortage {
     /// A component's own account is short of RAM.
     Ram,
@@ -39,7 +39,7 @@ impl Shortage {
 }
 
 /// A line in want: which one, and why.
-#[derive(Clone, Copy, Debug, PartialEq, Eq)]
+#[derive(Clone, Copy, PartialEq, Eq)]
 pub struct Refused {
     /// Which line of the scenario it is, from 1 on.
     pub line: u64,
@@ -48,7 +48,7 @@ pub struct Refused {
 }
 
 /// A line that is left out, since its refusal is expected, and the least budget under which its account doesn't refuse it.
-#[derive(Clone, Copy, Debug, PartialEq, Eq)]
+#[derive(Clone, Copy, PartialEq, Eq)]
 pub struct LeftOut {
     /// Which line of the scenario it is, from 1 on.
     pub line: u64,

@@ -20,7 +20,7 @@ pub struct UnknownName {
 }
 
 /// Why a start list isn't filled.
-#[derive(Clone, Copy, Debug, PartialEq, Eq)]
+#[derive(Clone, Copy, PartialEq, Eq)]
 pub enum Unfilled {
     /// Nothing is given for a name.
     Unknown(UnknownName),

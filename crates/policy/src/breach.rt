@@ -13,7 +13,7 @@ use std::alloc::{AllocError, Global};
 
 /// A client and a server whose reach isn't as a line demands, with a label that leads there, if that is wrong, or the one that
 /// doesn't; none where no label does.
-#[derive(Debug, Drop)]
+#[derive(Drop)]
 pub struct Breach {
     /// The number of the client.
     pub client: usize,

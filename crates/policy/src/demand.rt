@@ -7,7 +7,7 @@ use reach::Label;
 use start_lists::{Binary, StartList};
 
 /// What is demanded of the wishes of scripts for a server.
-#[derive(Debug, Drop)]
+#[derive(Drop)]
 pub enum Demand {
     /// No label leads them there.
     Deny,
@@ -20,7 +20,7 @@ pub enum Demand {
 }
 
 /// A line: its number in the text, from 1 on, what it demands, and the numbers of the scripts and the servers that it names.
-#[derive(Debug, Drop)]
+#[derive(Drop)]
 pub struct Line {
     /// Its number in the text, from 1 on.
     pub number: usize,

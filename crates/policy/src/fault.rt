@@ -3,7 +3,7 @@ use reach::Unnamed;
 use std::fmt;
 
 /// What is wrong with a line.
-#[derive(Debug, Drop)]
+#[derive(Drop)]
 pub enum Flaw<'a> {
     /// It doesn't begin with `deny`, `allow` or `only`.
     NoDemand,
@@ -35,7 +35,7 @@ impl fmt::Display for Flaw<'_> {
 }
 
 /// What is wrong with which line.
-#[derive(Debug, Drop)]
+#[derive(Drop)]
 pub struct PolicyFault<'a> {
     /// The number of the line, from 1 on.
     pub line: usize,

@@ -6,7 +6,7 @@ use start_lists::StartList;
 use std::alloc::Global;
 
 /// A policy: its lines in order.
-#[derive(Debug, Drop)]
+#[derive(Drop)]
 pub struct Policy {
     lines: Vec<Line>,
 }

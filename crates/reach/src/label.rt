@@ -17,7 +17,7 @@ pub(crate) const LONGEST_GIVEN: usize = 64;
 pub(crate) const LONGEST_SEEN: usize = 208;
 
 /// A label: at most 64 bytes.
-#[derive(Debug, Drop)]
+#[derive(Drop)]
 pub struct Label {
     text: ArrayVec<u8, LONGEST_GIVEN>,
 }

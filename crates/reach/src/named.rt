@@ -15,7 +15,7 @@ pub enum Sought {
 }
 
 /// Why a path stands for nobody who is sought.
-#[derive(Debug, Drop)]
+#[derive(Drop)]
 pub enum Unnamed<'a> {
     /// Nobody has this path; somebody has the other one, which is near.
     Nobody(&'a str, Option<Path>),

@@ -26,7 +26,7 @@ pub(crate) struct Note {
 }
 
 /// How a line is written.
-#[derive(Clone, Copy, Debug, PartialEq, Eq)]
+#[derive(Clone, Copy, PartialEq, Eq)]
 pub(crate) enum Form {
     /// As it was, with what was expected of it.
     Stays,

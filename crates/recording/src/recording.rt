@@ -15,7 +15,7 @@ use start_lists::{BootFault, StartList};
 use std::alloc::Global;
 
 /// A scenario that is to be recorded.
-#[derive(Clone, Copy, Debug)]
+#[derive(Clone, Copy)]
 pub struct Scenario<'a> {
     /// Its text.
     pub text: &'a [u8],

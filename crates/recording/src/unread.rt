@@ -23,7 +23,7 @@ pub enum Why {
 }
 
 /// A line that isn't read.
-#[derive(Clone, Copy, Debug, PartialEq, Eq)]
+#[derive(Clone, Copy, PartialEq, Eq)]
 pub struct Unread {
     /// Which line of the scenario it is, from 1 on.
     pub number: u64,

@@ -53,7 +53,7 @@ pub struct RoundsFault {
 }
 
 /// Why a scenario isn't unfolded.
-#[derive(Clone, Copy, Debug, PartialEq, Eq)]
+#[derive(Clone, Copy, PartialEq, Eq)]
 pub enum Unfit {
     /// Its rounds have a fault.
     Fault(RoundsFault),

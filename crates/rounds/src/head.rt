@@ -11,7 +11,7 @@ use scenario_names::{Known, fill, is_name};
 use trade_base::read_number;
 
 /// How many rounds there are, and the name of their counter, if they have one.
-#[derive(Clone, Copy, Debug)]
+#[derive(Clone, Copy)]
 pub(crate) struct Head<'a> {
     pub count: u64,
     pub counter: Option<&'a [u8]>,

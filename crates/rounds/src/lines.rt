@@ -10,7 +10,7 @@ use std::alloc::{AllocError, Global};
 use text_codec::find_byte;
 
 /// What a line is to the rounds.
-#[derive(Clone, Copy, Debug, PartialEq, Eq)]
+#[derive(Clone, Copy, PartialEq, Eq)]
 pub(crate) enum Kind {
     /// Rounds begin.
     Repeats,

@@ -17,7 +17,7 @@ use std::process::{ExitCode, Termination};
 use std::rt::{Env, Files};
 
 /// How the program ended.
-#[derive(Debug, Drop)]
+#[derive(Drop)]
 pub enum ProgramEnd {
     /// The words of the command line aren't taken, or ask for help.
     Refused(Error),

@@ -25,7 +25,7 @@ number of those digits. ARGS and REQUEST are the rest of the line, or nothing.
 docs/FORMATS.md has the forms of lines, replies and start lists.";
 
 /// What the program was asked to do.
-#[derive(Clone, Copy, Debug, PartialEq, Eq)]
+#[derive(Clone, Copy, PartialEq, Eq)]
 pub struct Options<'a> {
     /// Whether the start list is only read and booted.
     pub check: bool,

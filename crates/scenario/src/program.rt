@@ -32,7 +32,7 @@ use trade_base::NoMemory;
 const OK: &[u8] = b"ok\n";
 
 /// What is asked of a machine.
-#[derive(Clone, Copy, Debug, PartialEq, Eq)]
+#[derive(Clone, Copy, PartialEq, Eq)]
 pub enum Task<'a> {
     /// That it boots. No scenario is read.
     Check,
@@ -220,7 +220,7 @@ fn tell_ok<K: Sink>(writer: &mut K) -> Result<Summary, RunFault>
 }
 
 /// A task that was not done to its end, and what was written by then.
-#[derive(Debug, Drop)]
+#[derive(Drop)]
 pub struct Stopped {
     /// Why it was not.
     pub failure: Failure,

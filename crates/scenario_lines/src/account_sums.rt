@@ -12,7 +12,7 @@ use pd_core::{Core, Router};
 
 /// Limits of several accounts together: RAM in bytes, and capabilities. They are wider than an account's, so that no sum
 /// is too large for them, whatever the accounts have.
-#[derive(Clone, Copy, Debug, PartialEq, Eq)]
+#[derive(Clone, Copy, PartialEq, Eq)]
 pub struct Sums {
     pub ram: u128,
     pub caps: u128,

@@ -21,7 +21,7 @@ use trade_base::Refusal;
 const NOBODY: &[u8] = b"?";
 
 /// What a line is answered.
-#[derive(Clone, Copy, Debug, PartialEq, Eq)]
+#[derive(Clone, Copy, PartialEq, Eq)]
 pub struct LineAnswer<'a> {
     /// The log lines that its call finished, each as it is printed, with its newline.
     pub lines: &'a [u8],
@@ -32,7 +32,7 @@ pub struct LineAnswer<'a> {
 }
 
 /// A run from one line to the next: who is called by which name, and whose lines are answered.
-#[derive(Clone, Copy, Debug)]
+#[derive(Clone, Copy)]
 pub struct Run<'a> {
     /// The components by their names.
     pub list: &'a StartList,

@@ -9,7 +9,7 @@ use crate::gather::Gather;
 use start_lists::StartList;
 
 /// Whose account a line of an account list tells.
-#[derive(Clone, Copy, Debug, PartialEq, Eq)]
+#[derive(Clone, Copy, PartialEq, Eq)]
 pub enum Owner {
     /// The machine's init's.
     Init,
@@ -39,7 +39,7 @@ pub trait Columns {
 }
 
 /// Nothing beside use and limits.
-#[derive(Clone, Copy, Debug)]
+#[derive(Clone, Copy)]
 pub struct NoColumns;
 
 impl Columns for NoColumns {

@@ -17,7 +17,7 @@ use pd_core::{Core, Router};
 pub const MAX_LINES: u64 = 1_000_000;
 
 /// How a play of lines ended.
-#[derive(Clone, Copy, Debug, PartialEq, Eq)]
+#[derive(Clone, Copy, PartialEq, Eq)]
 pub struct Played {
     /// How many lines were played.
     pub lines: u64,

@@ -13,7 +13,7 @@ use std::alloc::AllocError;
 use trade_base::read_number;
 
 /// A name, and what it is to stand for.
-#[derive(Clone, Copy, Debug)]
+#[derive(Clone, Copy)]
 pub struct Counter<'a> {
     /// The name.
     pub name: &'a [u8],
@@ -22,14 +22,14 @@ pub struct Counter<'a> {
 }
 
 // The number of a line, and a round's counter.
-#[derive(Clone, Copy, Debug)]
+#[derive(Clone, Copy)]
 struct Round<'a> {
     line: usize,
     counter: Option<Counter<'a>>,
 }
 
 /// What a line says that begins with `@`.
-#[derive(Clone, Copy, Debug)]
+#[derive(Clone, Copy)]
 pub enum Directive<'a> {
     /// A name is set.
     Set(Counter<'a>),

@@ -12,7 +12,7 @@ use friendly_lines::Line;
 pub(crate) const MOST_HOLES: usize = 16;
 
 /// A name that the reply binds, and where its star stands in what is expected.
-#[derive(Clone, Copy, Debug)]
+#[derive(Clone, Copy)]
 pub struct Hole<'a> {
     /// The name.
     pub name: &'a [u8],
@@ -33,7 +33,7 @@ impl Default for Hole<'_> {
 pub(crate) type Holes<'a> = ArrayVec<Hole<'a>, MOST_HOLES>;
 
 /// Where names may be bound: before a place of the line; and how much of the filled line stands before what is expected.
-#[derive(Clone, Copy, Debug)]
+#[derive(Clone, Copy)]
 pub(crate) struct Zone {
     pub limit: usize,
     pub start: usize,

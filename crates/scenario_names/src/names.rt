@@ -5,7 +5,7 @@ ghost use Rattle.scenario_names.specs.Names.{begins_name, braced, is_name, is_na
 ghost use Rattle.scenario_names.specs.Views.{sign_view};
 
 /// What a `$` begins.
-#[derive(Clone, Copy, Debug)]
+#[derive(Clone, Copy)]
 pub(crate) enum Sign<'a> {
     /// Nothing: it stands for itself.
     Alone,

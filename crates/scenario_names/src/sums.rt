@@ -13,7 +13,7 @@ use text_codec::read_address;
 use trade_base::read_amount;
 
 /// A number with the sums behind it, and how many bytes these have.
-#[derive(Clone, Copy, Debug)]
+#[derive(Clone, Copy)]
 pub(crate) struct Total {
     pub count: u64,
     pub size: usize,

@@ -6,7 +6,7 @@ ghost use Rattle.session_proto.specs.FileReply.{model_reply, model_error, room_f
 use calls::{Quotas, Reply};
 
 /// Why a request is refused.
-#[derive(Clone, Copy, Debug, PartialEq, Eq)]
+#[derive(Clone, Copy, PartialEq, Eq)]
 pub enum FileError {
     /// The text isn't a request.
     BadRequest,

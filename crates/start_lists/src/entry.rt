@@ -18,7 +18,7 @@ use std::marker::Model;
 use trade_base::{Caps, Ram, Service};
 
 /// What a component runs.
-#[derive(Clone, Copy, Debug, PartialEq, Eq)]
+#[derive(Clone, Copy, PartialEq, Eq)]
 pub enum Binary {
     /// A script makes the calls of a scenario.
     Script,
@@ -82,7 +82,7 @@ impl Binary {
 /// A component of the machine: its name in its list, its path and its label, the number of its init, what its account starts
 /// with, whether it provides the service of its binary, its own route, if it has one, its reserve, if the list gives it one, and
 /// the default route of what it starts, if it is an init.
-#[derive(Debug, Drop)]
+#[derive(Drop)]
 pub struct Entry {
     pub(crate) name: Name,
     pub(crate) path: Path,

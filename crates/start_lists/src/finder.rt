@@ -13,7 +13,7 @@ const KINDS: usize = 1024;
 const NOWHERE: u8 = 32;
 
 /// By the kind of a path, the place of the first entry that has one of it.
-#[derive(Debug, Drop)]
+#[derive(Drop)]
 pub(crate) struct Finder {
     pub(crate) firsts: [u8; KINDS],
 }

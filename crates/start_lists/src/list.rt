@@ -40,7 +40,7 @@ const LARGEST: u32 = 4096;
 const DEEPEST: usize = 3;
 
 /// A machine, and the components that its inits start on it: the entries of all lists, an init directly before its own.
-#[derive(Debug, Drop)]
+#[derive(Drop)]
 pub struct StartList {
     pages: u32,
     caps: u32,

@@ -141,7 +141,7 @@ impl fmt::Display for Path {
 }
 
 /// The label under which an entry opens sessions: the names of its path, parted by ` -> `.
-#[derive(Debug, Drop)]
+#[derive(Drop)]
 pub(crate) struct Label {
     text: ArrayString<LONGEST_CLIENT>,
 }

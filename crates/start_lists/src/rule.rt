@@ -15,7 +15,7 @@ use std::alloc::{AllocError, Global};
 use std::marker::Model;
 
 /// Where a rule leads.
-#[derive(Debug, Drop)]
+#[derive(Drop)]
 pub enum Target {
     /// The child of a name, where it provides the service.
     Child(Name),
@@ -26,7 +26,7 @@ pub enum Target {
 }
 
 /// A rule: what it asks of the service and of the label that the client gave, as far as it asks, and its target.
-#[derive(Debug, Drop)]
+#[derive(Drop)]
 pub struct Rule {
     service: Option<Name>,
     label: Option<String>,

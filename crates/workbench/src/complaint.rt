@@ -7,7 +7,7 @@ use crate::texts::put_text_behind;
 use scenario_lines::{DeviceFault, Gather, Sink};
 
 /// Where in a scenario a complaint is about, both from 1 on.
-#[derive(Clone, Copy, Debug, PartialEq, Eq)]
+#[derive(Clone, Copy, PartialEq, Eq)]
 pub(crate) struct Place {
     pub line: u64,
     pub column: usize,

@@ -6,7 +6,7 @@ use scenario_lines::PlayFault;
 use start_lists::BootFault;
 
 /// How a play ended.
-#[derive(Clone, Copy, Debug, PartialEq, Eq)]
+#[derive(Clone, Copy, PartialEq, Eq)]
 pub struct Ending {
     /// How many lines were read.
     pub lines: u64,

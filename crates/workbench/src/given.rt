@@ -5,7 +5,7 @@ use friendly_lines::signs_of;
 use scenario_names::{Known, source_column};
 
 /// A line as it stands in a scenario, before it is filled.
-#[derive(Clone, Copy, Debug)]
+#[derive(Clone, Copy)]
 pub(crate) struct Given<'a> {
     /// Its number, from 1 on.
     pub number: u64,
@@ -14,7 +14,7 @@ pub(crate) struct Given<'a> {
 }
 
 /// What is judged of a line: where it stands, what it is once it is filled, and the reply that it expects, if it expects one.
-#[derive(Clone, Copy, Debug)]
+#[derive(Clone, Copy)]
 pub(crate) struct Asked<'a> {
     /// As it stands.
     pub given: Given<'a>,

@@ -31,7 +31,7 @@ use start_lists::{Binary, Entry, StartList};
 use std::alloc::{AllocError, Global};
 
 /// What an account needs, and whether its component has exited.
-#[derive(Clone, Copy, Debug, PartialEq, Eq)]
+#[derive(Clone, Copy, PartialEq, Eq)]
 pub(crate) struct Figure {
     pub need: Budget,
     pub is_gone: bool,

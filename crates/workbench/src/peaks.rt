@@ -24,7 +24,7 @@ use std::mem;
 use trade_base::{Caps, Ram};
 
 /// The most of an account that was in use after any line.
-#[derive(Clone, Copy, Debug, PartialEq, Eq)]
+#[derive(Clone, Copy, PartialEq, Eq)]
 pub(crate) struct Peak {
     pub ram: Ram,
     pub caps: Caps,

@@ -13,7 +13,7 @@ use scenario_lines::{DeviceFault, Gather, Sink};
 use text_codec::{decode_hex_from, read_hex};
 
 /// Digits of one or more bytes that can all be shown.
-#[derive(Clone, Copy, Debug)]
+#[derive(Clone, Copy)]
 pub(crate) struct Shown<'a> {
     hex: &'a [u8],
     ghost formed: { bytes_of_hex hex.now ≡ Some (hex_bytes hex.now) },

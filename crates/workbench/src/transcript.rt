@@ -31,7 +31,7 @@ use start_lists::{BootFault, StartList};
 use std::alloc::Global;
 
 /// What of a play is told.
-#[derive(Clone, Copy, Debug, PartialEq, Eq)]
+#[derive(Clone, Copy, PartialEq, Eq)]
 pub struct Showing<'a> {
     /// The name whose lines alone are answered, or none where all are.
     pub only: Option<&'a [u8]>,

@@ -13,7 +13,7 @@ use scenario_lines::{Gather, LineAnswer, NamedCall, PlayFault, Sink};
 use start_lists::StartList;
 
 /// A call that was answered.
-#[derive(Clone, Copy, Debug)]
+#[derive(Clone, Copy)]
 pub(crate) struct Heard<'a> {
     /// The line of the scenario that it stands in, from 1 on.
     pub number: u64,
