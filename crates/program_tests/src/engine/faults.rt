@@ -3,9 +3,9 @@ ghost use Rattle.std.specs.Prelude.{◌≡◌};
 ghost use Rattle.own_model.specs.Listed.{start_list_of};
 ghost use Rattle.own_model.specs.StartList.{entries_of};
 
-use crate::devices::{Reader, Writer};
-use crate::rows::repeat;
-use crate::rows::sessions::{DONATION, DONATION_ANSWERED};
+use crate::engine::devices::{Reader, Writer};
+use crate::engine::rows::repeat;
+use crate::engine::rows::sessions::{DONATION, DONATION_ANSWERED};
 use init_core::{MACHINE_A, StartList, boot};
 use pd_core::{Core, Reply, Router};
 use scenario::{Failure, Input, Output, RunFault, Sink, Source, Summary, run, run_only};

@@ -5,7 +5,7 @@ pub mod many;
 pub mod memory;
 pub mod sessions;
 
-use crate::devices::{Reader, Writer};
+use crate::engine::devices::{Reader, Writer};
 use init_core::MACHINE_A;
 use scenario::{Input, Output, Task, boot_and_run, exit_status, run_bytes};
 use std::alloc::{AllocError, Global};

@@ -1,5 +1,5 @@
 //! The bytes of CONFIG, from sources and files of all kinds.
-use crate::devices::Reader;
+use crate::engine::devices::Reader;
 use scenario::{ConfigFault, Input, LONGEST_CONFIG_READ, Source, read_config, read_config_at};
 use std::alloc::{AllocError, Global};
 use std::io::ErrorKind;

@@ -1,6 +1,6 @@
 //! The worked rows again, a name at a time: what a component is told among the others is what it is told alone. Of all other
 //! scenarios, and of mixes by chance, `tools/mixes.py` tries the same.
-use crate::rows::{PLAIN, Row, machines, many, memory, sessions};
+use crate::engine::rows::{PLAIN, Row, machines, many, memory, sessions};
 use scenario::{Task, run_bytes};
 use std::alloc::{AllocError, Global};
 use std::process::Abort;

@@ -1,6 +1,6 @@
 //! What is asked of a machine: how it ends, as text and as status, and what it reads and writes for it.
-use crate::devices::{Reader, Writer};
-use crate::rows::{LISTED, PLAIN, repeat};
+use crate::engine::devices::{Reader, Writer};
+use crate::engine::rows::{LISTED, PLAIN, repeat};
 use init_core::{BootFault, Field, MACHINE_A};
 use scenario::{
     ConfigFault, Failure, Input, Output, RunFault, Summary, Task, boot_and_run, exit_status,

@@ -1,0 +1,6 @@
+//! Tests of the workbench's crates: lines, devices that fail, commands, reviews.
+
+mod commands;
+mod devices;
+mod lines;
+mod reviews;

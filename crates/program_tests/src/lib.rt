@@ -1,0 +1,7 @@
+//! Tests of the programs' crates: what a program's bytes can't show.
+#![tactic(auto)]
+
+#[cfg(test)]
+mod desk;
+#[cfg(test)]
+mod engine;
