@@ -1,5 +1,5 @@
 //! The turn of a line: it is read, and its call is answered and told.
-ghost use Rattle.std.specs.Prelude.{◌≡◌, ◌≤◌, ◌∷◌, ◌&&◌, [], ℕ, List, IfSome, false, is_some, length};
+ghost use Rattle.std.specs.Prelude.{◌≡◌, ◌≤◌, ◌∷◌, ◌&&◌, [], ℕ, List, Option, IfSome, false, is_some, length};
 ghost use Rattle.std.specs.Option.{option_copied};
 ghost use Rattle.own_model.specs.Listed.{start_list_of};
 ghost use Rattle.own_model.specs.StartList.{entries_of};
