@@ -154,12 +154,12 @@ module _ {only : Option (List ℕ)} {tells : World → List (List ℕ) → ℕ �
   -- or it couldn't be told
   pub turn_untold : {T : Type 0} (fault : PlayFault) → Hears {T = T} only tells seen now_seen stand.number (calls_in deed) old new (Err fault) w g w' g' → own_failed ≡ false → Fails {T = T} (Err fault) told_failed (is_some o && calls) →
       PlaysTurn only tells calls seen now_seen deed (told_failed || own_failed) (Err fault) (point old stand awaited w g) (point new next now_awaited w' g')
-  turn_untold fault hears works fails = record {
+  turn_untold {T} fault hears works fails = record {
     hears = hears_fault fault hears;
     stands = tt;
     judged = tt;
     expects = tt;
-    failing = fails_before _ _ fault told_failed own_failed (is_some o && calls) _ works fails (told_takes only old stand.number calls deed o heard);
+    failing = fails_before T Bool fault told_failed own_failed (is_some o && calls) _ works fails (told_takes only old stand.number calls deed o heard);
   }
 
 -- what a line is may be told in other words

@@ -3,6 +3,7 @@ use Rattle.std.proofs.Common.{◌≡◌, ◌||◌, ℕ, ◌+◌, ◌<◌, ◌≤
 use Rattle.std.specs.Io.KnownBytes.{Appends}
 use Rattle.std.specs.Result.{result_err}
 use Rattle.own_model.specs.SaidBy.{said_by}
+use Rattle.own_model.specs.StartList.{Entry}
 use Rattle.own_model.specs.World.{World}
 use Rattle.scenario_lines.specs.Answered.{after_all}
 use Rattle.scenario_lines.specs.Faults.{Fails, is_write_fault}
@@ -15,7 +16,7 @@ use Rattle.scenario_lines.proofs.FaultLemmas.{none_of, or_none}
 use Rattle.scenario_lines.proofs.ToldLemmas.{left_none, said_none}
 use Rattle.workbench.specs.Faults.{takes_in}
 use Rattle.workbench.specs.Played.{calls_answered, calls_said, told_of_calls, told_of_turns}
-use Rattle.workbench.specs.Plays.{ClosesAs, LeadsTurns, PlaysAll, PlaysTurn, Point, StopsTurns, TakesRoom, TakesRoomFor, counted, most_lines}
+use Rattle.workbench.specs.Plays.{ClosesAs, LeadsTurns, PlaysAll, PlaysTurn, Point, Remains, StopsTurns, TakesRoom, TakesRoomFor, counted, most_lines}
 use Rattle.workbench.specs.Turns.{Deed, StaysBelow, Turn, call_of, deed_of, left_behind, next_stand, passed, stand_after, stand_behind, turn_of, turns_of}
 use Rattle.workbench.specs.Watching.{Watches}
 use Rattle.workbench.specs.declared.stand.Stand.{Stand}
@@ -95,6 +96,16 @@ module _ (only : Option (List ℕ)) (start mid : World) (first stand : Stand) (x
 sees_on : {T E : Type 0} (r : Result T E) (seen : World → List (List ℕ) → Type 0) (start world : World) (calls : List (List ℕ)) → OnOk r (Watches seen start calls world) → OnOk r (seen start calls)
 sees_on (Ok x) seen start world calls watches = watches.sees
 sees_on (Err fault) seen start world calls watches = tt
+
+-- a player that is the one before is the one that began, if that was
+pub remains_on : {N R T : Type 0} {name mid_name now_name : N} {run mid_run now_run : R} {tells mid_tells now_tells : T} {holds mid_holds now_holds : List ℕ} → Remains name mid_name run mid_run tells mid_tells holds mid_holds →
+    Remains mid_name now_name mid_run now_run mid_tells now_tells mid_holds now_holds → Remains name now_name run now_run tells now_tells holds now_holds
+remains_on led stays =
+    record { name_is = stays.name_is ∙ led.name_is; run_is = stays.run_is ∙ led.run_is; tells_is = stays.tells_is ∙ led.tells_is; holds_is = stays.holds_is ∙ led.holds_is }
+
+-- and its machine is the list's still
+pub listed_on : {R : Type 0} (entries_at : R → List Entry) (only : Option (List ℕ)) (calls : List (List ℕ)) {at run : R} (old : World) {new : World} → new ≡ after_all only old calls → old.entries ≡ entries_at at → run ≡ at → new.entries ≡ entries_at run
+listed_on entries_at only calls old leaves listed run_is = ap (λ (w : World). w.entries) leaves ∙ listed ∙ ap entries_at (sym run_is)
 
 -- the same for a player that is the one that began
 pub bench_line : {R A : Type 0} (only_of : R → Option (List ℕ)) (seen_old seen_new : R → World → List (List ℕ) → Type 0) {at run : R} {telling now_telling : World → List (List ℕ) → ℕ → List ℕ → List ℕ} (start : World) {first : Stand} (xs : List (List ℕ)) (line : List ℕ)

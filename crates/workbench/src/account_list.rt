@@ -81,7 +81,7 @@ pub fn accounts<S: Source, K: Sink, E: Sink>(
         list: &list,
         only: None,
     };
-    let mut stage = Stage {
+    let stage = Stage {
         run,
         core,
         notes,
@@ -90,26 +90,27 @@ pub fn accounts<S: Source, K: Sink, E: Sink>(
     let peaks = Peaks::new(alloc, &stage.core)?;
     let needs = Needs::new(alloc, &stage.core)?;
     let mut watch = Accounting { peaks, needs };
-    Ok(play_accounting(&mut stage, &mut watch, reader, writer, complaints))
+    Ok(play_accounting(stage, &mut watch, reader, writer, complaints))
 }
 
 // The same on a machine that has booted, with the peaks and needs of its accounts.
 fn play_accounting<R: Router + Drop, S: Source, K: Sink, E: Sink>(
-    stage: &mut Stage<'_, '_, R>,
+    stage: Stage<'_, '_, R>,
     watch: &mut Accounting,
     reader: &mut S,
     writer: &mut K,
     complaints: &mut E,
 ) -> Ending
-    requires listed { stage.old.core.entries ≡ entries_of (start_list_of stage.old.run.list.now) }
-    requires all { stage.old.run.only ≡ None }
-    requires first { stage.old.notes.stand.number ≡ 1 }
-    requires sees { SeesAccounts watch.old stage.old.run.list.now stage.old.core [] }
+    requires listed { stage.entry.core.entries
+        ≡ entries_of (start_list_of stage.entry.run.list.now) }
+    requires all { stage.entry.run.only ≡ None }
+    requires first { stage.entry.notes.stand.number ≡ 1 }
+    requires sees { SeesAccounts watch.old stage.entry.run.list.now stage.entry.core [] }
     ensures played { fault_before (S.has_failed reader.old)
         (K.has_failed writer.old || E.has_failed complaints.old) ≡ None →
         (sessions : OfSessions)
-        × IsPlayedFrom (turns_of None stage.old.core stage.old.notes.stand) (λ _. [])
-        (λ turns. accounts_text sessions stage.old.run.list.now stage.old.core
+        × IsPlayedFrom (turns_of None stage.entry.core stage.entry.notes.stand) (λ _. [])
+        (λ turns. accounts_text sessions stage.entry.run.list.now stage.entry.core
         (calls_answered None turns))
         true result (S.remaining reader.old) (S.remaining reader.new)
         (S.has_failed reader.new) (K.contents writer.old) (K.contents writer.new) }
@@ -123,16 +124,22 @@ fn play_accounting<R: Router + Drop, S: Source, K: Sink, E: Sink>(
         × (reader.new ≡ reader.old) × (writer.new ≡ writer.old)
         × (complaints.new ≡ complaints.old)) }
 {
+    let Stage {
+        run,
+        mut core,
+        mut notes,
+        mut rooms,
+    } = stage;
     let mut bench = Bench {
         complaints,
-        run: &stage.run,
-        notes: &mut stage.notes,
+        run: &run,
+        notes: &mut notes,
         watch,
-        rooms: &mut stage.rooms,
+        rooms: &mut rooms,
         complained: 0,
     };
-    let ending = play_lines(&mut bench, &mut stage.core, b"", reader, writer);
-    close_accounting(ending, &stage.core, stage.run.list, &bench, writer)
+    let ending = play_lines(&mut bench, &mut core, b"", reader, writer);
+    close_accounting(ending, &core, run.list, &bench, writer)
 }
 
 // Writes the list behind a play that came to its end.

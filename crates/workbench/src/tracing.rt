@@ -280,29 +280,30 @@ pub fn trace<S: Source, K: Sink, E: Sink>(
         list: &list,
         only: None,
     };
-    let mut stage = Stage {
+    let stage = Stage {
         run,
         core,
         notes,
         rooms,
     };
-    Ok(trace_on(&mut stage, reader, writer, complaints))
+    Ok(trace_on(stage, reader, writer, complaints))
 }
 
 // The same on a machine that has booted.
 fn trace_on<R: Router + Drop, S: Source, K: Sink, E: Sink>(
-    stage: &mut Stage<'_, '_, R>,
+    stage: Stage<'_, '_, R>,
     reader: &mut S,
     writer: &mut K,
     complaints: &mut E,
 ) -> Ending
-    requires listed { stage.old.core.entries ≡ entries_of (start_list_of stage.old.run.list.now) }
-    requires all { stage.old.run.only ≡ None }
-    requires first { stage.old.notes.stand.number ≡ 1 }
+    requires listed { stage.entry.core.entries
+        ≡ entries_of (start_list_of stage.entry.run.list.now) }
+    requires all { stage.entry.run.only ≡ None }
+    requires first { stage.entry.notes.stand.number ≡ 1 }
     ensures played { fault_before (S.has_failed reader.old)
         (K.has_failed writer.old || E.has_failed complaints.old) ≡ None →
-        IsPlayedFrom (turns_of None stage.old.core stage.old.notes.stand)
-        (λ turns. trace_header ++ told_of_turns (trace_tells stage.old.core) None [] turns)
+        IsPlayedFrom (turns_of None stage.entry.core stage.entry.notes.stand)
+        (λ turns. trace_header ++ told_of_turns (trace_tells stage.entry.core) None [] turns)
         (λ _. [])
         false result (S.remaining reader.old) (S.remaining reader.new)
         (S.has_failed reader.new) (K.contents writer.old) (K.contents writer.new) }
@@ -316,14 +317,20 @@ fn trace_on<R: Router + Drop, S: Source, K: Sink, E: Sink>(
         × (reader.new ≡ reader.old) × (writer.new ≡ writer.old)
         × (complaints.new ≡ complaints.old)) }
 {
+    let Stage {
+        run,
+        mut core,
+        mut notes,
+        mut rooms,
+    } = stage;
     let mut watch = Tracer;
     let mut bench = Bench {
         complaints,
-        run: &stage.run,
-        notes: &mut stage.notes,
+        run: &run,
+        notes: &mut notes,
         watch: &mut watch,
-        rooms: &mut stage.rooms,
+        rooms: &mut rooms,
         complained: 0,
     };
-    play_lines(&mut bench, &mut stage.core, HEADER, reader, writer)
+    play_lines(&mut bench, &mut core, HEADER, reader, writer)
 }

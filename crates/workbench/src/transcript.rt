@@ -158,32 +158,33 @@ pub fn run<S: Source, K: Sink, E: Sink>(
         list: &list,
         only: showing.only,
     };
-    let mut stage = Stage {
+    let stage = Stage {
         run,
         core,
         notes,
         rooms,
     };
-    Ok(run_on(&mut stage, showing, reader, writer, complaints))
+    Ok(run_on(stage, showing, reader, writer, complaints))
 }
 
 // The same on a machine that has booted.
 fn run_on<R: Router + Drop, S: Source, K: Sink, E: Sink>(
-    stage: &mut Stage<'_, '_, R>,
+    stage: Stage<'_, '_, R>,
     showing: Showing<'_>,
     reader: &mut S,
     writer: &mut K,
     complaints: &mut E,
 ) -> Ending
-    requires listed { stage.old.core.entries ≡ entries_of (start_list_of stage.old.run.list.now) }
-    requires first { stage.old.notes.stand.number ≡ 1 }
+    requires listed { stage.entry.core.entries
+        ≡ entries_of (start_list_of stage.entry.run.list.now) }
+    requires first { stage.entry.notes.stand.number ≡ 1 }
     ensures played { fault_before (S.has_failed reader.old)
         (K.has_failed writer.old || E.has_failed complaints.old) ≡ None →
-        IsPlayedFrom (turns_of (option_copied stage.old.run.only) stage.old.core
-        stage.old.notes.stand)
-        (shown_of showing.entry.numbers (option_copied stage.old.run.only) stage.old.core)
-        (list_behind showing.entry.accounts (option_copied stage.old.run.only)
-        stage.old.run.list.now stage.old.core)
+        IsPlayedFrom (turns_of (option_copied stage.entry.run.only) stage.entry.core
+        stage.entry.notes.stand)
+        (shown_of showing.entry.numbers (option_copied stage.entry.run.only) stage.entry.core)
+        (list_behind showing.entry.accounts (option_copied stage.entry.run.only)
+        stage.entry.run.list.now stage.entry.core)
         false result
         (S.remaining reader.old) (S.remaining reader.new)
         (S.has_failed reader.new) (K.contents writer.old) (K.contents writer.new) }
@@ -197,21 +198,27 @@ fn run_on<R: Router + Drop, S: Source, K: Sink, E: Sink>(
         × (reader.new ≡ reader.old) × (writer.new ≡ writer.old)
         × (complaints.new ≡ complaints.old)) }
 {
+    let Stage {
+        run,
+        mut core,
+        mut notes,
+        mut rooms,
+    } = stage;
     let mut watch = Transcript {
         numbers: showing.numbers,
     };
     let mut bench = Bench {
         complaints,
-        run: &stage.run,
-        notes: &mut stage.notes,
+        run: &run,
+        notes: &mut notes,
         watch: &mut watch,
-        rooms: &mut stage.rooms,
+        rooms: &mut rooms,
         complained: 0,
     };
-    let ending = play_lines(&mut bench, &mut stage.core, b"", reader, writer);
+    let ending = play_lines(&mut bench, &mut core, b"", reader, writer);
     let accounts = showing.accounts;
     if accounts {
-        close_with_list(ending, &stage.core, stage.run.list, writer)
+        close_with_list(ending, &core, run.list, writer)
     } else {
         ending
     }

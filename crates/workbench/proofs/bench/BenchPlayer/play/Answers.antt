@@ -1,10 +1,9 @@
 -- A line is played where its lines before have led.
-use Rattle.std.proofs.Common.{ap, sym, ◌∙◌}
 use Rattle.std.specs.Option.{option_copied}
 use Rattle.own_model.specs.Listed.{start_list_of}
 use Rattle.own_model.specs.StartList.{entries_of}
-use Rattle.workbench.specs.Turns.{deed_of}
-use Rattle.workbench.proofs.PlayLemmas.{bench_line, counted_fails, numbered, ready_next}
+use Rattle.workbench.specs.Turns.{calls_in, deed_of}
+use Rattle.workbench.proofs.PlayLemmas.{bench_line, counted_fails, listed_on, numbered, ready_next, remains_on}
 use Rattle.workbench.proofs.bench.BenchPlayer.play.Goals as goal
 
 pub play_line-judged-requires-clause-low : goal.play_line-judged-requires-clause-low
@@ -12,16 +11,17 @@ play_line-judged-requires-clause-low g c = numbered c.args.self.now.notes.now.st
 
 pub returns-clause-played : goal.returns-clause-played
 returns-clause-played g c = λ first start earlier led.
-    let stays = c.play_line-judged.ensures.remains in
-    let kept = record { name_is = stays.name_is ∙ led.0.name_is; run_is = stays.run_is ∙ led.0.run_is; tells_is = stays.tells_is ∙ led.0.tells_is; holds_is = stays.holds_is ∙ led.0.holds_is } in
     rw c.count.ensures (bench_line (λ run. option_copied run.only) (λ run. g.W.Watch.sees c.args.self.now.watch.now run.list.now) (λ run. g.W.Watch.sees c.play_line-judged.new.self.watch.now run.list.now)
-    start earlier c.args.line.now g.W.Watch.takes c.play_line-judged.result kept led.0.run_is led.0.tells_is led.1 c.play_line-judged.ensures.plays)
+    start earlier c.args.line.now g.W.Watch.takes c.play_line-judged.result (remains_on led.0 c.play_line-judged.ensures.remains) led.0.run_is led.0.tells_is led.1 c.play_line-judged.ensures.plays)
 
 pub returns-clause-failing : goal.returns-clause-failing
 returns-clause-failing g c = rw c.count.ensures (counted_fails c.play_line-judged.result _ _ c.play_line-judged.ensures.plays.failing)
 
 pub returns-clause-ready : goal.returns-clause-ready
 returns-clause-ready g c = λ more ready.
+    let now = c.args.self.now in
+    let only = option_copied now.run.now.only in
+    let deed = deed_of now.notes.now.stand c.args.line.now in
     let plays = c.play_line-judged.ensures.plays in
-    rw c.count.ensures (ready_next _ _ c.play_line-judged.result c.args.self.now.notes.now.stand c.play_line-judged.new.self.notes.now.stand (deed_of c.args.self.now.notes.now.stand c.args.line.now) more
-    (ap (λ w. w.entries) plays.hears.world ∙ ready.0 ∙ ap (λ run. entries_of (start_list_of run.list.now)) (sym c.play_line-judged.ensures.remains.run_is)) ready.1 plays.stands)
+    rw c.count.ensures (ready_next only c.args.core.now c.play_line-judged.result now.notes.now.stand c.play_line-judged.new.self.notes.now.stand deed more
+    (listed_on (λ run. entries_of (start_list_of run.list.now)) only (calls_in deed) c.args.core.now plays.hears.world ready.0 c.play_line-judged.ensures.remains.run_is) ready.1 plays.stands)

@@ -5,7 +5,7 @@ use Rattle.scenario_lines.specs.declared.play_fault.PlayFault.{PlayFault}
 use Rattle.scenario_lines.proofs.ToldLemmas.{left_none, said_none}
 use Rattle.workbench.specs.Turns.Deed.{TooLong}
 use Rattle.workbench.proofs.LineLemmas.{hears_none, plays_as, turn_judged}
-use Rattle.workbench.proofs.PlayLemmas.{bench_line, counted_fails, numbered, ready_next}
+use Rattle.workbench.proofs.PlayLemmas.{bench_line, ready_next}
 use Rattle.workbench.proofs.PlayedLemmas.{deed_of-long}
 use Rattle.workbench.proofs.bench.BenchPlayer.play_too_long.Goals as goal
 
@@ -20,3 +20,8 @@ returns-clause-played g c = λ first start earlier line long led.
     start earlier line g.W.Watch.takes c.take_in-judged.result (record { name_is = led.0.name_is; run_is = led.0.run_is; tells_is = led.0.tells_is; holds_is = led.0.holds_is }) led.0.run_is led.0.tells_is led.1
     (plays_as (sym (deed_of-long now.notes.now.stand line long)) (turn_judged _ _ TooLong None (said_none only) c.take_in-judged.result (hears_none told (sym (left_none only c.args._core.now)) (said_none only)) c.requires.works.writes
     c.take_in-judged.ensures.judged c.take_in-judged.ensures.expects c.take_in-judged.ensures.stands c.take_in-judged.ensures.failing)))
+
+pub returns-clause-ready : goal.returns-clause-ready
+returns-clause-ready g c = λ more ready.
+    let now = c.args.self.now in
+    rw c.count.ensures (ready_next (option_copied now.run.now.only) c.args._core.now c.take_in-judged.result now.notes.now.stand c.take_in-judged.new.self.stand TooLong more ready.0 ready.1 c.take_in-judged.ensures.stands)
