@@ -296,10 +296,9 @@ fn trace_on<R: Router + Drop, S: Source, K: Sink, E: Sink>(
     writer: &mut K,
     complaints: &mut E,
 ) -> Ending
-    requires listed { stage.entry.core.entries
-        ≡ entries_of (start_list_of stage.entry.run.list.now) }
-    requires all { stage.entry.run.only ≡ None }
-    requires first { stage.entry.notes.stand.number ≡ 1 }
+    requires listed { stage.core.entries ≡ entries_of (start_list_of stage.run.list.now) }
+    requires all { stage.run.only ≡ None }
+    requires first { stage.notes.stand.number ≡ 1 }
     ensures played { fault_before (S.has_failed reader.old)
         (K.has_failed writer.old || E.has_failed complaints.old) ≡ None →
         IsPlayedFrom (turns_of None stage.entry.core stage.entry.notes.stand)

@@ -175,9 +175,8 @@ fn run_on<R: Router + Drop, S: Source, K: Sink, E: Sink>(
     writer: &mut K,
     complaints: &mut E,
 ) -> Ending
-    requires listed { stage.entry.core.entries
-        ≡ entries_of (start_list_of stage.entry.run.list.now) }
-    requires first { stage.entry.notes.stand.number ≡ 1 }
+    requires listed { stage.core.entries ≡ entries_of (start_list_of stage.run.list.now) }
+    requires first { stage.notes.stand.number ≡ 1 }
     ensures played { fault_before (S.has_failed reader.old)
         (K.has_failed writer.old || E.has_failed complaints.old) ≡ None →
         IsPlayedFrom (turns_of (option_copied stage.entry.run.only) stage.entry.core
