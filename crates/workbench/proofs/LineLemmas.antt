@@ -3,23 +3,17 @@ use Rattle.std.proofs.Common.{◌≡◌, ℕ, ◌&&◌, ◌||◌, Bool, true, fa
 use Rattle.own_model.specs.SaidBy.{said_by}
 use Rattle.own_model.specs.Transcript.{heard}
 use Rattle.own_model.specs.World.{World, world_running}
-use Rattle.friendly_lines.specs.Friendly.{Said}
 use Rattle.friendly_lines.specs.Friendly.Said.{Nothing, Log, Call}
-use Rattle.friendly_lines.specs.declared.fault.Fault.{Fault}
 use Rattle.scenario_lines.specs.Answer.{IsAnswer}
 use Rattle.scenario_lines.specs.Answered.{after_all}
 use Rattle.scenario_lines.specs.Faults.{Fails}
 use Rattle.scenario_lines.specs.Gathered.{Tells, TellsUnless}
-use Rattle.scenario_lines.specs.declared.answering.LineAnswer.{LineAnswer}
 use Rattle.scenario_lines.specs.declared.play_fault.PlayFault.{PlayFault}
-use Rattle.scenario_lines.proofs.FaultLemmas.{or_first}
 use Rattle.scenario_lines.proofs.GatheredLemmas.{Tells-none}
-use Rattle.scenario_lines.proofs.ToldLemmas.{left_none, said_none, world_running-append}
-use Rattle.scenario_names.specs.Filling.{Filled}
+use Rattle.scenario_lines.proofs.ToldLemmas.{said_none, world_running-append}
 use Rattle.workbench.specs.Faults.{takes_in}
 use Rattle.workbench.specs.Hearing.{Hears, IsHeard, IsHeardAs, answer_of}
 use Rattle.workbench.specs.Judging.{AnswersIn, Awaited, IsJudged, awaited_after, is_complained}
-use Rattle.workbench.specs.Played.{told_of_calls}
 use Rattle.workbench.specs.Plays.{PlaysTurn, Point, point}
 use Rattle.workbench.specs.Turns.{Deed, calls_in, has_holes, passed, stand_after, stand_with}
 use Rattle.workbench.specs.Turns.Deed.{TooLong, Unnamed, Follows, Says}

@@ -1,6 +1,5 @@
 -- A play from line to line: what was played, and what it leaves at its end.
-use Rattle.std.proofs.Common.{◌≡◌, ◌||◌, ℕ, ◌+◌, ◌<◌, ◌≤◌, ◌^◌, List, [], ◌∷◌, ◌++◌, length, Option, Some, None, IfSome, IfNone, Result, Ok, Err, OnOk, Bool, true, false, ⊎_elim, arith, refl, sym, ◌∙◌, ap, subst, append-nil}
-use Rattle.std.specs.Io.KnownBytes.{Appends}
+use Rattle.std.proofs.Common.{◌≡◌, ◌||◌, ℕ, ◌+◌, ◌<◌, ◌≤◌, ◌^◌, List, [], ◌∷◌, ◌++◌, length, Option, Some, None, IfNone, Result, Ok, Err, OnOk, Bool, true, false, ⊎_elim, arith, refl, sym, ◌∙◌, ap, subst, append-nil}
 use Rattle.std.specs.Result.{result_err}
 use Rattle.own_model.specs.SaidBy.{said_by}
 use Rattle.own_model.specs.StartList.{Entry}
@@ -8,16 +7,15 @@ use Rattle.own_model.specs.World.{World}
 use Rattle.scenario_lines.specs.Answered.{after_all}
 use Rattle.scenario_lines.specs.Faults.{Fails, is_write_fault}
 use Rattle.scenario_lines.specs.Gathered.{TellsUnless}
-use Rattle.scenario_lines.specs.Lines.{AreReadable}
-use Rattle.scenario_lines.specs.Plays.{EndsAs, EndsFor, GoesOn, PlaysAll as PlaysLines, PlaysLine, StopsAs, WritesTold}
+use Rattle.scenario_lines.specs.Plays.{EndsAs, EndsFor, GoesOn, PlaysAll as PlaysLines, PlaysLine}
 use Rattle.scenario_lines.specs.declared.play_fault.PlayFault.{PlayFault}
 use Rattle.scenario_lines.specs.declared.play_fault.PlayFault.TheVariants.{ReadFault, WriteFault, TooManyLines, NoMemory}
 use Rattle.scenario_lines.proofs.FaultLemmas.{none_of, or_none}
 use Rattle.scenario_lines.proofs.ToldLemmas.{left_none, said_none}
 use Rattle.workbench.specs.Faults.{takes_in}
 use Rattle.workbench.specs.Played.{calls_answered, calls_said, told_of_calls, told_of_turns}
-use Rattle.workbench.specs.Plays.{ClosesAs, LeadsTurns, PlaysAll, PlaysTurn, Point, Remains, StopsTurns, TakesRoom, TakesRoomFor, counted, most_lines}
-use Rattle.workbench.specs.Turns.{Deed, StaysBelow, Turn, call_of, deed_of, left_behind, next_stand, passed, stand_after, stand_behind, turn_of, turns_of}
+use Rattle.workbench.specs.Plays.{ClosesAs, LeadsTurns, PlaysAll, PlaysTurn, Point, Remains, StopsTurns, TakesRoomFor, counted, most_lines}
+use Rattle.workbench.specs.Turns.{Deed, StaysBelow, call_of, deed_of, left_behind, next_stand, passed, stand_after, stand_behind, turn_of, turns_of}
 use Rattle.workbench.specs.Watching.{Watches}
 use Rattle.workbench.specs.declared.stand.Stand.{Stand}
 use Rattle.workbench.proofs.TurnLemmas.{below_next}

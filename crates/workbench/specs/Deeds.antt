@@ -1,5 +1,5 @@
 -- What a line is when its turn comes, by its bytes.
-use Rattle.std.specs.Prelude.{Result, Some, None, Ok, Err}
+use Rattle.std.specs.Prelude.{Result, None, Ok, Err}
 use Rattle.std.specs.Option.{option_copied}
 use Rattle.friendly_lines.specs.Friendly.{Said}
 use Rattle.friendly_lines.specs.Friendly.Said.{Nothing, Log, Call}

@@ -1,5 +1,5 @@
 -- The turns of a play: what each line of a scenario is, when its turn comes.
-use Rattle.std.specs.Prelude.{◌≡◌, ℕ, ◌+◌, ◌<◌, ◌≤◌, ◌^◌, Bool, true, false, ⊤, List, [], ◌∷◌, length, min, nat_le, nat_lt, if◌then◌else◌, Option, Some, None, Result, Ok, Err}
+use Rattle.std.specs.Prelude.{◌≡◌, ℕ, ◌+◌, ◌<◌, ◌≤◌, ◌^◌, Bool, ⊤, List, [], ◌∷◌, length, min, nat_le, nat_lt, if◌then◌else◌, Option, Some, None, Result, Ok, Err}
 use Rattle.std.specs.Option.{unwrap_or}
 use Rattle.own_model.specs.Reply.{reply_text}
 use Rattle.own_model.specs.SaidBy.{said_by}
