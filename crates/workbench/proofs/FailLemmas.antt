@@ -21,12 +21,11 @@ fails_beside (Err TooManyLines) a b takes more works fails wider = fails
 fails_beside (Err NoMemory) a b takes more works fails wider = (rw works (fails.0), wider fails.1)
 
 -- and of the writer, where the complaints work
-pub fails_before : {T : Type 0} (r : Result T PlayFault) (a b takes more : Bool) → b ≡ false → Fails r a takes → (takes ≡ true → more ≡ true) → Fails r (a || b) more
-fails_before (Ok done) a b takes more works fails wider = or_first a b works ∙ fails
-fails_before (Err ReadFault) a b takes more works fails wider = fails
-fails_before (Err WriteFault) a b takes more works fails wider = or_first a b works ∙ fails
-fails_before (Err TooManyLines) a b takes more works fails wider = fails
-fails_before (Err NoMemory) a b takes more works fails wider = (or_first a b works ∙ fails.0, wider fails.1)
+pub fails_before : (A T : Type 0) (fault : PlayFault) (a b takes more : Bool) → b ≡ false → Fails {T = A} (Err fault) a takes → (takes ≡ true → more ≡ true) → Fails {T = T} (Err fault) (a || b) more
+fails_before A T ReadFault a b takes more works fails wider = fails
+fails_before A T WriteFault a b takes more works fails wider = or_first a b works ∙ fails
+fails_before A T TooManyLines a b takes more works fails wider = fails
+fails_before A T NoMemory a b takes more works fails wider = (or_first a b works ∙ fails.0, wider fails.1)
 
 -- want of room alone
 pub fails_for_room : {T : Type 0} (r : Result T PlayFault) (failed takes : Bool) → failed ≡ false → takes ≡ true → IfErr r (λ fault. fault ≡ NoMemory) → Fails r failed takes

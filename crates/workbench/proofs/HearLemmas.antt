@@ -1,13 +1,13 @@
 -- What the meters have heard once a line more was answered.
-use Rattle.std.proofs.Common.{◌≡◌, ℕ, ◌<◌, List, [], ◌∷◌, ◌++◌, length, Option, Some, None, Result, Ok, Err, OnOk, sym, ◌∙◌, ap, subst, arith}
+use Rattle.std.proofs.Common.{◌≡◌, ℕ, ◌<◌, List, [], ◌∷◌, ◌++◌, length, Some, None, Result, Ok, Err, OnOk, sym, ◌∙◌, ap, subst, arith}
 use Rattle.std.specs.Prelude.{◌≢◌}
 use Rattle.own_model.specs.Call.{Call, Spoken}
 use Rattle.own_model.specs.Listed.{Listed, start_list_of}
 use Rattle.own_model.specs.OwnState.{OwnState}
 use Rattle.own_model.specs.OwnStep.{own_run, own_step}
 use Rattle.own_model.specs.StartList.{Entry, entries_of}
-use Rattle.own_model.specs.Transcript.{Heard, calls_in, entry_at, heard, heard_spoken, state_at}
-use Rattle.own_model.specs.Transcript.Heard.{NoCall, Stranger, Caller}
+use Rattle.own_model.specs.Transcript.{calls_in, entry_at, heard, heard_spoken, state_at}
+use Rattle.own_model.specs.Transcript.Heard.{Stranger, Caller}
 use Rattle.own_model.specs.World.{World, account_at}
 use Rattle.pd_core.specs.Answer.{quotas_account}
 use Rattle.calls.specs.declared.quotas.Quotas.{Quotas}

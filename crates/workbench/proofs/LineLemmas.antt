@@ -1,101 +1,162 @@
--- A line that is played: it says a call, which is answered and told, or nothing changes.
-use Rattle.std.proofs.Common.{◌≡◌, ℕ, Bool, true, false, List, [], ◌++◌, Option, None, Result, Ok, Err, IfOk, OnOk, refl, sym, ◌∙◌, ap, subst}
+-- A line that is played: what it says is answered and told, or nothing changes, and then it is judged.
+use Rattle.std.proofs.Common.{◌≡◌, ℕ, ◌&&◌, ◌||◌, Bool, true, false, List, [], ◌∷◌, ◌++◌, append-nil, is_some, Option, Some, None, Result, Ok, Err, IfOk, OnOk, refl, sym, ◌∙◌, ap, subst}
 use Rattle.own_model.specs.SaidBy.{said_by}
-use Rattle.own_model.specs.World.{World}
-use Rattle.friendly_lines.specs.Friendly.{Said, is_passed, said_of}
+use Rattle.own_model.specs.Transcript.{heard}
+use Rattle.own_model.specs.World.{World, world_running}
 use Rattle.friendly_lines.specs.Friendly.Said.{Nothing, Log, Call}
-use Rattle.friendly_lines.specs.declared.fault.Fault.{Fault}
+use Rattle.scenario_lines.specs.Answer.{IsAnswer}
 use Rattle.scenario_lines.specs.Answered.{after_all}
+use Rattle.scenario_lines.specs.Faults.{Fails}
 use Rattle.scenario_lines.specs.Gathered.{Tells, TellsUnless}
-use Rattle.scenario_lines.proofs.GatheredLemmas.{Tells-none}
-use Rattle.scenario_lines.proofs.ToldLemmas.{left_none, said_none}
-use Rattle.scenario_lines.specs.Answer.{AnswersLine}
-use Rattle.scenario_lines.specs.declared.answering.LineAnswer.{LineAnswer}
-use Rattle.workbench.specs.Judging.{Awaited, IsJudged, IsJudgedSaid, awaited_after, awaited_said, is_other}
 use Rattle.scenario_lines.specs.declared.play_fault.PlayFault.{PlayFault}
-use Rattle.workbench.specs.Played.{told_of_calls}
-use Rattle.scenario_names.specs.Filling.{Filled}
-use Rattle.workbench.specs.Turns.{call_in}
-use Rattle.workbench.specs.Turns.Deed.{Says}
-use Rattle.workbench.specs.Watching.{Watches}
-use Rattle.workbench.proofs.PlayLemmas.{watches_none}
+use Rattle.scenario_lines.proofs.GatheredLemmas.{Tells-none}
+use Rattle.scenario_lines.proofs.ToldLemmas.{said_none, world_running-append}
+use Rattle.workbench.specs.Faults.{takes_in}
+use Rattle.workbench.specs.Hearing.{Hears, IsHeard, IsHeardAs, answer_of}
+use Rattle.workbench.specs.Judging.{AnswersIn, Awaited, IsJudged, awaited_after, is_complained}
+use Rattle.workbench.specs.Plays.{PlaysTurn, Point, point}
+use Rattle.workbench.specs.Turns.{Deed, calls_in, has_holes, passed, stand_after, stand_with}
+use Rattle.workbench.specs.Turns.Deed.{TooLong, Unnamed, Follows, Says}
+use Rattle.workbench.specs.Watching.{IsToldOf, Watches}
+use Rattle.workbench.specs.declared.stand.Stand.{Stand}
+use Rattle.workbench.specs.declared.watch.Heard.{Heard}
+use Rattle.workbench.proofs.FailLemmas.{fails_before, fails_beside}
+use Rattle.workbench.proofs.PlayedLemmas.{told_of_one}
+use Rattle.workbench.proofs.TurnLemmas.{stands_answered}
 
--- what a line says by what was read of it
-pub call_in-said : (line : List ℕ) (said : Result Said Fault) → said ≡ said_of line → call_in (said_of line) ≡ call_in said
-call_in-said line said is = ap call_in (sym is)
-
--- what a watch has seen where it watches
-pub sees_on : {T E : Type 0} (r : Result T E) (seen : World → List (List ℕ) → Type 0) (start world : World) (calls : List (List ℕ)) → OnOk r (Watches seen start calls world) → OnOk r (seen start calls)
-sees_on (Ok x) seen start world calls watches = watches.sees
-sees_on (Err fault) seen start world calls watches = tt
-
--- what was told is told, whatever a complaint becomes
-pub judged_told : {T E : Type 0} {w w' : Option (List ℕ)} {g g' text : List ℕ} (judged : Result T E) → Tells w g w' g' text → TellsUnless judged w g w' g' text
-judged_told (Ok complained) told = told
-judged_told {g' = g'} (Err fault) told = (g', told)
-
-pub on_ok : {T E : Type 0} {P : Type 0} (judged : Result T E) → P → OnOk judged P
-on_ok (Ok complained) p = p
+on_ok : {T E : Type 0} {P : Type 0} (r : Result T E) → P → OnOk r P
+on_ok (Ok done) p = p
 on_ok (Err fault) p = tt
 
-module _ (only : Option (List ℕ)) (here calls : List (List ℕ)) (says : here ≡ calls) where
-  -- what a line's calls do the line does
-  pub left_said : (world left : World) → left ≡ after_all only world calls → left ≡ after_all only world here
-  left_said world left is = is ∙ ap (after_all only world) (sym says)
+-- what was told is told, whatever a complaint becomes
+told_unless : {T E : Type 0} {w w' : Option (List ℕ)} {g g' text : List ℕ} (r : Result T E) → Tells w g w' g' text → TellsUnless r w g w' g' text
+told_unless (Ok done) told = told
+told_unless {g' = g'} (Err fault) told = (g', told)
 
-  pub told_said : {T E : Type 0} (judged : Result T E) (tells : List (List ℕ) → ℕ → List ℕ → List ℕ) (earlier : List (List ℕ)) (number : ℕ) (w w' : Option (List ℕ)) (g g' : List ℕ) →
-      TellsUnless judged w g w' g' (told_of_calls tells earlier number (said_by only calls)) → TellsUnless judged w g w' g' (told_of_calls tells earlier number (said_by only here))
-  told_said judged tells earlier number w w' g g' told = rw says told
+-- ---- what is heard of its calls, and told
 
-  pub seen_said : {T E : Type 0} (judged : Result T E) (seen : World → List (List ℕ) → Type 0) (start left : World) (earlier : List (List ℕ)) →
-      OnOk judged (Watches seen start (earlier ++ said_by only calls) left) → OnOk judged (Watches seen start (earlier ++ said_by only here) left)
-  seen_said judged seen start left earlier sees = rw says sees
+module _ {only : Option (List ℕ)} {tells : World → List (List ℕ) → ℕ → List ℕ → List ℕ} {number : ℕ} {calls : List (List ℕ)} {old new : World} {w : Option (List ℕ)} {g : List ℕ} where
+  -- where none is answered nothing changes
+  pub hears_none : {seen : World → List (List ℕ) → Type 0} {T : Type 0} (r : Result T PlayFault) → new ≡ after_all only old calls → said_by only calls ≡ [] → Hears only tells seen seen number calls old new r w g w g
+  hears_none {seen} r leaves none = record {
+    world = leaves;
+    told = λ start earlier watches. rw none (told_unless r (Tells-none w g));
+    sees = λ start earlier watches.
+        on_ok r (record {
+          leads = leaves ∙ ap (world_running old) none ∙ watches.leads ∙ ap (world_running start) (unchanged earlier);
+          sees = subst (seen start) (unchanged earlier) watches.sees;
+        });
+  }
+    where
+      unchanged : (earlier : List (List ℕ)) → earlier ≡ earlier ++ said_by only calls
+      unchanged earlier = sym (ap (λ c. earlier ++ c) none ∙ append-nil earlier)
 
--- a line that says no call changes nothing
-module _ (only : Option (List ℕ)) (here : List (List ℕ)) (silent : here ≡ []) where
-  pub left_silent : (world : World) → world ≡ after_all only world here
-  left_silent world = left_said only here [] silent world world (sym (left_none only world))
+  module _ {w' : Option (List ℕ)} {g' : List ℕ} {seen now_seen : World → List (List ℕ) → Type 0} where
+    -- one that is answered is told to the watch
+    pub hears_one : {T : Type 0} (it : Heard) (r : Result T PlayFault) → new ≡ after_all only old calls → IsHeardAs only old number calls it →
+        ((start : World) (earlier : List (List ℕ)) → seen start earlier → IsToldOf start earlier it.line.now new it.answer → TellsUnless r w g w' g' (tells start earlier it.number it.line.now)) →
+        ((start : World) (earlier : List (List ℕ)) → seen start earlier → IsToldOf start earlier it.line.now new it.answer → OnOk r (now_seen start (earlier ++ it.line.now ∷ []))) →
+        Hears only tells seen now_seen number calls old new r w g w' g'
+    hears_one it r leaves is told sees = record {
+      world = leaves;
+      told = λ start earlier watches.
+          subst (TellsUnless r w g w' g') (ap (λ n. tells start earlier n it.line.now) is.numbered ∙ told_of_one (tells start) earlier number it.line.now _ is.said)
+          (told start earlier watches.sees (told_of start earlier watches));
+      sees = λ start earlier watches. watches_on r start earlier watches (sees start earlier watches.sees (told_of start earlier watches));
+    }
+      where
+        told_of : (start : World) (earlier : List (List ℕ)) → Watches seen start earlier old → IsToldOf start earlier it.line.now new it.answer
+        told_of start earlier watches = record {
+          leaves =
+              leaves ∙ ap (world_running old) is.said ∙ ap (λ world. world_running world (it.line.now ∷ [])) watches.leads ∙ world_running-append start earlier (it.line.now ∷ []);
+          answers = subst (λ (world : World). IsAnswer world (heard world.entries it.line.now) it.answer) watches.leads is.answers;
+        }
 
-  pub told_silent : {T E : Type 0} (judged : Result T E) (tells : List (List ℕ) → ℕ → List ℕ → List ℕ) (earlier : List (List ℕ)) (number : ℕ) (w : Option (List ℕ)) (g : List ℕ) →
-      TellsUnless judged w g w g (told_of_calls tells earlier number (said_by only here))
-  told_silent judged tells earlier number w g =
-      told_said only here [] silent judged tells earlier number w w g g (rw (said_none only) (judged_told judged (Tells-none w g)))
+        watches_on : {T : Type 0} (r : Result T PlayFault) (start : World) (earlier : List (List ℕ)) → Watches seen start earlier old → OnOk r (now_seen start (earlier ++ it.line.now ∷ [])) →
+            OnOk r (Watches now_seen start (earlier ++ said_by only calls) new)
+        watches_on (Ok done) start earlier watches sees = rw is.said (record { leads = (told_of start earlier watches).leaves; sees = sees })
+        watches_on (Err fault) start earlier watches sees = tt
 
-  pub seen_silent : {T E : Type 0} (judged : Result T E) {seen : World → List (List ℕ) → Type 0} {start world : World} {earlier : List (List ℕ)} →
-      Watches seen start earlier world → OnOk judged (Watches seen start (earlier ++ said_by only here) world)
-  seen_silent judged watches =
-      on_ok judged (watches_none (said_by only here) (ap (said_by only) silent ∙ said_none only) watches)
+    -- what was told stays told, whatever is complained of it
+    hears_on : {A T : Type 0} {done : A} (r : Result T PlayFault) → Hears only tells seen now_seen number calls old new (Ok done) w g w' g' → Hears only tells seen now_seen number calls old new r w g w' g'
+    hears_on r hears = record {
+      world = hears.world;
+      told = λ start earlier watches. told_unless r (hears.told start earlier watches);
+      sees = λ start earlier watches. on_ok r (hears.sees start earlier watches);
+    }
 
--- ---- what is complained of
+    hears_fault : {A T : Type 0} (fault : PlayFault) → Hears {T = A} only tells seen now_seen number calls old new (Err fault) w g w' g' → Hears {T = T} only tells seen now_seen number calls old new (Err fault) w g w' g'
+    hears_fault fault hears = record { world = hears.world; told = hears.told; sees = λ start earlier watches. tt }
 
-module _ (only : Option (List ℕ)) (world : World) (f : Filled) (line : List ℕ) (awaited : Awaited) where
-  -- of what is read of it
-  judged_by : (r : Result Bool PlayFault) (said : Result Said Fault) → said ≡ said_of line → IfOk r (IsJudgedSaid (is_passed f.line) only world said awaited) → IfOk r (IsJudged only world (Says f (said_of line)) awaited)
-  judged_by r said is judged = subst (λ s. IfOk r (IsJudgedSaid (is_passed f.line) only world s awaited)) is judged
+-- ---- what is complained of it, and what comes of it
 
-  -- of a call by its answer
-  pub judged_call : (r : Result Bool PlayFault) (engine : List ℕ) (reply : Option (List ℕ)) (answer : Option LineAnswer) → Ok (Call engine reply) ≡ said_of line →
-      AnswersLine only world engine answer → IfOk r (λ complained. complained ≡ is_other (is_passed f.line) reply answer awaited) → IfOk r (IsJudged only world (Says f (said_of line)) awaited)
-  judged_call (Ok complained) engine reply answer is answers judged = judged_by (Ok complained) (Ok (Call engine reply)) is (answer, answers, judged)
-  judged_call (Err fault) engine reply answer is answers judged = tt
+answers_in : (only : Option (List ℕ)) (world : World) (number : ℕ) (calls : List (List ℕ)) (o : Option Heard) → IsHeard only world number calls o → AnswersIn only world calls (answer_of o)
+answers_in only world number calls (Some it) is = (it.line.now, is.said, is.answers)
+answers_in only world number calls None none = none
 
-  pub judged_nothing : Ok Nothing ≡ said_of line → IsJudged only world (Says f (said_of line)) awaited false
-  judged_nothing is = judged_by (Ok false) (Ok Nothing) is refl
+-- what takes room without its call takes some
+takes_wider : (calls : Bool) (deed : Deed) → takes_in false deed ≡ true → takes_in calls deed ≡ true
+takes_wider calls TooLong takes = takes
+takes_wider calls (Unnamed fault) takes = takes
+takes_wider calls (Follows directive) takes = takes
+takes_wider calls (Says f (Ok Nothing)) takes = takes
+takes_wider calls (Says f (Ok (Log text))) takes = takes
+takes_wider true (Says f (Ok (Call line reply))) takes = refl
+takes_wider false (Says f (Ok (Call line reply))) takes = takes
+takes_wider calls (Says f (Err fault)) takes = takes
 
-  pub judged_log : (r : Result Bool PlayFault) (text : List ℕ) → Ok (Log text) ≡ said_of line → IfOk r (λ complained. complained ≡ false) → IfOk r (IsJudged only world (Says f (said_of line)) awaited)
-  judged_log r text is judged = judged_by r (Ok (Log text)) is judged
+-- and so does a call that is told, where that takes some
+told_takes : (only : Option (List ℕ)) (world : World) (number : ℕ) (calls : Bool) (deed : Deed) (o : Option Heard) → IsHeard only world number (calls_in deed) o → (is_some o && calls) ≡ true → takes_in calls deed ≡ true
+told_takes only world number calls deed None none takes = absurd (let e : false ≡ true = takes in cc)
+told_takes only world number calls deed (Some it) is takes = of deed is.said
+  where
+    unsaid : {A : Type 0} → said_by only [] ≡ it.line.now ∷ [] → A
+    unsaid said = absurd (let e : [] ≡ it.line.now ∷ [] = sym (said_none only) ∙ said in cc)
 
-  pub judged_unread : (r : Result Bool PlayFault) (fault : Fault) → Err fault ≡ said_of line → IfOk r (λ complained. complained ≡ true) → IfOk r (IsJudged only world (Says f (said_of line)) awaited)
-  judged_unread r fault is judged = judged_by r (Err fault) is judged
+    of : (deed : Deed) → said_by only (calls_in deed) ≡ it.line.now ∷ [] → takes_in calls deed ≡ true
+    of TooLong said = unsaid said
+    of (Unnamed fault) said = unsaid said
+    of (Follows directive) said = unsaid said
+    of (Says f (Ok Nothing)) said = unsaid said
+    of (Says f (Ok (Log text))) said = unsaid said
+    of (Says f (Ok (Call line reply))) said = ap (λ b. b || has_holes f) takes
+    of (Says f (Err fault)) said = unsaid said
 
--- of a call that stands as it is, by its answer
-pub judged_plain : (only : Option (List ℕ)) (world : World) (line : List ℕ) (awaited : Awaited) (r : Result Bool PlayFault) (answer : Option LineAnswer) → is_passed line ≡ false → AnswersLine only world line answer →
-    IfOk r (λ complained. complained ≡ is_other (is_passed line) None answer awaited) → IfOk r (IsJudgedSaid false only world (Ok (Call line None)) awaited)
-judged_plain only world line awaited (Ok complained) answer unmarked answers judged = (answer, answers, judged ∙ ap (λ passed. is_other passed None answer awaited) unmarked)
-judged_plain only world line awaited (Err fault) answer unmarked answers judged = tt
+module _ {only : Option (List ℕ)} {tells : World → List (List ℕ) → ℕ → List ℕ → List ℕ} {calls : Bool} {seen now_seen : World → List (List ℕ) → Type 0} {old new : World} {stand next : Stand} {awaited now_awaited : Awaited}
+    {w w' : Option (List ℕ)} {g g' : List ℕ} (told_failed own_failed : Bool) (deed : Deed) (o : Option Heard) (heard : IsHeard only old stand.number (calls_in deed) o) where
+  -- a line was told and judged
+  pub turn_judged : {T : Type 0} {done : T} (r : Result Bool PlayFault) → Hears only tells seen now_seen stand.number (calls_in deed) old new (Ok done) w g w' g' → told_failed ≡ false →
+      IfOk r (λ complained. complained ≡ is_complained deed (answer_of o) awaited) → OnOk r (now_awaited ≡ awaited_after stand.number deed awaited) →
+      OnOk r (next ≡ stand_with (passed stand) deed (answer_of o)) → Fails r own_failed (takes_in false deed) →
+      PlaysTurn only tells calls seen now_seen deed (told_failed || own_failed) r (point old stand awaited w g) (point new next now_awaited w' g')
+  turn_judged r hears works judged expects stands fails = record {
+    hears = hears_on r hears;
+    stands = stands_on r stands;
+    judged = judged_on r judged;
+    expects = expects;
+    failing = fails_beside r told_failed own_failed _ _ works fails (takes_wider calls deed);
+  }
+    where
+      stands_on : (r : Result Bool PlayFault) → OnOk r (next ≡ stand_with (passed stand) deed (answer_of o)) → OnOk r (next ≡ stand_after only old (passed stand) deed)
+      stands_on (Ok complained) stands = stands ∙ stands_answered only old (passed stand) deed _ (answers_in only old stand.number (calls_in deed) o heard)
+      stands_on (Err fault) stands = tt
 
--- ---- what is expected then
+      judged_on : (r : Result Bool PlayFault) → IfOk r (λ complained. complained ≡ is_complained deed (answer_of o) awaited) → IfOk r (IsJudged only old deed awaited)
+      judged_on (Ok complained) judged = (_, answers_in only old stand.number (calls_in deed) o heard, judged)
+      judged_on (Err fault) judged = tt
 
-pub expects_by : (r : Result Bool PlayFault) (number : ℕ) (f : Filled) (line : List ℕ) (old new : Awaited) (said : Result Said Fault) → said ≡ said_of line → OnOk r (new ≡ awaited_said number said old) →
-    OnOk r (new ≡ awaited_after number (Says f (said_of line)) old)
-expects_by r number f line old new said is expects = subst (λ s. OnOk r (new ≡ awaited_said number s old)) is expects
+  -- or it couldn't be told
+  pub turn_untold : {T : Type 0} (fault : PlayFault) → Hears {T = T} only tells seen now_seen stand.number (calls_in deed) old new (Err fault) w g w' g' → own_failed ≡ false → Fails {T = T} (Err fault) told_failed (is_some o && calls) →
+      PlaysTurn only tells calls seen now_seen deed (told_failed || own_failed) (Err fault) (point old stand awaited w g) (point new next now_awaited w' g')
+  turn_untold {T} fault hears works fails = record {
+    hears = hears_fault fault hears;
+    stands = tt;
+    judged = tt;
+    expects = tt;
+    failing = fails_before T Bool fault told_failed own_failed (is_some o && calls) _ works fails (told_takes only old stand.number calls deed o heard);
+  }
+
+-- what a line is may be told in other words
+pub plays_as : {only : Option (List ℕ)} {tells : World → List (List ℕ) → ℕ → List ℕ → List ℕ} {calls : Bool} {seen now_seen : World → List (List ℕ) → Type 0} {deed here : Deed} {failed : Bool} {r : Result Bool PlayFault} {old new : Point} →
+    deed ≡ here → PlaysTurn only tells calls seen now_seen deed failed r old new → PlaysTurn only tells calls seen now_seen here failed r old new
+plays_as {only} {tells} {calls} {seen} {now_seen} {failed = failed} {r = r} {old = old} {new = new} is plays = subst (λ d. PlaysTurn only tells calls seen now_seen d failed r old new) is plays

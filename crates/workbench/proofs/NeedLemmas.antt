@@ -1,5 +1,5 @@
 -- What meters have heard, call by call, and what accounts need by that.
-use Rattle.std.proofs.Common.{◌≡◌, ℕ, zero, suc, ◌+◌, ◌<◌, ◌≤◌, ◌==◌, ◌&&◌, Bool, true, false, true≢false, cond, eqb-true, List, [], ◌∷◌, ◌++◌, length, map, get_or, append-nil, Option, Some, None, refl, sym, ◌∙◌, ap, subst, ⊎_elim, arith}
+use Rattle.std.proofs.Common.{◌≡◌, ℕ, zero, suc, ◌+◌, ◌<◌, ◌≤◌, ◌==◌, ◌&&◌, Bool, true, false, true≢false, cond, eqb-true, List, [], ◌∷◌, ◌++◌, length, get_or, append-nil, Option, Some, refl, sym, ◌∙◌, ap, subst, ⊎_elim, arith}
 use Rattle.std.specs.Prelude.{◌≢◌}
 use Rattle.std.proofs.lemmas.Bool.{cases_lt, eq-eqb}
 use Rattle.std.proofs.Math.ListN.{get_or-append}
@@ -7,7 +7,6 @@ use Rattle.std.proofs.lemmas.Grind.{flat_map-append}
 use Rattle.std.proofs.lemmas.List.{get_or-map, get_or_push, length-map}
 use Rattle.own_model.proofs.RunLemmas.{own_part-append, own_run-append}
 use Rattle.own_model.proofs.RunningLemmas.{states_running-at}
-use Rattle.own_model.specs.Account.{Account}
 use Rattle.own_model.specs.Amounts.{Amounts, no_amounts}
 use Rattle.own_model.specs.Call.{Call}
 use Rattle.own_model.specs.Listed.{Binary, Listed, ListedEntry, kind_of, reserve_of, start_of, start_list_of}
@@ -16,8 +15,8 @@ use Rattle.own_model.specs.OwnState.{OwnState}
 use Rattle.own_model.specs.OwnStep.{own_run, own_step}
 use Rattle.own_model.specs.Reply.{reply_text}
 use Rattle.own_model.specs.StartList.{Entry, Kind, StartEntry, entries_of, init_at, start_state, start_states}
-use Rattle.own_model.specs.Transcript.{Heard, calls_in, calls_of, entry_at, heard, nothing, own_part, state_at}
-use Rattle.own_model.specs.Transcript.Heard.{NoCall, Stranger, Caller}
+use Rattle.own_model.specs.Transcript.{calls_in, calls_of, entry_at, heard, nothing, own_part, state_at}
+use Rattle.own_model.specs.Transcript.Heard.{Caller}
 use Rattle.own_model.specs.World.{World, account_at, account_by, world_running}
 use Rattle.pd_core.specs.Answer.{quotas_account}
 use Rattle.calls.specs.declared.quotas.Quotas.{Quotas}

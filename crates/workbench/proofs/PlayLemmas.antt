@@ -1,50 +1,25 @@
 -- A play from line to line: what was played, and what it leaves at its end.
-use Rattle.std.proofs.Common.{◌≡◌, ◌||◌, ℕ, ◌+◌, ◌<◌, ◌≤◌, ◌^◌, List, [], ◌∷◌, ◌++◌, length, Option, Some, None, IfSome, IfNone, Result, Ok, Err, OnOk, Bool, true, false, ⊎_elim, arith, refl, sym, ◌∙◌, ap, subst, append-nil}
-use Rattle.std.specs.Io.KnownBytes.{Appends}
+use Rattle.std.proofs.Common.{◌≡◌, ◌||◌, ℕ, ◌+◌, ◌<◌, ◌≤◌, ◌^◌, List, [], ◌∷◌, ◌++◌, length, Option, Some, None, IfNone, Result, Ok, Err, OnOk, Bool, true, false, ⊎_elim, arith, refl, sym, ◌∙◌, ap, subst, append-nil}
 use Rattle.std.specs.Result.{result_err}
 use Rattle.own_model.specs.SaidBy.{said_by}
-use Rattle.own_model.specs.Transcript.{heard}
-use Rattle.own_model.specs.World.{World, world_running}
-use Rattle.scenario_lines.specs.Answer.{AnswersLine, IsAnswer}
+use Rattle.own_model.specs.StartList.{Entry}
+use Rattle.own_model.specs.World.{World}
 use Rattle.scenario_lines.specs.Answered.{after_all}
 use Rattle.scenario_lines.specs.Faults.{Fails, is_write_fault}
 use Rattle.scenario_lines.specs.Gathered.{TellsUnless}
-use Rattle.scenario_lines.specs.Lines.{AreReadable}
-use Rattle.scenario_lines.specs.Plays.{EndsAs, EndsFor, GoesOn, PlaysAll as PlaysLines, PlaysLine, StopsAs, WritesTold}
-use Rattle.scenario_lines.specs.declared.answering.LineAnswer.{LineAnswer}
+use Rattle.scenario_lines.specs.Plays.{EndsAs, EndsFor, GoesOn, PlaysAll as PlaysLines, PlaysLine}
 use Rattle.scenario_lines.specs.declared.play_fault.PlayFault.{PlayFault}
 use Rattle.scenario_lines.specs.declared.play_fault.PlayFault.TheVariants.{ReadFault, WriteFault, TooManyLines, NoMemory}
 use Rattle.scenario_lines.proofs.FaultLemmas.{none_of, or_none}
-use Rattle.scenario_lines.proofs.ToldLemmas.{left_none, said_none, world_running-append}
+use Rattle.scenario_lines.proofs.ToldLemmas.{left_none, said_none}
 use Rattle.workbench.specs.Faults.{takes_in}
 use Rattle.workbench.specs.Played.{calls_answered, calls_said, told_of_calls, told_of_turns}
-use Rattle.workbench.specs.Plays.{ClosesAs, LeadsTurns, PlaysAll, Remains, StopsTurns, TakesRoom, TakesRoomFor, counted, most_lines}
-use Rattle.workbench.specs.Turns.{StaysBelow, StaysLow, Turn, call_of, deed_of, left_behind, low, next_stand, stand_behind, turn_of, turns_of}
-use Rattle.workbench.specs.Watching.{IsToldOf, Watches}
+use Rattle.workbench.specs.Plays.{ClosesAs, LeadsTurns, PlaysAll, PlaysTurn, Point, Remains, StopsTurns, TakesRoomFor, counted, most_lines}
+use Rattle.workbench.specs.Turns.{Deed, StaysBelow, call_of, deed_of, left_behind, next_stand, passed, stand_after, stand_behind, turn_of, turns_of}
+use Rattle.workbench.specs.Watching.{Watches}
 use Rattle.workbench.specs.declared.stand.Stand.{Stand}
+use Rattle.workbench.proofs.TurnLemmas.{below_next}
 use Rattle.workbench.proofs.PlayedLemmas.{answered_more, answered-one, calls_said-one, left_more, stand_more, told_more, told_of_turns-one, turns_more}
-
--- ---- one call
-
--- a call that was answered is one that a watch is told of
-pub told_of : (only : Option (List ℕ)) {seen : World → List (List ℕ) → Type 0} {start world left : World} {earlier : List (List ℕ)} (call : List ℕ) (answer : LineAnswer) →
-    Watches seen start earlier world → left ≡ after_all only world (call ∷ []) → AnswersLine only world call (Some answer) → IsToldOf start earlier call left answer
-told_of only {start = start} {world = world} {left = left} {earlier = earlier} call answer watches leaves answers = record {
-  leaves =
-      leaves ∙ ap (world_running world) answers.0 ∙ ap (λ w. world_running w (call ∷ [])) watches.leads ∙ world_running-append start earlier (call ∷ []);
-  answers = subst (λ (w : World). IsAnswer w (heard w.entries call) answer) watches.leads answers.1;
-}
-
--- and then it has seen it
-pub watches_more : (seen : World → List (List ℕ) → Type 0) (start left : World) (earlier calls : List (List ℕ)) (call : List ℕ) → calls ≡ call ∷ [] →
-    left ≡ world_running start (earlier ++ call ∷ []) → seen start (earlier ++ call ∷ []) → Watches seen start (earlier ++ calls) left
-watches_more seen start left earlier calls call is leads sees = rw is (record { leads = leads; sees = sees })
-
--- where no call is answered nothing has changed
-pub watches_none : {seen : World → List (List ℕ) → Type 0} {start world : World} {earlier : List (List ℕ)} (calls : List (List ℕ)) →
-    calls ≡ [] → Watches seen start earlier world → Watches seen start (earlier ++ calls) world
-watches_none {seen = seen} {start = start} {world = world} {earlier = earlier} calls none watches =
-    subst (λ c. Watches seen start c world) (sym (append-nil earlier) ∙ ap (λ c. earlier ++ c) (sym none)) watches
 
 -- ---- one line behind others
 
@@ -56,17 +31,14 @@ counted_fails (Err WriteFault) failed takes fails = fails
 counted_fails (Err TooManyLines) failed takes fails = fails
 counted_fails (Err NoMemory) failed takes fails = (fails.0, refl)
 
--- one line less can be numbered
-pub below_next : (stand next : Stand) (more : ℕ) → StaysBelow stand (more + 1) → StaysLow stand next → StaysBelow next more
-below_next stand next more below stays =
-    record { most = below.most + 1; above = omega (arith, below.above); within = stays below.most below.above below.within; below = omega (arith, below.below) }
-
 pub numbered : (stand : Stand) (more : ℕ) → StaysBelow stand more → stand.number < 2 ^ 63
 numbered stand more below = omega (arith, below.within, below.below)
 
-pub ready_next : {A : Type 0} (judged : Result Bool PlayFault) (stand next : Stand) (more : ℕ) → A → StaysBelow stand (more + 1) → OnOk judged (StaysLow stand next) → OnOk (counted judged) (A × StaysBelow next more)
-ready_next (Ok complained) stand next more a below stays = (a, below_next stand next more below stays)
-ready_next (Err fault) stand next more a below stays = tt
+-- one line less can be numbered
+pub ready_next : {A : Type 0} (only : Option (List ℕ)) (world : World) (judged : Result Bool PlayFault) (stand next : Stand) (deed : Deed) (more : ℕ) → A → StaysBelow stand (more + 1) → OnOk judged (next ≡ stand_after only world (passed stand) deed) →
+    OnOk (counted judged) (A × StaysBelow next more)
+ready_next only world (Ok complained) stand next deed more a below stands = (a, subst (λ (s : Stand). StaysBelow s more) (sym stands) (below_next only world stand deed more below))
+ready_next only world (Err fault) stand next deed more a below stands = tt
 
 module _ (only : Option (List ℕ)) (start mid : World) (first stand : Stand) (xs : List (List ℕ)) (line : List ℕ)
     (left : mid ≡ after_all only start (calls_said (turns_of only start first xs))) (stands : stand ≡ stand_behind only start first xs) where
@@ -118,28 +90,38 @@ module _ (only : Option (List ℕ)) (start mid : World) (first stand : Stand) (x
       tells_counted text (Ok complained) told = told
       tells_counted text (Err fault) told = told
 
+-- what a watch has seen where it watches
+sees_on : {T E : Type 0} (r : Result T E) (seen : World → List (List ℕ) → Type 0) (start world : World) (calls : List (List ℕ)) → OnOk r (Watches seen start calls world) → OnOk r (seen start calls)
+sees_on (Ok x) seen start world calls watches = watches.sees
+sees_on (Err fault) seen start world calls watches = tt
+
+-- a player that is the one before is the one that began, if that was
+pub remains_on : {N R T : Type 0} {name mid_name now_name : N} {run mid_run now_run : R} {tells mid_tells now_tells : T} {holds mid_holds now_holds : List ℕ} → Remains name mid_name run mid_run tells mid_tells holds mid_holds →
+    Remains mid_name now_name mid_run now_run mid_tells now_tells mid_holds now_holds → Remains name now_name run now_run tells now_tells holds now_holds
+remains_on led stays =
+    record { name_is = stays.name_is ∙ led.name_is; run_is = stays.run_is ∙ led.run_is; tells_is = stays.tells_is ∙ led.tells_is; holds_is = stays.holds_is ∙ led.holds_is }
+
+-- and its machine is the list's still
+pub listed_on : {R : Type 0} (entries_at : R → List Entry) (only : Option (List ℕ)) (calls : List (List ℕ)) {at run : R} (old : World) {new : World} → new ≡ after_all only old calls → old.entries ≡ entries_at at → run ≡ at → new.entries ≡ entries_at run
+listed_on entries_at only calls old leaves listed run_is = ap (λ (w : World). w.entries) leaves ∙ listed ∙ ap entries_at (sym run_is)
+
 -- the same for a player that is the one that began
-pub bench_line : {R N T : Type 0} (only_of : R → Option (List ℕ)) (seen_old seen_new : R → List (List ℕ) → Type 0) {name now_name : N} {at run : R} {telling now_telling : T} {holds now_holds : List ℕ} (start mid last : World) (first stand next : Stand) (xs : List (List ℕ)) (line : List ℕ)
-    (tells : List (List ℕ) → ℕ → List ℕ → List ℕ) (calls : Bool) (judged : Result Bool PlayFault) (write_failed : Bool) (w w' : Option (List ℕ)) (g g' : List ℕ) →
-    Remains name now_name at run telling now_telling holds now_holds → LeadsTurns (only_of at) start mid first stand (seen_old at) xs →
-    (LeadsTurns (only_of run) start mid first stand (seen_old run) xs →
-    (last ≡ left_behind (only_of run) mid stand line)
-    × TellsUnless judged w g w' g' (told_of_calls tells (calls_answered (only_of run) (turns_of (only_of run) start first xs)) stand.number (said_by (only_of run) (call_of stand line)))
-    × OnOk judged (seen_new run (calls_answered (only_of run) (turns_of (only_of run) start first xs) ++ said_by (only_of run) (call_of stand line)))
-    × OnOk judged (next ≡ next_stand (only_of run) mid stand line)) →
-    Fails judged write_failed (takes_in calls (deed_of stand line)) →
-    PlaysLine (λ lines. told_of_turns tells (only_of at) [] (turns_of (only_of at) start first lines))
-    (λ lines. Remains name now_name at run telling now_telling holds now_holds × LeadsTurns (only_of at) start last first next (seen_new at) lines)
-    (λ fault lines. Remains name now_name at run telling now_telling holds now_holds × StopsTurns calls (only_of at) start last first fault lines) xs line (counted judged) w g w' g'
-bench_line only_of seen_old seen_new {name} {now_name} {at} {run} {telling} {now_telling} {holds} {now_holds} start mid last first stand next xs line tells calls judged write_failed w w' g g' remains led facts fails =
-    subst (λ r. Remains name now_name r run telling now_telling holds now_holds → LeadsTurns (only_of r) start mid first stand (seen_old r) xs →
-    PlaysLine (λ lines. told_of_turns tells (only_of r) [] (turns_of (only_of r) start first lines))
-    (λ lines. Remains name now_name r run telling now_telling holds now_holds × LeadsTurns (only_of r) start last first next (seen_new r) lines)
-    (λ fault lines. Remains name now_name r run telling now_telling holds now_holds × StopsTurns calls (only_of r) start last first fault lines) xs line (counted judged) w g w' g')
-    remains.run_is
-    (λ kept here. let f = facts here in
-    bench_plays (only_of run) start mid first stand xs line here.world_is here.stands tells calls (seen_new run) last next judged write_failed w w' g g' kept f.0 f.1 f.2 f.3 fails)
-    remains led
+pub bench_line : {R A : Type 0} (only_of : R → Option (List ℕ)) (seen_old seen_new : R → World → List (List ℕ) → Type 0) {at run : R} {telling now_telling : World → List (List ℕ) → ℕ → List ℕ → List ℕ} (start : World) {first : Stand} (xs : List (List ℕ)) (line : List ℕ)
+    (calls : Bool) (judged : Result Bool PlayFault) {failed : Bool} {old new : Point} → A → run ≡ at → now_telling ≡ telling → LeadsTurns (only_of at) start old.world first old.stand (seen_old at start) xs →
+    PlaysTurn (only_of run) now_telling calls (seen_old run) (seen_new run) (deed_of old.stand line) failed judged old new →
+    PlaysLine (λ lines. told_of_turns (telling start) (only_of at) [] (turns_of (only_of at) start first lines)) (λ lines. A × LeadsTurns (only_of at) start new.world first new.stand (seen_new at start) lines)
+    (λ fault lines. A × StopsTurns calls (only_of at) start new.world first fault lines) xs line (counted judged) old.written old.gathered new.written new.gathered
+bench_line only_of seen_old seen_new {at} {run} {telling} {now_telling} start {first} xs line calls judged {failed} {old} {new} kept run_is tells_is led plays =
+    bench_plays (only_of at) start old.world first old.stand xs line led.world_is led.stands (telling start) calls (seen_new at start) new.world new.stand judged failed old.written new.written old.gathered new.gathered kept
+    here.hears.world (here.hears.told start _ watches) (sees_on judged _ _ _ _ (here.hears.sees start _ watches)) here.stands here.failing
+  where
+    here : PlaysTurn (only_of at) telling calls (seen_old at) (seen_new at) (deed_of old.stand line) failed judged old new
+    here =
+        subst (λ t. PlaysTurn (only_of at) t calls (seen_old at) (seen_new at) (deed_of old.stand line) failed judged old new) tells_is
+        (subst (λ r. PlaysTurn (only_of r) now_telling calls (seen_old r) (seen_new r) (deed_of old.stand line) failed judged old new) run_is plays)
+
+    watches : Watches (seen_old at) start (calls_answered (only_of at) (turns_of (only_of at) start first xs)) old.world
+    watches = record { leads = led.world_is; sees = led.sees }
 
 -- at first no line is
 pub leads_none : (only : Option (List ℕ)) (world : World) (first : Stand) (seen : List (List ℕ) → Type 0) → seen [] → LeadsTurns only world world first first seen []

@@ -1,56 +1,64 @@
 -- What a line is when its turn comes, by how it was filled.
-use Rattle.std.proofs.Common.{◌≡◌, ℕ, ◌+◌, ◌≤◌, ◌==◌, ◌||◌, Bool, true, false, cond, List, [], ◌∷◌, length, nat_le, slice_index, is_none, take, Option, Some, None, Result, Ok, Err, IfOk, OnOk, refl, sym, ◌∙◌, ap, subst}
+use Rattle.std.proofs.Common.{◌≡◌, ℕ, ◌+◌, ◌≤◌, ◌==◌, ◌||◌, Bool, true, false, cond, List, [], ◌∷◌, length, nat_le, slice_index, is_none, take, Option, Some, None, Result, Ok, Err, arith, refl, sym, ◌∙◌, ap, subst}
+use Rattle.std.proofs.Math.Nat.{min-le_right}
 use Rattle.own_model.specs.SaidBy.{said_by}
 use Rattle.own_model.specs.Transcript.{longest_line}
 use Rattle.own_model.specs.World.{World}
 use Rattle.friendly_lines.specs.Friendly.{Said, end_of, said_of, signs_of}
-use Rattle.friendly_lines.specs.Friendly.Said.{Call}
+use Rattle.friendly_lines.specs.Friendly.Said.{Nothing, Log, Call}
 use Rattle.friendly_lines.specs.Laws.{IsBare, IsPlain}
 use Rattle.friendly_lines.proofs.PlainLemmas.{plain_lines_pass}
 use Rattle.friendly_lines.specs.declared.fault.Fault.{Fault}
 use Rattle.friendly_lines.specs.Words.{next_word}
-use Rattle.scenario_lines.specs.Answer.{AnswersLine}
+use Rattle.scenario_lines.specs.Answered.{after_all}
 use Rattle.scenario_lines.specs.declared.answering.LineAnswer.{LineAnswer}
-use Rattle.scenario_lines.proofs.ToldLemmas.{said_none}
+use Rattle.scenario_lines.proofs.ToldLemmas.{left_none, said_none}
 use Rattle.scenario_names.specs.Directives.{Directive, directive_by, directive_of}
+use Rattle.scenario_names.specs.Directives.Directive.{Set, Enter, Again, Leave, Repeat, End, Unknown}
 use Rattle.scenario_names.specs.Filling.{Filled, Hole, body_of, filled, filled_parts, front_length, whole}
 use Rattle.scenario_names.specs.Known.{Known}
 use Rattle.scenario_names.specs.Learning.{learnt, learnt_of}
 use Rattle.friendly_lines.specs.Expected.{meets}
 use Rattle.scenario_names.specs.declared.fault.NameFault.{NameFault}
-use Rattle.workbench.specs.Faults.{takes_in}
-use Rattle.scenario_lines.specs.Faults.{Fails}
-use Rattle.workbench.specs.Judging.{Awaited, IsJudged, awaited_after}
-use Rattle.workbench.specs.Turns.{AreBare, Deed, bare_deed, call_in, deed_by, deed_filled, deed_of, learnt_by, learnt_from, left_behind, next_stand, passed, reply_in, stand_after, turns_from, turns_of}
+use Rattle.workbench.specs.Deeds.{deed_view}
+use Rattle.workbench.specs.Hearing.{TakesTurn}
+use Rattle.workbench.specs.Judging.{AnswersIn}
+use Rattle.workbench.specs.Turns.{AreBare, Deed, StaysBelow, bare_deed, calls_in, deed_by, deed_filled, deed_of, learnt_by, learnt_from, left_behind, low, next_stand, passed, stand_after, stand_with, turns_from, turns_of}
 use Rattle.workbench.specs.Turns.Deed.{TooLong, Unnamed, Follows, Says}
-use Rattle.scenario_lines.specs.declared.play_fault.PlayFault.{PlayFault}
+use Rattle.workbench.specs.declared.deed.Deed.{Deed as Told}
 use Rattle.workbench.specs.declared.stand.Stand.{Stand}
+use Rattle.workbench.specs.declared.turn.Turn.{Turn}
 use Rattle.workbench.proofs.PlayedLemmas.{deed_of-short}
 
-module _ (stand : Stand) (line : List ℕ) where
-  module _ (short : length line ≤ longest_line) where
-    pub deed_unnamed : (fault : NameFault) → Err fault ≡ filled stand.known line → deed_of stand line ≡ Unnamed fault
-    deed_unnamed fault is = deed_of-short stand line short ∙ ap deed_filled (sym is)
+module _ (stand : Stand) (line : List ℕ) (short : length line ≤ longest_line) where
+  pub deed_unnamed : (fault : NameFault) → Err fault ≡ filled stand.known line → Unnamed fault ≡ deed_of stand line
+  deed_unnamed fault is = sym (deed_of-short stand line short ∙ ap deed_filled (sym is))
 
-    pub deed_follows : (f : Filled) (directive : Directive) → Ok f ≡ filled stand.known line → Some directive ≡ directive_of f.line → deed_of stand line ≡ Follows directive
-    deed_follows f directive is leads = deed_of-short stand line short ∙ ap deed_filled (sym is) ∙ ap (deed_by f) (sym leads)
+  pub deed_follows : (f : Filled) (directive : Directive) → Ok f ≡ filled stand.known line → Some directive ≡ directive_of f.line → Follows directive ≡ deed_of stand line
+  deed_follows f directive is leads = sym (deed_of-short stand line short ∙ ap deed_filled (sym is) ∙ ap (deed_by f) (sym leads))
 
-    pub deed_says : (f : Filled) → Ok f ≡ filled stand.known line → None ≡ directive_of f.line → deed_of stand line ≡ Says f (said_of f.line)
-    deed_says f is none = deed_of-short stand line short ∙ ap deed_filled (sym is) ∙ ap (deed_by f) (sym none)
+  pub deed_says : (f : Filled) (said : Result Said Fault) → Ok f ≡ filled stand.known line → None ≡ directive_of f.line → said ≡ said_of f.line → Says f said ≡ deed_of stand line
+  deed_says f said is none says = ap (Says f) says ∙ sym (deed_of-short stand line short ∙ ap deed_filled (sym is) ∙ ap (deed_by f) (sym none))
 
-  -- what is promised of a line, by what it is
-  module _ (deed : Deed) (is : deed_of stand line ≡ deed) where
-    pub fails_by : (r : Result Bool PlayFault) (failed calls : Bool) → Fails r failed (takes_in calls deed) → Fails r failed (takes_in calls (deed_of stand line))
-    fails_by r failed calls fails = subst (λ d. Fails r failed (takes_in calls d)) (sym is) fails
+-- ---- how it has its turn
 
-    pub judged_by : (r : Result Bool PlayFault) (only : Option (List ℕ)) (world : World) (awaited : Awaited) → IfOk r (IsJudged only world deed awaited) → IfOk r (IsJudged only world (deed_of stand line) awaited)
-    judged_by r only world awaited judged = subst (λ d. IfOk r (IsJudged only world d awaited)) (sym is) judged
+module _ {only : Option (List ℕ)} {number : ℕ} where
+  -- what a line is may be told in other words
+  pub turn_as : {deed here : Deed} {old new : World} {turn : Turn} → deed ≡ here → TakesTurn only number deed old new turn → TakesTurn only number here old new turn
+  turn_as {old = old} {new = new} {turn = turn} is takes = subst (λ d. TakesTurn only number d old new turn) is takes
 
-    pub expects_by : (r : Result Bool PlayFault) (number : ℕ) (old new : Awaited) → OnOk r (new ≡ awaited_after number deed old) → OnOk r (new ≡ awaited_after number (deed_of stand line) old)
-    expects_by r number old new expects = subst (λ d. OnOk r (new ≡ awaited_after number d old)) (sym is) expects
+  -- by the turn itself
+  pub turn_viewed : {deed : Deed} {old new : World} {turn : Turn} → TakesTurn only number deed old new turn → TakesTurn only number (deed_view turn.deed) old new turn
+  turn_viewed takes = turn_as (sym takes.deed_is) takes
 
-    pub stands_by : (r : Result Bool PlayFault) (only : Option (List ℕ)) (world : World) (next : Stand) → OnOk r (next ≡ stand_after only world (passed stand) deed) → OnOk r (next ≡ next_stand only world stand line)
-    stands_by r only world next stands = subst (λ d. OnOk r (next ≡ stand_after only world (passed stand) d)) (sym is) stands
+  -- where it says no call nothing is answered
+  pub turn_silent : {deed : Deed} {world : World} (told : Told) → deed_view told ≡ deed → calls_in deed ≡ [] → TakesTurn only number deed world world (record { deed = told; heard = None })
+  turn_silent {world = world} told is silent = record {
+    deed_is = is;
+    world = sym (ap (after_all only world) silent ∙ left_none only world);
+    heard = ap (said_by only) silent ∙ said_none only;
+    read = tt;
+  }
 
 -- ---- what names stand for then
 
@@ -59,31 +67,50 @@ same_known : (meets : Bool) (known : Known) → cond meets known known ≡ known
 same_known true known = refl
 same_known false known = refl
 
-pub learnt_none : (known : Known) (f : Filled) (reply : List ℕ) → f.holes ≡ [] → learnt known f reply ≡ known
+learnt_none : (known : Known) (f : Filled) (reply : List ℕ) → f.holes ≡ [] → learnt known f reply ≡ known
 learnt_none known f reply none =
     ap (λ (holes : List Hole). cond (meets reply f.expected) (learnt_of known reply f.expected holes) known) none ∙ same_known (meets reply f.expected) known
 
-module _ (only : Option (List ℕ)) (world : World) (known : Known) (f : Filled) where
+module _ (only : Option (List ℕ)) (world : World) where
   -- no call binds none
-  pub learns_silent : (here : List (List ℕ)) → here ≡ [] → known ≡ learnt_from world known f (said_by only here)
-  learns_silent here silent = sym (ap (λ calls. learnt_from world known f (said_by only calls)) silent ∙ ap (learnt_from world known f) (said_none only))
+  learns_silent : (known : Known) (f : Filled) → known ≡ learnt_from world known f (said_by only [])
+  learns_silent known f = sym (ap (learnt_from world known f) (said_none only))
 
   -- a call that is answered binds what its answer binds
-  learns_answer : (engine : List ℕ) (answer : Option LineAnswer) → AnswersLine only world engine answer → learnt_by known f answer ≡ learnt_from world known f (said_by only (engine ∷ []))
-  learns_answer engine None answers = sym (ap (learnt_from world known f) answers)
-  learns_answer engine (Some answer) answers = ap (learnt known f) answers.1.reply ∙ sym (ap (learnt_from world known f) answers.0)
+  learns_answer : (known : Known) (f : Filled) (calls : List (List ℕ)) (answer : Option LineAnswer) → AnswersIn only world calls answer → learnt_by known f answer ≡ learnt_from world known f (said_by only calls)
+  learns_answer known f calls None none = sym (ap (learnt_from world known f) none)
+  learns_answer known f calls (Some answer) answers = ap (learnt known f) answers.2.reply ∙ sym (ap (learnt_from world known f) answers.1)
 
-  pub learns_said : (r : Result Bool PlayFault) (next : Known) (here : List (List ℕ)) (engine : List ℕ) (answer : Option LineAnswer) → here ≡ engine ∷ [] → AnswersLine only world engine answer →
-      OnOk r (next ≡ learnt_by known f answer) → OnOk r (next ≡ learnt_from world known f (said_by only here))
-  learns_said (Ok complained) next here engine answer is answers learns =
-      learns ∙ learns_answer engine answer answers ∙ sym (ap (λ calls. learnt_from world known f (said_by only calls)) is)
-  learns_said (Err fault) next here engine answer is answers learns = tt
+  -- so the play stands by the answer where it stands by the world
+  pub stands_answered : (stand : Stand) (deed : Deed) (answer : Option LineAnswer) → AnswersIn only world (calls_in deed) answer → stand_with stand deed answer ≡ stand_after only world stand deed
+  stands_answered stand TooLong answer answers = refl
+  stands_answered stand (Unnamed fault) answer answers = refl
+  stands_answered stand (Follows directive) answer answers = refl
+  stands_answered stand (Says f (Ok Nothing)) answer answers = ap (λ known. record stand { known = known }) (learns_silent stand.known f)
+  stands_answered stand (Says f (Ok (Log text))) answer answers = ap (λ known. record stand { known = known }) (learns_silent stand.known f)
+  stands_answered stand (Says f (Ok (Call line reply))) answer answers = ap (λ known. record stand { known = known }) (learns_answer stand.known f (line ∷ []) answer answers)
+  stands_answered stand (Says f (Err fault)) answer answers = ap (λ known. record stand { known = known }) (learns_silent stand.known f)
 
--- so a play stands behind a line that was filled
-pub stands_said : (r : Result Bool PlayFault) (only : Option (List ℕ)) (world : World) (stand : Stand) (f : Filled) (said : Result Said Fault) (next : Known) →
-    OnOk r (next ≡ learnt_from world stand.known f (said_by only (call_in said))) → OnOk r (record stand { number = stand.number + 1; known = next } ≡ stand_after only world (passed stand) (Says f said))
-stands_said (Ok complained) only world stand f said next learns = ap (λ known. record stand { number = stand.number + 1; known = known }) learns
-stands_said (Err fault) only world stand f said next learns = tt
+  -- and its next number is small
+  stays_low : (stand : Stand) (deed : Deed) (n : ℕ) → low ≤ n → stand.number ≤ n → (stand_after only world stand deed).number ≤ n
+  stays_low stand (Follows (Enter line counter)) n most was = omega (arith, most, min-le_right line low)
+  stays_low stand (Follows (Again line counter)) n most was = omega (arith, most, min-le_right line low)
+  stays_low stand (Follows (Leave line)) n most was = omega (arith, most, min-le_right line low)
+  stays_low stand (Follows (Set binding)) n most was = was
+  stays_low stand (Follows Repeat) n most was = was
+  stays_low stand (Follows End) n most was = was
+  stays_low stand (Follows Unknown) n most was = was
+  stays_low stand TooLong n most was = was
+  stays_low stand (Unnamed fault) n most was = was
+  stays_low stand (Says f said) n most was = was
+
+  pub below_next : (stand : Stand) (deed : Deed) (more : ℕ) → StaysBelow stand (more + 1) → StaysBelow (stand_after only world (passed stand) deed) more
+  below_next stand deed more below = record {
+    most = below.most + 1;
+    above = omega (arith, below.above);
+    within = stays_low (passed stand) deed (below.most + 1) (omega (arith, below.above)) (omega (arith, below.within));
+    below = omega (arith, below.below);
+  }
 
 -- ---- bare lines
 
@@ -99,17 +126,14 @@ is_bare : (stand : Stand) (line : List ℕ) → IsBare line → deed_of stand li
 is_bare stand line bare =
     ap (λ deed. cond (nat_le (length line) longest_line) deed TooLong) (ap deed_filled (bare_filled stand.known line bare) ∙ ap (deed_by (whole line)) (bare_says line bare))
 
-pub deed_plain : (stand : Stand) (line : List ℕ) → length line ≤ longest_line → IsBare line → IsPlain line → deed_of stand line ≡ Says (whole line) (Ok (Call line None))
+pub deed_plain : (stand : Stand) (line : List ℕ) → length line ≤ longest_line → IsBare line → IsPlain line → Says (whole line) (Ok (Call line None)) ≡ deed_of stand line
 deed_plain stand line short bare plain =
-    deed_of-short stand line short ∙ ap deed_filled (bare_filled stand.known line bare) ∙ ap (deed_by (whole line)) (bare_says line bare) ∙ ap (Says (whole line)) (plain_lines_pass line plain)
+    sym (deed_of-short stand line short ∙ ap deed_filled (bare_filled stand.known line bare) ∙ ap (deed_by (whole line)) (bare_says line bare) ∙ ap (Says (whole line)) (plain_lines_pass line plain))
 
 -- no reply binds a name of it
-learnt_whole : (world : World) (known : Known) (line : List ℕ) (calls : List (List ℕ)) → learnt_from world known (whole line) calls ≡ known
-learnt_whole world known line [] = refl
-learnt_whole world known line (call ∷ calls) = learnt_none known (whole line) (reply_in world call) refl
-
-pub stands_whole : (only : Option (List ℕ)) (world : World) (stand : Stand) (line : List ℕ) (said : Result Said Fault) → passed stand ≡ stand_after only world (passed stand) (Says (whole line) said)
-stands_whole only world stand line said = sym (ap (λ known. record (passed stand) { known = known }) (learnt_whole world stand.known line (said_by only (call_in said))))
+pub stands_whole : (stand : Stand) (line : List ℕ) (answer : Option LineAnswer) → stand ≡ record stand { known = learnt_by stand.known (whole line) answer }
+stands_whole stand line None = refl
+stands_whole stand line (Some answer) = sym (ap (λ known. record stand { known = known }) (learnt_none stand.known (whole line) answer.reply.now refl))
 
 next_number : (only : Option (List ℕ)) (world : World) (stand : Stand) (line : List ℕ) (short : Bool) → (stand_after only world (passed stand) (cond short (Says (whole line) (said_of line)) TooLong)).number ≡ stand.number + 1
 next_number only world stand line true = refl

@@ -1,7 +1,6 @@
 -- What is written of a play, from what the play itself promises.
-use Rattle.std.proofs.Common.{◌≡◌, ◌≢◌, ℕ, ◌+◌, ◌<◌, ◌≤◌, Bool, true, false, List, [], ◌∷◌, ◌++◌, length, get_or, slice_index_or, Option, Some, None, IfSome, IfNone, Result, Ok, Err, IsErrAnd, inl, inr, ⊎_elim, arith, refl, sym, ◌∙◌, ap, subst, append_assoc, append-nil, length-append}
+use Rattle.std.proofs.Common.{◌≡◌, ◌≢◌, ℕ, ◌≤◌, Bool, true, false, List, [], ◌++◌, length, Option, Some, None, IfSome, IfNone, Result, Ok, Err, IsErrAnd, inl, inr, arith, refl, sym, ◌∙◌, ap, subst, append_assoc, append-nil}
 use Rattle.std.specs.Prelude.{⊤}
-use Rattle.std.proofs.lemmas.List.{get_or-append-add}
 use Rattle.std.specs.Io.KnownBytes.{Appends}
 use Rattle.own_model.specs.Listed.{Listed, start_list_of}
 use Rattle.own_model.specs.StartList.{Boots}
@@ -9,7 +8,6 @@ use Rattle.own_model.specs.Text.{lines_of}
 use Rattle.own_model.specs.World.{World}
 use Rattle.start_lists.specs.StartText.{list_in}
 use Rattle.scenario_lines.specs.Gathered.{Tells, TellsPart}
-use Rattle.scenario_lines.specs.Lines.{AreReadable, longest_read}
 use Rattle.scenario_lines.specs.Machine.{world_of}
 use Rattle.scenario_lines.specs.Causes.{HasCause, AppendsPart}
 use Rattle.scenario_lines.proofs.CauseLemmas.{cause_unread, cause_unwritten, within_bounds}
@@ -21,7 +19,7 @@ use Rattle.workbench.specs.Faults.{fault_before, unplayed}
 use Rattle.scenario_lines.specs.Faults.{is_write_fault}
 use Rattle.workbench.specs.Played.{told_of_turns}
 use Rattle.workbench.specs.Plays.{PlaysAll, TakesRoomFor, most_lines}
-use Rattle.scenario_lines.specs.Plays.{EndsFor, StopsAt, WritesTold}
+use Rattle.scenario_lines.specs.Plays.{EndsFor, WritesTold}
 use Rattle.workbench.specs.Turns.{Turn, turns_of}
 use Rattle.workbench.specs.Writes.{AreAll, Closes, IsPlayed, IsPlayedFrom, IsUnplayed, IsWrittenBy, WritesAfter, WritesBoth, turns_on}
 use Rattle.workbench.specs.declared.ending.Ending.{Ending}

@@ -3,15 +3,17 @@ use Rattle.std.specs.Prelude.{◌≡◌, ℕ, ◌&&◌, ◌||◌, Bool, true, fa
 use Rattle.std.specs.Str.{bytes_eq}
 use Rattle.trade_base.specs.Refusal.{refusal_name}
 use Rattle.trade_base.specs.declared.refusal.Refusal.TheVariants.{UnknownComponent}
+use Rattle.own_model.specs.SaidBy.{said_by}
+use Rattle.own_model.specs.Transcript.{heard}
 use Rattle.own_model.specs.World.{World}
 use Rattle.friendly_lines.specs.Expected.{meets}
 use Rattle.friendly_lines.specs.Friendly.{Said, is_passed}
 use Rattle.friendly_lines.specs.Friendly.Said.{Nothing, Log, Call}
 use Rattle.friendly_lines.specs.declared.fault.Fault.{Fault}
-use Rattle.scenario_lines.specs.Answer.{AnswersLine}
+use Rattle.scenario_lines.specs.Answer.{IsAnswer}
 use Rattle.scenario_lines.specs.declared.answering.LineAnswer.{LineAnswer}
 use Rattle.scenario_names.specs.Misplaced.{is_misplaced}
-use Rattle.workbench.specs.Turns.{Deed}
+use Rattle.workbench.specs.Turns.{Deed, calls_in}
 use Rattle.workbench.specs.Turns.Deed.{TooLong, Unnamed, Follows, Says}
 
 -- the log lines that the next call is expected to finish, each as it is printed, and the line of the scenario in which the first
@@ -63,18 +65,27 @@ awaited_after number (Unnamed fault) awaited = awaited
 awaited_after number (Follows directive) awaited = awaited
 awaited_after number (Says filled said) awaited = awaited_said number said awaited
 
--- what is said is complained of where it isn't read, and of a call where its answer in this world is otherwise than expected
-abbrev pub IsJudgedSaid : Bool → Option (List ℕ) → World → Result Said Fault → Awaited → Bool → Type 0
-IsJudgedSaid passed only world (Ok Nothing) awaited complained = complained ≡ false
-IsJudgedSaid passed only world (Ok (Log text)) awaited complained = complained ≡ false
-IsJudgedSaid passed only world (Ok (Call line reply)) awaited complained =
-    (answer : Option LineAnswer) × AnswersLine only world line answer × (complained ≡ is_other passed reply answer awaited)
-IsJudgedSaid passed only world (Err fault) awaited complained = complained ≡ true
+-- what is said is complained of where it isn't read, and a call where its answer is otherwise than expected
+abbrev pub is_complained_said : Bool → Result Said Fault → Option LineAnswer → Awaited → Bool
+is_complained_said passed (Ok Nothing) answer awaited = false
+is_complained_said passed (Ok (Log text)) answer awaited = false
+is_complained_said passed (Ok (Call line reply)) answer awaited = is_other passed reply answer awaited
+is_complained_said passed (Err fault) answer awaited = true
 
 -- and so is a line that is too long or can't be filled, and a directive that can't be followed
+abbrev pub is_complained : Deed → Option LineAnswer → Awaited → Bool
+is_complained TooLong answer awaited = true
+is_complained (Unnamed fault) answer awaited = true
+is_complained (Follows directive) answer awaited = is_misplaced directive
+is_complained (Says filled said) answer awaited = is_complained_said (is_passed filled.line) said answer awaited
+
+-- the one of these calls that is answered has this answer in this world, or none is answered
+abbrev pub AnswersIn : Option (List ℕ) → World → List (List ℕ) → Option LineAnswer → Type 0
+AnswersIn only world calls (Some answer) =
+    (call : List ℕ) × (said_by only calls ≡ call ∷ []) × IsAnswer world (heard world.entries call) answer
+AnswersIn only world calls None = said_by only calls ≡ []
+
+-- a line is complained of by the answer of its call in this world
 abbrev pub IsJudged : Option (List ℕ) → World → Deed → Awaited → Bool → Type 0
-IsJudged only world TooLong awaited complained = complained ≡ true
-IsJudged only world (Unnamed fault) awaited complained = complained ≡ true
-IsJudged only world (Follows directive) awaited complained = complained ≡ is_misplaced directive
-IsJudged only world (Says filled said) awaited complained =
-    IsJudgedSaid (is_passed filled.line) only world said awaited complained
+IsJudged only world deed awaited complained =
+    (answer : Option LineAnswer) × AnswersIn only world (calls_in deed) answer × (complained ≡ is_complained deed answer awaited)

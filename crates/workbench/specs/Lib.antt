@@ -6,6 +6,8 @@ pub mod Judging
 pub mod Played
 pub mod Plays
 pub mod Watching
+pub mod Deeds
+pub mod Hearing
 pub mod Writes
 pub mod Texts
 pub mod Tracing

@@ -1,14 +1,12 @@
 -- What accounts need: the least budgets that pass the tests which they passed so far.
-use Rattle.std.specs.Prelude.{◌≡◌, ℕ, ◌+◌, ◌-◌, ◌^◌, ◌<◌, ◌++◌, ◌==◌, ◌&&◌, Bool, true, false, List, [], ◌∷◌, length, drop, min, codes, nat_eq, slice_index_or, if◌then◌else◌, Option, Some, None}
+use Rattle.std.specs.Prelude.{ℕ, ◌+◌, ◌-◌, ◌^◌, ◌++◌, ◌&&◌, Bool, true, false, List, [], ◌∷◌, length, drop, min, codes, nat_eq, if◌then◌else◌, Option, Some, None}
 use Rattle.std.specs.List.{starts_with}
 use Rattle.own_model.specs.Account.{Account}
 use Rattle.own_model.specs.Amounts.{Amounts, no_amounts}
 use Rattle.own_model.specs.Call.{Call}
 use Rattle.own_model.specs.Listed.{Binary, Listed, ListedEntry, reserve_of}
 use Rattle.own_model.specs.Listed.Binary.{Script, Server, Init}
-use Rattle.own_model.specs.OwnState.{OwnState}
 use Rattle.own_model.specs.Reply.{amounts_text}
-use Rattle.own_model.specs.StartList.{Entry, Kind}
 use Rattle.own_model.specs.Transcript.{calls_of, entry_at, own_part, state_at}
 use Rattle.own_model.specs.World.{World, world_running}
 use Rattle.budget_laws.specs.Need.{Cell, cell}

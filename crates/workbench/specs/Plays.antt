@@ -1,14 +1,17 @@
 -- How far a play of the friendly form has come, and how it ends.
-use Rattle.std.specs.Prelude.{◌≡◌, ℕ, ◌≤◌, Bool, true, false, ⊤, List, [], ◌∷◌, ◌++◌, length, Option, Some, None, IfSome, IfNone, Result, Ok, Err}
+use Rattle.std.specs.Prelude.{◌≡◌, ℕ, ◌≤◌, Bool, true, false, ⊤, List, [], ◌∷◌, ◌++◌, length, Option, Some, None, IfSome, IfNone, IfOk, OnOk, Result, Ok, Err}
 use Rattle.own_model.specs.World.{World}
 use Rattle.scenario_lines.specs.Answered.{after_all}
+use Rattle.scenario_lines.specs.Faults.{Fails}
 use Rattle.scenario_lines.specs.Lines.{AreReadable}
 use Rattle.scenario_lines.specs.Plays.{EndsFor, WritesTold}
 use Rattle.scenario_lines.specs.declared.play_fault.PlayFault.{PlayFault}
 use Rattle.scenario_lines.specs.declared.play_fault.PlayFault.TheVariants.{ReadFault, WriteFault, TooManyLines, NoMemory}
 use Rattle.workbench.specs.Faults.{takes_in}
+use Rattle.workbench.specs.Hearing.{Hears}
+use Rattle.workbench.specs.Judging.{Awaited, IsJudged, awaited_after}
 use Rattle.workbench.specs.Played.{calls_answered, calls_said, told_of_turns}
-use Rattle.workbench.specs.Turns.{Turn, stand_behind, turns_of}
+use Rattle.workbench.specs.Turns.{Deed, Turn, calls_in, passed, stand_after, stand_behind, turns_of}
 use Rattle.workbench.specs.declared.stand.Stand.{Stand}
 
 -- a player is the one that began: where it complains, its run, what it tells and what it was made with
@@ -50,6 +53,32 @@ abbrev pub ClosesAs : Option PlayFault → Option PlayFault → Bool → Bool �
 ClosesAs None None failed now_failed = now_failed ≡ false
 ClosesAs None (Some fault) failed now_failed = (fault ≡ WriteFault) × (now_failed ≡ true)
 ClosesAs (Some fault) ended failed now_failed = (ended ≡ Some fault) × (now_failed ≡ failed)
+
+-- ---- one line
+
+-- a play at a line: its world and where it stands, which log lines are expected, and what was told
+pub record Point : Type 0 where
+  pub world : World
+  pub stand : Stand
+  pub awaited : Awaited
+  pub written : Option (List ℕ)
+  pub gathered : List ℕ
+
+abbrev pub point : World → Stand → Awaited → Option (List ℕ) → List ℕ → Point
+point world stand awaited written gathered =
+    record { world = world; stand = stand; awaited = awaited; written = written; gathered = gathered }
+
+-- a line is played by what it is: its call is answered and told, where it leads the play goes, and it is judged, unless a fault
+-- comes, which it may
+pub record PlaysTurn (only : Option (List ℕ)) (tells : World → List (List ℕ) → ℕ → List ℕ → List ℕ) (calls : Bool)
+    (seen now_seen : World → List (List ℕ) → Type 0) (deed : Deed) (failed : Bool) (result : Result Bool PlayFault)
+    (old new : Point) : Type 0 where
+  pub hears : Hears only tells seen now_seen old.stand.number (calls_in deed) old.world new.world result old.written old.gathered
+      new.written new.gathered
+  pub stands : OnOk result (new.stand ≡ stand_after only old.world (passed old.stand) deed)
+  pub judged : IfOk result (IsJudged only old.world deed old.awaited)
+  pub expects : OnOk result (new.awaited ≡ awaited_after old.stand.number deed old.awaited)
+  pub failing : Fails result failed (takes_in calls deed)
 
 -- ---- the whole play
 

@@ -1,5 +1,5 @@
 -- The turns of a play: what each line of a scenario is, when its turn comes.
-use Rattle.std.specs.Prelude.{◌≡◌, ℕ, ◌+◌, ◌<◌, ◌≤◌, ◌^◌, Bool, true, false, ⊤, List, [], ◌∷◌, length, min, nat_le, nat_lt, if◌then◌else◌, Option, Some, None, Result, Ok, Err}
+use Rattle.std.specs.Prelude.{◌≡◌, ℕ, ◌+◌, ◌<◌, ◌≤◌, ◌^◌, Bool, ⊤, List, [], ◌∷◌, length, min, nat_le, nat_lt, if◌then◌else◌, Option, Some, None, Result, Ok, Err}
 use Rattle.std.specs.Option.{unwrap_or}
 use Rattle.own_model.specs.Reply.{reply_text}
 use Rattle.own_model.specs.SaidBy.{said_by}
@@ -77,9 +77,6 @@ passed stand = record stand { number = stand.number + 1 }
 abbrev pub low : ℕ
 low = 4294967296
 
-abbrev pub StaysLow : Stand → Stand → Type 0
-StaysLow old new = (n : ℕ) → low ≤ n → old.number ≤ n → new.number ≤ n + 1
-
 -- so many lines more can be numbered
 pub record StaysBelow (stand : Stand) (more : ℕ) : Type 0 where
   pub most : ℕ
@@ -129,6 +126,19 @@ stand_after only world stand (Unnamed fault) = stand
 stand_after only world stand (Follows directive) = followed_by stand directive
 stand_after only world stand (Says filled said) =
     record stand { known = learnt_from world stand.known filled (said_by only (call_in said)) }
+
+-- the same by how its call was answered
+abbrev pub stand_said : Stand → Filled → Result Said Fault → Option LineAnswer → Stand
+stand_said stand filled (Ok Nothing) answer = stand
+stand_said stand filled (Ok (Log text)) answer = stand
+stand_said stand filled (Ok (Call line reply)) answer = record stand { known = learnt_by stand.known filled answer }
+stand_said stand filled (Err fault) answer = stand
+
+abbrev pub stand_with : Stand → Deed → Option LineAnswer → Stand
+stand_with stand TooLong answer = stand
+stand_with stand (Unnamed fault) answer = stand
+stand_with stand (Follows directive) answer = followed_by stand directive
+stand_with stand (Says filled said) answer = stand_said stand filled said answer
 
 abbrev pub next_stand : Option (List ℕ) → World → Stand → List ℕ → Stand
 next_stand only world stand line = stand_after only world (passed stand) (deed_of stand line)

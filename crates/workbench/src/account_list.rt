@@ -24,6 +24,8 @@ use crate::needs::Needs;
 use crate::notes::Notes;
 use crate::peaks::Peaks;
 use crate::playing::play as play_lines;
+use crate::stage::Stage;
+use crate::turn::Rooms;
 use init_core::boot;
 use pd_core::{Core, Router};
 use scenario_lines::{MAX_LINES, PlayFault, Run, RunFault, Sink, Source, write_columns};
@@ -72,38 +74,43 @@ pub fn accounts<S: Source, K: Sink, E: Sink>(
         × (complaints.new ≡ complaints.old)) }
 {
     let list = StartList::read(alloc, play.machine)?;
-    let mut core = boot(alloc, &list)?;
-    let mut notes = Notes::new(alloc, play.scenario, play.given)?;
+    let core = boot(alloc, &list)?;
+    let notes = Notes::new(alloc, play.scenario, play.given);
+    let rooms = Rooms::new(alloc)?;
     let run = Run {
         list: &list,
         only: None,
     };
-    let peaks = Peaks::new(alloc, &core)?;
-    let needs = Needs::new(alloc, &core)?;
+    let stage = Stage {
+        run,
+        core,
+        notes,
+        rooms,
+    };
+    let peaks = Peaks::new(alloc, &stage.core)?;
+    let needs = Needs::new(alloc, &stage.core)?;
     let mut watch = Accounting { peaks, needs };
-    Ok(play_accounting(
-        &run, &mut core, &mut notes, &mut watch, reader, writer, complaints,
-    ))
+    Ok(play_accounting(stage, &mut watch, reader, writer, complaints))
 }
 
 // The same on a machine that has booted, with the peaks and needs of its accounts.
 fn play_accounting<R: Router + Drop, S: Source, K: Sink, E: Sink>(
-    run: &Run<'_>,
-    core: &mut Core<R>,
-    notes: &mut Notes<'_>,
+    stage: Stage<'_, '_, R>,
     watch: &mut Accounting,
     reader: &mut S,
     writer: &mut K,
     complaints: &mut E,
 ) -> Ending
-    requires listed { core.old.entries ≡ entries_of (start_list_of run.now.list.now) }
-    requires all { run.now.only ≡ None }
-    requires first { notes.old.stand.number ≡ 1 }
-    requires sees { SeesAccounts watch.old run.now.list.now core.old [] }
+    requires listed { stage.core.entries ≡ entries_of (start_list_of stage.run.list.now) }
+    requires all { stage.run.only ≡ None }
+    requires first { stage.notes.stand.number ≡ 1 }
+    requires sees { SeesAccounts watch.old stage.run.list.now stage.core [] }
     ensures played { fault_before (S.has_failed reader.old)
         (K.has_failed writer.old || E.has_failed complaints.old) ≡ None →
-        (sessions : OfSessions) × IsPlayedFrom (turns_of None core.old notes.old.stand) (λ _. [])
-        (λ turns. accounts_text sessions run.now.list.now core.old (calls_answered None turns))
+        (sessions : OfSessions)
+        × IsPlayedFrom (turns_of None stage.entry.core stage.entry.notes.stand) (λ _. [])
+        (λ turns. accounts_text sessions stage.entry.run.list.now stage.entry.core
+        (calls_answered None turns))
         true result (S.remaining reader.old) (S.remaining reader.new)
         (S.has_failed reader.new) (K.contents writer.old) (K.contents writer.new) }
     ensures few { result.lines ≤ MAX_LINES }
@@ -116,15 +123,22 @@ fn play_accounting<R: Router + Drop, S: Source, K: Sink, E: Sink>(
         × (reader.new ≡ reader.old) × (writer.new ≡ writer.old)
         × (complaints.new ≡ complaints.old)) }
 {
+    let Stage {
+        run,
+        mut core,
+        mut notes,
+        mut rooms,
+    } = stage;
     let mut bench = Bench {
         complaints,
-        run: &*run,
-        notes,
+        run: &run,
+        notes: &mut notes,
         watch,
+        rooms: &mut rooms,
         complained: 0,
     };
-    let ending = play_lines(&mut bench, core, b"", reader, writer);
-    close_accounting(ending, core, run.list, &bench, writer)
+    let ending = play_lines(&mut bench, &mut core, b"", reader, writer);
+    close_accounting(ending, &core, run.list, &bench, writer)
 }
 
 // Writes the list behind a play that came to its end.
@@ -132,7 +146,7 @@ fn close_accounting<R: Router + Drop, K: Sink, E: Sink>(
     ending: Ending,
     core: &Core<R>,
     list: &StartList,
-    bench: &Bench<'_, '_, '_, '_, '_, '_, Accounting, E>,
+    bench: &Bench<'_, '_, '_, '_, '_, '_, '_, Accounting, E>,
     writer: &mut K,
 ) -> Ending
     requires listed { core.now.entries ≡ entries_of (start_list_of list.now) }

@@ -1,20 +1,22 @@
 //! The player of scenarios in the friendly form.
-ghost use Rattle.std.specs.Prelude.{◌≡◌, []};
+ghost use Rattle.std.specs.Prelude.{◌≡◌, ◌<◌, ◌≤◌, ◌^◌, ◌||◌, [], length};
 ghost use Rattle.std.specs.Option.{option_copied};
 ghost use Rattle.own_model.specs.Listed.{start_list_of};
 ghost use Rattle.own_model.specs.StartList.{entries_of};
+ghost use Rattle.scenario_lines.specs.Next.{OutputsWork};
 ghost use Rattle.workbench.specs.Played.{told_of_turns};
-ghost use Rattle.workbench.specs.Plays.{LeadsTurns, Remains, StopsTurns, counted};
-ghost use Rattle.workbench.specs.Turns.{StaysBelow, turns_of};
+ghost use Rattle.workbench.specs.Plays.{LeadsTurns, PlaysTurn, Remains, StopsTurns, counted, point};
+ghost use Rattle.workbench.specs.Turns.{StaysBelow, deed_of, turns_of};
 
+use crate::deed::Deed;
 use crate::notes::Notes;
-use crate::turn::play_line;
+use crate::turn::{Rooms, Turn, take_turn, tell_heard};
 use crate::watch::Watch;
 use pd_core::{Core, Router};
-use scenario_lines::{Gather, PlayFault, Player, Run, Sink};
+use scenario_lines::{Gather, LONGEST_LINE, PlayFault, Player, Run, Sink};
 
 /// Plays lines of the friendly form: each call is answered, told to a watch, and held against what is expected.
-pub(crate) struct Bench<'e, 'r, 'l, 'n, 's, 'w, W: Watch, E: Sink> {
+pub(crate) struct Bench<'e, 'r, 'l, 'n, 's, 'w, 'o, W: Watch, E: Sink> {
     /// Where complaints are written.
     pub complaints: &'e mut E,
     /// Who is called by which name, and whose lines are answered.
@@ -23,11 +25,13 @@ pub(crate) struct Bench<'e, 'r, 'l, 'n, 's, 'w, W: Watch, E: Sink> {
     pub notes: &'n mut Notes<'s>,
     /// Who is told of each call.
     pub watch: &'w mut W,
+    /// Room for a line and a reply.
+    pub rooms: &'o mut Rooms,
     /// How many complaints there were.
     pub complained: u64,
 }
 
-impl<W: Watch, E: Sink> Drop for Bench<'_, '_, '_, '_, '_, '_, W, E> {
+impl<W: Watch, E: Sink> Drop for Bench<'_, '_, '_, '_, '_, '_, '_, W, E> {
     // Where complaints were written goes back as it is.
     fn drop(self)
         ensures { self.exit.0.now ≡ self.entry.complaints.now }
@@ -37,12 +41,51 @@ impl<W: Watch, E: Sink> Drop for Bench<'_, '_, '_, '_, '_, '_, W, E> {
             run: _run,
             notes: _notes,
             watch: _watch,
+            rooms: _rooms,
             complained: _complained,
         } = self;
     }
 }
 
-impl<W: Watch, E: Sink> Player for Bench<'_, '_, '_, '_, '_, '_, W, E> {
+impl<W: Watch, E: Sink> Bench<'_, '_, '_, '_, '_, '_, '_, W, E> {
+    // Plays a line that isn't too long, and tells whether there was a complaint: it is read, its call is answered, the answer is
+    // told, and then it is judged.
+    fn play_line<R: Router + Drop, K: Sink>(
+        &mut self,
+        core: &mut Core<R>,
+        line: &[u8],
+        gathered: &mut Gather,
+        writer: &mut K,
+    ) -> Result<bool, PlayFault>
+        requires short { length line.now ≤ LONGEST_LINE }
+        requires listed { core.old.entries ≡ entries_of (start_list_of self.old.run.now.list.now) }
+        requires low { self.old.notes.now.stand.number < 2 ^ 63 }
+        requires works { OutputsWork (K.has_failed writer.old)
+            (E.has_failed self.old.complaints.now) }
+        ensures remains { Remains self.old.complaints.ghost_name self.new.complaints.ghost_name
+            self.old.run.now self.new.run.now
+            (W.tells self.old.watch.now) (W.tells self.new.watch.now)
+            (W.holds self.old.watch.now) (W.holds self.new.watch.now) }
+        ensures plays { PlaysTurn (option_copied self.old.run.now.only) (W.tells self.old.watch.now)
+            W.takes (W.sees self.old.watch.now self.old.run.now.list.now)
+            (W.sees self.new.watch.now self.old.run.now.list.now)
+            (deed_of self.old.notes.now.stand line.now)
+            (K.has_failed writer.new || E.has_failed self.new.complaints.now) result
+            (point core.old self.old.notes.now.stand self.old.notes.now.critic.expected
+            (K.contents writer.old) gathered.old)
+            (point core.new self.new.notes.now.stand self.new.notes.now.critic.expected
+            (K.contents writer.new) gathered.new) }
+    {
+        let list = self.run.list;
+        let turn = take_turn(self.run, core, &self.notes.stand, line, self.rooms);
+        match tell_heard(self.watch, core, list, &turn.heard, gathered, writer) {
+            Ok(()) => self.notes.take_in(list, line, &turn, self.complaints),
+            Err(fault) => Err(fault),
+        }
+    }
+}
+
+impl<W: Watch, E: Sink> Player for Bench<'_, '_, '_, '_, '_, '_, '_, W, E> {
     ghost told = { λ bench start lines. told_of_turns (W.tells bench.watch.now start)
         (option_copied bench.run.now.only) []
         (turns_of (option_copied bench.run.now.only) start bench.notes.now.stand lines) };
@@ -72,18 +115,7 @@ impl<W: Watch, E: Sink> Player for Bench<'_, '_, '_, '_, '_, '_, W, E> {
         gathered: &mut Gather,
         writer: &mut K,
     ) -> Result<(), PlayFault> {
-        let notes = &mut *self.notes;
-        let judged = play_line(
-            self.run,
-            core,
-            &mut notes.stand,
-            line,
-            &mut notes.desk,
-            self.watch,
-            gathered,
-            writer,
-            self.complaints,
-        );
+        let judged = self.play_line(core, line, gathered, writer);
         count(&mut self.complained, judged)
     }
 
@@ -93,10 +125,13 @@ impl<W: Watch, E: Sink> Player for Bench<'_, '_, '_, '_, '_, '_, W, E> {
         _gathered: &mut Gather,
         _writer: &mut K,
     ) -> Result<(), PlayFault> {
-        let number = self.notes.stand.number;
-        self.notes.stand.number = number + 1;
-        let critic = &mut self.notes.desk.tools.critic;
-        let judged = critic.tell_too_long(number, self.complaints);
+        let turn = Turn {
+            deed: Deed::TooLong,
+            heard: None,
+        };
+        let judged = self
+            .notes
+            .take_in(self.run.list, b"", &turn, self.complaints);
         count(&mut self.complained, judged)
     }
 }

@@ -26,6 +26,7 @@ use crate::notes::Notes;
 use crate::playing::play as play_lines;
 use crate::text::{add, add_number, put_number, put_three};
 use crate::texts::{put_text_behind, shown_in};
+use crate::turn::Rooms;
 use crate::watch::{Heard, Watch};
 use arrayvec::ArrayVec;
 use calls::Reply;
@@ -50,6 +51,34 @@ pub(crate) struct SecondMachine<'a, Q: Router + Drop> {
     /// The first line of the scenario that was answered otherwise, if there is one.
     difference: Option<u64>,
     ghost listed: { core.entries ≡ entries_of (start_list_of list.now) },
+}
+
+/// Two machines that have booted, one for all lines and one for those of a name alone, and room for lines and replies.
+#[derive(Drop)]
+struct Machines<R: Router + Drop, Q: Router + Drop> {
+    whole: Core<R>,
+    alone: Core<Q>,
+    /// For the second machine's replies.
+    reply: Reply,
+    rooms: Rooms,
+}
+
+/// The run of all lines on the machine of a list, and a name whose lines are answered alone beside it.
+#[derive(Clone, Copy)]
+struct Named<'a> {
+    run: Run<'a>,
+    name: &'a [u8],
+}
+
+impl<'a> Named<'a> {
+    fn new(list: &'a StartList, name: &'a [u8]) -> Named<'a>
+        ensures list { result.run.list.now ≡ list.now }
+        ensures all { result.run.only ≡ None }
+        ensures name { result.name.now ≡ name.now }
+    {
+        let run = Run { list, only: None };
+        Named { run, name }
+    }
 }
 
 impl<Q: Router + Drop> Watch for SecondMachine<'_, Q> {
@@ -221,40 +250,40 @@ pub fn alone<S: Source, K: Sink, E: Sink>(
         × (complaints.new ≡ complaints.old)) }
 {
     let list = StartList::read(alloc, play.machine)?;
-    let mut core = boot(alloc, &list)?;
-    let mut notes = Notes::new(alloc, play.scenario, play.given)?;
-    let run = Run {
-        list: &list,
-        only: None,
-    };
-    let second = boot(alloc, &list)?;
+    let whole = boot(alloc, &list)?;
+    let mut notes = Notes::new(alloc, play.scenario, play.given);
+    let rooms = Rooms::new(alloc)?;
+    let alone = boot(alloc, &list)?;
     let reply = Reply::boot(alloc)?;
-    Ok(play_beside(
-        &run, &mut core, second, reply, name, &mut notes, reader, writer, complaints,
-    ))
+    let machines = Machines {
+        whole,
+        alone,
+        reply,
+        rooms,
+    };
+    let named = Named::new(&list, name);
+    Ok(play_beside(&named, machines, &mut notes, reader, writer, complaints))
 }
 
 // The same on two machines that have booted.
 fn play_beside<'a, R: Router + Drop, Q: Router + Drop, S: Source, K: Sink, E: Sink>(
-    run: &Run<'a>,
-    core: &mut Core<R>,
-    second: Core<Q>,
-    reply: Reply,
-    name: &'a [u8],
+    named: &Named<'a>,
+    machines: Machines<R, Q>,
     notes: &mut Notes<'_>,
     reader: &mut S,
     writer: &mut K,
     complaints: &mut E,
 ) -> Ending
-    requires listed { core.old.entries ≡ entries_of (start_list_of run.now.list.now) }
-    requires all { run.now.only ≡ None }
+    requires listed { machines.whole.entries ≡ entries_of (start_list_of named.now.run.list.now) }
+    requires all { named.now.run.only ≡ None }
     requires first { notes.old.stand.number ≡ 1 }
-    requires same { second ≡ core.old }
+    requires same { machines.alone ≡ machines.whole }
     ensures played { fault_before (S.has_failed reader.old)
         (K.has_failed writer.old || E.has_failed complaints.old) ≡ None →
-        IsPlayedFrom (turns_of None core.old notes.old.stand)
-        (λ turns. told_of_turns (alone_tells name.now core.old) None [] turns)
-        (λ turns. alone_sum name.now (length (calls_answered (Some name.now) turns)))
+        IsPlayedFrom (turns_of None machines.whole notes.old.stand)
+        (λ turns. told_of_turns (alone_tells named.now.name.now machines.whole) None [] turns)
+        (λ turns. alone_sum named.now.name.now
+        (length (calls_answered (Some named.now.name.now) turns)))
         false result (S.remaining reader.old) (S.remaining reader.new)
         (S.has_failed reader.new) (K.contents writer.old) (K.contents writer.new) }
     ensures few { result.lines ≤ MAX_LINES }
@@ -267,22 +296,30 @@ fn play_beside<'a, R: Router + Drop, Q: Router + Drop, S: Source, K: Sink, E: Si
         × (reader.new ≡ reader.old) × (writer.new ≡ writer.old)
         × (complaints.new ≡ complaints.old)) }
 {
+    let Machines {
+        mut whole,
+        alone,
+        reply,
+        mut rooms,
+    } = machines;
+    let name = named.name;
     let mut watch = SecondMachine {
-        list: run.list,
+        list: named.run.list,
         name,
-        core: second,
+        core: alone,
         reply,
         lines: 0,
         difference: None,
     };
     let mut bench = Bench {
         complaints,
-        run: &*run,
+        run: &named.run,
         notes,
         watch: &mut watch,
+        rooms: &mut rooms,
         complained: 0,
     };
-    let ending = play_lines(&mut bench, core, b"", reader, writer);
+    let ending = play_lines(&mut bench, &mut whole, b"", reader, writer);
     close_with_sum(
         ending,
         name,

@@ -19,7 +19,7 @@ use scenario_lines::{Buffers, DeviceFault, MAX_LINES, PlayFault, Sink, Source};
 /// the watch, and held against what is expected. All that is told is written before each read, and at the end. A device that has
 /// failed isn't tried again: also one that had failed before, which is told with the outputs first.
 pub(crate) fn play<R: Router + Drop, W: Watch, S: Source, K: Sink, E: Sink>(
-    bench: &mut Bench<'_, '_, '_, '_, '_, '_, W, E>,
+    bench: &mut Bench<'_, '_, '_, '_, '_, '_, '_, W, E>,
     core: &mut Core<R>,
     front: &[u8],
     reader: &mut S,
@@ -64,7 +64,7 @@ pub(crate) fn play<R: Router + Drop, W: Watch, S: Source, K: Sink, E: Sink>(
         }
     }
     let played = scenario_lines::play(bench, core, &mut buffers, reader, writer, MAX_LINES);
-    let critic = &mut bench.notes.desk.tools.critic;
+    let critic = &mut bench.notes.critic;
     let fault = close(
         critic,
         played.fault,

@@ -1,7 +1,7 @@
 //! Where a play is in its scenario, and what names stand for there.
-ghost use Rattle.std.specs.Prelude.{◌≡◌, ◌≤◌, ℕ, IfErr, IfSome, OnErr, OnOk, true};
+ghost use Rattle.std.specs.Prelude.{◌≡◌, ◌<◌, ◌^◌, IfErr, OnErr, OnOk, true};
 ghost use Rattle.scenario_names.specs.Views.{directive_view, filled_view};
-ghost use Rattle.workbench.specs.Turns.{first_with, followed_by, has_holes, learnt_by, low, line_told};
+ghost use Rattle.workbench.specs.Turns.{first_with, followed_by, has_holes, learnt_by, line_told, passed};
 ghost use Rattle.scenario_lines.specs.declared.play_fault.PlayFault.TheVariants.{NoMemory as NoRoom};
 
 use scenario_lines::{LineAnswer, PlayFault};
@@ -30,12 +30,22 @@ impl Stand {
         }
     }
 
+    /// Passes a line, and tells its number.
+    pub(crate) fn pass(&mut self) -> u64
+        requires { self.old.number < 2 ^ 63 }
+        ensures number { result ≡ self.old.number }
+        ensures passed { self.new ≡ passed self.old }
+    {
+        let number = self.number;
+        self.number = number + 1;
+        number
+    }
+
     /// Goes where a directive leads.
     pub(crate) fn follow(&mut self, directive: Directive<'_>) -> Result<(), PlayFault>
         ensures fault { IfErr result (λ fault. fault ≡ NoRoom) }
         ensures stands { OnOk result
             (self.new ≡ followed_by self.old (directive_view directive.entry)) }
-        ensures low { (n : ℕ) → low ≤ n → self.old.number ≤ n → self.new.number ≤ n }
     {
         if let Some(line) = line_told(directive) {
             self.number = line;
@@ -47,8 +57,7 @@ impl Stand {
 
 // The number of the next line, where a directive tells it.
 fn line_told(directive: Directive<'_>) -> Option<u64>
-    ensures told { result ≡ line_told (directive_view directive.entry) }
-    ensures low { IfSome result (λ line. line ≤ low) }
+    ensures { result ≡ line_told (directive_view directive.entry) }
 {
     match directive {
         Directive::Enter { line, .. } | Directive::Again { line, .. } | Directive::Leave { line } =>

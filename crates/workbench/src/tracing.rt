@@ -29,8 +29,10 @@ use crate::notes::Notes;
 use crate::playing::play as play_lines;
 use crate::row::{add_account, add_cell, put_cell};
 use crate::shown::Shown;
+use crate::stage::Stage;
 use crate::text::{add, caller_of, put_number, said_in};
 use crate::texts::{put_text_cell, shown_in};
+use crate::turn::Rooms;
 use crate::watch::{Heard, Watch};
 use arrayvec::ArrayVec;
 use calls::Call;
@@ -271,31 +273,37 @@ pub fn trace<S: Source, K: Sink, E: Sink>(
         × (complaints.new ≡ complaints.old)) }
 {
     let list = StartList::read(alloc, play.machine)?;
-    let mut core = boot(alloc, &list)?;
-    let mut notes = Notes::new(alloc, play.scenario, play.given)?;
+    let core = boot(alloc, &list)?;
+    let notes = Notes::new(alloc, play.scenario, play.given);
+    let rooms = Rooms::new(alloc)?;
     let run = Run {
         list: &list,
         only: None,
     };
-    Ok(trace_on(&run, &mut core, &mut notes, reader, writer, complaints))
+    let stage = Stage {
+        run,
+        core,
+        notes,
+        rooms,
+    };
+    Ok(trace_on(stage, reader, writer, complaints))
 }
 
 // The same on a machine that has booted.
 fn trace_on<R: Router + Drop, S: Source, K: Sink, E: Sink>(
-    run: &Run<'_>,
-    core: &mut Core<R>,
-    notes: &mut Notes<'_>,
+    stage: Stage<'_, '_, R>,
     reader: &mut S,
     writer: &mut K,
     complaints: &mut E,
 ) -> Ending
-    requires listed { core.old.entries ≡ entries_of (start_list_of run.now.list.now) }
-    requires all { run.now.only ≡ None }
-    requires first { notes.old.stand.number ≡ 1 }
+    requires listed { stage.core.entries ≡ entries_of (start_list_of stage.run.list.now) }
+    requires all { stage.run.only ≡ None }
+    requires first { stage.notes.stand.number ≡ 1 }
     ensures played { fault_before (S.has_failed reader.old)
         (K.has_failed writer.old || E.has_failed complaints.old) ≡ None →
-        IsPlayedFrom (turns_of None core.old notes.old.stand)
-        (λ turns. trace_header ++ told_of_turns (trace_tells core.old) None [] turns) (λ _. [])
+        IsPlayedFrom (turns_of None stage.entry.core stage.entry.notes.stand)
+        (λ turns. trace_header ++ told_of_turns (trace_tells stage.entry.core) None [] turns)
+        (λ _. [])
         false result (S.remaining reader.old) (S.remaining reader.new)
         (S.has_failed reader.new) (K.contents writer.old) (K.contents writer.new) }
     ensures few { result.lines ≤ MAX_LINES }
@@ -308,13 +316,20 @@ fn trace_on<R: Router + Drop, S: Source, K: Sink, E: Sink>(
         × (reader.new ≡ reader.old) × (writer.new ≡ writer.old)
         × (complaints.new ≡ complaints.old)) }
 {
+    let Stage {
+        run,
+        mut core,
+        mut notes,
+        mut rooms,
+    } = stage;
     let mut watch = Tracer;
     let mut bench = Bench {
         complaints,
-        run: &*run,
-        notes,
+        run: &run,
+        notes: &mut notes,
         watch: &mut watch,
+        rooms: &mut rooms,
         complained: 0,
     };
-    play_lines(&mut bench, core, HEADER, reader, writer)
+    play_lines(&mut bench, &mut core, HEADER, reader, writer)
 }

@@ -20,7 +20,9 @@ use crate::ending::Ending;
 use crate::machine::Play;
 use crate::notes::Notes;
 use crate::playing::play as play_lines;
+use crate::stage::Stage;
 use crate::text::put_number;
+use crate::turn::Rooms;
 use crate::watch::{Heard, Watch};
 use init_core::boot;
 use pd_core::{Core, Router};
@@ -149,34 +151,39 @@ pub fn run<S: Source, K: Sink, E: Sink>(
         × (complaints.new ≡ complaints.old)) }
 {
     let list = StartList::read(alloc, play.machine)?;
-    let mut core = boot(alloc, &list)?;
-    let mut notes = Notes::new(alloc, play.scenario, play.given)?;
+    let core = boot(alloc, &list)?;
+    let notes = Notes::new(alloc, play.scenario, play.given);
+    let rooms = Rooms::new(alloc)?;
     let run = Run {
         list: &list,
         only: showing.only,
     };
-    Ok(run_on(
-        &run, &mut core, &mut notes, showing, reader, writer, complaints,
-    ))
+    let stage = Stage {
+        run,
+        core,
+        notes,
+        rooms,
+    };
+    Ok(run_on(stage, showing, reader, writer, complaints))
 }
 
 // The same on a machine that has booted.
 fn run_on<R: Router + Drop, S: Source, K: Sink, E: Sink>(
-    run: &Run<'_>,
-    core: &mut Core<R>,
-    notes: &mut Notes<'_>,
+    stage: Stage<'_, '_, R>,
     showing: Showing<'_>,
     reader: &mut S,
     writer: &mut K,
     complaints: &mut E,
 ) -> Ending
-    requires listed { core.old.entries ≡ entries_of (start_list_of run.now.list.now) }
-    requires first { notes.old.stand.number ≡ 1 }
+    requires listed { stage.core.entries ≡ entries_of (start_list_of stage.run.list.now) }
+    requires first { stage.notes.stand.number ≡ 1 }
     ensures played { fault_before (S.has_failed reader.old)
         (K.has_failed writer.old || E.has_failed complaints.old) ≡ None →
-        IsPlayedFrom (turns_of (option_copied run.now.only) core.old notes.old.stand)
-        (shown_of showing.entry.numbers (option_copied run.now.only) core.old)
-        (list_behind showing.entry.accounts (option_copied run.now.only) run.now.list.now core.old)
+        IsPlayedFrom (turns_of (option_copied stage.entry.run.only) stage.entry.core
+        stage.entry.notes.stand)
+        (shown_of showing.entry.numbers (option_copied stage.entry.run.only) stage.entry.core)
+        (list_behind showing.entry.accounts (option_copied stage.entry.run.only)
+        stage.entry.run.list.now stage.entry.core)
         false result
         (S.remaining reader.old) (S.remaining reader.new)
         (S.has_failed reader.new) (K.contents writer.old) (K.contents writer.new) }
@@ -190,20 +197,27 @@ fn run_on<R: Router + Drop, S: Source, K: Sink, E: Sink>(
         × (reader.new ≡ reader.old) × (writer.new ≡ writer.old)
         × (complaints.new ≡ complaints.old)) }
 {
+    let Stage {
+        run,
+        mut core,
+        mut notes,
+        mut rooms,
+    } = stage;
     let mut watch = Transcript {
         numbers: showing.numbers,
     };
     let mut bench = Bench {
         complaints,
-        run: &*run,
-        notes,
+        run: &run,
+        notes: &mut notes,
         watch: &mut watch,
+        rooms: &mut rooms,
         complained: 0,
     };
-    let ending = play_lines(&mut bench, core, b"", reader, writer);
+    let ending = play_lines(&mut bench, &mut core, b"", reader, writer);
     let accounts = showing.accounts;
     if accounts {
-        close_with_list(ending, core, run.list, writer)
+        close_with_list(ending, &core, run.list, writer)
     } else {
         ending
     }

@@ -12,7 +12,7 @@ returns-clause-played g c = λ works.
     let played = c.play_accounting.ensures.played works in (
       played.0,
       is_played None (first_with c.args.play.given) (λ _ _. []) (λ listed start turns. accounts_text played.0 listed start (calls_answered None turns)) c.play_accounting.result _ _ _ _ _
-          c.in_ok-list.ensures.ok c.in_ok-core.ensures.covered c.in_ok-core.ensures.started c.in_ok-notes.ensures.stand played.1,
+          c.in_ok-list.ensures.ok c.in_ok-core.ensures.covered c.in_ok-core.ensures.started c.new-notes.ensures played.1,
     )
 
 pub play_accounting-requires-clause-sees : goal.play_accounting-requires-clause-sees

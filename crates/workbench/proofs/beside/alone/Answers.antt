@@ -10,7 +10,7 @@ use Rattle.workbench.proofs.beside.alone.Goals as goal
 pub returns-clause-played : goal.returns-clause-played
 returns-clause-played g c = λ works.
     is_played None (first_with c.args.play.given) (λ start turns. told_of_turns (alone_tells c.args.name.now start) None [] turns) (λ _ _ turns. alone_sum c.args.name.now (length (calls_answered (Some c.args.name.now) turns))) c.play_beside.result _ _ _ _ _
-    c.in_ok-list.ensures.ok c.in_ok-core.ensures.covered c.in_ok-core.ensures.started c.in_ok-notes.ensures.stand (c.play_beside.ensures.played works)
+    c.in_ok-list.ensures.ok c.in_ok-whole.ensures.covered c.in_ok-whole.ensures.started c.new-notes.ensures (rw c.new-named.ensures.name at (c.play_beside.ensures.played works))
 
 pub returns-clause-alike : goal.returns-clause-alike
 returns-clause-alike g c = are_alike c.args.name.now
@@ -18,14 +18,14 @@ returns-clause-alike g c = are_alike c.args.name.now
 pub returns-in_err-list-clause-alike : goal.returns-in_err-list-clause-alike
 returns-in_err-list-clause-alike g c = are_alike c.args.name.now
 
-pub returns-in_err-core-clause-alike : goal.returns-in_err-core-clause-alike
-returns-in_err-core-clause-alike g c = are_alike c.args.name.now
+pub returns-in_err-whole-clause-alike : goal.returns-in_err-whole-clause-alike
+returns-in_err-whole-clause-alike g c = are_alike c.args.name.now
 
-pub returns-in_err-notes-clause-alike : goal.returns-in_err-notes-clause-alike
-returns-in_err-notes-clause-alike g c = are_alike c.args.name.now
+pub returns-in_err-rooms-clause-alike : goal.returns-in_err-rooms-clause-alike
+returns-in_err-rooms-clause-alike g c = are_alike c.args.name.now
 
-pub returns-in_err-second-clause-alike : goal.returns-in_err-second-clause-alike
-returns-in_err-second-clause-alike g c = are_alike c.args.name.now
+pub returns-in_err-alone-clause-alike : goal.returns-in_err-alone-clause-alike
+returns-in_err-alone-clause-alike g c = are_alike c.args.name.now
 
 pub returns-in_err-reply-clause-alike : goal.returns-in_err-reply-clause-alike
 returns-in_err-reply-clause-alike g c = are_alike c.args.name.now
@@ -35,4 +35,4 @@ returns-clause-ok g c =
     ends_for_cause _ _ _ c.play_beside.ensures.played (unplayed_with c.play_beside.result _ _ _ _ _ (ap g.S.Source.has_failed) c.play_beside.ensures.before) c.play_beside.ensures.writing
 
 pub returns-clause-before : goal.returns-clause-before
-returns-clause-before g c = unplayed_on _ c.play_beside.result _ _ _ _ c.in_ok-list.ensures.ok c.in_ok-core.ensures.covered c.play_beside.ensures.before
+returns-clause-before g c = unplayed_on _ c.play_beside.result _ _ _ _ c.in_ok-list.ensures.ok c.in_ok-whole.ensures.covered c.play_beside.ensures.before

@@ -1,13 +1,12 @@
 -- What the play writes, and the count behind it.
-use Rattle.std.proofs.Common.{[], None, refl}
-use Rattle.workbench.specs.Alone.{SeesAlone}
+use Rattle.std.proofs.Common.{refl}
 use Rattle.workbench.proofs.ViewLemmas.{alone_played, alone_same}
 use Rattle.workbench.proofs.beside.play_beside.Goals as goal
 
 pub returns-clause-played : goal.returns-clause-played
 returns-clause-played g c = λ works.
-    let name = c.args.name.now in
-    let start = c.args.core.now in
+    let name = c.args.named.now.name.now in
+    let start = c.args.machines.whole in
     let plays = rw c.play-ending.ensures.held at (rw c.requires.all at (c.play-ending.ensures.plays works)) in
     alone_played name c.play-ending.result c.close_with_sum.result c.play-ending.ensures.few plays
     (c.close_with_sum.ensures.closes (alone_same c.play-ending.result.fault name start _ _ _ _ plays.sees))

@@ -1,5 +1,5 @@
 -- As many bytes as were found alike stand in the reply.
-use Rattle.std.proofs.Common.{length, ◌-◌, ◌≤◌, ℕ}
+use Rattle.std.proofs.Common.{length, ◌-◌, ◌≤◌}
 use Rattle.workbench.proofs.complaint.parting.Given as goal
 
 abbrev pub invariant-loop-alike : goal.invariant-loop-alike

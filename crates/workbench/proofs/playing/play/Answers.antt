@@ -1,7 +1,7 @@
 -- The lines are played behind the front, and then it is complained of what is left over.
-use Rattle.std.proofs.Common.{ℕ, List, [], arith, refl, sym, subst, ap, ◌∙◌}
+use Rattle.std.proofs.Common.{ℕ, List, arith, refl, subst, ap}
 use Rattle.std.specs.Option.{option_copied}
-use Rattle.scenario_lines.specs.Gathered.{Tells, TellsPart}
+use Rattle.scenario_lines.specs.Gathered.{Tells}
 use Rattle.workbench.specs.Turns.{low}
 use Rattle.workbench.proofs.PlayLemmas.{closed_on, closed_writing, complaints_work, leads_none, plays_closed, remains, turns_played, world_left}
 use Rattle.workbench.proofs.WriteLemmas.{front_cut, plays_behind}

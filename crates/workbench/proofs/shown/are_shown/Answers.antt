@@ -1,5 +1,5 @@
 -- A byte that can be shown leaves the question to the others.
-use Rattle.std.proofs.Common.{rules, refl, arith, drop, sym, ap, ◌∙◌}
+use Rattle.std.proofs.Common.{refl, arith, sym, ap, ◌∙◌}
 use Rattle.std.specs.List.{list_all}
 use Rattle.std.proofs.lemmas.List.{drop_all}
 use Rattle.own_model.specs.Text.{hex_bytes}

@@ -9,7 +9,7 @@ use Rattle.workbench.proofs.tracing.trace.Goals as goal
 pub returns-clause-played : goal.returns-clause-played
 returns-clause-played g c = λ works.
     is_played None (first_with c.args.play.given) (λ start turns. trace_header ++ told_of_turns (trace_tells start) None [] turns) (λ _ _ _. []) c.trace_on.result _ _ _ _ _
-    c.in_ok-list.ensures.ok c.in_ok-core.ensures.covered c.in_ok-core.ensures.started c.in_ok-notes.ensures.stand (c.trace_on.ensures.played works)
+    c.in_ok-list.ensures.ok c.in_ok-core.ensures.covered c.in_ok-core.ensures.started c.new-notes.ensures (c.trace_on.ensures.played works)
 
 pub returns-clause-ok : goal.returns-clause-ok
 returns-clause-ok g c =

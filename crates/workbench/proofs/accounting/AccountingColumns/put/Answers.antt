@@ -1,5 +1,5 @@
 -- What is needed, and behind it what else stands there.
-use Rattle.std.proofs.Common.{ℕ, ◌++◌, List, ap, sym}
+use Rattle.std.proofs.Common.{◌++◌, ap, sym}
 use Rattle.own_model.specs.Listed.{Listed, start_list_of}
 use Rattle.own_model.specs.StartList.{entries_of}
 use Rattle.scenario_lines.specs.Accounts.{Beside}

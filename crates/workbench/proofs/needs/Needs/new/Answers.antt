@@ -1,5 +1,5 @@
 -- One meter more is that of the next component.
-use Rattle.std.proofs.Common.{ap, subst, sym, ◌∙◌, arith, length, length-append, ◌∷◌, [], ◌<◌}
+use Rattle.std.proofs.Common.{ap, subst, arith, length, length-append, ◌∷◌, []}
 use Rattle.workbench.specs.Meters.{IsFresh}
 use Rattle.workbench.proofs.NeedLemmas.{fresh_more, sees_begun}
 use Rattle.workbench.proofs.needs.Needs.new.Goals as goal
