@@ -1,5 +1,5 @@
 -- What a line is when its turn comes, by its bytes.
-use Rattle.std.specs.Prelude.{Result, None, Ok, Err}
+use Rattle.std.specs.Prelude.{ℕ, List, Result, None, Ok, Err}
 use Rattle.std.specs.Option.{option_copied}
 use Rattle.friendly_lines.specs.Friendly.{Said}
 use Rattle.friendly_lines.specs.Friendly.Said.{Nothing, Log, Call}
@@ -23,9 +23,11 @@ said_view (Ok said) = Ok (saying_view said)
 said_view (Err fault) = Err fault
 
 -- a call that stands as it is was not filled, and expects no reply
+abbrev pub plain_deed : List ℕ → Deed
+plain_deed line = Says (whole line) (Ok (Call line None))
+
 abbrev pub deed_view : Told → Deed
 deed_view told.TooLong = TooLong
 deed_view (told.Unnamed fault) = Unnamed fault
 deed_view (told.Follows directive) = Follows (directive_view directive)
-deed_view (told.Plain line) = Says (whole line.now) (Ok (Call line.now None))
 deed_view (told.Says filled said) = Says (filled_view filled) (said_view said)

@@ -3,6 +3,8 @@ ghost use Rattle.std.specs.Prelude.{◌≡◌, ◌<◌, ◌≤◌, ◌^◌, ◌|
 ghost use Rattle.std.specs.Option.{option_copied};
 ghost use Rattle.own_model.specs.Listed.{start_list_of};
 ghost use Rattle.own_model.specs.StartList.{entries_of};
+ghost use Rattle.call_lines.specs.Read.{Reads};
+ghost use Rattle.friendly_lines.specs.Laws.{IsBare, IsPlain};
 ghost use Rattle.scenario_lines.specs.Next.{OutputsWork};
 ghost use Rattle.workbench.specs.Played.{told_of_turns};
 ghost use Rattle.workbench.specs.Plays.{LeadsTurns, PlaysTurn, Remains, StopsTurns, counted, point};
@@ -10,10 +12,11 @@ ghost use Rattle.workbench.specs.Turns.{StaysBelow, deed_of, turns_of};
 
 use crate::deed::Deed;
 use crate::notes::Notes;
-use crate::turn::{Rooms, Turn, take_turn, tell_heard};
+use crate::turn::{Rooms, Turn, hear_plain, take_turn, tell_heard};
 use crate::watch::Watch;
+use friendly_lines::plain_call;
 use pd_core::{Core, Router};
-use scenario_lines::{Gather, LONGEST_LINE, PlayFault, Player, Run, Sink};
+use scenario_lines::{Gather, LONGEST_LINE, NamedCall, PlayFault, Player, Run, Sink};
 
 /// Plays lines of the friendly form: each call is answered, told to a watch, and held against what is expected.
 pub(crate) struct Bench<'e, 'r, 'l, 'n, 's, 'w, 'o, W: Watch, E: Sink> {
@@ -48,9 +51,81 @@ impl<W: Watch, E: Sink> Drop for Bench<'_, '_, '_, '_, '_, '_, '_, W, E> {
 }
 
 impl<W: Watch, E: Sink> Bench<'_, '_, '_, '_, '_, '_, '_, W, E> {
-    // Plays a line that isn't too long, and tells whether there was a complaint: it is read, its call is answered, the answer is
-    // told, and then it is judged.
+    // Plays a line that isn't too long, and tells whether there was a complaint. Most are calls as they stand.
     fn play_line<R: Router + Drop, K: Sink>(
+        &mut self,
+        core: &mut Core<R>,
+        line: &[u8],
+        gathered: &mut Gather,
+        writer: &mut K,
+    ) -> Result<bool, PlayFault>
+        requires short { length line.now ≤ LONGEST_LINE }
+        requires listed { core.old.entries ≡ entries_of (start_list_of self.old.run.now.list.now) }
+        requires low { self.old.notes.now.stand.number < 2 ^ 63 }
+        requires works { OutputsWork (K.has_failed writer.old)
+            (E.has_failed self.old.complaints.now) }
+        ensures remains { Remains self.old.complaints.ghost_name self.new.complaints.ghost_name
+            self.old.run.now self.new.run.now
+            (W.tells self.old.watch.now) (W.tells self.new.watch.now)
+            (W.holds self.old.watch.now) (W.holds self.new.watch.now) }
+        ensures plays { PlaysTurn (option_copied self.old.run.now.only) (W.tells self.old.watch.now)
+            W.takes (W.sees self.old.watch.now self.old.run.now.list.now)
+            (W.sees self.new.watch.now self.old.run.now.list.now)
+            (deed_of self.old.notes.now.stand line.now)
+            (K.has_failed writer.new || E.has_failed self.new.complaints.now) result
+            (point core.old self.old.notes.now.stand self.old.notes.now.critic.expected
+            (K.contents writer.old) gathered.old)
+            (point core.new self.new.notes.now.stand self.new.notes.now.critic.expected
+            (K.contents writer.new) gathered.new) }
+    {
+        match plain_call(line) {
+            Some(call) => self.play_plain(core, line, call, gathered, writer),
+            None => self.play_turn(core, line, gathered, writer),
+        }
+    }
+
+    // Plays a call as it stands: it is answered, the answer is told, and then it is judged.
+    fn play_plain<R: Router + Drop, K: Sink>(
+        &mut self,
+        core: &mut Core<R>,
+        line: &[u8],
+        call: NamedCall<'_>,
+        gathered: &mut Gather,
+        writer: &mut K,
+    ) -> Result<bool, PlayFault>
+        requires plain { IsPlain line.now }
+        requires bare { IsBare line.now }
+        requires read { Reads line.now call }
+        requires short { length line.now ≤ LONGEST_LINE }
+        requires listed { core.old.entries ≡ entries_of (start_list_of self.old.run.now.list.now) }
+        requires low { self.old.notes.now.stand.number < 2 ^ 63 }
+        requires works { OutputsWork (K.has_failed writer.old)
+            (E.has_failed self.old.complaints.now) }
+        ensures remains { Remains self.old.complaints.ghost_name self.new.complaints.ghost_name
+            self.old.run.now self.new.run.now
+            (W.tells self.old.watch.now) (W.tells self.new.watch.now)
+            (W.holds self.old.watch.now) (W.holds self.new.watch.now) }
+        ensures plays { PlaysTurn (option_copied self.old.run.now.only) (W.tells self.old.watch.now)
+            W.takes (W.sees self.old.watch.now self.old.run.now.list.now)
+            (W.sees self.new.watch.now self.old.run.now.list.now)
+            (deed_of self.old.notes.now.stand line.now)
+            (K.has_failed writer.new || E.has_failed self.new.complaints.now) result
+            (point core.old self.old.notes.now.stand self.old.notes.now.critic.expected
+            (K.contents writer.old) gathered.old)
+            (point core.new self.new.notes.now.stand self.new.notes.now.critic.expected
+            (K.contents writer.new) gathered.new) }
+    {
+        let list = self.run.list;
+        let number = self.notes.stand.number;
+        let heard = hear_plain(self.run, core, number, line, call, self.rooms);
+        match tell_heard(self.watch, core, list, &heard, gathered, writer) {
+            Ok(()) => self.notes.take_plain(list, line, &heard, self.complaints),
+            Err(fault) => Err(fault),
+        }
+    }
+
+    // Plays any line: it is read, its call is answered, the answer is told, and then it is judged.
+    fn play_turn<R: Router + Drop, K: Sink>(
         &mut self,
         core: &mut Core<R>,
         line: &[u8],

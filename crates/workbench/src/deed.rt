@@ -12,8 +12,6 @@ pub(crate) enum Deed<'a> {
     Unnamed(NameFault),
     /// It is a directive.
     Follows(Directive<'a>),
-    /// It is a call as it stands.
-    Plain(&'a [u8]),
     /// It was filled, and says something, or isn't read for a cause.
     Says {
         filled: Filled<'a>,

@@ -5,7 +5,7 @@ ghost use Rattle.friendly_lines.specs.Friendly.{is_passed};
 ghost use Rattle.scenario_lines.specs.Faults.{Fails};
 ghost use Rattle.scenario_names.specs.Misplaced.{is_misplaced};
 ghost use Rattle.scenario_names.specs.Views.{directive_view, filled_view};
-ghost use Rattle.workbench.specs.Deeds.{deed_view};
+ghost use Rattle.workbench.specs.Deeds.{deed_view, plain_deed};
 ghost use Rattle.workbench.specs.Faults.{takes_in};
 ghost use Rattle.workbench.specs.Hearing.{answer_of};
 ghost use Rattle.workbench.specs.Judging.{awaited_after, is_complained, is_other, nothing_awaited};
@@ -16,6 +16,7 @@ use crate::deed::{Deed, Saying};
 use crate::given::{Asked, Given};
 use crate::stand::{Stand, learn};
 use crate::turn::{Turn, answer_in};
+use crate::watch::Heard;
 use scenario_lines::{LineAnswer, PlayFault, Sink};
 use scenario_names::{Directive, Filled, Known};
 use start_lists::StartList;
@@ -67,16 +68,6 @@ impl<'a> Notes<'a> {
             Deed::TooLong => self.critic.tell_too_long(number, complaints),
             Deed::Unnamed(fault) => self.critic.tell_unnamed(number, *fault, complaints),
             Deed::Follows(directive) => self.follow(given, *directive, complaints),
-            Deed::Plain(line) => {
-                let asked = Asked {
-                    given,
-                    line: *line,
-                    reply: None,
-                };
-                let answer = answer_in(&turn.heard);
-                self.critic
-                    .judge(list, asked, &self.stand.known, answer, complaints)
-            }
             Deed::Says { filled, said } => match said {
                 Ok(Saying::Nothing) => Ok(false),
                 Ok(Saying::Log(text)) => self.critic.expect_line(number, *text),
@@ -94,6 +85,34 @@ impl<'a> Notes<'a> {
                     .tell_unread(given, &self.stand.known, *fault, complaints),
             },
         }
+    }
+
+    /// Takes in a call that stands as it is: passes the line, and tells whether there was a complaint.
+    pub(crate) fn take_plain<E: Sink>(
+        &mut self,
+        list: &StartList,
+        line: &[u8],
+        heard: &Option<Heard<'_>>,
+        complaints: &mut E,
+    ) -> Result<bool, PlayFault>
+        requires low { self.old.stand.number < 2 ^ 63 }
+        requires works { E.has_failed complaints.old ≡ false }
+        ensures judged { IfOk result (λ complained. complained ≡ is_complained
+            (plain_deed line.now) (answer_of heard.now) self.old.critic.expected) }
+        ensures expects { OnOk result (self.new.critic.expected ≡ awaited_after
+            self.old.stand.number (plain_deed line.now) self.old.critic.expected) }
+        ensures stands { OnOk result (self.new.stand ≡ stand_with (passed self.old.stand)
+            (plain_deed line.now) (answer_of heard.now)) }
+        ensures failing { Fails result (E.has_failed complaints.new)
+            (takes_in false (plain_deed line.now)) }
+    {
+        let number = self.stand.pass();
+        let asked = Asked {
+            given: Given { number, line },
+            line,
+            reply: None,
+        };
+        self.critic.judge(list, asked, &self.stand.known, answer_in(heard), complaints)
     }
 
     // Goes where a directive leads, or complains of it.

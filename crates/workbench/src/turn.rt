@@ -7,7 +7,7 @@ ghost use Rattle.own_model.specs.World.{World};
 ghost use Rattle.friendly_lines.specs.Friendly.{said_of};
 ghost use Rattle.scenario_lines.specs.Answered.{after_all};
 ghost use Rattle.scenario_lines.specs.Faults.{Fails};
-ghost use Rattle.call_lines.specs.Read.{IsReadAs};
+ghost use Rattle.call_lines.specs.Read.{IsReadAs, Reads};
 ghost use Rattle.scenario_names.specs.Views.{filled_view};
 ghost use Rattle.workbench.specs.Hearing.{Hears, IsHeard, TakesTurn, answer_of};
 ghost use Rattle.workbench.specs.Turns.{deed_of};
@@ -17,7 +17,7 @@ use crate::deed::{Deed, Saying};
 use crate::stand::Stand;
 use crate::watch::{Heard, Watch};
 use calls::Reply;
-use friendly_lines::{Line, Said, plain_call, read_friendly};
+use friendly_lines::{Line, Said, read_friendly};
 use pd_core::{Core, Router};
 use scenario_lines::{Gather, LONGEST_LINE, LineAnswer, NamedCall, PlayFault, Run, Sink};
 use scenario_names::{Filled, directive_of, fill};
@@ -54,36 +54,9 @@ impl Rooms {
     }
 }
 
-/// Reads a line that isn't too long where a play stands, and answers its call, if it says one that is to be answered. Most lines
-/// are calls as they stand.
+/// Reads a line that isn't too long where a play stands, and answers its call, if it says one that is to be answered: the line is
+/// filled with what names stand for, and then it says something, or it is a directive.
 pub(crate) fn take_turn<'a, 'b, R: Router + Drop>(
-    run: &Run<'a>,
-    core: &mut Core<R>,
-    stand: &Stand,
-    line: &'b [u8],
-    rooms: &'b mut Rooms,
-) -> Turn<'b>
-where
-    'a: 'b,
-    requires short { length line.now ≤ LONGEST_LINE }
-    requires listed { core.old.entries ≡ entries_of (start_list_of run.now.list.now) }
-    ensures { TakesTurn (option_copied run.now.only) stand.now.number
-        (deed_of stand.now line.now) core.old core.new result }
-{
-    match plain_call(line) {
-        Some(call) => {
-            let heard = hear(run, core, stand.number, line, Some(call), &mut rooms.reply);
-            Turn {
-                deed: Deed::Plain(line),
-                heard,
-            }
-        }
-        None => take_named(run, core, stand, line, rooms),
-    }
-}
-
-// The same of any line: it is filled with what names stand for, and then it says something, or it is a directive.
-fn take_named<'a, 'b, R: Router + Drop>(
     run: &Run<'a>,
     core: &mut Core<R>,
     stand: &Stand,
@@ -177,6 +150,26 @@ where
             heard: None,
         },
     }
+}
+
+/// Answers a call that stands as it is, in a line of this number.
+pub(crate) fn hear_plain<'a, 'b, R: Router + Drop>(
+    run: &Run<'a>,
+    core: &mut Core<R>,
+    number: u64,
+    line: &'b [u8],
+    call: NamedCall<'b>,
+    rooms: &'b mut Rooms,
+) -> Option<Heard<'b>>
+where
+    'a: 'b,
+    requires listed { core.old.entries ≡ entries_of (start_list_of run.now.list.now) }
+    requires read { Reads line.now call }
+    ensures world { core.new ≡ after_all (option_copied run.now.only) core.old (line.now ∷ []) }
+    ensures heard { IsHeard (option_copied run.now.only) core.old number (line.now ∷ []) result }
+    ensures read { IfSome result (λ it. IsReadAs it.line.now it.call) }
+{
+    hear(run, core, number, line, Some(call), &mut rooms.reply)
 }
 
 // Answers the engine's line of a line of this number, by what was read of it.

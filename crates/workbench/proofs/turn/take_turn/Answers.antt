@@ -1,9 +1,19 @@
--- A call that stands as it is says itself.
+-- A line is filled, and then it says something, or it is a directive, or it can't be filled.
 use Rattle.std.proofs.Common.{refl}
-use Rattle.workbench.proofs.TurnLemmas.{deed_plain, turn_as}
+use Rattle.friendly_lines.specs.Friendly.{said_of}
+use Rattle.scenario_names.specs.Views.{directive_view, filled_view}
+use Rattle.workbench.proofs.TurnLemmas.{deed_follows, deed_says, deed_unnamed, turn_as, turn_silent}
 use Rattle.workbench.proofs.turn.take_turn.Goals as goal
 
 pub returns-in-Some : goal.returns-in-Some
 returns-in-Some g c =
-    turn_as (deed_plain c.args.stand.now c.args.line.now c.requires.short c.in-Some.ensures.bare c.in-Some.ensures.plain)
-    (record { deed_is = refl; world = c.hear-heard.ensures.world; heard = c.hear-heard.ensures.heard; read = c.hear-heard.ensures.read })
+    turn_as (deed_follows c.args.stand.now c.args.line.now c.requires.short (filled_view c.in-Ok.filled) (directive_view c.in-Some.directive) c.in-Ok.ensures c.in-Some.ensures)
+    (turn_silent _ refl refl)
+
+pub returns-in-None : goal.returns-in-None
+returns-in-None g c =
+    turn_as (deed_says c.args.stand.now c.args.line.now c.requires.short (filled_view c.in-Ok.filled) (said_of c.in-Ok.filled.line.now) c.in-Ok.ensures c.in-None.ensures refl)
+    c.take_filled.ensures
+
+pub returns-in-Err : goal.returns-in-Err
+returns-in-Err g c = turn_as (deed_unnamed c.args.stand.now c.args.line.now c.requires.short c.in-Err.fault c.in-Err.ensures) (turn_silent _ refl refl)

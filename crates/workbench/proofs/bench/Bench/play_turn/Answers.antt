@@ -3,7 +3,7 @@ use Rattle.std.specs.Option.{option_copied}
 use Rattle.workbench.specs.Deeds.{deed_view}
 use Rattle.workbench.proofs.LineLemmas.{plays_as, turn_judged, turn_untold}
 use Rattle.workbench.proofs.TurnLemmas.{turn_viewed}
-use Rattle.workbench.proofs.bench.Bench.play_line.Goals as goal
+use Rattle.workbench.proofs.bench.Bench.play_turn.Goals as goal
 
 pub returns-in-Ok-clause-plays : goal.returns-in-Ok-clause-plays
 returns-in-Ok-clause-plays g c =

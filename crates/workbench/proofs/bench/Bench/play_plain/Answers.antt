@@ -1,0 +1,22 @@
+-- A call as it stands is answered, its answer is told, and then it is judged.
+use Rattle.std.specs.Option.{option_copied}
+use Rattle.workbench.specs.Deeds.{plain_deed}
+use Rattle.workbench.proofs.LineLemmas.{plays_as, turn_judged, turn_untold}
+use Rattle.workbench.proofs.TurnLemmas.{deed_plain}
+use Rattle.workbench.proofs.bench.Bench.play_plain.Goals as goal
+
+pub returns-in-Ok-clause-plays : goal.returns-in-Ok-clause-plays
+returns-in-Ok-clause-plays g c =
+    let heard = c.hear_plain-heard.ensures.heard in
+    plays_as (deed_plain c.args.self.now.notes.now.stand c.args.line.now c.requires.short c.requires.bare c.requires.plain)
+    (turn_judged _ _ (plain_deed c.args.line.now) c.hear_plain-heard.result heard c.take_plain.result
+    (c.in-Ok.ensures.hears (option_copied c.args.self.now.run.now.only) c.args.self.now.notes.now.stand.number c.args.core.now _ c.hear_plain-heard.ensures.world heard)
+    c.in-Ok.ensures.failing c.take_plain.ensures.judged c.take_plain.ensures.expects c.take_plain.ensures.stands c.take_plain.ensures.failing)
+
+pub returns-in-Err-clause-plays : goal.returns-in-Err-clause-plays
+returns-in-Err-clause-plays g c =
+    let heard = c.hear_plain-heard.ensures.heard in
+    plays_as (deed_plain c.args.self.now.notes.now.stand c.args.line.now c.requires.short c.requires.bare c.requires.plain)
+    (turn_untold _ _ (plain_deed c.args.line.now) c.hear_plain-heard.result heard c.in-Err.fault
+    (c.in-Err.ensures.hears (option_copied c.args.self.now.run.now.only) c.args.self.now.notes.now.stand.number c.args.core.now _ c.hear_plain-heard.ensures.world heard)
+    c.requires.works.own c.in-Err.ensures.failing)
