@@ -1,11 +1,9 @@
-//! Tests of the engine: the worked rows, devices that fail, want of memory, and random mixes.
+//! Tests of the engine: the worked rows, devices that fail, and want of memory.
 
 mod configs;
 mod device_calls;
 mod devices;
 mod faults;
-mod lines;
-mod mixes;
 mod rows;
 mod tasks;
 mod wants;

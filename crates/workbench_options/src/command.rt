@@ -10,7 +10,7 @@ use std::alloc::{AllocError, Global};
 use std::convert::AsStr;
 
 /// What is asked of the workbench.
-#[derive(Debug, Drop)]
+#[derive(Drop)]
 pub struct Request<'a> {
     /// What it has to do.
     pub command: Command<'a>,
@@ -19,7 +19,7 @@ pub struct Request<'a> {
 }
 
 /// When lines are coloured.
-#[derive(Clone, Copy, Debug, PartialEq, Eq)]
+#[derive(Clone, Copy, PartialEq, Eq)]
 pub enum Color {
     /// Where they are told to a terminal.
     Auto,
@@ -32,7 +32,7 @@ pub enum Color {
 }
 
 /// What the workbench is asked to do.
-#[derive(Debug, Drop)]
+#[derive(Drop)]
 pub enum Command<'a> {
     /// Answers a scenario, and tells where it isn't answered as it expects.
     Run(Run<'a>),
@@ -61,7 +61,7 @@ pub enum Command<'a> {
 }
 
 /// How a scenario is answered. Paths are as they stand, and `-` is standard input.
-#[derive(Debug, Drop)]
+#[derive(Drop)]
 pub struct Run<'a> {
     /// The path of a start list, or none for the built-in machine.
     pub machine: Option<&'a str>,
@@ -78,7 +78,7 @@ pub struct Run<'a> {
 }
 
 /// How a scenario is recorded.
-#[derive(Debug, Drop)]
+#[derive(Drop)]
 pub struct Record<'a> {
     /// The path of a start list, or none for the built-in machine.
     pub machine: Option<&'a str>,
@@ -91,7 +91,7 @@ pub struct Record<'a> {
 }
 
 /// How a start list is checked.
-#[derive(Debug, Drop)]
+#[derive(Drop)]
 pub struct Check<'a> {
     /// Whether a finding is a fault.
     pub strict: bool,
@@ -104,7 +104,7 @@ pub struct Check<'a> {
 }
 
 /// How the components of a start list are shown.
-#[derive(Debug, Drop)]
+#[derive(Drop)]
 pub struct Tree<'a> {
     /// Whether a graph is shown in place of a text.
     pub dot: bool,
@@ -115,7 +115,7 @@ pub struct Tree<'a> {
 }
 
 /// How it is told who reaches whom.
-#[derive(Debug, Drop)]
+#[derive(Drop)]
 pub struct Reach<'a> {
     /// Whether comma-separated values are written in place of a table.
     pub csv: bool,
@@ -130,7 +130,7 @@ pub struct Reach<'a> {
 }
 
 /// A wish for a session.
-#[derive(Debug, Drop)]
+#[derive(Drop)]
 pub struct Route<'a> {
     /// The path of the start list.
     pub list: &'a str,
@@ -143,7 +143,7 @@ pub struct Route<'a> {
 }
 
 /// How a scenario is told, by a table or by its accounts.
-#[derive(Debug, Drop)]
+#[derive(Drop)]
 pub struct Played<'a> {
     /// The path of a start list, or none for the built-in machine.
     pub machine: Option<&'a str>,
@@ -154,7 +154,7 @@ pub struct Played<'a> {
 }
 
 /// How it is told what accounts need.
-#[derive(Debug, Drop)]
+#[derive(Drop)]
 pub struct Least<'a> {
     /// The path of a start list, or none for the built-in machine.
     pub machine: Option<&'a str>,
@@ -173,7 +173,7 @@ pub struct Least<'a> {
 }
 
 /// How it is shown what a component is told alone.
-#[derive(Debug, Drop)]
+#[derive(Drop)]
 pub struct Alone<'a> {
     /// The path of a start list, or none for the built-in machine.
     pub machine: Option<&'a str>,
@@ -188,7 +188,7 @@ pub struct Alone<'a> {
 }
 
 /// How two start lists are compared.
-#[derive(Debug, Drop)]
+#[derive(Drop)]
 pub struct Diff<'a> {
     /// Whether a document of JSON is written in place of lines.
     pub json: bool,
@@ -201,7 +201,7 @@ pub struct Diff<'a> {
 }
 
 /// How scenarios are run as tests.
-#[derive(Debug, Drop)]
+#[derive(Drop)]
 pub struct Test<'a> {
     /// The path of a start list for the scenarios beside which none stands, or none for the built-in machine.
     pub machine: Option<&'a str>,
