@@ -18,7 +18,7 @@ use avl_tree::{find, insert, remove};
 pub const MOST_CHUNKS: usize = 64;
 
 /// Where a block starts. Its payload is 16 bytes on.
-#[derive(Clone, Copy, Debug, PartialEq, Eq)]
+#[derive(Clone, Copy, PartialEq, Eq)]
 pub struct BlockAddr {
     /// The number of its chunk.
     pub chunk: usize,
@@ -27,7 +27,7 @@ pub struct BlockAddr {
 }
 
 /// A used block.
-#[derive(Clone, Copy, Debug, PartialEq, Eq)]
+#[derive(Clone, Copy, PartialEq, Eq)]
 pub struct UsedBlock {
     /// The number of its chunk.
     pub chunk: usize,

@@ -3,7 +3,7 @@
 use trade_base::{DsId, Selector, SessionId};
 
 /// A capability: the right to what it names.
-#[derive(Clone, Copy, Debug, PartialEq, Eq)]
+#[derive(Clone, Copy, PartialEq, Eq)]
 pub enum Cap {
     /// A dataspace.
     Dataspace(DsId),

@@ -1,68 +1,92 @@
 //! Why a line isn't read.
 
 use crate::forms::Form;
-use thiserror::Error;
+use std::fmt;
 
 /// What is wrong with a line.
-#[derive(Clone, Copy, Debug, PartialEq, Eq, Error)]
+#[derive(Clone, Copy, PartialEq, Eq)]
 pub enum Reason {
     /// A quote is not closed.
-    #[error("a quote that isn't closed")]
     OpenQuote,
     /// A backslash in quotes begins no escape.
-    #[error("no escape: there are \\n, \\t, \\\", \\\\ and \\xNN")]
     BadEscape,
     /// What the line says is no call, since it is too long.
-    #[error("no call")]
     NoCall,
     /// The first word is no component's path.
-    #[error("no name of a component")]
     NoName,
     /// Nothing stands behind the name.
-    #[error("no call behind the name")]
     NoForm,
     /// The word behind the name is no call's.
-    #[error("no call of this name")]
     UnknownCall,
     /// The same, and one edit leads to a call's.
-    #[error("no call of this name; did you mean `{0}`?")]
     Misspelt(Form),
     /// A word of this call isn't there.
-    #[error("a word is missing: `{0}`")]
     Missing(Form),
     /// A word stands behind those of this call.
-    #[error("a word too many: `{0}`")]
     TooMany(Form),
     /// A size has its unit in a small letter.
-    #[error("units are K, M and G")]
     SmallUnit,
     /// A word has to be a number.
-    #[error("no number")]
     NoNumber,
     /// A word has to be a size.
-    #[error("no size")]
     NoSize,
     /// An address has more than 16 digits.
-    #[error("an address has at most 16 digits")]
     LongAddress,
     /// A word has to be an address.
-    #[error("no address: 0x and hexadecimal digits")]
     NoAddress,
     /// A word has to be bytes.
-    #[error("no bytes: two hexadecimal digits each, or text in quotes")]
     NoHex,
     /// A word has to be a service's name.
-    #[error("no name of a service")]
     NoService,
 }
 
+impl Reason {
+    // What is told of it, up to the form that it names.
+    fn text(self) -> &'static str {
+        match self {
+            Reason::OpenQuote => "a quote that isn't closed",
+            Reason::BadEscape => "no escape: there are \\n, \\t, \\\", \\\\ and \\xNN",
+            Reason::NoCall => "no call",
+            Reason::NoName => "no name of a component",
+            Reason::NoForm => "no call behind the name",
+            Reason::UnknownCall => "no call of this name",
+            Reason::Misspelt(_) => "no call of this name; did you mean ",
+            Reason::Missing(_) => "a word is missing: ",
+            Reason::TooMany(_) => "a word too many: ",
+            Reason::SmallUnit => "units are K, M and G",
+            Reason::NoNumber => "no number",
+            Reason::NoSize => "no size",
+            Reason::LongAddress => "an address has at most 16 digits",
+            Reason::NoAddress => "no address: 0x and hexadecimal digits",
+            Reason::NoHex => "no bytes: two hexadecimal digits each, or text in quotes",
+            Reason::NoService => "no name of a service",
+        }
+    }
+}
+
+impl fmt::Display for Reason {
+    fn fmt<W: fmt::Write>(&self, f: &mut fmt::Formatter<W>) -> fmt::Result {
+        f.write_str(self.text())?;
+        match self {
+            Reason::Misspelt(form) => write!(f, "`{form}`?"),
+            Reason::Missing(form) | Reason::TooMany(form) => write!(f, "`{form}`"),
+            _ => Ok(()),
+        }
+    }
+}
+
 /// What is wrong with a line, and where.
-#[derive(Clone, Copy, Debug, PartialEq, Eq, Error)]
-#[error("{column}: {reason}")]
+#[derive(Clone, Copy, PartialEq, Eq)]
 pub struct Fault {
     /// What is wrong.
     pub reason: Reason,
     /// The byte of the line at which it is, from 1 on: the quote, the backslash, or the word of a
     /// call that is wrong.
     pub column: usize,
+}
+
+impl fmt::Display for Fault {
+    fn fmt<W: fmt::Write>(&self, f: &mut fmt::Formatter<W>) -> fmt::Result {
+        write!(f, "{}: {}", self.column, self.reason)
+    }
 }

@@ -2,77 +2,84 @@
 ghost use Rattle.std.specs.Prelude.{◌≡◌};
 ghost use Rattle.friendly_lines.specs.Forms.{form_named, form_near, forms, has_text, is_one_edit, kinds_of, word_of};
 
-use thiserror::Error;
+use std::fmt;
 
 /// A form of calls. It is told with its words.
-#[derive(Clone, Copy, Debug, PartialEq, Eq, Error)]
+#[derive(Clone, Copy, PartialEq, Eq)]
 pub enum Form {
     /// A dataspace.
-    #[error("alloc N")]
     Alloc,
     /// A dataspace goes.
-    #[error("free S")]
     Free,
     /// A dataspace is attached.
-    #[error("attach S")]
     Attach,
     /// The same at an address.
-    #[error("attach_at S A")]
     AttachAt,
     /// A region goes.
-    #[error("detach A")]
     Detach,
     /// Bytes are told.
-    #[error("peek A LEN")]
     Peek,
     /// Bytes are put.
-    #[error("poke A HEX")]
     Poke,
     /// An RPC object.
-    #[error("capalloc")]
     Capalloc,
     /// An RPC object goes.
-    #[error("capfree S")]
     Capfree,
     /// A block of the heap.
-    #[error("new N")]
     New,
     /// It goes.
-    #[error("del A")]
     Del,
     /// A sliced block.
-    #[error("snew N")]
     Snew,
     /// It goes.
-    #[error("sdel A")]
     Sdel,
     /// A session.
-    #[error("open SERVICE ARGS")]
     Open,
     /// More for a session.
-    #[error("upgrade S ARGS")]
     Upgrade,
     /// A request of a session.
-    #[error("call S REQUEST")]
     Call,
     /// A session goes.
-    #[error("close S")]
     Close,
     /// The component goes.
-    #[error("exit")]
     Exit,
     /// What is used is told.
-    #[error("quota")]
     Quota,
     /// The reserve is told.
-    #[error("reserve")]
     Reserve,
     /// Limits from the reserve.
-    #[error("request ARGS")]
     Request,
     /// Limits to the reserve.
-    #[error("yield ARGS")]
     Yield,
+}
+
+impl fmt::Display for Form {
+    fn fmt<W: fmt::Write>(&self, f: &mut fmt::Formatter<W>) -> fmt::Result {
+        f.write_str(match self {
+            Form::Alloc => "alloc N",
+            Form::Free => "free S",
+            Form::Attach => "attach S",
+            Form::AttachAt => "attach_at S A",
+            Form::Detach => "detach A",
+            Form::Peek => "peek A LEN",
+            Form::Poke => "poke A HEX",
+            Form::Capalloc => "capalloc",
+            Form::Capfree => "capfree S",
+            Form::New => "new N",
+            Form::Del => "del A",
+            Form::Snew => "snew N",
+            Form::Sdel => "sdel A",
+            Form::Open => "open SERVICE ARGS",
+            Form::Upgrade => "upgrade S ARGS",
+            Form::Call => "call S REQUEST",
+            Form::Close => "close S",
+            Form::Exit => "exit",
+            Form::Quota => "quota",
+            Form::Reserve => "reserve",
+            Form::Request => "request ARGS",
+            Form::Yield => "yield ARGS",
+        })
+    }
 }
 
 /// What a word behind a form has to be.

@@ -3,7 +3,7 @@ ghost use Rattle.std.specs.Prelude.{◌≡◌};
 ghost use Rattle.json_documents.specs.Documents.{column_name};
 
 /// A column of a table, by its name and what its cells hold.
-#[derive(Clone, Copy, Debug)]
+#[derive(Clone, Copy)]
 pub enum Column {
     /// A text.
     Text(&'static str),

@@ -1,7 +1,7 @@
 //! Values of a document's members.
 
 /// A value of a member.
-#[derive(Clone, Copy, Debug)]
+#[derive(Clone, Copy)]
 pub enum Field<'a> {
     /// A word of the program's own.
     Word(&'static str),

@@ -9,7 +9,7 @@ use json::Value;
 use std::alloc::{AllocError, Global};
 
 /// A key, and whether an earlier member of its object has it, too.
-#[derive(Clone, Copy, Debug, Drop)]
+#[derive(Clone, Copy, Drop)]
 pub(crate) struct Key<'a> {
     /// The name.
     pub(crate) name: &'a str,

@@ -5,7 +5,7 @@ ghost use Rattle.json_keys.specs.Places.{begins, ends_key, first, is_outside, ke
 use std::alloc::{AllocError, Global};
 
 /// A place in a text, from 1 on.
-#[derive(Clone, Copy, Debug, PartialEq, Eq, Drop)]
+#[derive(Clone, Copy, PartialEq, Eq, Drop)]
 pub struct Place {
     /// The number of the line.
     pub line: usize,
@@ -42,7 +42,7 @@ impl Place {
 }
 
 /// How a place stands to the texts in quotes.
-#[derive(Clone, Copy, Debug, PartialEq, Eq)]
+#[derive(Clone, Copy, PartialEq, Eq)]
 pub(crate) enum Mode {
     /// Outside of them.
     Outside,
@@ -77,7 +77,7 @@ impl Mode {
 }
 
 /// How far a text is passed.
-#[derive(Clone, Copy, Debug)]
+#[derive(Clone, Copy)]
 pub(crate) struct Scan {
     /// How it stands to the texts in quotes.
     pub(crate) mode: Mode,

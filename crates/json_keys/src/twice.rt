@@ -14,7 +14,7 @@ use std::alloc::{AllocError, Global};
 use std::marker::Model;
 
 /// A member whose name an earlier one of its object has, too.
-#[derive(Debug, Drop)]
+#[derive(Drop)]
 pub struct Repeat {
     name: String,
     place: Place,

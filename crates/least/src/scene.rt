@@ -11,8 +11,8 @@ use pd_core::{Core, Router};
 use scenario_names::{Directive, Filled, Known, NameFault, directive_of, fill, source_column};
 use start_lists::{BootFault, StartList};
 use std::alloc::Global;
+use std::fmt;
 use text_codec::find_byte;
-use thiserror::Error;
 
 /// A line that a component says.
 #[derive(Drop)]
@@ -83,14 +83,21 @@ fn opening_with<'a>(call: Call<'a>, args: &'a [u8]) -> Call<'a>
 }
 
 /// Why a line isn't read, behind its column.
-#[derive(Clone, Copy, Debug, PartialEq, Eq, Error)]
+#[derive(Clone, Copy, PartialEq, Eq)]
 pub enum Why {
     /// It has a fault.
-    #[error("{0}")]
     Line(Fault),
     /// A name in it has one.
-    #[error("{0}")]
     Name(NameFault),
+}
+
+impl fmt::Display for Why {
+    fn fmt<W: fmt::Write>(&self, f: &mut fmt::Formatter<W>) -> fmt::Result {
+        match self {
+            Why::Line(fault) => write!(f, "{fault}"),
+            Why::Name(fault) => write!(f, "{fault}"),
+        }
+    }
 }
 
 /// A line that is no call.

@@ -11,7 +11,7 @@ use std::marker::Model;
 use trade_base::NoMemory;
 
 /// A page's number: there are at most 4096, so sixteen bits keep a table of these small.
-#[derive(Clone, Copy, Debug, PartialEq, Eq, PartialOrd, Ord, Hash)]
+#[derive(Clone, Copy, PartialEq, Eq)]
 pub struct PageNo(pub u16);
 
 /// Pages, each free or taken. Contracts see them as a list: for each page by its number `None`

@@ -2,24 +2,31 @@
 
 use friendly_lines::{Fault, signs_of};
 use scenario_names::{Misplaced, NameFault};
-use thiserror::Error;
+use std::fmt;
 
 /// Why a line isn't read, behind its column.
-#[derive(Clone, Copy, Debug, PartialEq, Eq, Error)]
+#[derive(Clone, Copy, PartialEq, Eq)]
 pub enum Why {
     /// It is too long.
-    #[error("1: a line of more than 8192 bytes")]
     TooLong,
     /// It has a fault.
-    #[error("{0}")]
     Fault(Fault),
     /// A name in it has one.
-    #[error("{0}")]
     Name(NameFault),
     /// It is a directive that can't be followed, and wasn't so before it was filled; or it begins with `@` and is none. This is
     /// its column.
-    #[error("{0}: {1}")]
     Misplaced(usize, Misplaced),
+}
+
+impl fmt::Display for Why {
+    fn fmt<W: fmt::Write>(&self, f: &mut fmt::Formatter<W>) -> fmt::Result {
+        match self {
+            Why::TooLong => f.write_str("1: a line of more than 8192 bytes"),
+            Why::Fault(fault) => write!(f, "{fault}"),
+            Why::Name(fault) => write!(f, "{fault}"),
+            Why::Misplaced(column, why) => write!(f, "{column}: {why}"),
+        }
+    }
 }
 
 /// A line that isn't read.

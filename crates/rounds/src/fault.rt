@@ -5,36 +5,43 @@ ghost use Rattle.rounds.specs.declared.fault.Unfit.TheVariants.{Fault as AFault,
 
 use scenario_names::NameReason;
 use std::alloc::{AllocError, AllocFailed};
-use thiserror::Error;
+use std::fmt;
 
 /// What is wrong with the rounds of a scenario.
-#[derive(Clone, Copy, Debug, PartialEq, Eq, Error)]
+#[derive(Clone, Copy, PartialEq, Eq)]
 pub enum Reason {
     /// Rounds end that didn't begin.
-    #[error("@end without @repeat")]
     EndAlone,
     /// More than the word stands there.
-    #[error("nothing stands behind @end")]
     EndTakesNothing,
     /// Rounds begin that don't end.
-    #[error("@repeat without @end")]
     NoEnd,
     /// Rounds within rounds within rounds, and so on.
-    #[error("rounds stand at most four deep")]
     TooDeep,
     /// What stands behind `@repeat` is no count, or more than one and a counter.
-    #[error("@repeat takes a count, and then at will: as NAME")]
     NoCount,
     /// The lines of all rounds are too many.
-    #[error("more than 1000000 lines in all")]
     TooMany,
     /// A name in the line of `@repeat` stands for nothing that is known before the play.
-    #[error("{0}")]
     Name(NameReason),
 }
 
+impl fmt::Display for Reason {
+    fn fmt<W: fmt::Write>(&self, f: &mut fmt::Formatter<W>) -> fmt::Result {
+        f.write_str(match self {
+            Reason::EndAlone => "@end without @repeat",
+            Reason::EndTakesNothing => "nothing stands behind @end",
+            Reason::NoEnd => "@repeat without @end",
+            Reason::TooDeep => "rounds stand at most four deep",
+            Reason::NoCount => "@repeat takes a count, and then at will: as NAME",
+            Reason::TooMany => "more than 1000000 lines in all",
+            Reason::Name(reason) => return write!(f, "{reason}"),
+        })
+    }
+}
+
 /// A place in a scenario, from 1 on.
-#[derive(Clone, Copy, Debug, PartialEq, Eq)]
+#[derive(Clone, Copy, PartialEq, Eq)]
 pub struct Place {
     /// The number of a line.
     pub line: usize,
@@ -43,13 +50,18 @@ pub struct Place {
 }
 
 /// What is wrong with the rounds of a scenario, and where.
-#[derive(Clone, Copy, Debug, PartialEq, Eq, Error)]
-#[error("{}:{}: {reason}", at.line, at.column)]
+#[derive(Clone, Copy, PartialEq, Eq)]
 pub struct RoundsFault {
     /// Where.
     pub at: Place,
     /// What.
     pub reason: Reason,
+}
+
+impl fmt::Display for RoundsFault {
+    fn fmt<W: fmt::Write>(&self, f: &mut fmt::Formatter<W>) -> fmt::Result {
+        write!(f, "{}:{}: {}", self.at.line, self.at.column, self.reason)
+    }
 }
 
 /// Why a scenario isn't unfolded.

@@ -7,7 +7,7 @@ use crate::directives::Directive;
 use std::fmt;
 
 /// Why a directive can't be followed.
-#[derive(Clone, Copy, Debug, PartialEq, Eq)]
+#[derive(Clone, Copy, PartialEq, Eq)]
 pub enum Misplaced {
     /// It is `@repeat`.
     Repeat,

@@ -3,7 +3,7 @@ ghost use Rattle.std.specs.Prelude.{◌≡◌, length};
 ghost use Rattle.test_report.specs.Trials.{failed_among};
 
 /// A scenario that was run as a test.
-#[derive(Debug, Drop)]
+#[derive(Drop)]
 pub struct Trial {
     /// The path of the scenario.
     pub path: String,

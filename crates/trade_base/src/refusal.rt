@@ -3,7 +3,7 @@ ghost use Rattle.std.specs.Prelude.{◌≡◌};
 ghost use Rattle.trade_base.specs.Refusal.{refusal_name};
 
 /// Why a call of a component is refused. A refused call changes nothing.
-#[derive(Clone, Copy, Debug, PartialEq, Eq, Hash)]
+#[derive(Clone, Copy, Debug, PartialEq, Eq)]
 pub enum Refusal {
     /// The line isn't a call.
     BadLine,
@@ -72,5 +72,5 @@ impl Refusal {
 }
 
 /// The host has no memory for what a boot needs.
-#[derive(Clone, Copy, Debug, PartialEq, Eq, Hash)]
+#[derive(Clone, Copy, Debug, PartialEq, Eq)]
 pub struct NoMemory;
