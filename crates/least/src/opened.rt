@@ -8,7 +8,7 @@ use calls::{Call, Reply};
 use init_core::boot;
 use pd_core::{Core, Router};
 use start_lists::{BootFault, StartList};
-use std::alloc::Global;
+use std::alloc::{AllocError, Global};
 use trade_base::read_number;
 
 /// The least donation with which a session opens.
@@ -52,11 +52,42 @@ impl Sessions {
         steps: &[Step],
     ) -> Result<Sessions, BootFault> {
         let mut core = boot(alloc, list)?;
+        Sessions::on(alloc, &mut core, component, steps)
+    }
+
+    // Those on a machine that has just booted.
+    fn on<R: Router + Drop>(
+        alloc: Global,
+        core: &mut Core<R>,
+        component: usize,
+        steps: &[Step],
+    ) -> Result<Sessions, BootFault> {
         let mut reply = Reply::boot(alloc)?;
-        let mut sessions = Sessions {
+        let mut sessions = Sessions::none(alloc)?;
+        let mut client = Client {
+            core,
+            component,
+            reply: &mut reply,
+        };
+        sessions.follow(alloc, &mut client, steps)?;
+        Ok(sessions)
+    }
+
+    // None yet.
+    fn none(alloc: Global) -> Result<Sessions, AllocError> {
+        Ok(Sessions {
             opened: Vec::new(alloc),
             owners: vec![in alloc; None; SELECTORS]?,
-        };
+        })
+    }
+
+    // Follows a component's calls up to its exit.
+    fn follow<R: Router + Drop>(
+        &mut self,
+        alloc: Global,
+        client: &mut Client<'_, R>,
+        steps: &[Step],
+    ) -> Result<(), BootFault> {
         for (place, step) in steps.iter().enumerate() {
             let Some(call) = step.said() else {
                 continue;
@@ -64,18 +95,13 @@ impl Sessions {
             if matches!(call, Call::Exit) {
                 break;
             }
-            let mut client = Client {
-                core: &mut core,
-                component,
-                reply: &mut reply,
-            };
             if step.is_left_out {
-                sessions.leave_out(call, place)?;
+                self.leave_out(call, place)?;
             } else {
-                sessions.go_on(alloc, &mut client, call, place)?;
+                self.go_on(alloc, client, call, place)?;
             }
         }
-        Ok(sessions)
+        Ok(())
     }
 
     // Makes a call, and notes which session it reaches.

@@ -16,7 +16,7 @@ use crate::trial::Trial;
 use budget_meter::Budget;
 use calls::Call;
 use init_core::boot;
-use pd_core::Router;
+use pd_core::{Core, Router};
 use start_lists::{BootFault, StartList};
 use std::alloc::Global;
 use trade_base::PAGE;
@@ -67,14 +67,49 @@ impl Script<'_> {
         self.draft.fund(alloc, self.list, self.component, most)?;
         let ample = self.draft.list(alloc)?;
         let sessions = Sessions::of(alloc, &ample, self.component, steps)?;
-        let mut client = Client::new(alloc, boot(alloc, &ample)?, self.component)?;
-        for opened in sessions.opened.as_slice() {
-            let account = self.session(alloc, &mut client, steps, opened)?;
-            if !as_donated {
-                donate_least(alloc, steps, opened.step, &account)?;
-            }
-            accounts.push(account)?;
+        let core = boot(alloc, &ample)?;
+        self.add_opened(
+            alloc,
+            core,
+            steps,
+            sessions.opened.as_slice(),
+            as_donated,
+            accounts,
+        )
+    }
+
+    // Adds what those need that it opens on a machine where every account is ample.
+    fn add_opened<R: Router + Drop>(
+        &self,
+        alloc: Global,
+        core: Core<R>,
+        steps: &mut [Step],
+        sessions: &[Opened],
+        as_donated: bool,
+        accounts: &mut Vec<Account>,
+    ) -> Result<(), BootFault> {
+        let mut client = Client::new(alloc, core, self.component)?;
+        for opened in sessions {
+            self.add_session(alloc, &mut client, steps, opened, as_donated, accounts)?;
         }
+        Ok(())
+    }
+
+    // Adds what one of them needs.
+    fn add_session<R: Router + Drop>(
+        &self,
+        alloc: Global,
+        client: &mut Client<R>,
+        steps: &mut [Step],
+        opened: &Opened,
+        as_donated: bool,
+        accounts: &mut Vec<Account>,
+    ) -> Result<(), BootFault> {
+        let account = self.session(alloc, client, steps, opened)?;
+        if !as_donated {
+            donate_least(alloc, steps, opened.step, &account)?;
+        }
+        accounts.push(account)?;
         Ok(())
     }
 

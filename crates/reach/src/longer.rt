@@ -110,7 +110,7 @@ fn add_longer_marks<'a>(
 }
 
 // The marks of a rule; answers what stands behind its own in the key.
-#[tactic(auto, using(crate::proofs::LongerLemmas::marks_some, crate::proofs::LongerLemmas::marks_lost, crate::proofs::LongerLemmas::marks_live))]
+#[tactic(auto, using(crate::proofs::LongerLemmas::marks_live))]
 fn add_longer_rule<'a>(
     next: &mut Vec<usize>,
     key: &'a [usize],

@@ -20,9 +20,7 @@ use crate::bench::Bench;
 use crate::closed_lines::write_closed;
 use crate::ending::Ending;
 use crate::machine::Play;
-use crate::needs::Needs;
 use crate::notes::Notes;
-use crate::peaks::Peaks;
 use crate::playing::play as play_lines;
 use crate::stage::Stage;
 use crate::turn::Rooms;
@@ -75,8 +73,9 @@ pub fn accounts<S: Source, K: Sink, E: Sink>(
 {
     let list = StartList::read(alloc, play.machine)?;
     let core = boot(alloc, &list)?;
-    let notes = Notes::new(alloc, play.scenario, play.given);
+    let mut watch = Accounting::new(alloc, &core)?;
     let rooms = Rooms::new(alloc)?;
+    let notes = Notes::new(alloc, play.scenario, play.given);
     let run = Run {
         list: &list,
         only: None,
@@ -87,9 +86,6 @@ pub fn accounts<S: Source, K: Sink, E: Sink>(
         notes,
         rooms,
     };
-    let peaks = Peaks::new(alloc, &stage.core)?;
-    let needs = Needs::new(alloc, &stage.core)?;
-    let mut watch = Accounting { peaks, needs };
     Ok(play_accounting(stage, &mut watch, reader, writer, complaints))
 }
 

@@ -1,6 +1,9 @@
 //! The watch of an account list: peaks and needs, which are its columns.
-ghost use Rattle.std.specs.Prelude.{◌≡◌, false, is_err};
+ghost use Rattle.std.specs.Prelude.{◌≡◌, [], IfOk, false, is_err};
+ghost use Rattle.own_model.specs.Listed.{Listed};
+ghost use Rattle.scenario_lines.specs.Machine.{world_of};
 ghost use Rattle.scenario_lines.specs.Gathered.{TellsUnless};
+ghost use Rattle.workbench.specs.Accounting.{SeesAccounts};
 ghost use Rattle.workbench.specs.Meters.{needed_in};
 ghost use Rattle.workbench.specs.Needs.{needed_text};
 
@@ -12,6 +15,7 @@ use arrayvec::ArrayVec;
 use pd_core::{Core, Router};
 use scenario_lines::{Columns, DeviceFault, Gather, Owner, PlayFault, Sink};
 use start_lists::StartList;
+use std::alloc::{AllocError, Global};
 
 /// Room for what an account needs.
 const LONGEST_NEED: usize = 80;
@@ -23,9 +27,23 @@ pub(crate) struct Accounting {
     pub needs: Needs,
 }
 
+impl Accounting {
+    /// Before the first line.
+    pub(crate) fn new<R: Router + Drop>(
+        alloc: Global,
+        core: &Core<R>,
+    ) -> Result<Accounting, AllocError>
+        ensures { (listed : Listed) → core.now ≡ world_of listed →
+            IfOk result (λ watch. SeesAccounts watch listed core.now []) }
+    {
+        let peaks = Peaks::new(alloc, core)?;
+        let needs = Needs::new(alloc, core)?;
+        Ok(Accounting { peaks, needs })
+    }
+}
+
 impl Watch for Accounting {
-    ghost use Rattle.std.specs.Prelude.{[], true};
-    ghost use Rattle.workbench.specs.Accounting.{SeesAccounts};
+    ghost use Rattle.std.specs.Prelude.{true};
 
     ghost tells = { λ _ _ _ _ _. [] };
 

@@ -3,7 +3,6 @@ use Rattle.std.proofs.Common.{ap, [], None}
 use Rattle.workbench.specs.Accounting.{accounts_text}
 use Rattle.workbench.specs.Played.{calls_answered}
 use Rattle.workbench.specs.Turns.{first_with}
-use Rattle.workbench.proofs.KeptLemmas.{sees_first}
 use Rattle.workbench.proofs.WriteLemmas.{ends_for_some_cause, is_played, unplayed_on, unplayed_with}
 use Rattle.workbench.proofs.account_list.accounts.Goals as goal
 
@@ -16,11 +15,7 @@ returns-clause-played g c = λ works.
     )
 
 pub play_accounting-requires-clause-sees : goal.play_accounting-requires-clause-sees
-play_accounting-requires-clause-sees g c = record {
-  peaks =
-      sees_first c.in_ok-list.list c.in_ok-core.ensures.started c.in_ok-peaks.ensures.init c.in_ok-peaks.ensures.count c.in_ok-peaks.ensures.components c.in_ok-peaks.ensures.sessions;
-  needs = c.in_ok-needs.ensures c.in_ok-list.list c.in_ok-core.ensures.started;
-}
+play_accounting-requires-clause-sees g c = c.in_ok-watch.ensures c.in_ok-list.list c.in_ok-core.ensures.started
 
 pub returns-clause-ok : goal.returns-clause-ok
 returns-clause-ok g c =

@@ -1,0 +1,15 @@
+-- The marks of a rule that is lost, and what stands behind those of one that isn't.
+use Rattle.std.proofs.Common.{◌++◌, ◌-◌, ◌∙◌, ap, arith, drop, length, sym}
+use Rattle.std.proofs.lemmas.List.{length-drop, take_all}
+use Rattle.reach.proofs.LongerLemmas.{marks_live, marks_lost}
+use Rattle.reach.proofs.longer.add_longer_rule.Goals as goal
+
+pub returns-then-key-eq0-clause-marks : goal.returns-then-key-eq0-clause-marks
+returns-then-key-eq0-clause-marks c =
+    let lost = marks_lost c.args.service.now c.args.rule.now c.args.seen.now c.args.longer.now c.args.key.now c.requires.begins c.requires.key c.if-key-eq0.true in
+    c.in_ok-push.ensures.items ∙ ap (λ marks. c.args.next.now.items ++ marks) (sym lost.0)
+
+pub returns-clause-rest : goal.returns-clause-rest
+returns-clause-rest c =
+    let live = marks_live c.args.service.now c.args.rule.now c.args.seen.now c.args.key.now c.requires.key c.if-key-eq0.false in
+    take_all (length c.args.key.now - 4) (drop 4 c.args.key.now) (omega (arith, length-drop 4 c.args.key.now)) ∙ ap (λ n. drop n c.args.key.now) (sym live.0)
