@@ -42,7 +42,6 @@ pub enum Said<'a> {
 /// engine's grammar is a fault, unless `Bad_line` is expected; and a line of that grammar in which nothing is to be translated
 /// is the engine's as it stands. Each later form is told by a sign of its own, so a line without them says what it said before
 /// there were any.
-#[tactic(auto, using(crate::proofs::PlainLemmas::lines_pass))]
 pub fn read_friendly<'a>(line: &'a [u8], room: &'a mut Line) -> Result<Said<'a>, Fault>
     ensures value { says result ≡ said_of line.now }
     ensures read { HandsOn result }

@@ -1,10 +1,11 @@
 //! The file service's requests.
 ghost use Rattle.std.specs.Prelude.{◌≡◌, ◌==◌, not, IfSome};
-ghost use Rattle.std.specs.Option.{option_map, option_copied};
+ghost use Rattle.std.specs.Option.{option_and_then, option_copied, option_map};
 ghost use Rattle.std.specs.List.{list_all};
 ghost use Rattle.own_model.specs.BufferService.{session_request};
 ghost use Rattle.own_model.specs.BufferService.SessionRequest.{OfFiles};
 ghost use Rattle.own_model.specs.FileText.{file_word, of_file, read_of, write_of, request_of};
+ghost use Rattle.own_model.specs.Text.{number_of};
 ghost use Rattle.session_proto.specs.File.{model_request, HasHex};
 
 use crate::buffer::buffer_request_from;
@@ -85,24 +86,44 @@ fn request_from<'a>(form: &[u8], arguments: Option<&'a [u8]>) -> Option<FileRequ
     ensures hex { IfSome result HasHex }
 {
     if form == b"CREATE".as_slice() {
-        Some(FileRequest::Create(file_word(arguments?)?))
-    } else if form == b"WRITE".as_slice() {
-        read_write(arguments?)
-    } else if form == b"READ".as_slice() {
-        read_read(arguments?)
-    } else if form == b"SIZE".as_slice() {
-        Some(FileRequest::Size(file_word(arguments?)?))
-    } else if form == b"CLEAR".as_slice() {
-        Some(FileRequest::Clear(file_word(arguments?)?))
-    } else if form == b"DROP".as_slice() {
-        Some(FileRequest::Drop(file_word(arguments?)?))
-    } else if form == b"NAME".as_slice() {
-        Some(FileRequest::Name(read_number(arguments?)?))
-    } else if form == b"STAT".as_slice() && arguments.is_none() {
-        Some(FileRequest::Stat)
-    } else {
-        None
+        return Some(FileRequest::Create(word(arguments)?));
     }
+    if form == b"WRITE".as_slice() {
+        return read_write(arguments?);
+    }
+    if form == b"READ".as_slice() {
+        return read_read(arguments?);
+    }
+    if form == b"SIZE".as_slice() {
+        return Some(FileRequest::Size(word(arguments)?));
+    }
+    if form == b"CLEAR".as_slice() {
+        return Some(FileRequest::Clear(word(arguments)?));
+    }
+    if form == b"DROP".as_slice() {
+        return Some(FileRequest::Drop(word(arguments)?));
+    }
+    if form == b"NAME".as_slice() {
+        return Some(FileRequest::Name(number(arguments)?));
+    }
+    if form == b"STAT".as_slice() && arguments.is_none() {
+        return Some(FileRequest::Stat);
+    }
+    None
+}
+
+/// A file word as the only argument.
+fn word(arguments: Option<&[u8]>) -> Option<&[u8]>
+    ensures { option_copied result ≡ option_and_then file_word (option_copied arguments.entry) }
+{
+    file_word(arguments?)
+}
+
+/// A number as the only argument.
+fn number(arguments: Option<&[u8]>) -> Option<u64>
+    ensures { result ≡ option_and_then number_of (option_copied arguments.entry) }
+{
+    read_number(arguments?)
 }
 
 /// A file word, if a text is one: one or more bytes without a space.
