@@ -720,5 +720,3 @@ later_forms_are_marked = record {
   peek = peek_passes;
   reply = exact_meets;
 }
-
-pub ruleset lines_pass = (plain_lines_pass, later_forms_are_marked)

@@ -1,4 +1,4 @@
-//! Tests of the workbench's crates: lines, devices that fail, commands, reviews.
+//! Tests of the workbench's crates: lines, and devices that fail.
 
 mod devices;
 mod lines;

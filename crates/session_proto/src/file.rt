@@ -5,7 +5,6 @@ ghost use Rattle.std.specs.List.{list_all};
 ghost use Rattle.own_model.specs.BufferService.{session_request};
 ghost use Rattle.own_model.specs.BufferService.SessionRequest.{OfFiles};
 ghost use Rattle.own_model.specs.FileText.{file_word, of_file, read_of, write_of, request_of};
-ghost use Rattle.own_model.specs.Text.{number_of};
 ghost use Rattle.session_proto.specs.File.{model_request, HasHex};
 
 use crate::buffer::buffer_request_from;
@@ -104,7 +103,7 @@ fn request_from<'a>(form: &[u8], arguments: Option<&'a [u8]>) -> Option<FileRequ
         return Some(FileRequest::Drop(word(arguments)?));
     }
     if form == b"NAME".as_slice() {
-        return Some(FileRequest::Name(number(arguments)?));
+        return Some(FileRequest::Name(read_number(arguments?)?));
     }
     if form == b"STAT".as_slice() && arguments.is_none() {
         return Some(FileRequest::Stat);
@@ -117,13 +116,6 @@ fn word(arguments: Option<&[u8]>) -> Option<&[u8]>
     ensures { option_copied result ≡ option_and_then file_word (option_copied arguments.entry) }
 {
     file_word(arguments?)
-}
-
-/// A number as the only argument.
-fn number(arguments: Option<&[u8]>) -> Option<u64>
-    ensures { result ≡ option_and_then number_of (option_copied arguments.entry) }
-{
-    read_number(arguments?)
 }
 
 /// A file word, if a text is one: one or more bytes without a space.

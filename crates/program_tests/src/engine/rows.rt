@@ -1,8 +1,8 @@
 //! The worked rows: each a scenario on the machine of a start list, and its transcript.
 
-pub mod machines;
-pub mod many;
-pub mod memory;
+mod machines;
+mod many;
+mod memory;
 pub mod sessions;
 
 use crate::engine::devices::{Reader, Writer};
