@@ -23,14 +23,6 @@ drop_parts (b ∷ front) rest = drop_parts front rest
 -- ---- one rule
 
 -- what stands at the front of a key
-some_case : (lost : Bool) (a b c : ℕ) (key rest : List ℕ) → key ≡ (if lost then 0 ∷ [] else 1 ∷ a ∷ b ∷ c ∷ []) ++ rest → 0 < length key
-some_case true a b c key rest is = omega (arith, ap length is)
-some_case false a b c key rest is = omega (arith, ap length is)
-
-pub marks_some : (service : List ℕ) (rule : ListedRule) (seen key : List ℕ)
-    → starts_with nat_eq key (marks_of service rule seen) ≡ true → 0 < length key
-marks_some service rule seen key begins = some_case (lost_of service rule seen) _ _ _ key _ (parts key (marks_of service rule seen) begins)
-
 lost_case : (lost : Bool) (a b c : ℕ) (key rest : List ℕ) → key ≡ (if lost then 0 ∷ [] else 1 ∷ a ∷ b ∷ c ∷ []) ++ rest
     → slice_index key 0 ≡ 0 → lost ≡ true
 lost_case true a b c key rest is none = refl
