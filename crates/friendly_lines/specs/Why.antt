@@ -5,12 +5,13 @@ use Rattle.std.specs.List.{starts_with}
 use Rattle.trade_base.specs.Amount.{amount_of, number_of}
 use Rattle.own_model.specs.Call.{some_bytes_of_hex}
 use Rattle.own_model.specs.Text.{address_of, is_name, is_path}
-use Rattle.friendly_lines.specs.Forms.{form_named, form_near, has_text, kinds_of}
+use Rattle.call_lines.specs.Forms.{form_named}
+use Rattle.call_lines.specs.declared.form.Form.{Form}
+use Rattle.friendly_lines.specs.Forms.{form_near, has_text, kinds_of}
 use Rattle.friendly_lines.specs.Words.{next_word, skip_blanks}
 use Rattle.friendly_lines.specs.declared.fault.Fault.{Fault}
 use Rattle.friendly_lines.specs.declared.fault.Reason.{Reason}
 use Rattle.friendly_lines.specs.declared.fault.Reason.TheVariants.{NoCall, NoName, NoForm, UnknownCall, Misspelt, Missing, TooMany, SmallUnit, NoNumber, NoSize, LongAddress, NoAddress, NoHex, NoService}
-use Rattle.friendly_lines.specs.declared.forms.Form.{Form}
 use Rattle.friendly_lines.specs.declared.forms.Kind.{Kind}
 use Rattle.friendly_lines.specs.declared.forms.Kind.TheVariants.{Number, Size, Address, Hex, Service}
 

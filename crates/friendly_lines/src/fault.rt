@@ -1,6 +1,6 @@
 //! Why a line isn't read.
 
-use crate::forms::Form;
+use call_lines::Form;
 use std::fmt;
 
 /// What is wrong with a line.

@@ -15,9 +15,10 @@ mod signs;
 mod why;
 mod words;
 
+pub use call_lines::Form;
 pub use expected::{meets, stands_for};
 pub use fault::{Fault, Reason};
-pub use forms::{Form, is_one_edit};
+pub use forms::is_one_edit;
 pub use laws::calls_are_calls;
 pub use line::Line;
 pub use plain::plain_call;

@@ -5,8 +5,9 @@ ghost use Rattle.friendly_lines.specs.Why.{at_word, has_small_unit, is_long_addr
 ghost use Rattle.friendly_lines.specs.declared.fault.Reason.TheVariants.{LongAddress, NoAddress, SmallUnit};
 
 use crate::fault::{Fault, Reason};
-use crate::forms::{Form, Kind, form_named, form_near, has_text, kinds_of};
+use crate::forms::{Kind, form_near, has_text, kinds_of};
 use crate::words::{next_word, skip_blanks};
+use call_lines::Form;
 use text_codec::{is_name, is_path, read_address, read_hex};
 use trade_base::{read_amount, read_number};
 
@@ -33,7 +34,7 @@ fn why_behind(count: usize, rest: &[u8]) -> Fault
         return at_word(count, rest, Reason::NoForm);
     }
     let (word, behind) = next_word(rest);
-    match form_named(word) {
+    match Form::named(word) {
         Some(form) => match why_words(form, kinds_of(form), count, behind) {
             Some(fault) => fault,
             None => Fault {

@@ -1,9 +1,0 @@
--- The form stands in what is left.
-use Rattle.std.proofs.Common.{◌≡◌, drop}
-use Rattle.std.specs.List.{find}
-use Rattle.friendly_lines.specs.Forms.{is_one_edit}
-use Rattle.friendly_lines.specs.Forms.{forms, word_of}
-use Rattle.friendly_lines.proofs.forms.form_near.Given as goal
-
-abbrev pub invariant-loop-form : goal.invariant-loop-form
-invariant-loop-form l = find (λ form. is_one_edit (word_of form) l.word) (drop l.form-index forms) ≡ find (λ form. is_one_edit (word_of form) l.word) forms
