@@ -3,6 +3,7 @@ use Rattle.std.proofs.Common.{◌≡◌, ℕ, Bool, true, false, cond, List, ◌
 use Rattle.std.specs.Prelude.{find}
 use Rattle.std.specs.Option.{option_map, option_and_then}
 use Rattle.std.specs.Str.{bytes_eq}
+use Rattle.std.proofs.lemmas.Slice.Eq.{bytes_eq-Decides}
 use Rattle.own_model.specs.SessionArgs.{Arguments, Pair, Value, pair_of, pieces_of, each, value_under, ram_of, caps_of, label_of}
 use Rattle.own_model.proofs.SessionArgsLemmas.{made}
 use Rattle.session_proto.specs.Pairs.{Known, known_with, all_known, with_pair, BeginsWith}
@@ -60,6 +61,50 @@ after_pair : (k : Known) (pair : Pair) (pairs : List Pair) → arguments_after k
 after_pair k pair pairs =
     (λ i. made (resolved-cons ram_of k.ram (codes "ram_quota") pair pairs i) (resolved-cons caps_of k.caps (codes "cap_quota") pair pairs i) (resolved-cons label_of k.label (codes "label") pair pairs i))
     ∙ in_turn _ _ _ (λ x. resolved ram_of x (value_under (codes "ram_quota") pairs)) (λ x. resolved caps_of x (value_under (codes "cap_quota") pairs)) (λ x. resolved label_of x (value_under (codes "label") pairs))
+
+-- ---- the key of a pair
+
+-- a key that isn't the pair's leaves what is known
+known_same : {X : Type 0} (k : Option X) (read : Option Value → Option X) (value : Value) → known_with k false read value ≡ Some k
+known_same None read value = refl
+known_same (Some x) read value = refl
+
+module _ (k : Known) (value : Value) where
+  abbrev with_key : List ℕ → Option Known
+  with_key key = with_pair k (record { key = key; value = value })
+
+  ram_known : option_map (λ ram. record k { ram = ram }) (known_with k.ram true ram_of value) ≡ with_key (codes "ram_quota")
+  ram_known =
+      rw (known_same k.caps caps_of value, known_same k.label label_of value) (
+      elim (known_with k.ram true ram_of value) as (λ o. option_map (λ ram. record k { ram = ram }) o ≡ all_known o (Some k.caps) (Some k.label)) [ None ↦ refl | Some x ↦ refl ])
+
+  caps_known : option_map (λ caps. record k { caps = caps }) (known_with k.caps true caps_of value) ≡ with_key (codes "cap_quota")
+  caps_known =
+      rw (known_same k.ram ram_of value, known_same k.label label_of value) (
+      elim (known_with k.caps true caps_of value) as (λ o. option_map (λ caps. record k { caps = caps }) o ≡ all_known (Some k.ram) o (Some k.label)) [ None ↦ refl | Some x ↦ refl ])
+
+  label_known : option_map (λ label. record k { label = label }) (known_with k.label true label_of value) ≡ with_key (codes "label")
+  label_known =
+      rw (known_same k.ram ram_of value, known_same k.caps caps_of value) (
+      elim (known_with k.label true label_of value) as (λ o. option_map (λ label. record k { label = label }) o ≡ all_known (Some k.ram) (Some k.caps) o) [ None ↦ refl | Some x ↦ refl ])
+
+  module _ (key said : List ℕ) where
+    has : (text : List ℕ) → said ≡ text → true ≡ bytes_eq key said → text ≡ key
+    has text is same = sym ((bytes_eq-Decides key said).0 (sym same) ∙ is)
+
+    -- the key of the pair is one of the three
+    pub ram_taken : said ≡ codes "ram_quota" → true ≡ bytes_eq key said → option_map (λ ram. record k { ram = ram }) (known_with k.ram true ram_of value) ≡ with_key key
+    ram_taken is same = ram_known ∙ ap with_key (has (codes "ram_quota") is same)
+
+    pub caps_taken : said ≡ codes "cap_quota" → true ≡ bytes_eq key said → option_map (λ caps. record k { caps = caps }) (known_with k.caps true caps_of value) ≡ with_key key
+    caps_taken is same = caps_known ∙ ap with_key (has (codes "cap_quota") is same)
+
+    pub label_taken : said ≡ codes "label" → true ≡ bytes_eq key said → option_map (λ label. record k { label = label }) (known_with k.label true label_of value) ≡ with_key key
+    label_taken is same = label_known ∙ ap with_key (has (codes "label") is same)
+
+  -- or none of them, and nothing more is known
+  pub none_taken : (key : List ℕ) → bytes_eq key (codes "ram_quota") ≡ false → bytes_eq key (codes "cap_quota") ≡ false → bytes_eq key (codes "label") ≡ false → Some k ≡ with_key key
+  none_taken key ram caps label = rw (ram, caps, label, known_same k.ram ram_of value, known_same k.caps caps_of value, known_same k.label label_of value) refl
 
 -- ---- a text
 

@@ -1,21 +1,19 @@
 -- Pairs as they are mostly written are the first pairs of their texts.
-use Rattle.std.proofs.Common.{◌≡◌, ℕ, suc, ◌+◌, ◌<◌, ◌≤◌, ◌&&◌, not, Bool, true, false, cond, List, [], ◌∷◌, ◌++◌, length, get_or, take, drop, Option, Some, None, refl, sym, ap, ◌∙◌, subst, arith, codes, append_assoc, append-nil}
-use Rattle.std.specs.Prelude.{nat_eq, nat_lt, position}
+use Rattle.std.proofs.Common.{◌≡◌, ℕ, suc, ◌+◌, ◌<◌, ◌≤◌, ◌&&◌, not, Bool, true, false, cond, List, [], ◌∷◌, ◌++◌, length, get_or, take, drop, Option, Some, None, refl, sym, ap, ◌∙◌, subst, arith, codes, append-nil}
+use Rattle.std.specs.Prelude.{nat_eq, position}
 use Rattle.std.specs.List.{list_all, position_or_len}
 use Rattle.std.specs.Option.{option_map, option_and_then}
 use Rattle.std.specs.Cmp.Lexicographic.{pointwise, same_text}
 use Rattle.std.proofs.lemmas.Bool.Decides.{nat_tests}
-use Rattle.std.proofs.lemmas.List.{take-append-drop, at_drop_more}
-use Rattle.std.proofs.lemmas.List.Folds.{list_all-append}
+use Rattle.std.proofs.lemmas.List.{take-append-drop}
 use Rattle.std.proofs.lemmas.List.Sums.{prefix_len-le-length}
 use Rattle.own_model.specs.Text.{is_name_byte}
-use Rattle.own_model.specs.SessionArgs.{Pair, is_bare, is_quotable, is_quoted, inner, pieces_of, onto_first, value_of, pair_of, each}
+use Rattle.own_model.specs.SessionArgs.{Pair, is_bare, is_quotable, inner, pieces_of, onto_first, value_of, pair_of, each}
 use Rattle.own_model.specs.SessionArgs.Value.{Bare, Quoted}
 use Rattle.own_model.proofs.SessionArgsLemmas.{both, none_of_three, not_quoted, is_plain, onto, pair_in, pieces-plain, pieces-quoted, trimmed-plain, trimmed-quote, value-quoted}
 use Rattle.session_proto.specs.Pairs.{BeginsWith}
 use Rattle.session_proto.specs.Pieces.{pieces_after, behind_comma}
 use Rattle.session_proto.proofs.PieceLemmas.{pieces_of-first}
-use Rattle.text_codec.proofs.WordLemmas.{after}
 
 -- ---- bytes of a kind at the front
 

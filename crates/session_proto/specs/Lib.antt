@@ -4,3 +4,4 @@ pub mod Pieces
 pub mod LogReply
 pub mod File
 pub mod FileReply
+pub mod Forms

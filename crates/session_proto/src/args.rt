@@ -1,12 +1,10 @@
 //! The arguments of a session.
-ghost use Rattle.std.specs.Prelude.{◌≡◌, true, None, Some, codes, IfOk, IfErr, OnErr};
-ghost use Rattle.std.specs.Str.{bytes_eq};
+ghost use Rattle.std.specs.Prelude.{◌≡◌, true, None, Some, IfOk, IfErr, OnErr};
 ghost use Rattle.std.specs.Option.{option_map, option_copied};
 ghost use Rattle.trade_base.specs.declared.refusal.Refusal.TheVariants.{BadArgs};
 ghost use Rattle.own_model.specs.SessionArgs.{arguments_of, ram_of, caps_of, label_of};
-ghost use Rattle.own_model.specs.SessionArgs.Value.{Bare, Quoted};
 ghost use Rattle.session_proto.specs.View.{model_pair, model_value, plain_pair};
-ghost use Rattle.session_proto.specs.Pairs.{ram_in, caps_in, known, known_with, known_after, with_pair, told};
+ghost use Rattle.session_proto.specs.Pairs.{known, known_with, with_pair, told};
 
 use crate::pair::{Pair, Value, read_pair};
 use crate::plain::{PlainPair, read_plain};
@@ -83,12 +81,21 @@ fn read_arguments(text: &[u8]) -> Option<SessionArgs<'_>>
     let mut rest = Some(text);
     while let Some(pairs) = rest {
         if let Some((pair, more)) = read_plain(pairs) {
-            found = found.with_plain(pair)?;
+            let Some(next) = found.with_plain(pair) else {
+                return None;
+            };
+            found = next;
             rest = more;
             continue;
         }
         let (piece, more) = split_piece(pairs);
-        found = found.with(read_pair(piece)?)?;
+        let Some(pair) = read_pair(piece) else {
+            return None;
+        };
+        let Some(next) = found.with(pair) else {
+            return None;
+        };
+        found = next;
         rest = more;
     }
     Some(found.arguments())
@@ -107,11 +114,16 @@ impl<'a> Pairs<'a> {
     fn with(self, pair: Pair<'a>) -> Option<Pairs<'a>>
         ensures { option_map known result ≡ with_pair (known self.entry) (model_pair pair.entry) }
     {
-        Some(Pairs {
-            ram: ram_with(self.ram, pair)?,
-            caps: caps_with(self.caps, pair)?,
-            label: label_with(self.label, pair)?,
-        })
+        if pair.key == b"ram_quota".as_slice() {
+            return self.with_ram(pair.value);
+        }
+        if pair.key == b"cap_quota".as_slice() {
+            return self.with_caps(pair.value);
+        }
+        if pair.key == b"label".as_slice() {
+            return self.with_label(pair.value);
+        }
+        Some(self)
     }
 
     /// The same of a pair that says which key it has.
@@ -120,57 +132,63 @@ impl<'a> Pairs<'a> {
         ensures { option_map known result ≡ with_pair (known self.entry) (plain_pair pair.entry) }
     {
         match pair {
-            PlainPair::Ram(text) => self.with_ram(text),
-            PlainPair::Caps(text) => self.with_caps(text),
-            PlainPair::Label(text) => self.with_label(text),
+            PlainPair::Ram(text) => self.with_ram(Value::Bare(text)),
+            PlainPair::Caps(text) => self.with_caps(Value::Bare(text)),
+            PlainPair::Label(text) => self.with_label(Value::Quoted(text)),
         }
     }
 
-    /// With the RAM of a text, where it isn't known yet.
+    /// With the RAM of a value, where it isn't known yet.
     #[inline]
-    fn with_ram(self, text: &[u8]) -> Option<Pairs<'a>>
+    fn with_ram(self, value: Value<'_>) -> Option<Pairs<'a>>
         ensures { option_map known result
             ≡ option_map (λ ram. record (known self.entry) { ram = ram })
-            (known_with (known self.entry).ram true ram_of (Bare text.now)) }
+            (known_with (known self.entry).ram true ram_of (model_value value.entry)) }
     {
         if self.ram.is_some() {
             return Some(self);
         }
-        let ram = read_ram(Value::Bare(text))?;
+        let Some(ram) = read_ram(value) else {
+            return None;
+        };
         Some(Pairs {
             ram: Some(ram),
             ..self
         })
     }
 
-    /// With the capabilities of a text, where they aren't known yet.
+    /// With the capabilities of a value, where they aren't known yet.
     #[inline]
-    fn with_caps(self, text: &[u8]) -> Option<Pairs<'a>>
+    fn with_caps(self, value: Value<'_>) -> Option<Pairs<'a>>
         ensures { option_map known result
             ≡ option_map (λ caps. record (known self.entry) { caps = caps })
-            (known_with (known self.entry).caps true caps_of (Bare text.now)) }
+            (known_with (known self.entry).caps true caps_of (model_value value.entry)) }
     {
         if self.caps.is_some() {
             return Some(self);
         }
-        let caps = read_caps(Value::Bare(text))?;
+        let Some(caps) = read_caps(value) else {
+            return None;
+        };
         Some(Pairs {
             caps: Some(caps),
             ..self
         })
     }
 
-    /// With the label of a text between quotes, where it isn't known yet.
+    /// With the label of a value, where it isn't known yet.
     #[inline]
-    fn with_label(self, text: &'a [u8]) -> Option<Pairs<'a>>
+    fn with_label(self, value: Value<'a>) -> Option<Pairs<'a>>
         ensures { option_map known result
             ≡ option_map (λ label. record (known self.entry) { label = label })
-            (known_with (known self.entry).label true label_of (Quoted text.now)) }
+            (known_with (known self.entry).label true label_of (model_value value.entry)) }
     {
         if self.label.is_some() {
             return Some(self);
         }
-        let label = read_label(Value::Quoted(text))?;
+        let Some(label) = read_label(value) else {
+            return None;
+        };
         Some(Pairs {
             label: Some(label),
             ..self
@@ -189,42 +207,6 @@ impl<'a> Pairs<'a> {
     }
 }
 
-/// The RAM that is known after a pair, of which the first with its key tells it.
-fn ram_with(known: Option<Ram>, pair: Pair<'_>) -> Option<Option<Ram>>
-    ensures { option_map ram_in result
-        ≡ known_after (ram_in known) (codes "ram_quota") ram_of (model_pair pair.entry) }
-{
-    if known.is_none() && pair.key == b"ram_quota".as_slice() {
-        Some(Some(read_ram(pair.value)?))
-    } else {
-        Some(known)
-    }
-}
-
-/// The capabilities that are known after a pair, of which the first with their key tells them.
-fn caps_with(known: Option<Caps>, pair: Pair<'_>) -> Option<Option<Caps>>
-    ensures { option_map caps_in result
-        ≡ known_after (caps_in known) (codes "cap_quota") caps_of (model_pair pair.entry) }
-{
-    if known.is_none() && pair.key == b"cap_quota".as_slice() {
-        Some(Some(read_caps(pair.value)?))
-    } else {
-        Some(known)
-    }
-}
-
-/// The label that is known after a pair, of which the first with its key tells it.
-fn label_with<'a>(known: Option<&'a [u8]>, pair: Pair<'a>) -> Option<Option<&'a [u8]>>
-    ensures { option_map option_copied result
-        ≡ known_after (option_copied known.entry) (codes "label") label_of (model_pair pair.entry) }
-{
-    if known.is_none() && pair.key == b"label".as_slice() {
-        Some(Some(read_label(pair.value)?))
-    } else {
-        Some(known)
-    }
-}
-
 /// RAM is an amount, as it stands.
 fn read_ram(value: Value<'_>) -> Option<Ram>
     ensures { option_map (λ ram. ram.0) result ≡ ram_of (Some (model_value value.entry)) }
@@ -240,7 +222,10 @@ fn read_caps(value: Value<'_>) -> Option<Caps>
     ensures { option_map (λ caps. caps.0) result ≡ caps_of (Some (model_value value.entry)) }
 {
     match value {
-        Value::Bare(text) => Some(Caps(u32::try_from(read_number(text)?).ok()?)),
+        Value::Bare(text) => match u32::try_from(read_number(text)?) {
+            Ok(caps) => Some(Caps(caps)),
+            Err(_) => None,
+        },
         Value::Quoted(_) => None,
     }
 }

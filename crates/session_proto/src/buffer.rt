@@ -1,7 +1,8 @@
 //! The file service's requests of a session's buffer.
 ghost use Rattle.std.specs.Prelude.{◌≡◌, ℕ, List, IfSome};
-ghost use Rattle.std.specs.Option.{option_map, option_copied};
-ghost use Rattle.own_model.specs.BufferService.{BufferRequest, buffer_request_of, move_of};
+ghost use Rattle.std.specs.Option.{option_map};
+ghost use Rattle.own_model.specs.BufferService.{BufferRequest, move_of};
+ghost use Rattle.own_model.specs.BufferService.BufferRequest.{Put, Get};
 ghost use Rattle.own_model.specs.BufferService.SessionRequest.{OfBuffer};
 ghost use Rattle.own_model.specs.FileText.{of_file};
 ghost use Rattle.session_proto.specs.File.{model_request, request_of_move, HasHex};
@@ -10,48 +11,54 @@ use crate::file::{FileRequest, file_word};
 use text_codec::split_first_word;
 use trade_base::read_number;
 
-/// The request of the buffer of a form, with what stands after the form and a space as its arguments.
-pub(crate) fn buffer_request_from<'a>(
-    form: &[u8],
-    arguments: Option<&'a [u8]>,
-) -> Option<FileRequest<'a>>
+/// Bytes of the buffer are written into a file.
+pub(crate) fn read_put(arguments: &[u8]) -> Option<FileRequest<'_>>
     ensures request { option_map model_request result
-        ≡ option_map OfBuffer (buffer_request_of form.now (option_copied arguments.entry)) }
+        ≡ option_map OfBuffer (of_file (move_of Put) arguments.now) }
     ensures hex { IfSome result HasHex }
 {
-    if form == b"BUFFER".as_slice() {
-        Some(FileRequest::Buffer(read_number(arguments?)?))
-    } else if form == b"UNBUFFER".as_slice() && arguments.is_none() {
-        Some(FileRequest::Unbuffer)
-    } else if form == b"PUT".as_slice() {
-        let Move {
+    let Some(
+        Move {
             file,
             offset,
             place,
             len,
-        } = read_move(arguments?)?;
-        Some(FileRequest::Put {
+        },
+    ) = read_move(arguments)
+    else {
+        return None;
+    };
+    Some(FileRequest::Put {
+        file,
+        offset,
+        place,
+        len,
+    })
+}
+
+/// Bytes of a file are put into the buffer.
+pub(crate) fn read_get(arguments: &[u8]) -> Option<FileRequest<'_>>
+    ensures request { option_map model_request result
+        ≡ option_map OfBuffer (of_file (move_of Get) arguments.now) }
+    ensures hex { IfSome result HasHex }
+{
+    let Some(
+        Move {
             file,
             offset,
             place,
             len,
-        })
-    } else if form == b"GET".as_slice() {
-        let Move {
-            file,
-            offset,
-            place,
-            len,
-        } = read_move(arguments?)?;
-        Some(FileRequest::Get {
-            file,
-            offset,
-            place,
-            len,
-        })
-    } else {
-        None
-    }
+        },
+    ) = read_move(arguments)
+    else {
+        return None;
+    };
+    Some(FileRequest::Get {
+        file,
+        offset,
+        place,
+        len,
+    })
 }
 
 /// So many bytes between an offset of a file and a place in the buffer.
@@ -67,13 +74,21 @@ fn read_move(arguments: &[u8]) -> Option<Move<'_>>
     ensures { (request : List ℕ → ℕ → ℕ → ℕ → BufferRequest) →
         option_map (request_of_move request) result ≡ of_file (move_of request) arguments.now }
 {
-    let (file, rest) = split_first_word(arguments);
-    let file = file_word(file)?;
-    let (offset, rest) = split_first_word(rest?);
-    let offset = read_number(offset)?;
-    let (place, len) = split_first_word(rest?);
-    let place = read_number(place)?;
-    let len = read_number(len?)?;
+    let (file, Some(rest)) = split_first_word(arguments) else {
+        return None;
+    };
+    let (offset, Some(rest)) = split_first_word(rest) else {
+        return None;
+    };
+    let (place, Some(len)) = split_first_word(rest) else {
+        return None;
+    };
+    let (Some(file), Some(offset)) = (file_word(file), read_number(offset)) else {
+        return None;
+    };
+    let (Some(place), Some(len)) = (read_number(place), read_number(len)) else {
+        return None;
+    };
     Some(Move {
         file,
         offset,

@@ -1,13 +1,15 @@
 //! The file service's requests.
-ghost use Rattle.std.specs.Prelude.{◌≡◌, ◌==◌, not, IfSome};
-ghost use Rattle.std.specs.Option.{option_and_then, option_copied, option_map};
+ghost use Rattle.std.specs.Prelude.{◌≡◌, ◌==◌, not, IfSome, Some, None};
+ghost use Rattle.std.specs.Option.{option_copied, option_map};
 ghost use Rattle.std.specs.List.{list_all};
 ghost use Rattle.own_model.specs.BufferService.{session_request};
 ghost use Rattle.own_model.specs.BufferService.SessionRequest.{OfFiles};
-ghost use Rattle.own_model.specs.FileText.{file_word, of_file, read_of, write_of, request_of};
+ghost use Rattle.own_model.specs.FileText.{file_word, of_file, read_of, write_of};
 ghost use Rattle.session_proto.specs.File.{model_request, HasHex};
+ghost use Rattle.session_proto.specs.Forms.{made_of, made_of_word};
 
-use crate::buffer::buffer_request_from;
+use crate::buffer::{read_get, read_put};
+use crate::form::FileForm;
 use crate::hex_text::hex_or_nothing;
 use crate::log::LONGEST_REQUEST;
 use text_codec::split_first_word;
@@ -70,52 +72,61 @@ impl<'a> FileRequest<'a> {
         if text.len() > LONGEST_REQUEST {
             return None;
         }
-        let (form, arguments) = split_first_word(text);
-        match request_from(form, arguments) {
-            None => buffer_request_from(form, arguments),
-            request => request,
+        let (word, arguments) = split_first_word(text);
+        let Some(form) = FileForm::named(word) else {
+            return None;
+        };
+        match arguments {
+            Some(arguments) => request_with(form, arguments),
+            None => bare_request(form),
         }
     }
 }
 
-/// The request of files of a form, with what stands after the form and a space as its arguments.
-fn request_from<'a>(form: &[u8], arguments: Option<&'a [u8]>) -> Option<FileRequest<'a>>
-    ensures request { option_map model_request result
-        ≡ option_map OfFiles (request_of form.now (option_copied arguments.entry)) }
+/// The request of a form with what stands after its word and a space as its arguments.
+fn request_with(form: FileForm, arguments: &[u8]) -> Option<FileRequest<'_>>
+    ensures request { option_map model_request result ≡ made_of form (Some arguments.now) }
     ensures hex { IfSome result HasHex }
 {
-    if form == b"CREATE".as_slice() {
-        return Some(FileRequest::Create(word(arguments)?));
+    match form {
+        FileForm::Create | FileForm::Size | FileForm::Clear | FileForm::Drop => word_request(
+            form,
+            file_word(arguments)?,
+        ),
+        FileForm::Write => read_write(arguments),
+        FileForm::Read => read_read(arguments),
+        FileForm::Name => Some(FileRequest::Name(read_number(arguments)?)),
+        FileForm::Buffer => Some(FileRequest::Buffer(read_number(arguments)?)),
+        FileForm::Put => read_put(arguments),
+        FileForm::Get => read_get(arguments),
+        FileForm::Stat | FileForm::Unbuffer => None,
     }
-    if form == b"WRITE".as_slice() {
-        return read_write(arguments?);
-    }
-    if form == b"READ".as_slice() {
-        return read_read(arguments?);
-    }
-    if form == b"SIZE".as_slice() {
-        return Some(FileRequest::Size(word(arguments)?));
-    }
-    if form == b"CLEAR".as_slice() {
-        return Some(FileRequest::Clear(word(arguments)?));
-    }
-    if form == b"DROP".as_slice() {
-        return Some(FileRequest::Drop(word(arguments)?));
-    }
-    if form == b"NAME".as_slice() {
-        return Some(FileRequest::Name(read_number(arguments?)?));
-    }
-    if form == b"STAT".as_slice() && arguments.is_none() {
-        return Some(FileRequest::Stat);
-    }
-    None
 }
 
-/// A file word as the only argument.
-fn word(arguments: Option<&[u8]>) -> Option<&[u8]>
-    ensures { option_copied result ≡ option_and_then file_word (option_copied arguments.entry) }
+/// The request of a form of one file word.
+fn word_request(form: FileForm, file: &[u8]) -> Option<FileRequest<'_>>
+    ensures request { option_map model_request result ≡ made_of_word form file.now }
+    ensures hex { IfSome result HasHex }
 {
-    file_word(arguments?)
+    match form {
+        FileForm::Create => Some(FileRequest::Create(file)),
+        FileForm::Size => Some(FileRequest::Size(file)),
+        FileForm::Clear => Some(FileRequest::Clear(file)),
+        FileForm::Drop => Some(FileRequest::Drop(file)),
+        _ => None,
+    }
+}
+
+/// The request of a form whose word stands alone.
+fn bare_request<'a>(form: FileForm) -> Option<FileRequest<'a>>
+    ensures request { option_map model_request result ≡ made_of form None }
+    ensures hex { IfSome result HasHex }
+{
+    match form {
+        FileForm::Stat => Some(FileRequest::Stat),
+        FileForm::Unbuffer => Some(FileRequest::Unbuffer),
+        _ => None,
+    }
 }
 
 /// A file word, if a text is one: one or more bytes without a space.
@@ -142,11 +153,17 @@ fn read_write(arguments: &[u8]) -> Option<FileRequest<'_>>
         ≡ option_map OfFiles (of_file write_of arguments.now) }
     ensures hex { IfSome result HasHex }
 {
-    let (file, rest) = split_first_word(arguments);
-    let file = file_word(file)?;
-    let (offset, hex) = split_first_word(rest?);
-    let offset = read_number(offset)?;
-    let hex = hex_or_nothing(hex)?;
+    let (file, Some(rest)) = split_first_word(arguments) else {
+        return None;
+    };
+    let (offset, hex) = split_first_word(rest);
+    let (Some(file), Some(offset), Some(hex)) = (
+        file_word(file),
+        read_number(offset),
+        hex_or_nothing(hex),
+    ) else {
+        return None;
+    };
     Some(FileRequest::Write { file, offset, hex })
 }
 
@@ -156,10 +173,18 @@ fn read_read(arguments: &[u8]) -> Option<FileRequest<'_>>
         ≡ option_map OfFiles (of_file read_of arguments.now) }
     ensures hex { IfSome result HasHex }
 {
-    let (file, rest) = split_first_word(arguments);
-    let file = file_word(file)?;
-    let (offset, len) = split_first_word(rest?);
-    let offset = read_number(offset)?;
-    let len = read_number(len?)?;
+    let (file, Some(rest)) = split_first_word(arguments) else {
+        return None;
+    };
+    let (offset, Some(len)) = split_first_word(rest) else {
+        return None;
+    };
+    let (Some(file), Some(offset), Some(len)) = (
+        file_word(file),
+        read_number(offset),
+        read_number(len),
+    ) else {
+        return None;
+    };
     Some(FileRequest::Read { file, offset, len })
 }

@@ -5,6 +5,7 @@ mod args;
 mod buffer;
 mod file;
 mod file_reply;
+mod form;
 mod hex_text;
 mod log;
 mod pair;

@@ -29,13 +29,13 @@ impl<'a> LogRequest<'a> {
             return None;
         }
         let (form, hex) = split_first_word(text);
-        if form == b"WRITE".as_slice() {
-            Some(LogRequest {
-                hex: hex_or_nothing(hex)?,
-            })
-        } else {
-            None
+        if form != b"WRITE".as_slice() {
+            return None;
         }
+        let Some(hex) = hex_or_nothing(hex) else {
+            return None;
+        };
+        Some(LogRequest { hex })
     }
 }
 

@@ -30,7 +30,9 @@ pub(crate) fn read_pair(piece: &[u8]) -> Option<Pair<'_>>
     if !is_key(key) {
         return None;
     }
-    let value = read_value(value)?;
+    let Some(value) = read_value(value) else {
+        return None;
+    };
     Some(Pair { key, value })
 }
 

@@ -45,15 +45,23 @@ fn read_unspaced(text: &[u8]) -> Option<(PlainPair<'_>, Option<&[u8]>)>
         IfSome found.1 (λ rest. length rest.now < length text.now)) }
 {
     if let Some(value) = text.strip_prefix(b"ram_quota=") {
-        let (value, rest) = split_bare(value)?;
+        let Some((value, rest)) = split_bare(value) else {
+            return None;
+        };
         return Some((PlainPair::Ram(value), rest));
     }
     if let Some(value) = text.strip_prefix(b"cap_quota=") {
-        let (value, rest) = split_bare(value)?;
+        let Some((value, rest)) = split_bare(value) else {
+            return None;
+        };
         return Some((PlainPair::Caps(value), rest));
     }
-    let value = text.strip_prefix(b"label=\"")?;
-    let (value, rest) = split_quoted(value)?;
+    let Some(value) = text.strip_prefix(b"label=\"") else {
+        return None;
+    };
+    let Some((value, rest)) = split_quoted(value) else {
+        return None;
+    };
     Some((PlainPair::Label(value), rest))
 }
 
@@ -70,7 +78,9 @@ fn split_bare(text: &[u8]) -> Option<(&[u8], Option<&[u8]>)>
     if end == 0 {
         return None;
     }
-    let rest = split_comma(&text[end..])?;
+    let Some(rest) = split_comma(&text[end..]) else {
+        return None;
+    };
     Some((&text[..end], rest))
 }
 
@@ -84,8 +94,12 @@ fn split_quoted(text: &[u8]) -> Option<(&[u8], Option<&[u8]>)>
         IfSome parts.1 (λ rest. length rest.now < length text.now)) }
 {
     let end = quotable_len(text);
-    let behind = text[end..].strip_prefix(b"\"")?;
-    let rest = split_comma(behind)?;
+    let Some(behind) = text[end..].strip_prefix(b"\"") else {
+        return None;
+    };
+    let Some(rest) = split_comma(behind) else {
+        return None;
+    };
     Some((&text[..end], rest))
 }
 
