@@ -82,8 +82,12 @@ pub(crate) fn written_in(expected: &[u8]) -> Option<Written<'_>>
     ensures within { IfSome result
         (λ w. length w.front.now + 1 + length w.inside.now ≤ length expected.now) }
 {
-    let place = find_byte(b'"', expected)?;
-    let inside = inside_quotes(behind(expected, place))?;
+    let Some(place) = find_byte(b'"', expected) else {
+        return None;
+    };
+    let Some(inside) = inside_quotes(behind(expected, place)) else {
+        return None;
+    };
     Some(Written {
         front: &expected[..place],
         inside,
@@ -95,8 +99,12 @@ pub(crate) fn written_fault(expected: &[u8]) -> Option<usize>
     ensures place { result ≡ written_fault expected.now }
     ensures inside { IfSome result (λ place. place < length expected.now) }
 {
-    let written = written_in(expected)?;
-    let place = fault_of(written.inside)?;
+    let Some(written) = written_in(expected) else {
+        return None;
+    };
+    let Some(place) = fault_of(written.inside) else {
+        return None;
+    };
     Some(written.front.len() + 1 + place)
 }
 

@@ -66,12 +66,12 @@ impl Reason {
 
 impl fmt::Display for Reason {
     fn fmt<W: fmt::Write>(&self, f: &mut fmt::Formatter<W>) -> fmt::Result {
-        f.write_str(self.text())?;
-        match self {
-            Reason::Misspelt(form) => write!(f, "`{form}`?"),
-            Reason::Missing(form) | Reason::TooMany(form) => write!(f, "`{form}`"),
-            _ => Ok(()),
-        }
+        let (form, end) = match self {
+            Reason::Misspelt(form) => (form, "`?"),
+            Reason::Missing(form) | Reason::TooMany(form) => (form, "`"),
+            _ => return f.write_str(self.text()),
+        };
+        write!(f, "{}`{form}{end}", self.text())
     }
 }
 

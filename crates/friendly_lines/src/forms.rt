@@ -5,7 +5,7 @@ ghost use Rattle.friendly_lines.specs.Forms.{form_near, has_text, is_one_edit, k
 use call_lines::Form;
 
 /// What a word behind a form has to be.
-#[derive(Clone, Copy, PartialEq, Eq)]
+#[derive(Clone, Copy)]
 pub(crate) enum Kind {
     /// A number.
     Number,
@@ -42,11 +42,10 @@ pub(crate) fn kinds_of(form: Form) -> &'static [Kind]
 pub(crate) fn has_text(form: Form) -> bool
     ensures { result ≡ has_text form }
 {
-    form == Form::Open
-        || form == Form::Upgrade
-        || form == Form::Call
-        || form == Form::Request
-        || form == Form::Yield
+    matches!(
+        form,
+        Form::Open | Form::Upgrade | Form::Call | Form::Request | Form::Yield
+    )
 }
 
 /// The form that may be meant by a word of none.

@@ -161,7 +161,10 @@ fn text_written(request: &[u8]) -> Option<&[u8]>
     if word != b"WRITE".as_slice() {
         return None;
     }
-    text_behind_file(rest?)
+    match rest {
+        Some(rest) => text_behind_file(rest),
+        None => None,
+    }
 }
 
 // The text behind nothing, or behind a file's word and an offset.
@@ -177,7 +180,10 @@ fn text_behind_file(text: &[u8]) -> Option<&[u8]>
     if file.is_empty() {
         return None;
     }
-    text_behind_place(rest?)
+    match rest {
+        Some(rest) => text_behind_place(rest),
+        None => None,
+    }
 }
 
 // The text behind an offset.
@@ -186,12 +192,10 @@ fn text_behind_place(text: &[u8]) -> Option<&[u8]>
     ensures value { option_copied result ≡ text_behind_place text.now }
     ensures within { IfSome result (λ found. length found.now ≤ length text.now) }
 {
-    let (place, rest) = split_first_word(text);
-    if !is_place(place) {
-        return None;
+    match split_first_word(text) {
+        (place, Some(rest)) if is_place(place) && is_quote(rest) => Some(rest),
+        _ => None,
     }
-    let rest = rest?;
-    if is_quote(rest) { Some(rest) } else { None }
 }
 
 /// Where a call of so many bytes has an escape that is none.

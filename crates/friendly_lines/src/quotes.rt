@@ -10,7 +10,7 @@ use crate::words::{behind, is_blank, next_word};
 use text_codec::find_byte;
 
 /// How a byte stands to quotes.
-#[derive(Clone, Copy, PartialEq, Eq)]
+#[derive(Clone, Copy)]
 pub(crate) enum Quoting {
     /// Outside of them.
     Outside,
@@ -21,11 +21,11 @@ pub(crate) enum Quoting {
 }
 
 impl Quoting {
-    // Whether that is outside of quotes.
-    fn is_outside(self) -> bool
+    /// Whether that is outside of quotes.
+    pub(crate) fn is_outside(self) -> bool
         ensures { result ≡ is_outside self }
     {
-        self == Quoting::Outside
+        matches!(self, Quoting::Outside)
     }
 
     // How the byte after one stands.

@@ -16,7 +16,7 @@ use crate::fault::{Fault, Reason};
 use crate::line::Line;
 use crate::parts::{Parts, Tail, fault_in};
 use crate::plain::plain_call;
-use crate::quotes::{Quoting, comment_of, marks_of};
+use crate::quotes::{comment_of, marks_of};
 use crate::why::why;
 use crate::words::{behind, skip_blanks};
 use call_lines::{NamedCall, call_in};
@@ -181,7 +181,7 @@ fn said_of_both<'a>(column: usize, text: &'a [u8], room: &'a mut Line) -> Result
     ensures read { HandsOn result }
 {
     let marks = marks_of(text);
-    if marks.end != Quoting::Outside {
+    if !marks.end.is_outside() {
         return Err(Fault {
             reason: Reason::OpenQuote,
             column: column + marks.quote.unwrap_or(0),
@@ -230,8 +230,13 @@ fn escape_fault(column: usize, count: usize, tail: Tail<'_>, reply: Option<&[u8]
     if let Some(place) = fault_in(count, tail) {
         return Some(column + place);
     }
-    let place = written_fault(reply?)?;
-    Some(column + count + 4 + place)
+    let Some(reply) = reply else {
+        return None;
+    };
+    match written_fault(reply) {
+        Some(place) => Some(column + count + 4 + place),
+        None => None,
+    }
 }
 
 // The line of a call is one of the grammar, unless it is expected to be none, or is too long.

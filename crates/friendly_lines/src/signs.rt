@@ -1,5 +1,5 @@
 //! The signs of a text in quotes.
-ghost use Rattle.std.specs.Prelude.{◌≡◌, ◌+◌, ◌≤◌, ◌<◌, ◌∷◌, [], true, nat_eq, IfSome, length};
+ghost use Rattle.std.specs.Prelude.{◌≡◌, ◌≤◌, ◌<◌, ◌∷◌, [], true, nat_eq, IfSome, length};
 ghost use Rattle.std.specs.List.{starts_with};
 ghost use Rattle.std.specs.Str.{bytes_eq};
 ghost use Rattle.own_model.specs.Reply.{hex_text};
@@ -12,7 +12,7 @@ use crate::words::behind;
 use text_codec::encode_hex;
 
 /// A sign: the byte that it stands for, and how many bytes it has.
-#[derive(Clone, Copy, PartialEq, Eq)]
+#[derive(Clone, Copy)]
 pub(crate) struct Sign {
     pub byte: u8,
     pub size: usize,
@@ -101,7 +101,10 @@ fn sign_of(text: &[u8]) -> Option<Sign>
             size: 1,
         });
     }
-    escape_of(*text.get(1)?, text)
+    match text.get(1) {
+        Some(escape) => escape_of(*escape, text),
+        None => None,
+    }
 }
 
 // The escape with which a text begins, by the byte behind the backslash.
@@ -124,11 +127,23 @@ fn escape_of(escape: u8, text: &[u8]) -> Option<Sign>
             byte: escape,
             size: 2,
         }),
-        b'x' => Some(Sign {
-            byte: byte_of_pair(*text.get(2)?, *text.get(3)?)?,
-            size: 4,
-        }),
+        b'x' => hex_escape(text),
         _ => None,
+    }
+}
+
+// The escape of two hexadecimal digits behind a backslash and another byte.
+fn hex_escape(text: &[u8]) -> Option<Sign>
+    ensures value { result ≡ escape_of 120 text.now }
+    ensures some { IfSome result (λ sign. 1 ≤ sign.size) }
+    ensures fits { IfSome result (λ sign. sign.size ≤ length text.now) }
+{
+    let (Some(high), Some(low)) = (text.get(2), text.get(3)) else {
+        return None;
+    };
+    match byte_of_pair(*high, *low) {
+        Some(byte) => Some(Sign { byte, size: 4 }),
+        None => None,
     }
 }
 
@@ -136,9 +151,10 @@ fn escape_of(escape: u8, text: &[u8]) -> Option<Sign>
 fn byte_of_pair(high: u8, low: u8) -> Option<u8>
     ensures { result ≡ byte_of_hex high low }
 {
-    let high = digit_of(high)?;
-    let low = digit_of(low)?;
-    Some(high * 16 + low)
+    match (digit_of(high), digit_of(low)) {
+        (Some(high), Some(low)) => Some(high * 16 + low),
+        _ => None,
+    }
 }
 
 // The value of a hexadecimal digit of either case.
