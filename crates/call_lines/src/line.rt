@@ -89,7 +89,10 @@ fn call_with(form: Form, arguments: &[u8]) -> Option<Call<'_>>
 {
     match form {
         Form::AttachAt => read_attach_at(arguments),
-        Form::Detach | Form::Del | Form::Sdel => number_call(form, read_address(arguments)?),
+        Form::Detach | Form::Del | Form::Sdel => match read_address(arguments) {
+            Some(address) => number_call(form, address),
+            None => None,
+        },
         Form::Peek => read_peek(arguments),
         Form::Poke => read_poke(arguments),
         Form::Open => read_open(arguments),
@@ -103,7 +106,10 @@ fn call_with(form: Form, arguments: &[u8]) -> Option<Call<'_>>
         | Form::Capfree
         | Form::New
         | Form::Snew
-        | Form::Close => number_call(form, read_number(arguments)?),
+        | Form::Close => match read_number(arguments) {
+            Some(number) => number_call(form, number),
+            None => None,
+        },
         Form::Capalloc | Form::Quota | Form::Reserve | Form::Exit => None,
     }
 }

@@ -69,24 +69,27 @@ known_same : {X : Type 0} (k : Option X) (read : Option Value → Option X) (val
 known_same None read value = refl
 known_same (Some x) read value = refl
 
+known_left : {X : Type 0} (k : Option X) (has : Bool) (read : Option Value → Option X) (value : Value) → has ≡ false → known_with k has read value ≡ Some k
+known_left k has read value left = ap (λ b. known_with k b read value) left ∙ known_same k read value
+
 module _ (k : Known) (value : Value) where
   abbrev with_key : List ℕ → Option Known
   with_key key = with_pair k (record { key = key; value = value })
 
   ram_known : option_map (λ ram. record k { ram = ram }) (known_with k.ram true ram_of value) ≡ with_key (codes "ram_quota")
   ram_known =
-      rw (known_same k.caps caps_of value, known_same k.label label_of value) (
-      elim (known_with k.ram true ram_of value) as (λ o. option_map (λ ram. record k { ram = ram }) o ≡ all_known o (Some k.caps) (Some k.label)) [ None ↦ refl | Some x ↦ refl ])
+      elim (known_with k.ram true ram_of value) as (λ o. option_map (λ ram. record k { ram = ram }) o ≡ all_known o (Some k.caps) (Some k.label)) [ None ↦ refl | Some x ↦ refl ]
+      ∙ sym (λ i. all_known (known_with k.ram true ram_of value) (known_same k.caps caps_of value i) (known_same k.label label_of value i))
 
   caps_known : option_map (λ caps. record k { caps = caps }) (known_with k.caps true caps_of value) ≡ with_key (codes "cap_quota")
   caps_known =
-      rw (known_same k.ram ram_of value, known_same k.label label_of value) (
-      elim (known_with k.caps true caps_of value) as (λ o. option_map (λ caps. record k { caps = caps }) o ≡ all_known (Some k.ram) o (Some k.label)) [ None ↦ refl | Some x ↦ refl ])
+      elim (known_with k.caps true caps_of value) as (λ o. option_map (λ caps. record k { caps = caps }) o ≡ all_known (Some k.ram) o (Some k.label)) [ None ↦ refl | Some x ↦ refl ]
+      ∙ sym (λ i. all_known (known_same k.ram ram_of value i) (known_with k.caps true caps_of value) (known_same k.label label_of value i))
 
   label_known : option_map (λ label. record k { label = label }) (known_with k.label true label_of value) ≡ with_key (codes "label")
   label_known =
-      rw (known_same k.ram ram_of value, known_same k.caps caps_of value) (
-      elim (known_with k.label true label_of value) as (λ o. option_map (λ label. record k { label = label }) o ≡ all_known (Some k.ram) (Some k.caps) o) [ None ↦ refl | Some x ↦ refl ])
+      elim (known_with k.label true label_of value) as (λ o. option_map (λ label. record k { label = label }) o ≡ all_known (Some k.ram) (Some k.caps) o) [ None ↦ refl | Some x ↦ refl ]
+      ∙ sym (λ i. all_known (known_same k.ram ram_of value i) (known_same k.caps caps_of value i) (known_with k.label true label_of value))
 
   module _ (key said : List ℕ) where
     has : (text : List ℕ) → said ≡ text → true ≡ bytes_eq key said → text ≡ key
@@ -104,7 +107,8 @@ module _ (k : Known) (value : Value) where
 
   -- or none of them, and nothing more is known
   pub none_taken : (key : List ℕ) → bytes_eq key (codes "ram_quota") ≡ false → bytes_eq key (codes "cap_quota") ≡ false → bytes_eq key (codes "label") ≡ false → Some k ≡ with_key key
-  none_taken key ram caps label = rw (ram, caps, label, known_same k.ram ram_of value, known_same k.caps caps_of value, known_same k.label label_of value) refl
+  none_taken key ram caps label =
+      sym (λ i. all_known (known_left k.ram _ ram_of value ram i) (known_left k.caps _ caps_of value caps i) (known_left k.label _ label_of value label i))
 
 -- ---- a text
 

@@ -212,7 +212,10 @@ fn read_ram(value: Value<'_>) -> Option<Ram>
     ensures { option_map (λ ram. ram.0) result ≡ ram_of (Some (model_value value.entry)) }
 {
     match value {
-        Value::Bare(text) => Some(Ram(read_amount(text)?)),
+        Value::Bare(text) => match read_amount(text) {
+            Some(ram) => Some(Ram(ram)),
+            None => None,
+        },
         Value::Quoted(_) => None,
     }
 }

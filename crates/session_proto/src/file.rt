@@ -89,14 +89,22 @@ fn request_with(form: FileForm, arguments: &[u8]) -> Option<FileRequest<'_>>
     ensures hex { IfSome result HasHex }
 {
     match form {
-        FileForm::Create | FileForm::Size | FileForm::Clear | FileForm::Drop => word_request(
-            form,
-            file_word(arguments)?,
-        ),
+        FileForm::Create | FileForm::Size | FileForm::Clear | FileForm::Drop => {
+            match file_word(arguments) {
+                Some(file) => word_request(form, file),
+                None => None,
+            }
+        }
         FileForm::Write => read_write(arguments),
         FileForm::Read => read_read(arguments),
-        FileForm::Name => Some(FileRequest::Name(read_number(arguments)?)),
-        FileForm::Buffer => Some(FileRequest::Buffer(read_number(arguments)?)),
+        FileForm::Name => match read_number(arguments) {
+            Some(index) => Some(FileRequest::Name(index)),
+            None => None,
+        },
+        FileForm::Buffer => match read_number(arguments) {
+            Some(bytes) => Some(FileRequest::Buffer(bytes)),
+            None => None,
+        },
         FileForm::Put => read_put(arguments),
         FileForm::Get => read_get(arguments),
         FileForm::Stat | FileForm::Unbuffer => None,
