@@ -10,7 +10,8 @@ use Rattle.own_model.specs.Listed.{Binary, ListedEntry, ListedRule}
 use Rattle.own_model.specs.Listed.Binary.{Script, Server, Init}
 use Rattle.own_model.specs.Text.{is_name, is_name_byte}
 use Rattle.start_lists.specs.Depth.{is_init, runs_init}
-use Rattle.start_lists.specs.Entries.{◌>>=◌, Head, Named, Own, Place, SoFar, behind, binary_told, default_route, head_of, is_taken, named_of, new_name, nothing_own, object_of, own_of, own_route, own_told, provided, reserve_told, shares_of, starts_in, value_or}
+use Rattle.start_lists.specs.Entries.{◌>>=◌, Head, Own, Place, SoFar, behind, binary_told, default_route, head_of, is_taken, new_name, nothing_own, object_of, own_of, own_route, own_told, provided, reserve_told, starts_in, value_or}
+use Rattle.start_lists.specs.HeadParts.{head_in_parts}
 use Rattle.start_lists.specs.Members.{amount_at, at_most_32, elements, is_object, name_at, name_in, name_of, whole_at}
 use Rattle.start_lists.specs.declared.fault.BootFault.{BootFault}
 use Rattle.start_lists.specs.declared.fault.BootFault.TheVariants.{BadConfig, DuplicateName}
@@ -25,9 +26,6 @@ pub record Gives {A : Type 0} (P : A → Type 0) (r : Result A BootFault) : Type
 pub gave : {A B : Type 0} {P : B → Type 0} {f : A → Result B BootFault} (r : Result A BootFault) → ((x : A) → r ≡ Ok x → Gives P (f x)) → Gives P (r >>= f)
 gave (Ok x) more = more x refl
 gave (Err fault) more = record { given = tt }
-
-at_given : {A : Type 0} {P : A → Type 0} {r : Result A BootFault} (x : A) → r ≡ Ok x → Gives P r → P x
-at_given {P = P} x is gives = subst (λ r. IfOk r P) is gives.given
 
 pub value_ok : {A : Type 0} (fault : BootFault) (o : Option A) (x : A) → value_or fault o ≡ Ok x → o ≡ Some x
 value_ok fault None x is = cc
@@ -109,11 +107,6 @@ told_starts Init false met config own is = cc
 
 -- ---- the entry
 
--- its name is one that nobody of the list has
-record IsNew (before : List ListedEntry) (init : ℕ) (named : Named) : Type 0 where
-  pub some : 0 < length named.name
-  pub free : is_taken before init named.name ≡ false
-
 -- it stands where its list does, under a name that is new there, and starts others or nobody
 pub record IsHead (place : Place) (deeper : Bool) (so_far : SoFar) (head : Head) : Type 0 where
   pub home : head.entry.home ≡ place.init
@@ -123,38 +116,51 @@ pub record IsHead (place : Place) (deeper : Bool) (so_far : SoFar) (head : Head)
   pub new : is_taken so_far.entries place.init head.entry.name ≡ false
   pub starts : (head.starts ≡ []) ⊎ StartsOthers head.entry.binary deeper so_far.met head.starts
 
-named_gives : (before : List ListedEntry) (init : ℕ) (d : Data) → Gives (IsNew before init) (named_of before init d)
-named_gives before init d =
-    gave (object_of d) (λ entry _.
-    gave (value_or (BadConfig field.Name) (name_at (codes "name") entry)) (λ told_name told.
-    gave (new_name before init told_name) (λ name new.
-    gave (binary_told name (get (codes "binary") entry)) (λ binary _.
-    let its = new_is before init told_name name new in
-    record {
-      given = record {
-        some = subst (λ n. 0 < length n) its.0 (some_name (get (codes "name") entry) told_name (value_ok (BadConfig field.Name) (name_at (codes "name") entry) told_name told));
-        free = its.1;
-      };
-    }))))
-
 head_gives : (place : Place) (deeper : Bool) (so_far : SoFar) (d : Data) → Gives (IsHead place deeper so_far) (head_of place deeper so_far d)
 head_gives place deeper so_far d =
-    gave (named_of so_far.entries place.init d) (λ named named_is.
-    gave (shares_of named.binary d) (λ shares _.
-    gave (value_or (BadConfig field.Route) (own_route (get (codes "route") d))) (λ route _.
-    gave (reserve_told named.binary d) (λ reserve _.
-    gave (own_told named.binary deeper so_far.met (get (codes "config") d)) (λ own own_is.
-    let new = at_given named named_is (named_gives so_far.entries place.init d) in
+    gave (object_of d) (λ entry _.
+    gave (value_or (BadConfig field.Name) (name_at (codes "name") entry)) (λ told_name told.
+    gave (new_name so_far.entries place.init told_name) (λ name new.
+    gave (binary_told name (get (codes "binary") entry)) (λ binary _.
+    gave (value_or (BadConfig field.Quantum) (amount_at (codes "quantum") entry)) (λ ram _.
+    gave (value_or (BadConfig field.Caps) (whole_at (codes "caps") 0 4294967295 entry)) (λ caps _.
+    gave (value_or (BadConfig field.Provides) (provided binary (get (codes "provides") entry))) (λ provides _.
+    gave (value_or (BadConfig field.Route) (own_route (get (codes "route") entry))) (λ route _.
+    gave (reserve_told binary entry) (λ reserve _.
+    gave (own_told binary deeper so_far.met (get (codes "config") entry)) (λ own own_is.
+    let its = new_is so_far.entries place.init told_name name new in
     record {
       given = record {
         home = refl;
         path = refl;
         label = refl;
-        some = new.some;
-        new = new.free;
-        starts = told_starts named.binary deeper so_far.met (get (codes "config") d) own own_is;
+        some = subst (λ n. 0 < length n) its.0 (some_name (get (codes "name") entry) told_name (value_ok (BadConfig field.Name) (name_at (codes "name") entry) told_name told));
+        new = its.1;
+        starts = told_starts binary deeper so_far.met (get (codes "config") entry) own own_is;
       };
-    })))))
+    }))))))))))
 
 pub head_is : (place : Place) (deeper : Bool) (so_far : SoFar) (d : Data) (head : Head) → head_of place deeper so_far d ≡ Ok head → IsHead place deeper so_far head
-head_is place deeper so_far d head is = at_given head is (head_gives place deeper so_far d)
+head_is place deeper so_far d head is = subst (λ r. IfOk r (IsHead place deeper so_far)) is (head_gives place deeper so_far d).given
+
+-- ---- in parts
+
+-- steps within a step, and what comes after them
+then_same : {A B C : Type 0} (r : Result A BootFault) (f : A → Result B BootFault) (g : B → Result C BootFault) (h : A → Result C BootFault) → ((x : A) → (f x >>= g) ≡ h x) → ((r >>= f) >>= g) ≡ (r >>= h)
+then_same (Ok x) f g h same = same x
+then_same (Err fault) f g h same = refl
+
+same_after : {A B : Type 0} (r : Result A BootFault) (f g : A → Result B BootFault) → ((x : A) → f x ≡ g x) → (r >>= f) ≡ (r >>= g)
+same_after (Ok x) f g same = same x
+same_after (Err fault) f g same = refl
+
+-- an entry that is read in parts is the entry
+pub parts_are : (place : Place) (deeper : Bool) (so_far : SoFar) (d : Data) → head_in_parts place deeper so_far d ≡ head_of place deeper so_far d
+parts_are place deeper so_far d =
+    same_after (object_of d) _ _ (λ entry.
+    then_same (value_or (BadConfig field.Name) (name_at (codes "name") entry)) _ _ _ (λ told_name.
+    then_same (new_name so_far.entries place.init told_name) _ _ _ (λ name.
+    then_same (binary_told name (get (codes "binary") entry)) _ _ _ (λ binary.
+    then_same (value_or (BadConfig field.Quantum) (amount_at (codes "quantum") entry)) _ _ _ (λ ram.
+    then_same (value_or (BadConfig field.Caps) (whole_at (codes "caps") 0 4294967295 entry)) _ _ _ (λ caps.
+    then_same (value_or (BadConfig field.Provides) (provided binary (get (codes "provides") entry))) _ _ _ (λ provides. refl)))))))

@@ -12,7 +12,6 @@ use Rattle.own_model.specs.Listed.Binary.{Script, Server, Init}
 use Rattle.start_lists.specs.declared.fault.BootFault.{BootFault}
 use Rattle.start_lists.specs.declared.fault.BootFault.TheVariants.{BadConfig, DuplicateName, UnknownBinary}
 use Rattle.start_lists.specs.declared.fault.Field.TheVariants as field
-use Rattle.start_lists.specs.declared.head.Shares.{Shares}
 use Rattle.start_lists.specs.Members.{amount_at, amount_in, elements, is_object, name_at, name_in, short_list, whole_at, whole_in}
 use Rattle.start_lists.specs.Rules.{rules_of}
 
@@ -164,45 +163,29 @@ pub record Head : Type 0 where
   pub entry : ListedEntry
   pub starts : List Data
 
--- what an entry is called, a name that is new in the list of an init, and what it runs
-pub record Named : Type 0 where
-  pub name : List ℕ
-  pub binary : Binary
-
-abbrev pub named_of : List ListedEntry → ℕ → Data → Result Named BootFault
-named_of before init d = do
-  entry ← object_of d
-  told_name ← value_or (BadConfig field.Name) (name_at (codes "name") entry)
-  name ← new_name before init told_name
-  binary ← binary_told name (get (codes "binary") entry)
-  Ok (record { name = name; binary = binary })
-
--- what an entry of a binary starts with, and whether it provides its service
-abbrev pub shares_of : Binary → Data → Result Shares BootFault
-shares_of binary entry = do
-  ram ← value_or (BadConfig field.Quantum) (amount_at (codes "quantum") entry)
-  caps ← value_or (BadConfig field.Caps) (whole_at (codes "caps") 0 4294967295 entry)
-  provides ← value_or (BadConfig field.Provides) (provided binary (get (codes "provides") entry))
-  Ok (record { ram = ram; caps = caps; provides = provides })
-
 -- an entry of a list, which comes after what was read so far; an init may start entries where there may be a list so deep
 abbrev pub head_of : Place → Bool → SoFar → Data → Result Head BootFault
 head_of place deeper so_far d = do
-  named ← named_of so_far.entries place.init d
-  shares ← shares_of named.binary d
-  route ← value_or (BadConfig field.Route) (own_route (get (codes "route") d))
-  reserve ← reserve_told named.binary d
-  own ← own_told named.binary deeper so_far.met (get (codes "config") d)
+  entry ← object_of d
+  told_name ← value_or (BadConfig field.Name) (name_at (codes "name") entry)
+  name ← new_name so_far.entries place.init told_name
+  binary ← binary_told name (get (codes "binary") entry)
+  ram ← value_or (BadConfig field.Quantum) (amount_at (codes "quantum") entry)
+  caps ← value_or (BadConfig field.Caps) (whole_at (codes "caps") 0 4294967295 entry)
+  provides ← value_or (BadConfig field.Provides) (provided binary (get (codes "provides") entry))
+  route ← value_or (BadConfig field.Route) (own_route (get (codes "route") entry))
+  reserve ← reserve_told binary entry
+  own ← own_told binary deeper so_far.met (get (codes "config") entry)
   Ok (record {
     entry = record {
-      name = named.name;
-      path = behind (codes "/") place.path named.name;
-      label = behind (codes " -> ") place.label named.name;
+      name = name;
+      path = behind (codes "/") place.path name;
+      label = behind (codes " -> ") place.label name;
       home = place.init;
-      binary = named.binary;
-      ram = shares.ram;
-      caps = shares.caps;
-      provides = shares.provides;
+      binary = binary;
+      ram = ram;
+      caps = caps;
+      provides = provides;
       route = route;
       reserve = reserve;
       inner_route = own.route;

@@ -5,6 +5,7 @@ use Rattle.serde_json.specs.View.{view}
 use Rattle.own_model.specs.Listed as listed
 use Rattle.own_model.specs.Listed.{ListedRule}
 use Rattle.start_lists.specs.Entries as told
+use Rattle.start_lists.specs.HeadParts as parts
 use Rattle.start_lists.specs.declared.config.Own.{Own}
 use Rattle.start_lists.specs.declared.entry.Binary.{Binary}
 use Rattle.start_lists.specs.declared.entry.Binary.TheVariants.{Script, Server, Init}
@@ -39,7 +40,7 @@ model_binary Init = listed.Binary.Init
 abbrev pub model_own : Own → told.Own
 model_own own = record { route = own.route.items; starts = map view own.starts.now }
 
-abbrev pub model_named : Named → told.Named
+abbrev pub model_named : Named → parts.Named
 model_named named = record { name = named.name; binary = model_binary named.binary }
 
 abbrev pub model_head : Head → told.Head

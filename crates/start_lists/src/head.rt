@@ -4,7 +4,8 @@ ghost use Rattle.std.specs.Option.{option_map};
 ghost use Rattle.std.specs.Result.{result_map_both};
 ghost use Rattle.serde_json.specs.View.{view};
 ghost use Rattle.start_lists.specs.Depth.{IsWithin, Starts};
-ghost use Rattle.start_lists.specs.Entries.{binary_told, head_of, is_service_of, is_taken, named_of, new_name, own_route, place_within, provided, provided_in, shares_of};
+ghost use Rattle.start_lists.specs.Entries.{binary_told, is_service_of, is_taken, new_name, own_route, place_within, provided, provided_in};
+ghost use Rattle.start_lists.specs.HeadParts.{head_in_parts, named_of, shares_of};
 ghost use Rattle.start_lists.specs.View.{model_binary, model_head, model_named};
 ghost use Rattle.start_lists.specs.declared.fault.BootFault.TheVariants.{NoMemory, BadConfig};
 
@@ -39,18 +40,21 @@ impl<'v> Head<'v> {
     ) -> Result<Head<'v>, BootFault>
         requires place { IsWithin deeper place.now }
         requires met { met ≤ 32 }
-        ensures ok { IfOk result (λ head. head_of place.now (nat_lt 0 deeper) (record {
+        ensures ok { IfOk result (λ head. head_in_parts place.now (nat_lt 0 deeper) (record {
           entries = before.now;
           met = met;
         }) (view value.now) ≡ Ok (model_head head)) }
         ensures err { IfErr result (λ fault. fault ≢ NoMemory
-            → head_of place.now (nat_lt 0 deeper) (record { entries = before.now; met = met })
+            → head_in_parts place.now (nat_lt 0 deeper) (record { entries = before.now; met = met })
             (view value.now) ≡ Err fault) }
         ensures home { IfOk result (λ head. head.entry.home ≡ place.now.init) }
         ensures few { IfOk result (λ head. met + length head.starts.now ≤ 32) }
         ensures some { IfOk result
             (λ head. 0 < length head.starts.now → Starts deeper head.entry) }
     {
+        if !value.is_object() {
+            return Err(BootFault::BadConfig(Field::Start));
+        }
         let Named { name, binary } = Named::read(before, place.init, value)?;
         let Shares {
             ram,
@@ -92,9 +96,6 @@ impl Named {
         ensures { result_map_both model_named (λ fault. fault) result
             ≡ named_of before.now init (view value.now) }
     {
-        if !value.is_object() {
-            return Err(BootFault::BadConfig(Field::Start));
-        }
         let Some(name) = name_at(value, "name") else {
             return Err(BootFault::BadConfig(Field::Name));
         };
