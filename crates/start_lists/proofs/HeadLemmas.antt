@@ -1,5 +1,5 @@
 -- What is so of an entry that is read.
-use Rattle.std.proofs.Common.{◌≡◌, ℕ, ◌+◌, ◌<◌, ◌≤◌, ◌&&◌, ◌⊎◌, inl, inr, nat_le, Bool, true, false, List, [], ◌∷◌, length, codes, Option, Some, None, Ok, Err, subst, refl, sym, ap, ◌∙◌, arith}
+use Rattle.std.proofs.Common.{◌≡◌, ℕ, ◌+◌, ◌<◌, ◌≤◌, ◌&&◌, ◌⊎◌, inl, inr, nat_le, Bool, true, false, List, [], length, codes, Option, Some, None, Ok, Err, subst, refl, sym, ap, arith}
 use Rattle.std.specs.Prelude.{if◌then◌else◌, Result, IfOk}
 use Rattle.std.specs.List.{list_all}
 use Rattle.std.specs.Option.{option_and_then, option_map}
@@ -9,7 +9,7 @@ use Rattle.serde_json.specs.Find.{get, as_array, as_str}
 use Rattle.own_model.specs.Listed.{Binary, ListedEntry, ListedRule}
 use Rattle.own_model.specs.Listed.Binary.{Script, Server, Init}
 use Rattle.own_model.specs.Text.{is_name, is_name_byte}
-use Rattle.start_lists.specs.Depth.{is_init, runs_init}
+use Rattle.start_lists.specs.Depth.{runs_init}
 use Rattle.start_lists.specs.Entries.{◌>>=◌, Head, Own, Place, SoFar, behind, binary_told, default_route, head_of, is_taken, new_name, nothing_own, object_of, own_of, own_route, own_told, provided, reserve_told, starts_in, value_or}
 use Rattle.start_lists.specs.HeadParts.{head_in_parts}
 use Rattle.start_lists.specs.Members.{amount_at, at_most_32, elements, is_object, name_at, name_in, name_of, whole_at}

@@ -5,14 +5,13 @@ use Rattle.std.specs.Option.{option_map, unwrap_or}
 use Rattle.std.specs.Prelude.{Result}
 use Rattle.std.specs.Str.{bytes_eq}
 use Rattle.std.proofs.lemmas.Bool.{cases_eq, eq-eqb, false≢true}
-use Rattle.std.proofs.lemmas.Grind.{common_steps}
 use Rattle.std.proofs.lemmas.List.{get_or_append_left}
-use Rattle.std.proofs.lemmas.Option.{get_or_from_slice_get, none-some, same_Some, slice_get_read, slice_get_within}
+use Rattle.std.proofs.lemmas.Option.{get_or_from_slice_get, same_Some, slice_get_read, slice_get_within}
 use Rattle.std.proofs.lemmas.Slice.Eq.{bytes_eq-Decides}
 use Rattle.serde_json.specs.Data.{Data}
 use Rattle.own_model.specs.Listed.{ListedEntry}
 use Rattle.start_lists.specs.Depth.{HaveHomes, is_init, is_list}
-use Rattle.start_lists.specs.Entries.{Head, Misread, Place, Reads, SoFar, all_read, at_entry, behind, head_of, is_taken, outermost, place_within, read_own, read_within, then_read, with_head}
+use Rattle.start_lists.specs.Entries.{Head, Misread, Place, Reads, SoFar, all_read, at_entry, behind, head_of, outermost, place_within, read_own, read_within, then_read, with_head}
 use Rattle.start_lists.specs.ListLaws.{AreListed, HasJoinedNames, is_within}
 use Rattle.start_lists.specs.declared.fault.BootFault.{BootFault}
 use Rattle.start_lists.proofs.DepthLemmas.{grow_by, last_list, last_there, no_homes}
