@@ -1,13 +1,13 @@
 -- What inits keep, and what they give their own.
-use Rattle.std.proofs.Common.{◌≡◌, ℕ, zero, suc, ◌+◌, ◌-◌, ◌*◌, ◌<◌, ◌≤◌, ◌==◌, Bool, true, false, cond, inl, inr, List, [], ◌∷◌, ◌++◌, length, get_or, set, sum_by, Some, subst, refl, sym, ap, ◌∙◌, arith, length-set}
+use Rattle.std.proofs.Common.{◌≡◌, ℕ, zero, suc, ◌+◌, ◌<◌, ◌==◌, cond, inl, inr, List, [], ◌∷◌, length, get_or, set, Some, subst, sym, ap, ◌∙◌, arith, length-set}
 use Rattle.std.specs.List.{slice_get}
 use Rattle.std.proofs.lemmas.Bool.{cases_eq, eq-eqb, ne_eqb}
 use Rattle.std.proofs.lemmas.List.{get_or_append_left, get_or_push, get_or-set_other, get_or-set_same}
 use Rattle.std.proofs.lemmas.List.Sums.{sum_by-cons}
 use Rattle.std.proofs.lemmas.Option.{none-some, same_Some}
 use Rattle.own_model.specs.Account.{Account, parted_with}
-use Rattle.own_model.specs.StartList.{AllCovered, Boots, IsCovered, StartEntry, StartList, budget, init_account, init_at, inits_at_first, inits_keep, inits_kept, machine_account, no_account, with_started}
-use Rattle.start_lists.specs.ListLaws.{GivesItsOwn, InitsGiveTheirOwn, caps_given, ram_given}
+use Rattle.own_model.specs.StartList.{AllCovered, IsCovered, StartEntry, budget, init_account, init_at, inits_at_first, inits_keep, no_account, with_started}
+use Rattle.start_lists.specs.ListLaws.{InitsGiveTheirOwn, caps_given, ram_given}
 use Rattle.start_lists.proofs.QuotaLemmas.{longer}
 
 -- ---- one entry

@@ -1,5 +1,5 @@
 -- What is so of an entry that is read.
-use Rattle.std.proofs.Common.{◌≡◌, ℕ, ◌+◌, ◌<◌, ◌≤◌, ◌&&◌, ◌⊎◌, inl, inr, nat_le, Bool, true, false, List, [], ◌∷◌, length, codes, Option, Some, None, Ok, Err, subst, refl, sym, ap, ◌∙◌, arith}
+use Rattle.std.proofs.Common.{◌≡◌, ℕ, ◌+◌, ◌<◌, ◌≤◌, ◌&&◌, ◌⊎◌, inl, inr, nat_le, Bool, true, false, List, [], length, codes, Option, Some, None, Ok, Err, subst, refl, sym, ap, arith}
 use Rattle.std.specs.Prelude.{if◌then◌else◌, Result, IfOk}
 use Rattle.std.specs.List.{list_all}
 use Rattle.std.specs.Option.{option_and_then, option_map}
@@ -9,8 +9,9 @@ use Rattle.serde_json.specs.Find.{get, as_array, as_str}
 use Rattle.own_model.specs.Listed.{Binary, ListedEntry, ListedRule}
 use Rattle.own_model.specs.Listed.Binary.{Script, Server, Init}
 use Rattle.own_model.specs.Text.{is_name, is_name_byte}
-use Rattle.start_lists.specs.Depth.{is_init, runs_init}
+use Rattle.start_lists.specs.Depth.{runs_init}
 use Rattle.start_lists.specs.Entries.{◌>>=◌, Head, Own, Place, SoFar, behind, binary_told, default_route, head_of, is_taken, new_name, nothing_own, object_of, own_of, own_route, own_told, provided, reserve_told, starts_in, value_or}
+use Rattle.start_lists.specs.HeadParts.{head_in_parts}
 use Rattle.start_lists.specs.Members.{amount_at, at_most_32, elements, is_object, name_at, name_in, name_of, whole_at}
 use Rattle.start_lists.specs.declared.fault.BootFault.{BootFault}
 use Rattle.start_lists.specs.declared.fault.BootFault.TheVariants.{BadConfig, DuplicateName}
@@ -141,3 +142,25 @@ head_gives place deeper so_far d =
 
 pub head_is : (place : Place) (deeper : Bool) (so_far : SoFar) (d : Data) (head : Head) → head_of place deeper so_far d ≡ Ok head → IsHead place deeper so_far head
 head_is place deeper so_far d head is = subst (λ r. IfOk r (IsHead place deeper so_far)) is (head_gives place deeper so_far d).given
+
+-- ---- in parts
+
+-- steps within a step, and what comes after them
+then_same : {A B C : Type 0} (r : Result A BootFault) (f : A → Result B BootFault) (g : B → Result C BootFault) (h : A → Result C BootFault) → ((x : A) → (f x >>= g) ≡ h x) → ((r >>= f) >>= g) ≡ (r >>= h)
+then_same (Ok x) f g h same = same x
+then_same (Err fault) f g h same = refl
+
+same_after : {A B : Type 0} (r : Result A BootFault) (f g : A → Result B BootFault) → ((x : A) → f x ≡ g x) → (r >>= f) ≡ (r >>= g)
+same_after (Ok x) f g same = same x
+same_after (Err fault) f g same = refl
+
+-- an entry that is read in parts is the entry
+pub parts_are : (place : Place) (deeper : Bool) (so_far : SoFar) (d : Data) → head_in_parts place deeper so_far d ≡ head_of place deeper so_far d
+parts_are place deeper so_far d =
+    same_after (object_of d) _ _ (λ entry.
+    then_same (value_or (BadConfig field.Name) (name_at (codes "name") entry)) _ _ _ (λ told_name.
+    then_same (new_name so_far.entries place.init told_name) _ _ _ (λ name.
+    then_same (binary_told name (get (codes "binary") entry)) _ _ _ (λ binary.
+    then_same (value_or (BadConfig field.Quantum) (amount_at (codes "quantum") entry)) _ _ _ (λ ram.
+    then_same (value_or (BadConfig field.Caps) (whole_at (codes "caps") 0 4294967295 entry)) _ _ _ (λ caps.
+    then_same (value_or (BadConfig field.Provides) (provided binary (get (codes "provides") entry))) _ _ _ (λ provides. refl)))))))

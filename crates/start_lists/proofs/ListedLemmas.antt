@@ -1,12 +1,12 @@
 -- A text that is a start list is listed.
-use Rattle.std.proofs.Common.{◌≡◌, ℕ, ◌+◌, ◌≤◌, nat_lt, Bool, true, false, List, [], length, Ok, Err, subst, refl, arith}
+use Rattle.std.proofs.Common.{◌≡◌, nat_lt, Bool, true, false, [], length, Ok, Err, subst, arith}
 use Rattle.std.specs.Prelude.{if◌then◌else◌, codes, Result, IfOk}
 use Rattle.serde_json.specs.Data.{Data}
 use Rattle.own_model.specs.Listed.{Listed}
 use Rattle.start_lists.specs.Entries.{◌>>=◌, Misread, SoFar, entries_read, outermost, own_of, read_within, value_or}
 use Rattle.start_lists.specs.ListLaws.{IsListed, ListsAreListed}
 use Rattle.start_lists.specs.Members.{whole_at}
-use Rattle.start_lists.specs.StartText.{fault_of, json_in, list_in, list_of, machine_of}
+use Rattle.start_lists.specs.StartText.{fault_of, json_in, list_of, machine_of}
 use Rattle.start_lists.specs.declared.fault.BootFault.{BootFault}
 use Rattle.start_lists.specs.declared.fault.BootFault.TheVariants.{BadConfig, BadJson}
 use Rattle.start_lists.specs.declared.fault.Field.TheVariants as field

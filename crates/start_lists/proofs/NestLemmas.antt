@@ -5,14 +5,13 @@ use Rattle.std.specs.Option.{option_map, unwrap_or}
 use Rattle.std.specs.Prelude.{Result}
 use Rattle.std.specs.Str.{bytes_eq}
 use Rattle.std.proofs.lemmas.Bool.{cases_eq, eq-eqb, false≢true}
-use Rattle.std.proofs.lemmas.Grind.{common_steps}
 use Rattle.std.proofs.lemmas.List.{get_or_append_left}
-use Rattle.std.proofs.lemmas.Option.{get_or_from_slice_get, none-some, same_Some, slice_get_read, slice_get_within}
+use Rattle.std.proofs.lemmas.Option.{get_or_from_slice_get, same_Some, slice_get_read, slice_get_within}
 use Rattle.std.proofs.lemmas.Slice.Eq.{bytes_eq-Decides}
 use Rattle.serde_json.specs.Data.{Data}
 use Rattle.own_model.specs.Listed.{ListedEntry}
 use Rattle.start_lists.specs.Depth.{HaveHomes, is_init, is_list}
-use Rattle.start_lists.specs.Entries.{Head, Misread, Place, Reads, SoFar, all_read, at_entry, behind, head_of, is_taken, outermost, place_within, read_own, read_within, then_read, with_head}
+use Rattle.start_lists.specs.Entries.{Head, Misread, Place, Reads, SoFar, all_read, at_entry, behind, head_of, outermost, place_within, read_own, read_within, then_read, with_head}
 use Rattle.start_lists.specs.ListLaws.{AreListed, HasJoinedNames, is_within}
 use Rattle.start_lists.specs.declared.fault.BootFault.{BootFault}
 use Rattle.start_lists.proofs.DepthLemmas.{grow_by, last_list, last_there, no_homes}
@@ -315,10 +314,14 @@ alone_ends : (reads : Reads) (so_far next : SoFar) (head : Head) → head.starts
     all_read reads (place_within (length so_far.entries) head.entry) (with_head so_far head) head.starts ≡ Ok next → with_head so_far head ≡ next
 alone_ends reads so_far next head none read = none_more reads (place_within (length so_far.entries) head.entry) (with_head so_far head) next head.starts none read
 
+-- a fault reads nothing
+not_read : (misread : Misread) (next : SoFar) → let r : Result SoFar Misread = Err misread in r ≡ Ok next → ⊥
+not_read misread next is = cc
+
 pub within_reads : (deeper : ℕ) → Reading deeper (read_within deeper)
 within_reads zero place so_far next d is holds stands few = by_head (head_of place false so_far d) refl is where
   by_head : (r : Result Head BootFault) → head_of place false so_far d ≡ r → read_own (λ _ s _. Ok s) so_far (at_entry (length so_far.entries) r) ≡ Ok next → Extends place.init 1 so_far next
-  by_head (Err fault) told read = cc
+  by_head (Err fault) told read = absurd (not_read _ next read)
   by_head (Ok head) told read =
       let its = head_is place false so_far d head told in
       let none : head.starts ≡ [] = elim its.starts [ inl none ↦ none | inr others ↦ absurd (false≢true others.deep) ] in
@@ -326,7 +329,7 @@ within_reads zero place so_far next d is holds stands few = by_head (head_of pla
 within_reads (suc deeper) place so_far next d is holds stands few = by_head (head_of place true so_far d) refl is (within_reads deeper) where
   by_head : (r : Result Head BootFault) → head_of place true so_far d ≡ r → read_own (read_within deeper) so_far (at_entry (length so_far.entries) r) ≡ Ok next →
       Reading deeper (read_within deeper) → Extends place.init 1 so_far next
-  by_head (Err fault) told read more = cc
+  by_head (Err fault) told read more = absurd (not_read _ next read)
   by_head (Ok head) told read more =
       let its = head_is place true so_far d head told in
       elim its.starts [

@@ -1,19 +1,16 @@
 -- The first entry that isn't covered, and lists in which each is.
-use Rattle.std.proofs.Common.{◌≡◌, ℕ, zero, suc, ◌+◌, ◌<◌, ◌≤◌, nat_lt, Bool, true, false, List, [], ◌∷◌, ◌++◌, length, map, set, take, Option, Some, None, IsSome, Ok, subst, refl, sym, ap, ◌∙◌, arith, length-append, length-set}
+use Rattle.std.proofs.Common.{◌≡◌, ℕ, zero, suc, ◌+◌, ◌<◌, List, [], ◌∷◌, length, map, set, take, Option, Some, None, IsSome, subst, refl, sym, ap, ◌∙◌, arith, length-append, length-set}
 use Rattle.std.specs.List.{slice_get}
 use Rattle.std.specs.Option.{option_map}
-use Rattle.std.proofs.lemmas.Bool.{false≢true}
 use Rattle.std.proofs.lemmas.Bool.Decides.{nat_tests}
 use Rattle.std.proofs.lemmas.Option.{none-some, same_Some}
 use Rattle.trade_base.specs.declared.refusal.Refusal.{Refusal}
 use Rattle.own_model.specs.Account.{Account, Fits, parted_with, shortage}
 use Rattle.own_model.specs.Listed.{Listed, ListedEntry, start_of, start_list_of}
-use Rattle.own_model.specs.StartList.{AllCovered, Boots, IsCovered, StartEntry, StartList, budget, init_account, init_at, inits_at_first, inits_keep, with_started}
+use Rattle.own_model.specs.StartList.{AllCovered, StartEntry, StartList, budget, init_account, init_at, inits_at_first, inits_keep, with_started}
 use Rattle.own_model.proofs.StepLemmas.{covers}
-use Rattle.start_lists.specs.Quota.{first_or, first_uncovered, quota_fault}
-use Rattle.start_lists.specs.Depth.{HaveHomes}
+use Rattle.start_lists.specs.Quota.{first_or, first_uncovered}
 use Rattle.start_lists.specs.ListLaws.{FaultsAreOfLacks, FaultsNameTheFirst, IsFirstLack}
-use Rattle.start_lists.specs.declared.fault.BootFault.{BootFault}
 use Rattle.start_lists.specs.declared.fault.BootFault.TheVariants.{QuotaExceeded}
 use Rattle.start_lists.proofs.ListedLemmas.{lists_are_listed}
 

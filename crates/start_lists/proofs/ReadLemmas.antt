@@ -9,7 +9,9 @@ use Rattle.start_lists.specs.declared.fault.BootFault.{BootFault}
 use Rattle.own_model.specs.Listed.{ListedEntry}
 use Rattle.start_lists.specs.Depth.{IsBelow, Starts, reads_below}
 use Rattle.start_lists.specs.Entries.{Head, Misread, Place, Reads, SoFar, all_read, at_entry, head_of, place_within, read_own, read_within, then_read, with_head}
+use Rattle.start_lists.specs.HeadParts.{head_in_parts}
 use Rattle.start_lists.proofs.DepthLemmas.{last_list}
+use Rattle.start_lists.proofs.HeadLemmas.{parts_are}
 
 -- ---- one entry
 
@@ -23,17 +25,17 @@ one_read (suc deeper) place so_far d = rw (is_more deeper) refl where
 
 module _ (deeper : ℕ) (place : Place) (so_far : SoFar) (d : Data) where
   -- a fault is told
-  pub entry_misread : (fault : BootFault) → head_of place (nat_lt 0 deeper) so_far d ≡ Err fault
+  pub entry_misread : (fault : BootFault) → head_in_parts place (nat_lt 0 deeper) so_far d ≡ Err fault
       → read_within deeper place so_far d ≡ Err (record { fault = fault; entry = length so_far.entries })
-  entry_misread fault misread = one_read deeper place so_far d ∙ ap (λ h. read_own (reads_below deeper) so_far (at_entry (length so_far.entries) h)) misread
+  entry_misread fault misread = one_read deeper place so_far d ∙ ap (λ h. read_own (reads_below deeper) so_far (at_entry (length so_far.entries) h)) (sym (parts_are place (nat_lt 0 deeper) so_far d) ∙ misread)
 
   -- what it starts is still to be read
-  pub entry_read : (head : Head) → head_of place (nat_lt 0 deeper) so_far d ≡ Ok head
+  pub entry_read : (head : Head) → head_in_parts place (nat_lt 0 deeper) so_far d ≡ Ok head
       → read_within deeper place so_far d ≡ all_read (reads_below deeper) (place_within (length so_far.entries) head.entry) (with_head so_far head) head.starts
-  entry_read head is = one_read deeper place so_far d ∙ ap (λ h. read_own (reads_below deeper) so_far (at_entry (length so_far.entries) h)) is
+  entry_read head is = one_read deeper place so_far d ∙ ap (λ h. read_own (reads_below deeper) so_far (at_entry (length so_far.entries) h)) (sym (parts_are place (nat_lt 0 deeper) so_far d) ∙ is)
 
   -- the same by what is then known of what was read and of where the list within stands
-  pub entry_read_to : (head : Head) (below : Place) (next : SoFar) → head_of place (nat_lt 0 deeper) so_far d ≡ Ok head
+  pub entry_read_to : (head : Head) (below : Place) (next : SoFar) → head_in_parts place (nat_lt 0 deeper) so_far d ≡ Ok head
       → below ≡ place_within (length so_far.entries) head.entry → next.entries ≡ so_far.entries ++ head.entry ∷ [] → next.met ≡ so_far.met + length head.starts
       → read_within deeper place so_far d ≡ all_read (reads_below deeper) below next head.starts
   entry_read_to head below next is stands entries met =

@@ -8,4 +8,5 @@ pub mod View
 pub mod Range
 pub mod Quota
 pub mod Misread
+pub mod HeadParts
 pub mod ListLaws

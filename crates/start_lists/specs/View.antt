@@ -5,10 +5,12 @@ use Rattle.serde_json.specs.View.{view}
 use Rattle.own_model.specs.Listed as listed
 use Rattle.own_model.specs.Listed.{ListedRule}
 use Rattle.start_lists.specs.Entries as told
+use Rattle.start_lists.specs.HeadParts as parts
 use Rattle.start_lists.specs.declared.config.Own.{Own}
 use Rattle.start_lists.specs.declared.entry.Binary.{Binary}
 use Rattle.start_lists.specs.declared.entry.Binary.TheVariants.{Script, Server, Init}
 use Rattle.start_lists.specs.declared.head.Head.{Head}
+use Rattle.start_lists.specs.declared.head.Named.{Named}
 use Rattle.start_lists.specs.declared.reading.Reading.{Reading}
 use Rattle.start_lists.specs.declared.rule.Target.{Target}
 use Rattle.start_lists.specs.declared.rule.Target.TheVariants.{Child, AnyChild, Parent}
@@ -37,6 +39,9 @@ model_binary Init = listed.Binary.Init
 -- what a list is told by, of borrowed values
 abbrev pub model_own : Own → told.Own
 model_own own = record { route = own.route.items; starts = map view own.starts.now }
+
+abbrev pub model_named : Named → parts.Named
+model_named named = record { name = named.name; binary = model_binary named.binary }
 
 abbrev pub model_head : Head → told.Head
 model_head head = record { entry = head.entry; starts = map view head.starts.now }

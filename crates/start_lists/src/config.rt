@@ -63,8 +63,10 @@ pub(crate) fn read_own(alloc: Global, met: usize, object: &Value) -> Result<Own<
     ensures few { IfOk result (λ own. met + length own.starts.now ≤ 32) }
 {
     let route = read_default_route(alloc, object.get("default-route"))?;
-    let starts = starts_in(met, object.get("start")).ok_or(BootFault::BadConfig(Field::Start))?;
-    Ok(Own { route, starts })
+    match starts_in(met, object.get("start")) {
+        Some(starts) => Ok(Own { route, starts }),
+        None => Err(BootFault::BadConfig(Field::Start)),
+    }
 }
 
 /// The values of a list's entries. It is `None` where there are none, or too many for those of all lists that were met.

@@ -4,8 +4,9 @@ ghost use Rattle.std.specs.Option.{option_map};
 ghost use Rattle.std.specs.Result.{result_map_both};
 ghost use Rattle.serde_json.specs.View.{view};
 ghost use Rattle.start_lists.specs.Depth.{IsWithin, Starts};
-ghost use Rattle.start_lists.specs.Entries.{binary_told, head_of, is_service_of, is_taken, new_name, own_route, place_within, provided, provided_in};
-ghost use Rattle.start_lists.specs.View.{model_binary, model_head};
+ghost use Rattle.start_lists.specs.Entries.{binary_told, is_service_of, is_taken, new_name, own_route, place_within, provided, provided_in};
+ghost use Rattle.start_lists.specs.HeadParts.{head_in_parts, named_of, shares_of};
+ghost use Rattle.start_lists.specs.View.{model_binary, model_head, model_named};
 ghost use Rattle.start_lists.specs.declared.fault.BootFault.TheVariants.{NoMemory, BadConfig};
 
 use crate::config::read_config;
@@ -39,12 +40,12 @@ impl<'v> Head<'v> {
     ) -> Result<Head<'v>, BootFault>
         requires place { IsWithin deeper place.now }
         requires met { met ≤ 32 }
-        ensures ok { IfOk result (λ head. head_of place.now (nat_lt 0 deeper) (record {
+        ensures ok { IfOk result (λ head. head_in_parts place.now (nat_lt 0 deeper) (record {
           entries = before.now;
           met = met;
         }) (view value.now) ≡ Ok (model_head head)) }
         ensures err { IfErr result (λ fault. fault ≢ NoMemory
-            → head_of place.now (nat_lt 0 deeper) (record { entries = before.now; met = met })
+            → head_in_parts place.now (nat_lt 0 deeper) (record { entries = before.now; met = met })
             (view value.now) ≡ Err fault) }
         ensures home { IfOk result (λ head. head.entry.home ≡ place.now.init) }
         ensures few { IfOk result (λ head. met + length head.starts.now ≤ 32) }
@@ -54,14 +55,12 @@ impl<'v> Head<'v> {
         if !value.is_object() {
             return Err(BootFault::BadConfig(Field::Start));
         }
-        let name = name_at(value, "name").ok_or(BootFault::BadConfig(Field::Name))?;
-        let name = new_name(before, place.init, name)?;
-        let binary = read_binary(&name, value.get("binary"))?;
-        let ram = amount_at(value, "quantum").ok_or(BootFault::BadConfig(Field::Quantum))?;
-        let caps = whole_at(value, "caps", 0, u32::MAX).ok_or(BootFault::BadConfig(Field::Caps))?;
-        let provides = provided(binary, value.get("provides")).ok_or(BootFault::BadConfig(
-            Field::Provides,
-        ))?;
+        let Named { name, binary } = Named::read(before, place.init, value)?;
+        let Shares {
+            ram,
+            caps,
+            provides,
+        } = Shares::read(binary, value)?;
         let route = read_route(alloc, value.get("route"))?;
         let reserve = read_reserve(binary, value)?;
         let own = read_config(alloc, binary, deeper > 0, met, value.get("config"))?;
@@ -81,6 +80,56 @@ impl<'v> Head<'v> {
         Ok(Head {
             entry,
             starts: own.starts,
+        })
+    }
+}
+
+/// What an entry is called, and what it runs.
+struct Named {
+    name: Name,
+    binary: Binary,
+}
+
+impl Named {
+    /// What a value says of these: the name is new in the list of an init.
+    fn read(before: &[Entry], init: usize, value: &Value) -> Result<Named, BootFault>
+        ensures { result_map_both model_named (λ fault. fault) result
+            ≡ named_of before.now init (view value.now) }
+    {
+        let Some(name) = name_at(value, "name") else {
+            return Err(BootFault::BadConfig(Field::Name));
+        };
+        let name = new_name(before, init, name)?;
+        let binary = read_binary(&name, value.get("binary"))?;
+        Ok(Named { name, binary })
+    }
+}
+
+/// What an entry starts with, and whether it provides the service of its binary.
+struct Shares {
+    ram: u64,
+    caps: u32,
+    provides: bool,
+}
+
+impl Shares {
+    /// What a value says of these for a binary.
+    fn read(binary: Binary, value: &Value) -> Result<Shares, BootFault>
+        ensures { result ≡ shares_of (model_binary binary) (view value.now) }
+    {
+        let Some(ram) = amount_at(value, "quantum") else {
+            return Err(BootFault::BadConfig(Field::Quantum));
+        };
+        let Some(caps) = whole_at(value, "caps", 0, u32::MAX) else {
+            return Err(BootFault::BadConfig(Field::Caps));
+        };
+        let Some(provides) = provided(binary, value.get("provides")) else {
+            return Err(BootFault::BadConfig(Field::Provides));
+        };
+        Ok(Shares {
+            ram,
+            caps,
+            provides,
         })
     }
 }

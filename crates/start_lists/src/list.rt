@@ -93,12 +93,12 @@ impl StartList {
             (λ fault. fault ≢ NoMemory → list_of (view value.now) ≡ Err fault) }
     {
         let machine = machine_of(value)?;
-        let pages = whole_at(machine, "pages", SMALLEST, LARGEST).ok_or(BootFault::BadConfig(
-            Field::Pages,
-        ))?;
-        let caps = whole_at(machine, "caps", SMALLEST, LARGEST).ok_or(BootFault::BadConfig(
-            Field::Caps,
-        ))?;
+        let Some(pages) = whole_at(machine, "pages", SMALLEST, LARGEST) else {
+            return Err(BootFault::BadConfig(Field::Pages));
+        };
+        let Some(caps) = whole_at(machine, "caps", SMALLEST, LARGEST) else {
+            return Err(BootFault::BadConfig(Field::Caps));
+        };
         let own = read_own(alloc, 0, value)?;
         let mut reading = Reading::new(alloc, own.starts.len());
         reading.read_list(alloc, &Place::outermost(), DEEPEST, own.starts)?;
@@ -297,8 +297,12 @@ fn starts_of(alloc: Global, value: &Value) -> Result<&[Value], BootFault>
     ensures few { IfOk result (λ starts. length starts.now ≤ 32) }
 {
     let machine = machine_of(value)?;
-    whole_at(machine, "pages", SMALLEST, LARGEST).ok_or(BootFault::BadConfig(Field::Pages))?;
-    whole_at(machine, "caps", SMALLEST, LARGEST).ok_or(BootFault::BadConfig(Field::Caps))?;
+    if whole_at(machine, "pages", SMALLEST, LARGEST).is_none() {
+        return Err(BootFault::BadConfig(Field::Pages));
+    }
+    if whole_at(machine, "caps", SMALLEST, LARGEST).is_none() {
+        return Err(BootFault::BadConfig(Field::Caps));
+    }
     Ok(read_own(alloc, 0, value)?.starts)
 }
 

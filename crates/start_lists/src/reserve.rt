@@ -20,12 +20,12 @@ pub(crate) fn read_reserve(binary: Binary, entry: &Value) -> Result<Option<Reser
     ensures { result_map_both (option_map reserve_amounts) (λ fault. fault) result
         ≡ reserve_told (model_binary binary) (view entry.now) }
 {
-    let ram = reserve_ram(binary, entry.get("reserve")).ok_or(BootFault::BadConfig(
-        Field::Reserve,
-    ))?;
-    let caps = reserve_caps(binary, entry.get("reserve-caps")).ok_or(BootFault::BadConfig(
-        Field::ReserveCaps,
-    ))?;
+    let Some(ram) = reserve_ram(binary, entry.get("reserve")) else {
+        return Err(BootFault::BadConfig(Field::Reserve));
+    };
+    let Some(caps) = reserve_caps(binary, entry.get("reserve-caps")) else {
+        return Err(BootFault::BadConfig(Field::ReserveCaps));
+    };
     Ok(reserve_with(ram, caps))
 }
 

@@ -185,17 +185,33 @@ impl<'v> Told<'v> {
     fn read(value: &'v Value) -> Option<Told<'v>>
         ensures { option_map told_rule result ≡ rule_of (view value.now) }
     {
-        Some(Told {
-            service: service_asked(value.get("service"), value.get("any-service"))?,
-            label: text_if_told(value, "label")?,
-            label_prefix: text_if_told(value, "label_prefix")?,
-            label_suffix: text_if_told(value, "label_suffix")?,
-            target: target_named(
-                value.get("child"),
-                value.get("any-child"),
-                value.get("parent"),
-            )?,
-        })
+        let Some(service) = service_asked(value.get("service"), value.get("any-service")) else {
+            return None;
+        };
+        let Some(label) = text_if_told(value, "label") else {
+            return None;
+        };
+        let Some(label_prefix) = text_if_told(value, "label_prefix") else {
+            return None;
+        };
+        let Some(label_suffix) = text_if_told(value, "label_suffix") else {
+            return None;
+        };
+        let (child, any, parent) = (
+            value.get("child"),
+            value.get("any-child"),
+            value.get("parent"),
+        );
+        match target_named(child, any, parent) {
+            Some(target) => Some(Told {
+                service,
+                label,
+                label_prefix,
+                label_suffix,
+                target,
+            }),
+            None => None,
+        }
     }
 
     /// The same with texts of its own.

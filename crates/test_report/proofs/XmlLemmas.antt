@@ -1,5 +1,5 @@
 -- No byte of a text that XML has ends it.
-use Rattle.std.proofs.Common.{◌≡◌, ◌∙◌, ◌&&◌, ◌<◌, ℕ, suc, Bool, true, List, [], ◌∷◌, ap₂, arith, refl}
+use Rattle.std.proofs.Common.{◌≡◌, ◌∙◌, ◌&&◌, ◌<◌, ℕ, suc, Bool, true, [], ◌∷◌, ap₂, arith, refl}
 use Rattle.std.specs.List.{list_all}
 use Rattle.std.proofs.lemmas.Bool.{agree_below_at}
 use Rattle.std.proofs.lemmas.List.Folds.{list_all-append}

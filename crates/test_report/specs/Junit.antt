@@ -1,5 +1,5 @@
 -- JUnit's XML.
-use Rattle.std.specs.Prelude.{ℕ, ◌==◌, List, [], ◌∷◌, ◌++◌, length, take, codes, decimal, flat_map, position, string_bytes, unwrap_or, if◌then◌else◌}
+use Rattle.std.specs.Prelude.{ℕ, ◌==◌, List, [], ◌++◌, length, take, codes, decimal, flat_map, position, string_bytes, unwrap_or, if◌then◌else◌}
 use Rattle.test_report.specs.Trials.{failed_among}
 use Rattle.test_report.specs.Xml.{between}
 use Rattle.test_report.specs.declared.trial.Trial.{Trial}

@@ -16,11 +16,8 @@ pub fn tap_plan(alloc: Global, count: usize) -> Result<String, AllocError>
 pub fn tap_point(alloc: Global, number: usize, trial: &Trial) -> Result<Vec<u8>, AllocError>
     ensures { IfOk result (λ text. text.items ≡ tap_point number trial.now) }
 {
-    let mut text = Vec::new(alloc);
     let verdict = if trial.passed { "ok" } else { "not ok" };
-    text.extend_from_slice(verdict.as_bytes())?;
-    let number = format!(in alloc; " {number} - ")?;
-    text.extend_from_slice(number.as_bytes())?;
+    let mut text = format!(in alloc; "{verdict} {number} - ")?.into_bytes();
     add_name(&mut text, trial.path.as_bytes())?;
     text.push(b'\n')?;
     add_notes(&mut text, trial.told.as_slice())?;

@@ -1,4 +1,4 @@
-use Rattle.std.proofs.Common.{◌∙◌, ◌++◌, [], ap, codes}
+use Rattle.std.proofs.Common.{◌∙◌, ◌++◌, ap, codes}
 use Rattle.test_report.specs.Junit.{first_line, junit_failure}
 use Rattle.test_report.specs.Xml.{between}
 use Rattle.test_report.proofs.TextLemmas.{two_added}

@@ -1,5 +1,5 @@
 -- A path without the end of a scenario is its own stem.
-use Rattle.std.proofs.Common.{◌≡◌, ◌≢◌, ◌∙◌, ◌++◌, ℕ, List, IfOk, codes, true, false, string_bytes, refl, subst, sym}
+use Rattle.std.proofs.Common.{◌≡◌, ◌≢◌, ◌++◌, ℕ, List, IfOk, codes, false, string_bytes, refl, subst}
 use Rattle.std.proofs.lemmas.Str.Pattern.{ends_text}
 use Rattle.test_report.specs.Paths.{stem_of}
 use Rattle.test_report.proofs.paths.beside.Goals as goal
