@@ -8,6 +8,7 @@ use crate::chosen::Chosen;
 use crate::course::Course;
 use crate::deciding::{Trail, Trails};
 use crate::label::Label;
+use crate::texts::PathAt;
 use crate::wishes::Wishes;
 use start_lists::{Binary, StartList};
 use std::alloc::{AllocError, Global};
@@ -159,29 +160,28 @@ fn server_of(chosen: &Chosen, trail: &Trail) -> Option<usize>
     }
 }
 
-/// An empty line, and then a line a way: who reaches whom, for which service, with which label and by which rules. Nothing where
-/// there is no way.
+/// An empty line, and then a line a way. Nothing where there is no way.
 impl fmt::Display for WayList<'_> {
     fn fmt<W: fmt::Write>(&self, f: &mut fmt::Formatter<W>) -> fmt::Result {
-        let entries = self.list.entries();
-        if !self.ways.is_empty() {
-            f.write_str("\n")?;
-        }
         for way in self.ways.as_slice() {
-            let (Some(client), Some(server)) = (entries.get(way.client), entries.get(way.server))
-            else {
-                return Ok(());
-            };
-            write!(
-                f,
-                "{} {} label \"{}\": {}",
-                client.to_path(),
-                way.service,
-                way.label,
-                Brief::of(&way.course)
-            )?;
-            writeln!(f, " -> {}", server.to_path())?;
+            show_way(f, self.list, way)?;
         }
-        Ok(())
+        f.write_str(if self.ways.is_empty() { "" } else { "\n" })
     }
+}
+
+// A way behind the end of the line before: who reaches whom, for which service, with which label and by which rules.
+fn show_way<W: fmt::Write>(
+    f: &mut fmt::Formatter<W>,
+    list: &StartList,
+    way: &Way<'_>,
+) -> fmt::Result {
+    let client = PathAt::of(list, way.client);
+    let brief = Brief::of(&way.course);
+    let server = PathAt::of(list, way.server);
+    write!(
+        f,
+        "\n{client} {} label \"{}\": {brief} -> {server}",
+        way.service, way.label
+    )
 }
