@@ -85,7 +85,6 @@ fn add_longer(
 }
 
 // The marks of the rules of a list; answers what stands behind theirs in the key.
-#[tactic(auto, using(crate::proofs::LongerLemmas::turn_first))]
 fn add_longer_marks<'a>(
     next: &mut Vec<usize>,
     key: &'a [usize],
@@ -110,7 +109,6 @@ fn add_longer_marks<'a>(
 }
 
 // The marks of a rule; answers what stands behind its own in the key.
-#[tactic(auto, using(crate::proofs::LongerLemmas::marks_live))]
 fn add_longer_rule<'a>(
     next: &mut Vec<usize>,
     key: &'a [usize],

@@ -39,7 +39,6 @@ impl Model for Ways {
 
 impl Ways {
     /// Where wishes lead. An error is want of memory.
-    #[tactic(auto, using(crate::proofs::WaysLemmas::ways_of))]
     pub fn of(alloc: Global, wishes: Wishes<'_>) -> Result<Ways, AllocError>
         requires client { wishes.client < length wishes.list.now.entries }
         ensures { IfOk result (λ ways.
