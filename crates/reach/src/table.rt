@@ -130,27 +130,30 @@ fn add_cells(
     ensures { OnOk result (All (IsTrue list.now) cells.new.items) }
 {
     for server in 0..list.entries().len() {
-        let entry = &list.entries()[server];
-        if chosen.has_server(server) && entry.offers(entry.home(), service.as_bytes()) {
-            add_cell(cells, list, client, service, ways, server)?;
-        }
+        add_cell(cells, list, chosen, client, service, ways, server)?;
     }
     Ok(())
 }
 
-// The cell of a client and a server.
+// The cell of a client and a server, if that is looked at and provides the service.
 fn add_cell(
     cells: &mut Vec<Cell>,
     list: &StartList,
+    chosen: &Chosen,
     client: usize,
     service: &'static str,
     ways: &Ways,
     server: usize,
 ) -> Result<(), AllocError>
+    requires server { server < length list.now.entries }
     requires ways { AreWays list.now client service.now ways.now }
     requires cells { All (IsTrue list.now) cells.old.items }
     ensures { OnOk result (All (IsTrue list.now) cells.new.items) }
 {
+    let entry = &list.entries()[server];
+    if !chosen.has_server(server) || !entry.offers(entry.home(), service.as_bytes()) {
+        return Ok(());
+    }
     let reach = ways.reach(server);
     cells.push(Cell {
         client,

@@ -86,7 +86,6 @@ fn add_client<'a>(
 }
 
 // The ways of a client for one service.
-#[tactic(auto, using(crate::proofs::TableLemmas::trail_at))]
 fn add_service<'a>(
     alloc: Global,
     ways: &mut Vec<Way<'a>>,
@@ -105,10 +104,26 @@ fn add_service<'a>(
         service: service.as_bytes(),
     };
     let found = Trails::of(alloc, wishes)?;
-    let trails = found.as_slice();
+    add_ways(alloc, ways, wishes, chosen, service, found.as_slice())
+}
+
+// The ways of trails, of those that lead to a server that is looked at.
+fn add_ways<'a>(
+    alloc: Global,
+    ways: &mut Vec<Way<'a>>,
+    wishes: Wishes<'a>,
+    chosen: &Chosen,
+    service: &'static str,
+    trails: &[Trail],
+) -> Result<(), AllocError>
+    requires client { wishes.client < length wishes.list.now.entries }
+    requires service { wishes.service.now ≡ service.now }
+    requires trails { AreTrails wishes.list.now wishes.client service.now trails.now }
+    requires ways { All (IsWay wishes.list.now) ways.old.items }
+    ensures { OnOk result (All (IsWay wishes.entry.list.now) ways.new.items) }
+{
     for place in 0..trails.len() {
-        let trail = &trails[place];
-        add_way(alloc, ways, wishes, chosen, service, trail)?;
+        add_way(alloc, ways, wishes, chosen, service, &trails[place])?;
     }
     Ok(())
 }
