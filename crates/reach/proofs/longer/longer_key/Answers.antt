@@ -1,4 +1,4 @@
--- The key of a client's label goes on behind its first mark.
+-- The first mark of a longer label, and those of the rules behind it.
 use Rattle.std.proofs.Common.{◌≡◌, ◌++◌, ◌∷◌, [], ◌-◌, ◌∙◌, ap, arith, drop, length, sym}
 use Rattle.std.proofs.lemmas.List.{length-drop, take_all}
 use Rattle.own_model.specs.Listed.{most_lists}

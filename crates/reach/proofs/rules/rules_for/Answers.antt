@@ -1,4 +1,4 @@
--- Nothing is told at first, and of one hop after another what it decides.
+-- Nothing is told at first, and then of one hop after another what it decides.
 use Rattle.std.proofs.Common.{◌++◌, ◌∙◌, ap, refl, sym}
 use Rattle.std.specs.List.{flat_map}
 use Rattle.reach.specs.Deciding.{decided, trail_of}
