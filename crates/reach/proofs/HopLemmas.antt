@@ -1,9 +1,11 @@
 -- What lists decide, one after another.
-use Rattle.std.proofs.Common.{◌≡◌, ℕ, ◌<◌, zero, suc, Bool, true, false, List, [], ◌∷◌, ◌++◌, Option, Some, None, refl, sym, ap, ◌∙◌, arith, ◌⊎◌, inl, inr, append_assoc}
-use Rattle.std.specs.Prelude.{if◌then◌else◌, position}
+use Rattle.std.proofs.Common.{◌≡◌, ℕ, ◌<◌, ◌+◌, zero, suc, Bool, true, false, List, [], ◌∷◌, ◌++◌, drop, get_or, length, Option, Some, None, refl, sym, ap, ◌∙◌, arith, ◌⊎◌, inl, inr, append_assoc}
+use Rattle.std.specs.Prelude.{flat_map, if◌then◌else◌, position}
+use Rattle.std.proofs.Math.Seq.{drop-cons}
 use Rattle.std.specs.Option.{option_map, unwrap_or}
 use Rattle.own_model.specs.Routes.{label_with}
 use Rattle.own_model.specs.Listed.{Listed, ListedEntry, ListedRule, asks_for, init_entry, rules_for}
+use Rattle.reach.specs.Deciding.{decided}
 use Rattle.reach.specs.Hops.{HopAt, hops_within, leads_out}
 
 -- what a list decides
@@ -75,3 +77,14 @@ hops_on (suc lists) less list entry init service seen told outer rules rule old 
     ∙ (ap (λ o. hops_within lists list init service o) sees
     ∙ tail_on _ (init_entry list entry.home) (λ i. hops_within lists list i service (label_with entry.name seen)) init
     (leads_same (rules_for list entry) rules rule service seen true same first leads) found)))))
+
+-- what one more hop decides
+pub decided_more : (hops : List HopAt) (hop : HopAt) (place next : ℕ) (old new whole : List ℕ) → next ≡ place + 1 → place < length hops
+    → get_or hops place hop ≡ hop → new ≡ old ++ decided hop.rule
+    → old ++ flat_map (λ (hop : HopAt). decided hop.rule) (drop place hops) ≡ whole → new ++ flat_map (λ (hop : HopAt). decided hop.rule) (drop next hops) ≡ whole
+decided_more hops hop place next old new whole after within is added told =
+    let one : suc place ≡ next = omega arith in
+    ap (λ n. n ++ flat_map (λ (hop : HopAt). decided hop.rule) (drop next hops)) added
+    ∙ (append_assoc old (decided hop.rule) (flat_map (λ (hop : HopAt). decided hop.rule) (drop next hops))
+    ∙ (ap (λ n. old ++ (decided hop.rule ++ flat_map (λ (hop : HopAt). decided hop.rule) (drop n hops))) (sym one)
+    ∙ (sym (ap (λ h. old ++ flat_map (λ (hop : HopAt). decided hop.rule) h) (drop-cons hops place hop within ∙ ap (λ h. h ∷ drop (suc place) hops) is)) ∙ told)))

@@ -1,6 +1,6 @@
 -- Labels of one key lead alike, and so do all longer labels that begin with them.
 use Rattle.std.proofs.Common.{◌≡◌, ◌≢◌, ℕ, ◌<◌, ◌≤◌, zero, suc, ◌-◌, ◌+◌, Bool, true, false, ◌&&◌, ◌||◌, List, [], ◌∷◌, ◌++◌, length, take, drop, Option, Some, None, refl, sym, ap, ◌∙◌, nat_eq, arith, ◌⊎◌, inl, inr}
-use Rattle.std.specs.Prelude.{codes, flat_map, if◌then◌else◌, nat_lt, not, position, Result, Ok, Err, OnOk}
+use Rattle.std.specs.Prelude.{codes, flat_map, if◌then◌else◌, nat_lt, not, position, Result, Ok, Err, IfOk, OnOk}
 use Rattle.std.specs.List.{starts_with, ends_with, prefix_len, slice_get}
 use Rattle.std.specs.Option.{option_and_then, option_map, unwrap_or}
 use Rattle.std.specs.Str.{bytes_eq}
@@ -14,7 +14,7 @@ use Rattle.own_model.specs.Listed.{Listed, ListedEntry, ListedRule, asks_for, en
 use Rattle.reach.specs.Deciding.{decided, trail_of}
 use Rattle.reach.specs.Hops.{HopAt, hops_of, hops_within, leads_out}
 use Rattle.reach.specs.Reach.{leads_to}
-use Rattle.reach.specs.Keys.{end_mark, front_mark, is_lost, key_of, key_within, lost_of, lost_texts, mark, marks_by, marks_of, whole_mark}
+use Rattle.reach.specs.Keys.{end_mark, filled, front_mark, is_lost, key_of, key_within, lost_of, lost_texts, mark, marks_by, marks_of, whole_mark}
 
 -- ---- tests
 
@@ -460,6 +460,25 @@ key_goes_on (suc lists) less list entry init service seen outer old between new 
     (ap (λ n. key_within n list init service outer) same
     ∙ (ap (λ o. key_within lists list init service o) sees
     ∙ ap (λ o. unwrap_or (option_map (λ i. key_within lists list i service (label_with entry.name seen)) o) []) (sym found)))))
+
+pub key_told : (list : Listed) (client : ℕ) (service label key : List ℕ) (entry : ListedEntry) → slice_get list.entries client ≡ Some entry
+    → key ≡ filled label ∷ key_within most_lists list entry service label → key ≡ key_of list client service label
+unfolding key_of
+key_told list client service label key entry found told =
+    told
+    ∙ ap (λ e. filled label ∷ unwrap_or (option_map (λ entry. key_within most_lists list entry service label) e) []) (sym found)
+
+pub key_alone : (list : Listed) (client : ℕ) (service label key : List ℕ) → slice_get list.entries client ≡ None
+    → key ≡ filled label ∷ [] → key ≡ key_of list client service label
+unfolding key_of
+key_alone list client service label key none told =
+    told
+    ∙ ap (λ e. filled label ∷ unwrap_or (option_map (λ entry. key_within most_lists list entry service label) e) []) (sym none)
+
+-- what a call promises of its answer by two clauses where it answers Ok
+pub if_ok_map₂ : {V E : Type 0} → (P Q S : V → Type 0) (r : Result V E) → ((v : V) → P v → Q v → S v) → IfOk r P → IfOk r Q → IfOk r S
+if_ok_map₂ P Q S (Ok v) goes one two = goes v one two
+if_ok_map₂ P Q S (Err e) goes one two = one
 
 -- what a call promises by two clauses where it answers Ok
 pub ok_map₂ : {V E : Type 0} → (P Q S : Type 0) (r : Result V E) → (P → Q → S) → OnOk r P → OnOk r Q → OnOk r S

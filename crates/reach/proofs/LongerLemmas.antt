@@ -1,5 +1,5 @@
 -- The key of a longer label, by that of one with which it begins.
-use Rattle.std.proofs.Common.{◌≡◌, ◌≢◌, ℕ, ◌<◌, ◌≤◌, zero, suc, ◌+◌, ◌-◌, ◌*◌, Bool, true, false, ◌||◌, List, [], ◌∷◌, ◌++◌, length, drop, get_or, Option, Some, None, refl, sym, ap, ◌∙◌, nat_eq, arith}
+use Rattle.std.proofs.Common.{◌≡◌, ◌≢◌, ℕ, ◌<◌, ◌≤◌, zero, suc, ◌+◌, ◌-◌, ◌*◌, Bool, true, false, List, [], ◌∷◌, ◌++◌, length, drop, get_or, Some, refl, sym, ap, ◌∙◌, nat_eq, arith}
 use Rattle.std.specs.Prelude.{codes, if◌then◌else◌, slice_index}
 use Rattle.std.specs.List.{starts_with, slice_get}
 use Rattle.std.specs.Option.{option_map, unwrap_or}
@@ -40,6 +40,15 @@ marks_lost service rule seen longer key more begins none =
       ap (λ l. length (if l then 0 ∷ []
           else 1 ∷ mark whole_mark rule.label seen ∷ mark front_mark rule.label_prefix seen ∷ mark end_mark rule.label_suffix seen ∷ [])) lost,
     )
+
+some_case : (lost : Bool) (a b c : ℕ) (key rest : List ℕ) → key ≡ (if lost then 0 ∷ [] else 1 ∷ a ∷ b ∷ c ∷ []) ++ rest → 1 ≤ length key
+some_case true a b c key rest is = omega (arith, ap length is)
+some_case false a b c key rest is = omega (arith, ap length is)
+
+-- a key that begins with a rule's marks has one
+pub marks_some : (service : List ℕ) (rule : ListedRule) (seen key : List ℕ) → starts_with nat_eq key (marks_of service rule seen) ≡ true
+    → 1 ≤ length key
+marks_some service rule seen key begins = some_case (lost_of service rule seen) _ _ _ key _ (parts key (marks_of service rule seen) begins)
 
 live_case : (lost : Bool) (a b c : ℕ) (key rest : List ℕ) → key ≡ (if lost then 0 ∷ [] else 1 ∷ a ∷ b ∷ c ∷ []) ++ rest
     → slice_index key 0 ≢ 0 → (length (if lost then 0 ∷ [] else 1 ∷ a ∷ b ∷ c ∷ []) ≡ 4) × (4 ≤ length key)

@@ -1,8 +1,9 @@
 //! The rules by which a wish leads where it leads, in a line.
-use crate::course::{Course, Hop, route_name};
+use crate::course::{Course, Hop};
 use crate::key::init_entry;
+use crate::texts::{RuleAt, RuleFor};
 use start_lists::Entry;
-use std::fmt;
+use std::fmt::{self, Display};
 
 /// By which rules a wish leads to a server or nowhere.
 #[derive(Clone, Copy)]
@@ -41,16 +42,9 @@ fn show_hop<W: fmt::Write>(
     hop: &Hop,
     is_first: bool,
 ) -> fmt::Result {
-    if !is_first {
-        f.write_str(", then ")?;
-    }
-    match hop.rule() {
-        Some(place) => write!(f, "{}[{place}]", route_name(entry))?,
-        None => f.write_str("no rule")?,
-    }
     if is_first {
-        Ok(())
+        RuleAt::of(entry, hop.rule()).fmt(f)
     } else {
-        write!(f, " for {}", entry.to_path())
+        write!(f, ", then {}", RuleFor::of(entry, hop.rule()))
     }
 }

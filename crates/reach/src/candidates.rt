@@ -27,21 +27,30 @@ pub(crate) fn few_labels(alloc: Global, wishes: Wishes<'_>) -> Result<Option<Vec
 {
     let mut kept = Vec::new(alloc);
     offer_known(alloc, &mut kept, wishes)?;
-    let asked = asked_of(alloc, wishes)?;
-    let asked = asked.as_slice();
-    let firsts = firsts_of(alloc, asked)?;
-    let lasts = lasts_of(alloc, asked)?;
-    if offer_all(
-        alloc,
-        &mut kept,
-        wishes,
-        firsts.as_slice(),
-        lasts.as_slice(),
-    )? {
+    if offer_asked(alloc, &mut kept, wishes)? {
         Ok(Some(kept))
     } else {
         Ok(None)
     }
+}
+
+// Keeps labels for those that rules ask by how they begin and end, beside those that rules know by themselves. Answers whether it
+// could: then what is kept stands for all.
+fn offer_asked(alloc: Global, kept: &mut Vec<Kept>, wishes: Wishes<'_>) -> Result<bool, AllocError>
+    requires client { wishes.client < length wishes.list.now.entries }
+    requires told { All (IsFollowed wishes.list.now wishes.client wishes.service.now)
+        kept.old.items }
+    requires known { (label : List ℕ) → IsGiven label
+        → known wishes.list.now wishes.client label ≡ true
+        → IsHeld wishes.list.now wishes.client wishes.service.now kept.old.items label }
+    ensures { IfOk result (λ done. done ≡ true → StandForAll wishes.entry.list.now
+        wishes.entry.client wishes.entry.service.now kept.new.items) }
+{
+    let asked = asked_of(alloc, wishes)?;
+    let asked = asked.as_slice();
+    let firsts = firsts_of(alloc, asked)?;
+    let lasts = lasts_of(alloc, asked)?;
+    offer_all(alloc, kept, wishes, firsts.as_slice(), lasts.as_slice())
 }
 
 // Keeps a label, if it can be given, unless one that is no longer leads there by the same rules.

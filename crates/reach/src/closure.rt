@@ -146,7 +146,6 @@ fn keep_range(
 }
 
 // Keeps one that stands for a label with a byte behind it, if it can be given.
-#[tactic(auto, using(crate::proofs::ClosureLemmas::given_more, crate::proofs::ClosureLemmas::grown_same, crate::proofs::LongerLemmas::begins_more))]
 fn keep_with(
     alloc: Global,
     kept: &mut Held,

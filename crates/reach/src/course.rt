@@ -7,6 +7,7 @@ ghost use Rattle.reach.specs.Reach.{leads_to};
 
 use crate::key::{MOST_LISTS, init_entry, rules_of};
 use crate::label::{LONGEST_GIVEN, LONGEST_SEEN, label_with};
+use crate::texts::{PathAt, RuleFor, Signs};
 use arrayvec::ArrayVec;
 use routes::route;
 use session_proto::SessionArgs;
@@ -261,37 +262,30 @@ impl fmt::Display for Course<'_> {
     fn fmt<W: fmt::Write>(&self, f: &mut fmt::Formatter<W>) -> fmt::Result {
         let list = self.list;
         let mut asks = list.entries().get(self.client);
+        let mut last = None;
         for hop in self.hops.as_slice() {
             if let Some(entry) = asks {
                 show_hop(f, list, entry, hop)?;
+                last = Some(RuleFor::of(entry, hop.rule));
                 asks = init_entry(list, entry.home());
             }
         }
-        self.show_end(f)
+        self.show_end(f, last)
     }
 }
 
 impl Course<'_> {
     // Where it leads, or by which rule it is denied.
-    fn show_end<W: fmt::Write>(&self, f: &mut fmt::Formatter<W>) -> fmt::Result {
-        let list = self.list;
-        if let Some(child) = self.child {
-            return match list.entries().get(child) {
-                Some(server) => writeln!(f, "leads to {}", server.to_path()),
-                None => Ok(()),
-            };
+    fn show_end<W: fmt::Write>(
+        &self,
+        f: &mut fmt::Formatter<W>,
+        last: Option<RuleFor<'_>>,
+    ) -> fmt::Result {
+        match (self.child, last) {
+            (Some(child), _) => writeln!(f, "leads to {}", PathAt::of(self.list, child)),
+            (None, Some(last)) => writeln!(f, "denied by {last}"),
+            (None, None) => f.write_str("denied by \n"),
         }
-        f.write_str("denied by ")?;
-        let mut asks = list.entries().get(self.client);
-        for (lists, hop) in self.hops.as_slice().iter().enumerate() {
-            if let Some(entry) = asks {
-                if lists + 1 == self.hops.as_slice().len() {
-                    show_rule(f, entry, hop)?;
-                }
-                asks = init_entry(list, entry.home());
-            }
-        }
-        f.write_str("\n")
     }
 }
 
@@ -302,41 +296,29 @@ fn show_hop<W: fmt::Write>(
     entry: &Entry,
     hop: &Hop,
 ) -> fmt::Result {
-    show_rule(f, entry, hop)?;
-    f.write_str(", where the label is \"")?;
-    for byte in hop.seen.as_slice() {
-        write!(f, "{}", char::from(*byte))?;
-    }
-    f.write_str("\"")?;
-    if let Some(place) = hop.rule {
-        if let Some(rule) = rules_of(list, entry).get(place) {
-            show_target(f, rule.target())?;
-        }
-    }
-    f.write_str("\n")
+    let rule = RuleFor::of(entry, hop.rule);
+    let seen = Signs::of(hop.seen.as_slice());
+    write!(f, "{rule}, where the label is \"{seen}\"")?;
+    show_target(f, target_at(rules_of(list, entry), hop.rule))
 }
 
-// A rule for an entry by its place, or that there is none.
-fn show_rule<W: fmt::Write>(f: &mut fmt::Formatter<W>, entry: &Entry, hop: &Hop) -> fmt::Result {
-    match hop.rule {
-        Some(place) => write!(f, "{}[{place}] for {}", route_name(entry), entry.to_path()),
-        None => write!(f, "no rule for {}", entry.to_path()),
+// The target of the rule at a place, if there is one.
+fn target_at(rules: &[Rule], place: Option<usize>) -> Option<&Target> {
+    match place {
+        Some(place) => match rules.get(place) {
+            Some(rule) => Some(rule.target()),
+            None => None,
+        },
+        None => None,
     }
 }
 
-/// The member that holds the rules for an entry.
-pub(crate) fn route_name(entry: &Entry) -> &'static str {
-    match entry.route() {
-        Some(_) => "route",
-        None => "default-route",
-    }
-}
-
-// Where a rule leads.
-fn show_target<W: fmt::Write>(f: &mut fmt::Formatter<W>, target: &Target) -> fmt::Result {
+// Where a rule leads, and the end of the line.
+fn show_target<W: fmt::Write>(f: &mut fmt::Formatter<W>, target: Option<&Target>) -> fmt::Result {
     match target {
-        Target::Child(name) => write!(f, ": child {name}"),
-        Target::AnyChild => f.write_str(": any-child"),
-        Target::Parent => f.write_str(": parent"),
+        Some(Target::Child(name)) => writeln!(f, ": child {name}"),
+        Some(Target::AnyChild) => f.write_str(": any-child\n"),
+        Some(Target::Parent) => f.write_str(": parent\n"),
+        None => f.write_str("\n"),
     }
 }

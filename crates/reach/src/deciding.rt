@@ -74,7 +74,6 @@ impl Model for Trails {
 
 impl Trails {
     /// How wishes are decided. An error is want of memory.
-    #[tactic(auto, using(crate::proofs::TrailLemmas::seen_none, crate::proofs::TrailLemmas::trails_of))]
     pub fn of(alloc: Global, wishes: Wishes<'_>) -> Result<Trails, AllocError>
         requires client { wishes.client < length wishes.list.now.entries }
         ensures { IfOk result (λ trails.
@@ -119,7 +118,6 @@ fn keep_all_of(
 }
 
 // The same of the label at a place, if it has so many bytes.
-#[tactic(auto, using(crate::proofs::TrailLemmas::seen_more, crate::proofs::TrailLemmas::seen_passed, crate::proofs::TrailLemmas::told_at))]
 fn keep_if(
     alloc: Global,
     trails: &mut Vec<Trail>,

@@ -16,7 +16,6 @@ use std::alloc::{AllocError, Global};
 pub(crate) const MOST_LISTS: usize = 4;
 
 /// The key of a label: labels of one key lead alike, and so do all longer ones that begin with them.
-#[tactic(auto, unfolding(crate::specs::Keys::key_of))]
 pub(crate) fn key_of(
     alloc: Global,
     wishes: Wishes<'_>,
@@ -29,16 +28,17 @@ pub(crate) fn key_of(
     let mut key = Vec::new(alloc);
     let label = label.as_bytes();
     key.push(filled(label))?;
-    if let Some(entry) = wishes.list.entries().get(wishes.client) {
-        add_key(
-            &mut key,
-            wishes.list,
-            MOST_LISTS,
-            entry,
-            wishes.service,
-            label,
-        )?;
-    }
+    let Some(entry) = client_entry(wishes) else {
+        return Ok(key);
+    };
+    add_key(
+        &mut key,
+        wishes.list,
+        MOST_LISTS,
+        entry,
+        wishes.service,
+        label,
+    )?;
     Ok(key)
 }
 

@@ -5,8 +5,9 @@ ghost use Rattle.own_model.specs.Routes.{label_with};
 ghost use Rattle.own_model.specs.SessionArgs.{is_quotable};
 ghost use Rattle.reach.specs.Asked.{behind};
 
+use crate::texts::Signs;
 use arrayvec::ArrayVec;
-use std::fmt;
+use std::fmt::{self, Display};
 use std::marker::Model;
 use text_codec::is_quotable;
 
@@ -94,10 +95,7 @@ fn is_plain(text: &[u8]) -> bool
 /// Each byte is a sign that can be printed.
 impl fmt::Display for Label {
     fn fmt<W: fmt::Write>(&self, f: &mut fmt::Formatter<W>) -> fmt::Result {
-        for byte in self.as_bytes() {
-            write!(f, "{}", char::from(*byte))?;
-        }
-        Ok(())
+        Signs::of(self.as_bytes()).fmt(f)
     }
 }
 

@@ -20,6 +20,7 @@ mod paths;
 mod rules;
 mod standing;
 mod table;
+mod texts;
 mod way_list;
 mod ways;
 mod wishes;

@@ -3,14 +3,13 @@ ghost use Rattle.std.specs.Prelude.{◌≡◌, ◌+◌, ◌*◌, ◌≤◌, ◌<
 ghost use Rattle.std.specs.List.{starts_with};
 ghost use Rattle.reach.specs.Keys.{key_of, key_within, marks_by, marks_of};
 
-use crate::key::{MOST_LISTS, add_rule, filled, init_entry, rules_of};
+use crate::key::{MOST_LISTS, add_rule, client_entry, filled, init_entry, rules_of};
 use crate::label::{Label, label_with};
 use crate::wishes::Wishes;
 use start_lists::{Entry, Rule, StartList};
 use std::alloc::{AllocError, Global};
 
 /// The key of the longer label.
-#[tactic(auto, using(crate::proofs::LongerLemmas::key_some, crate::proofs::LongerLemmas::key_rest), unfolding(crate::specs::Keys::key_of))]
 pub(crate) fn longer_key(
     alloc: Global,
     wishes: Wishes<'_>,
@@ -27,18 +26,19 @@ pub(crate) fn longer_key(
 {
     let mut next = Vec::with_capacity(alloc, key.len())?;
     next.push(filled(longer.as_bytes()))?;
-    if let Some(entry) = wishes.list.entries().get(wishes.client) {
-        add_longer(
-            &mut next,
-            &key[1..],
-            wishes.list,
-            MOST_LISTS,
-            entry,
-            wishes.service,
-            label.as_bytes(),
-            longer.as_bytes(),
-        )?;
-    }
+    let Some(entry) = client_entry(wishes) else {
+        return Ok(next);
+    };
+    add_longer(
+        &mut next,
+        &key[1..],
+        wishes.list,
+        MOST_LISTS,
+        entry,
+        wishes.service,
+        label.as_bytes(),
+        longer.as_bytes(),
+    )?;
     Ok(next)
 }
 
@@ -85,7 +85,6 @@ fn add_longer(
 }
 
 // The marks of the rules of a list; answers what stands behind theirs in the key.
-#[tactic(auto, using(crate::proofs::LongerLemmas::turn_first))]
 fn add_longer_marks<'a>(
     next: &mut Vec<usize>,
     key: &'a [usize],
@@ -110,7 +109,6 @@ fn add_longer_marks<'a>(
 }
 
 // The marks of a rule; answers what stands behind its own in the key.
-#[tactic(auto, using(crate::proofs::LongerLemmas::marks_live))]
 fn add_longer_rule<'a>(
     next: &mut Vec<usize>,
     key: &'a [usize],

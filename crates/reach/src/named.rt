@@ -6,7 +6,7 @@ use std::alloc::Global;
 use std::fmt;
 
 /// Who is sought by a path.
-#[derive(Clone, Copy, PartialEq, Eq)]
+#[derive(Clone, Copy)]
 pub enum Sought {
     /// Scripts.
     Script,
@@ -85,12 +85,21 @@ fn add_path<'a>(
         }
     }
     if before < found.len() {
-        return Ok(());
+        Ok(())
+    } else {
+        Err(why_unnamed(alloc, list, path, sought))
     }
-    match list.find(path.as_bytes()) {
-        Some(_) if sought == Sought::Script => Err(Unnamed::NoScript(path)),
-        Some(_) => Err(Unnamed::NoServer(path)),
-        None => Err(Unnamed::Nobody(path, near_path(alloc, list, path, sought)?)),
+}
+
+// Why a path stands for nobody who is sought.
+fn why_unnamed<'a>(alloc: Global, list: &StartList, path: &'a str, sought: Sought) -> Unnamed<'a> {
+    match (list.find(path.as_bytes()), sought) {
+        (Some(_), Sought::Script) => Unnamed::NoScript(path),
+        (Some(_), Sought::Server) => Unnamed::NoServer(path),
+        (None, _) => match near_path(alloc, list, path, sought) {
+            Ok(near) => Unnamed::Nobody(path, near),
+            Err(_) => Unnamed::NoMemory,
+        },
     }
 }
 

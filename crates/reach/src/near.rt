@@ -1,24 +1,20 @@
 //! Which path may have been meant by one that nobody has.
-use crate::named::{Sought, Unnamed, is_sought};
+use crate::named::{Sought, is_sought};
 use start_lists::{Path, StartList};
 use std::alloc::{AllocError, Global};
 use strsim::levenshtein;
 
 /// The path that may be meant: of those that are sought the first that one edit makes of it, or else the first that two do.
-pub(crate) fn near_path<'a>(
+pub(crate) fn near_path(
     alloc: Global,
     list: &StartList,
     written: &str,
     sought: Sought,
-) -> Result<Option<Path>, Unnamed<'a>> {
-    for edits in 1..3usize {
-        match path_away(alloc, list, written, sought, edits) {
-            Ok(None) => (),
-            Ok(found) => return Ok(found),
-            Err(_) => return Err(Unnamed::NoMemory),
-        }
+) -> Result<Option<Path>, AllocError> {
+    match path_away(alloc, list, written, sought, 1)? {
+        Some(found) => Ok(Some(found)),
+        None => path_away(alloc, list, written, sought, 2),
     }
-    Ok(None)
 }
 
 // The first that so many edits make of it.

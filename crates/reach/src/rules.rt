@@ -1,14 +1,13 @@
 //! The rules that decide a wish, and two ends compared.
-ghost use Rattle.std.specs.Prelude.{◌≡◌, ◌<◌, length, IfOk};
-ghost use Rattle.reach.specs.Deciding.{same_child, trail_of};
+ghost use Rattle.std.specs.Prelude.{◌≡◌, ◌<◌, ◌++◌, length, IfOk, OnOk};
+ghost use Rattle.reach.specs.Deciding.{decided, same_child, trail_of};
 
-use crate::course::Course;
+use crate::course::{Course, Hop};
 use crate::label::Label;
 use crate::wishes::Wishes;
 use std::alloc::{AllocError, Global};
 
 /// The places of the rules that decide a label's wish.
-#[tactic(auto, unfolding(crate::specs::Deciding::trail_of))]
 pub(crate) fn rules_for(
     alloc: Global,
     wishes: Wishes<'_>,
@@ -27,11 +26,22 @@ pub(crate) fn rules_for(
     )?;
     let mut rules = Vec::new(alloc);
     for hop in course.hops() {
-        if let Some(place) = hop.rule() {
-            rules.push(place)?;
-        }
+        add_decided(&mut rules, hop)?;
     }
     Ok(rules)
+}
+
+// Adds the place of the rule that decides, if one does.
+fn add_decided(rules: &mut Vec<usize>, hop: &Hop) -> Result<(), AllocError>
+    ensures { OnOk result (rules.new.items ≡ rules.old.items ++ decided hop.now.rule) }
+{
+    match hop.rule() {
+        Some(place) => {
+            rules.push(place)?;
+            Ok(())
+        }
+        None => Ok(()),
+    }
 }
 
 /// Whether two ends are the same.

@@ -5,6 +5,7 @@ ghost use Rattle.reach.specs.Ways.{AreWays};
 
 use crate::chosen::Chosen;
 use crate::label::Label;
+use crate::texts::PathAt;
 use crate::ways::{Reach, Ways};
 use crate::wishes::Wishes;
 use start_lists::{Binary, StartList};
@@ -129,27 +130,30 @@ fn add_cells(
     ensures { OnOk result (All (IsTrue list.now) cells.new.items) }
 {
     for server in 0..list.entries().len() {
-        let entry = &list.entries()[server];
-        if chosen.has_server(server) && entry.offers(entry.home(), service.as_bytes()) {
-            add_cell(cells, list, client, service, ways, server)?;
-        }
+        add_cell(cells, list, chosen, client, service, ways, server)?;
     }
     Ok(())
 }
 
-// The cell of a client and a server.
+// The cell of a client and a server, if that is looked at and provides the service.
 fn add_cell(
     cells: &mut Vec<Cell>,
     list: &StartList,
+    chosen: &Chosen,
     client: usize,
     service: &'static str,
     ways: &Ways,
     server: usize,
 ) -> Result<(), AllocError>
+    requires server { server < length list.now.entries }
     requires ways { AreWays list.now client service.now ways.now }
     requires cells { All (IsTrue list.now) cells.old.items }
     ensures { OnOk result (All (IsTrue list.now) cells.new.items) }
 {
+    let entry = &list.entries()[server];
+    if !chosen.has_server(server) || !entry.offers(entry.home(), service.as_bytes()) {
+        return Ok(());
+    }
     let reach = ways.reach(server);
     cells.push(Cell {
         client,
@@ -169,9 +173,8 @@ impl fmt::Display for Table<'_> {
         let mut gap = self.margin();
         for cell in self.cells.as_slice() {
             if cell.client == first.client {
-                show_spaces(f, gap)?;
-                f.write_str("  ")?;
-                self.show_path(f, cell.server)?;
+                let server = PathAt::of(self.list, cell.server);
+                write!(f, "{:gap$}  {server}", "")?;
                 gap = self
                     .width(cell.server)
                     .saturating_sub(self.path_length(cell.server));
@@ -184,31 +187,32 @@ impl fmt::Display for Table<'_> {
 impl Table<'_> {
     // The rows, each behind the end of the line before.
     fn show_rows<W: fmt::Write>(&self, f: &mut fmt::Formatter<W>) -> fmt::Result {
-        let mut row = None;
-        let mut gap = 0;
+        let mut before = None;
         for cell in self.cells.as_slice() {
-            if row != Some(cell.client) {
-                f.write_str("\n")?;
-                self.show_path(f, cell.client)?;
-                gap = self.margin().saturating_sub(self.path_length(cell.client));
-                row = Some(cell.client);
-            }
-            show_spaces(f, gap)?;
-            f.write_str("  ")?;
-            show_reach(f, &cell.reach)?;
-            gap = self
-                .width(cell.server)
-                .saturating_sub(reach_length(&cell.reach));
+            self.show_cell(f, before, cell)?;
+            before = Some(cell);
         }
         f.write_str("\n")
     }
 
-    // The path of a component.
-    fn show_path<W: fmt::Write>(&self, f: &mut fmt::Formatter<W>, number: usize) -> fmt::Result {
-        match self.list.entries().get(number) {
-            Some(entry) => write!(f, "{}", entry.to_path()),
-            None => Ok(()),
-        }
+    // A cell behind the one before it, or behind the path at the head of its row.
+    fn show_cell<W: fmt::Write>(
+        &self,
+        f: &mut fmt::Formatter<W>,
+        before: Option<&Cell>,
+        cell: &Cell,
+    ) -> fmt::Result {
+        let gap = match before {
+            Some(before) if before.client == cell.client => {
+                let width = self.width(before.server);
+                width.saturating_sub(reach_length(&before.reach))
+            }
+            _ => {
+                write!(f, "\n{}", PathAt::of(self.list, cell.client))?;
+                self.margin().saturating_sub(self.path_length(cell.client))
+            }
+        };
+        show_reach(f, gap, &cell.reach)
     }
 
     // How long the path of a component is.
@@ -240,14 +244,6 @@ impl Table<'_> {
     }
 }
 
-// So many spaces.
-fn show_spaces<W: fmt::Write>(f: &mut fmt::Formatter<W>, count: usize) -> fmt::Result {
-    for _ in 0..count {
-        f.write_str(" ")?;
-    }
-    Ok(())
-}
-
 // How long what is told of a cell is.
 fn reach_length(reach: &Reach) -> usize {
     match reach {
@@ -257,12 +253,13 @@ fn reach_length(reach: &Reach) -> usize {
     }
 }
 
-// What is told of a cell.
-fn show_reach<W: fmt::Write>(f: &mut fmt::Formatter<W>, reach: &Reach) -> fmt::Result {
+// What is told of a cell, behind so many spaces and two more.
+fn show_reach<W: fmt::Write>(f: &mut fmt::Formatter<W>, gap: usize, reach: &Reach) -> fmt::Result {
+    f.write_repeated(" ", gap)?;
     match reach {
-        Reach::Always => f.write_str("always"),
-        Reach::By(label) => write!(f, "label \"{label}\""),
-        Reach::Never => f.write_str("-"),
+        Reach::Always => f.write_str("  always"),
+        Reach::By(label) => write!(f, "  label \"{label}\""),
+        Reach::Never => f.write_str("  -"),
     }
 }
 
@@ -275,26 +272,26 @@ pub struct Csv<'a> {
 impl fmt::Display for Csv<'_> {
     fn fmt<W: fmt::Write>(&self, f: &mut fmt::Formatter<W>) -> fmt::Result {
         f.write_str("from,service,to,reach,label\n")?;
-        let entries = self.table.list.entries();
         for cell in self.table.cells() {
-            let (Some(client), Some(server)) = (entries.get(cell.client), entries.get(cell.server))
-            else {
-                return Ok(());
-            };
-            write!(
-                f,
-                "{},{},{},",
-                client.to_path(),
-                cell.service,
-                server.to_path()
-            )?;
-            match &cell.reach {
-                Reach::Always => f.write_str("always,\n")?,
-                Reach::By(label) => show_some(f, label)?,
-                Reach::Never => f.write_str("none,\n")?,
-            }
+            show_line(f, self.table.list, cell)?;
         }
         Ok(())
+    }
+}
+
+// A cell.
+fn show_line<W: fmt::Write>(
+    f: &mut fmt::Formatter<W>,
+    list: &StartList,
+    cell: &Cell,
+) -> fmt::Result {
+    let client = PathAt::of(list, cell.client);
+    let server = PathAt::of(list, cell.server);
+    write!(f, "{client},{},{server},", cell.service)?;
+    match &cell.reach {
+        Reach::Always => f.write_str("always,\n"),
+        Reach::By(label) => show_some(f, label),
+        Reach::Never => f.write_str("none,\n"),
     }
 }
 

@@ -8,6 +8,7 @@ use crate::chosen::Chosen;
 use crate::course::Course;
 use crate::deciding::{Trail, Trails};
 use crate::label::Label;
+use crate::texts::PathAt;
 use crate::wishes::Wishes;
 use start_lists::{Binary, StartList};
 use std::alloc::{AllocError, Global};
@@ -85,7 +86,6 @@ fn add_client<'a>(
 }
 
 // The ways of a client for one service.
-#[tactic(auto, using(crate::proofs::TableLemmas::trail_at))]
 fn add_service<'a>(
     alloc: Global,
     ways: &mut Vec<Way<'a>>,
@@ -104,10 +104,26 @@ fn add_service<'a>(
         service: service.as_bytes(),
     };
     let found = Trails::of(alloc, wishes)?;
-    let trails = found.as_slice();
+    add_ways(alloc, ways, wishes, chosen, service, found.as_slice())
+}
+
+// The ways of trails, of those that lead to a server that is looked at.
+fn add_ways<'a>(
+    alloc: Global,
+    ways: &mut Vec<Way<'a>>,
+    wishes: Wishes<'a>,
+    chosen: &Chosen,
+    service: &'static str,
+    trails: &[Trail],
+) -> Result<(), AllocError>
+    requires client { wishes.client < length wishes.list.now.entries }
+    requires service { wishes.service.now ≡ service.now }
+    requires trails { AreTrails wishes.list.now wishes.client service.now trails.now }
+    requires ways { All (IsWay wishes.list.now) ways.old.items }
+    ensures { OnOk result (All (IsWay wishes.entry.list.now) ways.new.items) }
+{
     for place in 0..trails.len() {
-        let trail = &trails[place];
-        add_way(alloc, ways, wishes, chosen, service, trail)?;
+        add_way(alloc, ways, wishes, chosen, service, &trails[place])?;
     }
     Ok(())
 }
@@ -159,29 +175,28 @@ fn server_of(chosen: &Chosen, trail: &Trail) -> Option<usize>
     }
 }
 
-/// An empty line, and then a line a way: who reaches whom, for which service, with which label and by which rules. Nothing where
-/// there is no way.
+/// An empty line, and then a line a way. Nothing where there is no way.
 impl fmt::Display for WayList<'_> {
     fn fmt<W: fmt::Write>(&self, f: &mut fmt::Formatter<W>) -> fmt::Result {
-        let entries = self.list.entries();
-        if !self.ways.is_empty() {
-            f.write_str("\n")?;
-        }
         for way in self.ways.as_slice() {
-            let (Some(client), Some(server)) = (entries.get(way.client), entries.get(way.server))
-            else {
-                return Ok(());
-            };
-            write!(
-                f,
-                "{} {} label \"{}\": {}",
-                client.to_path(),
-                way.service,
-                way.label,
-                Brief::of(&way.course)
-            )?;
-            writeln!(f, " -> {}", server.to_path())?;
+            show_way(f, self.list, way)?;
         }
-        Ok(())
+        f.write_str(if self.ways.is_empty() { "" } else { "\n" })
     }
+}
+
+// A way behind the end of the line before: who reaches whom, for which service, with which label and by which rules.
+fn show_way<W: fmt::Write>(
+    f: &mut fmt::Formatter<W>,
+    list: &StartList,
+    way: &Way<'_>,
+) -> fmt::Result {
+    let client = PathAt::of(list, way.client);
+    let brief = Brief::of(&way.course);
+    let server = PathAt::of(list, way.server);
+    write!(
+        f,
+        "\n{client} {} label \"{}\": {brief} -> {server}",
+        way.service, way.label
+    )
 }

@@ -39,7 +39,6 @@ impl Model for Ways {
 
 impl Ways {
     /// Where wishes lead. An error is want of memory.
-    #[tactic(auto, using(crate::proofs::WaysLemmas::ways_of))]
     pub fn of(alloc: Global, wishes: Wishes<'_>) -> Result<Ways, AllocError>
         requires client { wishes.client < length wishes.list.now.entries }
         ensures { IfOk result (λ ways.
@@ -51,7 +50,6 @@ impl Ways {
     }
 
     /// Whether they lead to the component of a number.
-    #[tactic(auto, using(crate::proofs::WaysLemmas::never_leads, crate::proofs::WaysLemmas::always_leads, crate::proofs::WaysLemmas::some_stray, crate::proofs::WaysLemmas::shortest_leads))]
     pub fn reach(&self, server: usize) -> Reach
         ensures { (list : Listed) (client : ℕ) (service : List ℕ) → AreWays list client service
             self.now → TellsReach list client service server result }
@@ -80,7 +78,7 @@ fn shortest(kept: &[Kept], server: usize) -> Option<usize>
 }
 
 // The shorter of the best so far and the next one, if that leads to a server.
-#[tactic(auto, using(crate::proofs::WaysLemmas::best_stays, crate::proofs::WaysLemmas::best_taken))]
+#[tactic(auto, using(crate::proofs::WaysLemmas::best_stays))]
 fn better(
     kept: &[Kept],
     server: usize,

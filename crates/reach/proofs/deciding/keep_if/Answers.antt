@@ -1,7 +1,15 @@
--- The label at a place has so many bytes.
+-- The label at a place has so many bytes, or it is passed.
 use Rattle.std.proofs.Common.{sym}
-use Rattle.reach.proofs.TrailLemmas.{seen_more}
+use Rattle.reach.proofs.TrailLemmas.{seen_more, told_at}
 use Rattle.reach.proofs.deciding.keep_if.Goals as goal
+
+pub keep-requires-clause-told : goal.keep-requires-clause-told
+keep-requires-clause-told c =
+    told_at c.args.wishes.list.now c.args.wishes.client c.args.wishes.service.now c.args.kept.now c.args.place c.index-kept-place.result
+    c.requires.stand c.requires.within (sym c.index-kept-place.is)
+
+pub keep-requires-clause-trails : goal.keep-requires-clause-trails
+keep-requires-clause-trails c = c.requires.seen.told
 
 pub returns : goal.returns
 returns c =

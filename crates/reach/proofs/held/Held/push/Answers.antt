@@ -1,5 +1,5 @@
 -- The key is new, and so is the label.
-use Rattle.std.proofs.Common.{◌≡◌, ◌++◌, ◌∷◌, [], ◌∙◌, ap, refl, sym}
+use Rattle.std.proofs.Common.{◌++◌, ◌∷◌, [], ◌∙◌, ap}
 use Rattle.std.specs.List.{list_any}
 use Rattle.reach.specs.Closure.{has_key}
 use Rattle.reach.proofs.HeldLemmas.{puts_more}
