@@ -6,8 +6,8 @@ use Rattle.std.specs.Option.{option_map}
 use Rattle.trade_base.specs.Bytes.{with_bytes}
 use Rattle.trade_base.proofs.BytesLemmas.{with_bytes-nothing}
 use Rattle.own_model.specs.Account.{Account}
-use Rattle.own_model.specs.BufferService.{BufferServed, beside, range_refusal, part_of, put, got, session_request}
-use Rattle.own_model.specs.BufferService.SessionRequest.{OfFiles}
+use Rattle.own_model.specs.BufferService.{BufferRequest, BufferServed, beside, range_refusal, part_of, put, got, session_request}
+use Rattle.own_model.specs.BufferService.SessionRequest.{OfFiles, OfBuffer}
 use Rattle.own_model.specs.FileService.{File, Files, FileServed, told, written}
 use Rattle.own_model.specs.FileText as model
 use Rattle.own_model.specs.FileText.{file_reply}
@@ -15,9 +15,10 @@ use Rattle.own_model.specs.FileText.FileError.{Gap}
 use Rattle.own_model.specs.FileText.FileReply.{Count, Refused}
 use Rattle.region_map.specs.Regions.{Regions}
 use Rattle.dataspace_core.specs.Store.{Store, space_at}
-use Rattle.server_frame.specs.Lent.{bytes_lent}
+use Rattle.server_frame.specs.Lent.{IsEffect, bytes_lent}
 use Rattle.server_frame.specs.Session.{holding_of}
 use Rattle.calls.specs.Told.{Told, nothing_told}
+use Rattle.server_frame.specs.declared.effect.Effect.{Effect}
 use Rattle.server_frame.specs.declared.effect.Effect.TheVariants.{Nothing}
 use Rattle.session_proto.specs.File.{model_request}
 use Rattle.session_proto.specs.declared.file.FileRequest.{FileRequest}
@@ -145,4 +146,18 @@ module _ {session : FileSession} {store : Store} {regions : Regions} (ready : Is
         leaves = files_leave (served_in request session has) keeps serves.leaves;
         effect_is = ap buffer_key serves.leaves.own.buffer;
         stays = keeps.stays;
+      })
+
+  -- a request of the buffer is answered as it is served, and what it does to the buffer is told
+  pub buffer_answered : {later : FileSession} {new : Store} {after : Regions} (text : List ℕ) (request : BufferRequest) (reply : model.FileReply) (effect does : Effect) (told_now told_then : Told) →
+      session_request text ≡ Some (OfBuffer request) → Answers (session_served (Some (OfBuffer request)) session store regions) reply session later new after →
+      effect ≡ does → IsEffect does (buffer_key session.buffer) (buffer_key later.buffer) → StayFurnished session.rooms later.rooms store new regions after →
+      told_then ≡ record told_now { text = told_now.text ++ file_reply reply } → told_now ≡ nothing_told →
+      IsAnswered (session_served (session_request text) session store regions) effect told_then session later store new regions after
+  buffer_answered {later} {new} {after} text request reply effect does told_now told_then reads answers same is_effect stays tells none =
+      subst (λ r. IsAnswered (session_served r session store regions) effect told_then session later store new regions after) (sym reads) (record {
+        text = told_text told_then told_now reply _ tells none answers.reply_is;
+        leaves = answers.leaves;
+        effect_is = subst (λ e. IsEffect e (buffer_key session.buffer) (buffer_key later.buffer)) (sym same) is_effect;
+        stays = stays;
       })
