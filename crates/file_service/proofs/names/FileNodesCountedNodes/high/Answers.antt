@@ -1,5 +1,5 @@
 -- The height stands behind the links.
-use Rattle.std.proofs.Common.{◌∙◌, arith, sym, ap, subst}
+use Rattle.std.proofs.Common.{◌∙◌, arith, ap}
 use Rattle.file_service.proofs.NameReadLemmas.{names_after, word_read}
 use Rattle.file_service.specs.Index.{names_in}
 use Rattle.file_service.specs.Rooms.{stock_of}
