@@ -1,4 +1,4 @@
-use Rattle.std.proofs.Common.{◌≡◌, ℕ, ◌<◌, refl, sym, ◌∙◌, subst, arith}
+use Rattle.std.proofs.Common.{ℕ, ◌<◌, refl, subst, arith}
 use Rattle.avl_tree.specs.Tree.{Leaf}
 use Rattle.avl_tree.specs.View.{height_at}
 use Rattle.avl_tree.proofs.ViewLemmas.{fork_forms}

@@ -1,4 +1,4 @@
-use Rattle.std.proofs.Common.{ℕ, ◌<◌, refl, sym, ◌∙◌, subst, arith}
+use Rattle.std.proofs.Common.{ℕ, ◌<◌, subst, arith}
 use Rattle.avl_tree.specs.View.{height_at}
 use Rattle.avl_tree.proofs.PartLemmas.{Parts, part-here_first, part-here_made, part_lower, part-left_asks, part-left_first, part-left_new_asks, part-left_made, part-left_loads}
 use Rattle.avl_tree.proofs.tree.+part_first.Goals as goal

@@ -1,9 +1,6 @@
-use Rattle.std.proofs.Common.{◌≡◌, ℕ, ◌<◌, refl, sym, ◌∙◌, subst, arith}
-use Rattle.avl_tree.specs.Tree.{removed}
+use Rattle.std.proofs.Common.{ℕ, ◌<◌, sym, subst, arith}
 use Rattle.avl_tree.specs.View.{height_at}
-use Rattle.avl_tree.specs.Made.{Reforms}
-use Rattle.avl_tree.proofs.ViewLemmas.{leaf_is, changes_none}
-use Rattle.avl_tree.proofs.StepLemmas.{Prunes, lower_to_left, lower_to_right, prune-leaf_made, prune-left_asks, prune-right_asks, prune-left_new_asks, prune-right_new_asks, prune-left_made, prune-right_made, join_asks, prune-here_made, left_loads, right_loads, here_loads}
+use Rattle.avl_tree.proofs.StepLemmas.{Prunes, lower_to_left, lower_to_right, prune-leaf_made, prune-left_asks, prune-right_asks, prune-left_new_asks, prune-right_new_asks, prune-left_made, prune-right_made, prune-here_made, left_loads, right_loads, here_loads}
 use Rattle.avl_tree.proofs.tree.+prune.Goals as goal
 
 -- the tree without a node

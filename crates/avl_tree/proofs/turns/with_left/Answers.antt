@@ -1,5 +1,5 @@
-use Rattle.std.proofs.Common.{◌≡◌, Some, None, refl, sym, ◌∙◌, subst, arith}
-use Rattle.avl_tree.specs.Tree.{Tree, Node, root_of, balanced}
+use Rattle.std.proofs.Common.{◌≡◌, sym, ◌∙◌, subst, arith}
+use Rattle.avl_tree.specs.Tree.{Node, root_of, balanced}
 use Rattle.avl_tree.specs.Made.{IsLeftNew, Reforms}
 use Rattle.avl_tree.proofs.ViewLemmas.{root_node, nodes_in}
 use Rattle.avl_tree.proofs.NewLemmas.{left-same, left-slope, left-formed}
