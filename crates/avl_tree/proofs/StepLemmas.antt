@@ -73,6 +73,13 @@ module _ {Rest : Type 0} (plan : Plan) (w : View Rest) where
       prune-right_asks child is = opened plan w root (λ t. AreNodes IsNode t → HasTree IsNode plan w child) some
           (λ l s h r stands nodes. (r, right_stands plan w l root s h r stands child (step_right k l root s h r stands child is).2, nodes_in IsNode r (Node l root s h r) (λ a. omega arith) nodes))
 
+      -- ---- the node itself
+
+      pub prune-here_asks : (t : Tree) → Stands plan w t root → AreNodes IsNode t →
+          (l : Tree) × (s h : ℕ) × (r : Tree) × Stands plan w (Node l root s h r) root × AreNodes IsNode (Node l root s h r)
+      prune-here_asks = opened plan w root (λ t. AreNodes IsNode t → (l : Tree) × (s h : ℕ) × (r : Tree) × Stands plan w (Node l root s h r) root × AreNodes IsNode (Node l root s h r)) some
+          (λ l s h r stands nodes. (l, s, h, r, stands, nodes))
+
     -- what a removal makes
     abbrev pub Prunes : View Rest → ℕ → Option Limb → Type 0
     Prunes v at change = (t : Tree) → Stands plan w t at → Reforms plan w v t (removed k t) change
