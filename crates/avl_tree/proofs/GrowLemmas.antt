@@ -1,11 +1,11 @@
 -- A node more in a tree in a memory, a step of the recursion at a time.
-use Rattle.std.proofs.Common.{◌≡◌, ◌≢◌, ℕ, ◌+◌, ◌*◌, ◌<◌, ◌≤◌, true, false, Option, Some, None, refl, sym, ◌∙◌, subst, arith, inl, inr}
-use Rattle.std.specs.Prelude.{◌==◌, if◌then◌else◌}
+use Rattle.std.proofs.Common.{◌≡◌, ◌≢◌, ℕ, ◌+◌, ◌*◌, ◌≤◌, true, false, Option, Some, refl, sym, subst, arith}
+use Rattle.std.specs.Prelude.{◌==◌}
 use Rattle.std.proofs.lemmas.Bool.Decides.{nat_tests}
 use Rattle.avl_tree.specs.declared.node.Limb.{Limb}
 use Rattle.avl_tree.specs.declared.node.Step.TheVariants.{Left, Here, Right}
-use Rattle.avl_tree.specs.Tree.{Tree, Leaf, Node, root_of, high, tally, is_at, ranked, forked, balanced, inserted}
-use Rattle.avl_tree.specs.View.{View, Plan, covered, IsStep, Holds, AreNodes, Stands, IsNew, LacksNode}
+use Rattle.avl_tree.specs.Tree.{Tree, Leaf, Node, high, tally, is_at, ranked, forked, inserted}
+use Rattle.avl_tree.specs.View.{View, Plan, IsStep, AreNodes, Stands, IsNew, LacksNode}
 use Rattle.avl_tree.specs.Made.{IsLeftNew, IsRightNew, Forms, Reforms}
 use Rattle.avl_tree.proofs.TreeLemmas.{tally-inserted, inserted-grows}
 use Rattle.avl_tree.proofs.ViewLemmas.{nodes_in, leaf_is}

@@ -1,10 +1,9 @@
 -- A node one of whose trees has become another one.
-use Rattle.std.proofs.Common.{◌≡◌, ◌≢◌, ℕ, ◌+◌, ◌*◌, ◌^◌, ◌<◌, ◌≤◌, Option, Some, None, refl, sym, ◌∙◌, subst, arith}
+use Rattle.std.proofs.Common.{◌≡◌, ◌≢◌, ℕ, ◌+◌, ◌≤◌, Option, Some, None, refl, sym, ◌∙◌, subst, arith}
 use Rattle.std.specs.Prelude.{max}
 use Rattle.avl_tree.specs.declared.node.Limb.{Limb}
-use Rattle.avl_tree.specs.declared.node.Links.{Links}
-use Rattle.avl_tree.specs.Tree.{Tree, Leaf, Node, root_of, high, tally, forked, balanced, IsLevel, IsBalanced}
-use Rattle.avl_tree.specs.View.{View, Plan, covered, IsHere, Holds, Stands}
+use Rattle.avl_tree.specs.Tree.{Tree, Leaf, Node, root_of, high, forked, balanced, IsBalanced}
+use Rattle.avl_tree.specs.View.{View, Plan, covered, Stands}
 use Rattle.avl_tree.specs.Made.{IsLimb, IsTold, IsSame, IsSlope, IsLeftNew, IsRightNew, Forms, Reforms}
 use Rattle.avl_tree.proofs.TreeLemmas.{tally-balanced}
 use Rattle.avl_tree.proofs.TurnLemmas.{balanced-is_fork}

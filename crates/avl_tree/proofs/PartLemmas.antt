@@ -1,9 +1,9 @@
 -- Taking the first node out of a tree in a memory, and joining two trees.
-use Rattle.std.proofs.Common.{◌≡◌, ◌≢◌, ℕ, ◌+◌, ◌*◌, ◌<◌, ◌≤◌, Option, Some, None, refl, sym, ◌∙◌, subst, arith}
+use Rattle.std.proofs.Common.{◌≡◌, ◌≢◌, ℕ, ◌+◌, ◌*◌, ◌<◌, ◌≤◌, Option, Some, refl, sym, ◌∙◌, subst, arith}
 use Rattle.avl_tree.specs.declared.node.Limb.{Limb}
 use Rattle.avl_tree.specs.declared.node.Links.{Links}
-use Rattle.avl_tree.specs.Tree.{Tree, Leaf, Node, root_of, high, tally, is_at, balanced, joined, first_of, rest_of}
-use Rattle.avl_tree.specs.View.{View, Plan, covered, Holds, AreNodes, Stands, height_at}
+use Rattle.avl_tree.specs.Tree.{Tree, Leaf, Node, root_of, high, is_at, balanced, joined, first_of, rest_of}
+use Rattle.avl_tree.specs.View.{View, Plan, Holds, AreNodes, Stands, height_at}
 use Rattle.avl_tree.specs.Made.{IsLimb, IsTold, IsLeftNew, IsSlope, Forms, Reforms}
 use Rattle.avl_tree.proofs.TreeLemmas.{tally-balanced, tally-rest_of, rest_of-shrinks}
 use Rattle.avl_tree.proofs.ViewLemmas.{holds_apart, changes_none, changes_then, nodes_in, height_is}

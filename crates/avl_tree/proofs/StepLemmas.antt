@@ -1,14 +1,13 @@
 -- The operations on trees in a memory, a step of their recursions at a time.
-use Rattle.std.proofs.Common.{◌≡◌, ◌≢◌, ℕ, ◌+◌, ◌*◌, ◌^◌, ◌<◌, ◌≤◌, Bool, true, false, Option, Some, None, refl, sym, ap, ◌∙◌, subst, arith, inl, inr}
+use Rattle.std.proofs.Common.{◌≡◌, ◌≢◌, ℕ, ◌+◌, ◌*◌, ◌<◌, ◌≤◌, true, false, Option, Some, None, refl, sym, ◌∙◌, subst, arith}
 use Rattle.std.specs.Prelude.{nat_lt, if◌then◌else◌, ◌==◌}
 use Rattle.std.proofs.lemmas.Bool.Decides.{nat_tests}
 use Rattle.avl_tree.specs.declared.node.Limb.{Limb}
-use Rattle.avl_tree.specs.declared.node.Step.{Step}
 use Rattle.avl_tree.specs.declared.node.Step.TheVariants.{Left, Here, Right}
-use Rattle.avl_tree.specs.Tree.{Tree, Leaf, Node, root_of, high, tally, is_at, ranked, forked, balanced, inserted, removed, joined, first_of, rest_of, found, or_else, IsBalanced}
-use Rattle.avl_tree.specs.View.{View, Plan, covered, IsStep, AreNodes, Stands, HasTree, Becomes, height_at}
+use Rattle.avl_tree.specs.Tree.{Tree, Leaf, Node, root_of, high, tally, is_at, balanced, removed, joined, found, or_else, IsBalanced}
+use Rattle.avl_tree.specs.View.{View, Plan, IsStep, AreNodes, Stands, HasTree, Becomes, height_at}
 use Rattle.avl_tree.specs.Made.{IsLeftNew, IsRightNew, Forms, Reforms, root_told}
-use Rattle.avl_tree.proofs.TreeLemmas.{tally-inserted, tally-removed_le, inserted-grows, removed-shrinks, tally-balanced}
+use Rattle.avl_tree.proofs.TreeLemmas.{tally-removed_le, removed-shrinks}
 use Rattle.avl_tree.proofs.TurnLemmas.{ltb-true, ltb-false}
 use Rattle.avl_tree.proofs.ViewLemmas.{root_node, nodes_in, height_is, leaf_is, changes_none}
 use Rattle.avl_tree.proofs.NewLemmas.{opened, left_stands, right_stands, left_new, left_made, right_new, right_made}
@@ -73,6 +72,13 @@ module _ {Rest : Type 0} (plan : Plan) (w : View Rest) where
       pub prune-right_asks : (child : ℕ) → IsStep w k root (Right child) → (t : Tree) → Stands plan w t root → AreNodes IsNode t → HasTree IsNode plan w child
       prune-right_asks child is = opened plan w root (λ t. AreNodes IsNode t → HasTree IsNode plan w child) some
           (λ l s h r stands nodes. (r, right_stands plan w l root s h r stands child (step_right k l root s h r stands child is).2, nodes_in IsNode r (Node l root s h r) (λ a. omega arith) nodes))
+
+      -- ---- the node itself
+
+      pub prune-here_asks : (t : Tree) → Stands plan w t root → AreNodes IsNode t →
+          (l : Tree) × (s h : ℕ) × (r : Tree) × Stands plan w (Node l root s h r) root × AreNodes IsNode (Node l root s h r)
+      prune-here_asks = opened plan w root (λ t. AreNodes IsNode t → (l : Tree) × (s h : ℕ) × (r : Tree) × Stands plan w (Node l root s h r) root × AreNodes IsNode (Node l root s h r)) some
+          (λ l s h r stands nodes. (l, s, h, r, stands, nodes))
 
     -- what a removal makes
     abbrev pub Prunes : View Rest → ℕ → Option Limb → Type 0

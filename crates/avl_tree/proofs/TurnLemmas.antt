@@ -1,12 +1,12 @@
 -- Turns of trees in a memory, a written node at a time.
-use Rattle.std.proofs.Common.{◌≡◌, ◌≢◌, ℕ, ◌+◌, ◌^◌, ◌<◌, ◌≤◌, true, false, refl, sym, ◌∙◌, subst, arith}
+use Rattle.std.proofs.Common.{◌≡◌, ℕ, ◌+◌, ◌^◌, ◌<◌, ◌≤◌, true, false, sym, ◌∙◌, subst, arith}
 use Rattle.std.specs.Prelude.{nat_lt, nat_le, max, if◌then◌else◌}
 use Rattle.std.proofs.lemmas.Bool.Decides.{nat_tests}
 use Rattle.avl_tree.specs.declared.node.Limb.{Limb}
 use Rattle.avl_tree.specs.declared.node.Arms.{Arms}
 use Rattle.avl_tree.specs.declared.node.Links.{Links}
 use Rattle.avl_tree.specs.Tree.{Tree, Leaf, Node, root_of, high, forked, raised_left, raised_inner_left, raised_right, raised_inner_right, turned_right, turned_left, balanced, IsBalanced}
-use Rattle.avl_tree.specs.View.{View, Plan, IsRelinked, Holds, AreNodes, ChangesLinks}
+use Rattle.avl_tree.specs.View.{View, Plan, IsRelinked, Holds, AreNodes}
 use Rattle.avl_tree.specs.Made.{IsLimb, AreArms, ReadsArms, IsPlot, IsSlope, Forms}
 use Rattle.avl_tree.proofs.ViewLemmas.{holds_apart, changes_then, fork_forms, nodes_in}
 

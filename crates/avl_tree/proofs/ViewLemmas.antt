@@ -1,11 +1,11 @@
 -- Trees in a memory: what stays of them when links change, and what a node makes that is put over two.
-use Rattle.std.proofs.Common.{◌≡◌, ◌≢◌, ℕ, ◌+◌, ◌^◌, ◌<◌, ◌≤◌, true, false, refl, sym, ap, ◌∙◌, subst, arith}
+use Rattle.std.proofs.Common.{◌≡◌, ◌≢◌, ℕ, ◌+◌, ◌≤◌, true, false, refl, sym, ap, ◌∙◌, subst, arith}
 use Rattle.std.specs.Prelude.{max, ◌==◌, if◌then◌else◌}
 use Rattle.std.proofs.lemmas.Bool.Decides.{nat_tests}
 use Rattle.avl_tree.specs.declared.node.Links.{Links}
 use Rattle.avl_tree.specs.declared.node.Limb.{Limb}
-use Rattle.avl_tree.specs.Tree.{Tree, Leaf, Node, root_of, high, tally, is_at, ranked, same, forked, IsBalanced}
-use Rattle.avl_tree.specs.View.{View, Plan, covered, trodden, IsRelinked, IsHere, Holds, AreNodes, Stands, ChangesLinks, height_at}
+use Rattle.avl_tree.specs.Tree.{Tree, Leaf, Node, root_of, high, tally, is_at, ranked, same, forked}
+use Rattle.avl_tree.specs.View.{View, Plan, covered, trodden, IsRelinked, Holds, AreNodes, Stands, ChangesLinks, height_at}
 use Rattle.avl_tree.specs.Made.{IsLimb, IsPlot, Forms}
 
 module _ {Rest : Type 0} (plan : Plan) where

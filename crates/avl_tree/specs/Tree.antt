@@ -1,5 +1,5 @@
 -- Search trees over nodes by their ranks, balanced by height, and what the operations make of them.
-use Rattle.std.specs.Prelude.{◌≡◌, ℕ, ◌+◌, ◌<◌, ◌≤◌, ◌==◌, ◌&&◌, nat_lt, nat_le, if◌then◌else◌, max}
+use Rattle.std.specs.Prelude.{◌≡◌, ℕ, ◌+◌, ◌≤◌, ◌==◌, ◌&&◌, nat_lt, nat_le, if◌then◌else◌, max}
 
 -- a tree: the left tree, the node's number, its rank, the height, the right tree
 pub data Tree : Type 0 where

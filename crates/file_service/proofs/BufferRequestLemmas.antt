@@ -1,29 +1,33 @@
 -- Requests of the buffer: why they are refused, and what they leave of a session.
-use Rattle.std.proofs.Common.{◌≡◌, ℕ, ◌+◌, ◌<◌, ◌≤◌, true, false, List, [], ◌++◌, length, take, drop, Option, Some, None, refl, sym, ap, subst, ◌∙◌, arith}
+use Rattle.std.proofs.Common.{◌≡◌, ℕ, ◌+◌, ◌<◌, ◌≤◌, true, false, List, [], ◌++◌, length, take, drop, Option, Some, None, is_some, refl, sym, ap, subst, ◌∙◌, arith}
 use Rattle.std.proofs.lemmas.Bool.Decides.{nat_tests}
 use Rattle.std.specs.Prelude.{nat_lt}
 use Rattle.std.specs.Option.{option_map}
 use Rattle.trade_base.specs.Bytes.{with_bytes}
+use Rattle.trade_base.specs.Page.{is_valid_size}
+use Rattle.trade_base.specs.declared.refusal.Refusal.{Refusal}
 use Rattle.trade_base.proofs.BytesLemmas.{with_bytes-nothing}
-use Rattle.own_model.specs.Account.{Account}
-use Rattle.own_model.specs.BufferService.{BufferServed, beside, range_refusal, part_of, put, got, session_request}
-use Rattle.own_model.specs.BufferService.SessionRequest.{OfFiles}
-use Rattle.own_model.specs.FileService.{File, Files, FileServed, told, written}
+use Rattle.own_model.specs.Account.{Account, alloc_refusal}
+use Rattle.own_model.specs.BufferService.{BufferRequest, BufferServed, beside, make_refusal, made, range_refusal, part_of, put, got, session_request, unless_refused}
+use Rattle.own_model.specs.BufferService.BufferRequest.{Make}
+use Rattle.own_model.specs.BufferService.SessionRequest.{OfFiles, OfBuffer}
+use Rattle.own_model.specs.FileService.{File, Files, FileServed, error_of, told, written}
 use Rattle.own_model.specs.FileText as model
 use Rattle.own_model.specs.FileText.{file_reply}
 use Rattle.own_model.specs.FileText.FileError.{Gap}
 use Rattle.own_model.specs.FileText.FileReply.{Count, Refused}
 use Rattle.region_map.specs.Regions.{Regions}
 use Rattle.dataspace_core.specs.Store.{Store, space_at}
-use Rattle.server_frame.specs.Lent.{bytes_lent}
+use Rattle.server_frame.specs.Lent.{IsEffect, bytes_lent}
 use Rattle.server_frame.specs.Session.{holding_of}
 use Rattle.calls.specs.Told.{Told, nothing_told}
+use Rattle.server_frame.specs.declared.effect.Effect.{Effect}
 use Rattle.server_frame.specs.declared.effect.Effect.TheVariants.{Nothing}
 use Rattle.session_proto.specs.File.{model_request}
 use Rattle.session_proto.specs.declared.file.FileRequest.{FileRequest}
 use Rattle.file_service.specs.Furnished.{Stock}
 use Rattle.file_service.specs.Rooms.{stock_of, StayFurnished, KeepsRooms}
-use Rattle.file_service.specs.Lent.{FillsBuffer, HasBuffer, buffer_key}
+use Rattle.file_service.specs.Lent.{FillsBuffer, TakesBuffer, HasBuffer, buffer_key}
 use Rattle.file_service.specs.Session.{files_in, served_in, session_served, Answers, HasFiles, IsAnswered, IsReady, Leaves, LeavesSession, Serves}
 use Rattle.file_service.specs.declared.session.FileSession.{FileSession}
 use Rattle.file_service.specs.declared.session.Lent.{Lent}
@@ -56,6 +60,10 @@ module _ (offset place count : ℕ) (buffer : Option (List ℕ)) (files : Files)
         got offset place count buffer (Some file) files account ≡ beside (option_map (λ bytes. with_bytes bytes place part) buffer) (told (Count (length part)) files account)
     got_done part good is = rw (no_gap, good, is) refl
 
+-- why no buffer is made where the session lends none, and so many bytes have a size
+short_made : (n : ℕ) (buffer : Option (List ℕ)) (account : Account) → is_valid_size n ≡ true → is_some buffer ≡ false → make_refusal n buffer account ≡ option_map error_of (alloc_refusal n account)
+short_made n buffer account valid none = rw (valid, none) refl
+
 -- a range that isn't refused is in the buffer
 pub range_within : (place count : ℕ) (bytes : List ℕ) → range_refusal place count (Some bytes) ≡ None → place + count ≤ length bytes
 range_within place count bytes good = grind (arith, nat_tests)
@@ -68,6 +76,11 @@ nothing_got (Some bytes) place = ap Some (with_bytes-nothing bytes place)
 -- what is read of a text is its request
 pub read_as : (text : List ℕ) (read request : FileRequest) → read ≡ request → Some (model_request read) ≡ session_request text → session_request text ≡ Some (model_request request)
 read_as text read request same is = sym is ∙ ap (λ r. Some (model_request r)) same
+
+-- a session lends bytes where it lends anything
+lends_some : (lent : Option Lent) (store : Store) → is_some (bytes_lent store (buffer_key lent)) ≡ is_some lent
+lends_some None store = refl
+lends_some (Some lent) store = refl
 
 -- ---- what they leave
 
@@ -105,6 +118,38 @@ module _ {session : FileSession} {store : Store} {regions : Regions} (ready : Is
     buffer = ap (λ b. bytes_lent new (buffer_key b)) leaves.own.buffer ∙ buffer_same ready.furnished keeps session.buffer ready.lent;
     label = leaves.own.label;
   }
+
+  module _ (n : ℕ) (valid : is_valid_size n ≡ true) (none : is_some session.buffer ≡ false) where
+    served_by : (o : Option Refusal) → alloc_refusal n has.account ≡ o →
+        session_served (Some (OfBuffer (Make n))) session store regions ≡ unless_refused (option_map error_of o) lends (files_in session has) has.account (made n (files_in session has) has.account)
+    served_by o is = ap (λ r. unless_refused r lends (files_in session has) has.account (made n (files_in session has) has.account))
+        (short_made n lends has.account valid (lends_some session.buffer store ∙ none) ∙ ap (option_map error_of) is)
+
+    -- a buffer that the account doesn't cover is refused, and leaves all
+    pub make_refused : (r : Refusal) (reply : model.FileReply) {new : Store} {after : Regions} → alloc_refusal n has.account ≡ Some r → reply ≡ Refused (error_of r) → new ≡ store → after ≡ regions →
+        Answers (session_served (Some (OfBuffer (Make n))) session store regions) reply session session new after
+    make_refused r reply {new} {after} short is same stays =
+        let all = told_all (Refused (error_of r)) _ (served_by (Some r) short) in
+        subst (λ m. Answers (session_served (Some (OfBuffer (Make n))) session store regions) reply session session m after) (sym same)
+        (subst (λ m. Answers (session_served (Some (OfBuffer (Make n))) session store regions) reply session session store m) (sym stays)
+        (subst (λ p. Answers (session_served (Some (OfBuffer (Make n))) session store regions) p session session store regions) (sym is) all))
+
+    -- else it is lent
+    pub make_done : (lent : Lent) {new : Store} {after : Regions} → alloc_refusal n has.account ≡ None →
+        TakesBuffer n lent has (stock_of session.rooms new after) (holding_of session.rooms.contents new after) new → StayFurnished session.rooms session.rooms store new regions after →
+        Answers (session_served (Some (OfBuffer (Make n))) session store regions) model.FileReply.Lent session (record session { buffer = Some lent }) new after
+    make_done lent {new} {after} covered taken stays =
+        let is = sym (served_by None covered) in
+        record {
+          reply_is = ap (λ (o : BufferServed). o.reply) is;
+          leaves = record {
+            ready = record { furnished = stays.furnished; files = subst (HasFiles session) (sym taken.stock) ready.files; lent = taken.stands };
+            account = ap (λ (s : Stock). s.account) taken.stock ∙ ap (λ (o : BufferServed). o.account) is;
+            files = ap (files_in session) taken.stock ∙ ap (λ (o : BufferServed). o.files) is;
+            buffer = ap Some taken.zero ∙ ap (λ (o : BufferServed). o.buffer) is;
+            label = refl;
+          };
+        }
 
   -- a get fills the buffer
   pub got_filled : (lent : Lent) (place n : ℕ) (bytes part : List ℕ) (served : BufferServed) {new : Store} → session.buffer ≡ Some lent →
@@ -145,4 +190,18 @@ module _ {session : FileSession} {store : Store} {regions : Regions} (ready : Is
         leaves = files_leave (served_in request session has) keeps serves.leaves;
         effect_is = ap buffer_key serves.leaves.own.buffer;
         stays = keeps.stays;
+      })
+
+  -- a request of the buffer is answered as it is served, and what it does to the buffer is told
+  pub buffer_answered : {later : FileSession} {new : Store} {after : Regions} (text : List ℕ) (request : BufferRequest) (reply : model.FileReply) (effect does : Effect) (told_now told_then : Told) →
+      session_request text ≡ Some (OfBuffer request) → Answers (session_served (Some (OfBuffer request)) session store regions) reply session later new after →
+      effect ≡ does → IsEffect does (buffer_key session.buffer) (buffer_key later.buffer) → StayFurnished session.rooms later.rooms store new regions after →
+      told_then ≡ record told_now { text = told_now.text ++ file_reply reply } → told_now ≡ nothing_told →
+      IsAnswered (session_served (session_request text) session store regions) effect told_then session later store new regions after
+  buffer_answered {later} {new} {after} text request reply effect does told_now told_then reads answers same is_effect stays tells none =
+      subst (λ r. IsAnswered (session_served r session store regions) effect told_then session later store new regions after) (sym reads) (record {
+        text = told_text told_then told_now reply _ tells none answers.reply_is;
+        leaves = answers.leaves;
+        effect_is = subst (λ e. IsEffect e (buffer_key session.buffer) (buffer_key later.buffer)) (sym same) is_effect;
+        stays = stays;
       })

@@ -12,7 +12,8 @@ use Rattle.file_service.specs.Calls.{payload_in}
 use Rattle.file_service.specs.Files.{node_at}
 use Rattle.file_service.specs.Found.{FindsNode}
 use Rattle.file_service.specs.Furnished.{stock}
-use Rattle.file_service.specs.Index.{IsNameNode}
+use Rattle.file_service.specs.Index.{IsNameNode, KeepsNames}
+use Rattle.file_service.specs.NameLaws.{names_same}
 use Rattle.file_service.specs.Node.{FileNode, bytes_of, name_bytes, rank_by, rank_of, word_from}
 use Rattle.file_service.proofs.NodeFoundLemmas.{node_read}
 use Rattle.file_service.proofs.NodeLemmas.{slice_front}
@@ -57,3 +58,7 @@ module _ {heap : Heap} {sliced : SlicedHeap} {store : Store} {regions : Regions}
 
   pub name_low : (j : ℕ) → j < 5 → word_from (space_at store ds).bytes (at + 24 + 8 * j) < 2 ^ 64
   name_low j few = subst (λ n. n < 2 ^ 64) (sym (name_read j few)) (word_low _ (name_bytes-are _ is.padded.name) (8 * j))
+
+-- a memory that is as it was keeps the names
+pub names_after : (heap : Heap) (sliced : SlicedHeap) (regions : Regions) {store new : Store} → new ≡ store → KeepsNames heap sliced regions store new
+names_after heap sliced regions {store} {new} same = subst (KeepsNames heap sliced regions store) (sym same) (names_same heap sliced regions store)

@@ -1,16 +1,13 @@
 -- What a block's node keeps of the tree and of the link back, while its payload stays, or the bytes that stand for it are others.
 use Rattle.std.proofs.Common.{◌≡◌, ℕ, ◌+◌, ◌^◌, ◌<◌, ◌≤◌, List, [], ◌++◌, true, length, take, drop, append_assoc, length-append, true≢false, Some, is_some, refl, sym, ap, subst, ◌∙◌, arith}
-use Rattle.std.proofs.lemmas.List.{append-nil}
-use Rattle.std.specs.Prelude.{slice_range}
 use Rattle.std.specs.FinMap.{get, insert}
 use Rattle.std.specs.Option.{unwrap_or}
-use Rattle.trade_base.specs.Word.{word_of, word_bytes}
+use Rattle.trade_base.specs.Word.{word_bytes}
 use Rattle.trade_base.proofs.WordLemmas.{length-word_bytes}
-use Rattle.trade_base.proofs.ElsewhereLemmas.{range_after}
 use Rattle.own_model.specs.NatMap.{NatMap}
 use Rattle.own_model.specs.OwnHeap.{OwnHeap}
 use Rattle.own_model.specs.OwnState.{with_part, zeros}
-use Rattle.own_model.proofs.ByteLemmas.{length-with_part, length-zeros, with_part-within}
+use Rattle.own_model.proofs.ByteLemmas.{length-with_part, length-zeros}
 use Rattle.own_model.proofs.NatMapLemmas.{get-insert_same}
 use Rattle.avl_tree.specs.Tree.{Leaf}
 use Rattle.heap_core.specs.Words.{are_bytes}

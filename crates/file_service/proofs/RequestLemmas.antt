@@ -1,5 +1,5 @@
 -- How long the bytes of a request are, and what the text of a request for a name is told.
-use Rattle.std.proofs.Common.{◌≡◌, ◌++◌, ℕ, ◌≤◌, Bool, true, false, true≢false, List, [], length, Option, Some, None, refl, sym, ap, ◌∙◌, arith}
+use Rattle.std.proofs.Common.{◌≡◌, ◌++◌, ℕ, ◌≤◌, Bool, true, false, true≢false, List, [], length, Option, Some, None, refl, sym, ap, subst, ◌∙◌, arith}
 use Rattle.std.specs.Prelude.{IsSome, slice_get}
 use Rattle.std.specs.Option.{option_map, option_or, unwrap_or}
 use Rattle.own_model.specs.Account.{Account}
@@ -46,6 +46,10 @@ hex_is_short text file offset hex is some =
 -- what is told is the reply and nothing else
 pub told_text : (new old : Told) (reply : model.FileReply) (text : List ℕ) → new ≡ record old { text = old.text ++ file_reply reply } → old ≡ nothing_told → file_reply reply ≡ text → new ≡ record nothing_told { text = text }
 told_text new old reply text is none same = is ∙ (λ i. record (none i) { text = (none i).text ++ same i })
+
+-- where nothing is told there is room for any reply but bytes
+pub has_room : (told : Told) → told ≡ nothing_told → length told.text ≤ 49
+has_room told none = subst (λ (t : Told). length t.text ≤ 49) (sym none) (omega arith)
 
 -- ---- NAME
 

@@ -26,9 +26,12 @@ use Rattle.file_service.specs.Files.{file_at}
 use Rattle.file_service.specs.Furnished.{Stock, IsFurnished, KeepsLent, StaysFurnished, KeepsSession}
 use Rattle.file_service.specs.Rooms.{stock_of}
 use Rattle.file_service.specs.declared.rooms.Rooms.{Rooms}
+use Rattle.file_service.specs.Index.{previous_at}
 use Rattle.file_service.specs.Node.{FileNode}
-use Rattle.file_service.specs.Session.{files_in, HasFiles, KeepsOwn, Serves, IsTold, IsFound, served_in}
+use Rattle.file_service.specs.Node.{value_of as node_value}
+use Rattle.file_service.specs.Session.{files_in, Finds, HasFiles, KeepsOwn, Serves, IsTold, IsFound, served_in}
 use Rattle.file_service.specs.declared.session.FileSession.{FileSession}
+use Rattle.file_service.specs.declared.session.FoundFile.{FoundFile}
 
 -- ---- what other accounts have
 
@@ -55,6 +58,17 @@ keeps_both heap later sliced between now old mid new regions middle after first 
   stays = stays_both heap later sliced between now old mid new regions middle after first.stays next.stays;
   lent = lent_both (payer_of sliced) old mid new regions middle after first.lent (subst (λ x. KeepsLent x mid new middle after) first.stays.payer next.lent);
 }
+
+-- ---- after a search, which leaves the memory
+
+pub keeps_after : {later : Heap} {sliced now : SlicedHeap} {store mid new : Store} {regions after : Regions} → mid ≡ store → KeepsSession sliced later now mid new regions after → KeepsSession sliced later now store new regions after
+keeps_after {later} {sliced} {now} {store} {mid} {new} {regions} {after} same keeps = subst (λ m. KeepsSession sliced later now m new regions after) same keeps
+
+pub furnished_after : {heap : Heap} {sliced : SlicedHeap} {store mid : Store} {regions : Regions} → mid ≡ store → IsFurnished heap sliced store regions → IsFurnished heap sliced mid regions
+furnished_after {heap} {sliced} {store} {mid} {regions} same furnished = subst (λ m. IsFurnished heap sliced m regions) (sym same) furnished
+
+pub files_after : (session : FileSession) (regions : Regions) {store mid : Store} → mid ≡ store → HasFiles session (stock_of session.rooms store regions) → HasFiles session (stock_of session.rooms mid regions)
+files_after session regions same files = subst (λ m. HasFiles session (stock_of session.rooms m regions)) (sym same) files
 
 -- ---- a reply that leaves all
 
@@ -100,6 +114,14 @@ found_name first last session has name previous address node found = search (rul
 pub file_name : (first last : ℕ) (has : Stock) (name : List ℕ) (previous address : ℕ) (node : FileNode) →
     IsFound first last has.nodes has.contents name previous address node → (file_at has.nodes has.contents address).name ≡ name
 file_name first last has name previous address node found = name_is (file_at has.nodes has.contents address).name name found.named
+
+-- a file that is found by a name is found by its own, in the memory after the search
+pub found_after : (session : FileSession) (regions : Regions) {store mid : Store} (name : List ℕ) (found : FoundFile) → mid ≡ store → Finds session (stock_of session.rooms store regions) name found →
+    Finds session (stock_of session.rooms mid regions) found.node.name.items found
+found_after session regions {store} name found same finds =
+    let has : Stock = stock_of session.rooms store regions in
+    let called : found.node.name.items ≡ name = found_name session.first session.last session has name (previous_at has.nodes found.address) found.address (node_value found.node) finds in
+    subst (λ m. Finds session (stock_of session.rooms m regions) found.node.name.items found) (sym same) (subst (λ n. Finds session has n found) (sym called) finds)
 
 -- ---- CREATE
 

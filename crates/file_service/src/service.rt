@@ -1,19 +1,18 @@
 //! The file service: what it answers to the requests of a session.
 ghost use Rattle.std.specs.Prelude.{◌≡◌, ◌++◌, ◌*◌, ◌/◌, ◌≤◌, length, [], Some, None};
 ghost use Rattle.own_model.specs.BufferService.{session_request};
+ghost use Rattle.own_model.specs.FileText as model;
 ghost use Rattle.own_model.specs.FileText.{file_reply};
 ghost use Rattle.own_model.specs.FileText.{FileReply as Answered};
-ghost use Rattle.own_model.specs.FileText.FileRequest.{Read, Write};
+ghost use Rattle.own_model.specs.FileText.FileRequest.{Name, Read, Write};
 ghost use Rattle.trade_base.specs.declared.service.Service.TheVariants.{Files};
 ghost use Rattle.own_model.specs.Session.{Labelled, state_at_first};
 ghost use Rattle.own_model.specs.Text.{bytes_of_hex, hex_bytes};
 ghost use Rattle.dataspace_core.specs.Store.{account_in, IsOpenIn};
 ghost use Rattle.sliced_heap.specs.Heap.{payer_of};
 ghost use Rattle.file_service.specs.Aside.{lends_aside};
-ghost use Rattle.calls.specs.Quotas.{quotas_account};
 ghost use Rattle.server_frame.specs.Session.{service_step};
 ghost use Rattle.calls.specs.Told.{nothing_told};
-ghost use Rattle.session_proto.specs.FileReply.{model_reply};
 ghost use Rattle.file_service.specs.Rooms.{stock_of, AreFurnished, KeepsRooms};
 ghost use Rattle.file_service.specs.Lent.{buffer_key};
 ghost use Rattle.file_service.specs.Session.{HasFiles, IsReady, IsAnswered, IsTold, Serves, done_reply, counted_reply, lent_reply, lent_effect, gone_effect, served_in, session_served};
@@ -117,31 +116,22 @@ fn answer(
 {
     match FileRequest::read(request) {
         None => FileReply::Refused(FileError::BadRequest).write(reply),
-        Some(FileRequest::Create(name)) => { done(session.create(memory, map, name)).write(reply) }
+        Some(FileRequest::Create(name)) => tell_done(session.create(memory, map, name), reply),
         Some(FileRequest::Write { file, offset, hex }) => {
-            counted(write(session, memory, map, file, offset, hex)).write(reply)
+            tell_count(write(session, memory, map, file, offset, hex), reply);
         }
         Some(FileRequest::Read { file, offset, len }) => {
             tell_read(session, memory, map, file, offset, len, reply);
         }
-        Some(FileRequest::Size(name)) => { counted(session.size(memory, map, name)).write(reply) }
-        Some(FileRequest::Clear(name)) => { done(session.clear(memory, map, name)).write(reply) }
-        Some(FileRequest::Drop(name)) => { done(session.remove(memory, map, name)).write(reply) }
-        Some(FileRequest::Name(place)) => match session.file_at(memory, map, place) {
-            Some(node) => FileReply::Named(&node.name).write(reply),
-            None => FileReply::Refused(FileError::End).write(reply),
-        },
-        Some(FileRequest::Stat) => FileReply::Quotas(session.rooms.shares(memory)).write(reply),
+        Some(FileRequest::Size(name)) => tell_count(session.size(memory, map, name), reply),
+        Some(FileRequest::Clear(name)) => tell_done(session.clear(memory, map, name), reply),
+        Some(FileRequest::Drop(name)) => tell_done(session.remove(memory, map, name), reply),
+        Some(FileRequest::Name(place)) => tell_name(session, memory, map, place, reply),
+        Some(FileRequest::Stat) => session.rooms.tell_shares(memory, reply),
         Some(FileRequest::Buffer(bytes)) => {
-            let lent = session.lend(memory, map, bytes);
-            lending(lent).write(reply);
-            return lends(lent);
+            return tell_lent(session.lend(memory, map, bytes), reply);
         }
-        Some(FileRequest::Unbuffer) => {
-            let gone = session.take_back(memory, map);
-            taking(gone).write(reply);
-            return goes(gone);
-        }
+        Some(FileRequest::Unbuffer) => return tell_gone(session.take_back(memory, map), reply),
         Some(
             FileRequest::Put {
                 file,
@@ -149,7 +139,7 @@ fn answer(
                 place,
                 len,
             },
-        ) => { counted(session.put(memory, map, file, offset, place, len)).write(reply) }
+        ) => tell_count(session.put(memory, map, file, offset, place, len), reply),
         Some(
             FileRequest::Get {
                 file,
@@ -157,7 +147,7 @@ fn answer(
                 place,
                 len,
             },
-        ) => { counted(session.get(memory, map, file, offset, place, len)).write(reply) }
+        ) => tell_count(session.get(memory, map, file, offset, place, len), reply),
     }
     Effect::Nothing
 }
@@ -276,80 +266,116 @@ fn write_by<const N: usize>(
     session.write(memory, map, file, offset, bytes)
 }
 
+/// Tells the name of the file at a place among the others, or that there are no more, behind what the reply was.
+fn tell_name(
+    session: &FileSession,
+    memory: &mut Memory,
+    map: &RegionMap,
+    place: u64,
+    reply: &mut Reply,
+)
+    requires furnished { AreFurnished session.now.rooms memory.old map.now }
+    requires files { HasFiles session.now (stock_of session.now.rooms memory.old map.now) }
+    requires room { length reply.old.text ≤ 49 }
+    ensures told { (answer : Answered)
+        × ((Serves (served_in (Name place) session.now
+        (stock_of session.now.rooms memory.old map.now)) answer session.now session.now
+        (stock_of session.now.rooms memory.new map.now))
+        × (reply.new ≡ record reply.old { text = reply.old.text ++ file_reply answer })) }
+    ensures memory { memory.new ≡ memory.old }
+{
+    match session.file_at(memory, map, place) {
+        Some(node) => FileReply::Named(&node.name).write(reply),
+        None => FileReply::Refused(FileError::End).write(reply),
+    }
+}
+
 impl Rooms {
-    /// Use and limits of the account.
-    fn shares(&self, memory: &Memory) -> Quotas
-        requires { IsOpenIn memory.now (payer_of self.now.contents) }
-        ensures { quotas_account result ≡ account_in memory.now (payer_of self.now.contents) }
+    /// Tells use and limits of the account, behind what the reply was.
+    fn tell_shares(&self, memory: &Memory, reply: &mut Reply)
+        requires open { IsOpenIn memory.now (payer_of self.now.contents) }
+        requires room { length reply.old.text ≤ 49 }
+        ensures { reply.new ≡ record reply.old {
+          text = reply.old.text
+              ++ file_reply (model.FileReply.Quotas
+              (account_in memory.now (payer_of self.now.contents)));
+        } }
     {
         let account = self.contents.account();
         let (ram_used, caps_used) = memory.used(account);
         let (ram_limit, caps_limit) = memory.limits(account);
-        Quotas {
+        let quotas = Quotas {
             ram_used,
             ram_limit,
             caps_used,
             caps_limit,
+        };
+        FileReply::Quotas(quotas).write(reply);
+    }
+}
+
+/// Tells whether it is done, behind what the reply was.
+fn tell_done(outcome: Result<(), FileError>, reply: &mut Reply)
+    requires { length reply.old.text ≤ 49 }
+    ensures { reply.new ≡ record reply.old {
+      text = reply.old.text ++ file_reply (done_reply outcome);
+    } }
+{
+    match outcome {
+        Ok(()) => FileReply::Done.write(reply),
+        Err(error) => FileReply::Refused(error).write(reply),
+    }
+}
+
+/// Tells a count, behind what the reply was.
+fn tell_count(outcome: Result<u64, FileError>, reply: &mut Reply)
+    requires { length reply.old.text ≤ 49 }
+    ensures { reply.new ≡ record reply.old {
+      text = reply.old.text ++ file_reply (counted_reply outcome);
+    } }
+{
+    match outcome {
+        Ok(count) => FileReply::Count(count).write(reply),
+        Err(error) => FileReply::Refused(error).write(reply),
+    }
+}
+
+/// Tells whether a buffer is lent, behind what the reply was, and answers what that does to the buffer. Its selector follows.
+fn tell_lent(outcome: Result<DsId, FileError>, reply: &mut Reply) -> Effect
+    requires { length reply.old.text ≤ 49 }
+    ensures told { reply.new ≡ record reply.old {
+      text = reply.old.text ++ file_reply (lent_reply outcome);
+    } }
+    ensures effect { result ≡ lent_effect outcome }
+{
+    match outcome {
+        Ok(space) => {
+            FileReply::Lent.write(reply);
+            Effect::Buffer(space)
+        }
+        Err(error) => {
+            FileReply::Refused(error).write(reply);
+            Effect::Nothing
         }
     }
 }
 
-/// The reply that tells whether it is done.
-fn done(outcome: Result<(), FileError>) -> FileReply<'static>
-    ensures { model_reply result ≡ done_reply outcome }
+/// Tells whether a buffer is taken back, behind what the reply was, and answers what that does to the buffer.
+fn tell_gone(outcome: Result<DsId, FileError>, reply: &mut Reply) -> Effect
+    requires { length reply.old.text ≤ 49 }
+    ensures told { reply.new ≡ record reply.old {
+      text = reply.old.text ++ file_reply (done_reply outcome);
+    } }
+    ensures effect { result ≡ gone_effect outcome }
 {
     match outcome {
-        Ok(()) => FileReply::Done,
-        Err(error) => FileReply::Refused(error),
-    }
-}
-
-/// The reply that tells a count.
-fn counted(outcome: Result<u64, FileError>) -> FileReply<'static>
-    ensures { model_reply result ≡ counted_reply outcome }
-{
-    match outcome {
-        Ok(count) => FileReply::Count(count),
-        Err(error) => FileReply::Refused(error),
-    }
-}
-
-/// The reply that tells whether a buffer is lent. Its selector follows it.
-fn lending(outcome: Result<DsId, FileError>) -> FileReply<'static>
-    ensures { model_reply result ≡ lent_reply outcome }
-{
-    match outcome {
-        Ok(_) => FileReply::Lent,
-        Err(error) => FileReply::Refused(error),
-    }
-}
-
-/// What that does to the buffer.
-fn lends(outcome: Result<DsId, FileError>) -> Effect
-    ensures { result ≡ lent_effect outcome }
-{
-    match outcome {
-        Ok(space) => Effect::Buffer(space),
-        Err(_) => Effect::Nothing,
-    }
-}
-
-/// The reply that tells whether a buffer is taken back.
-fn taking(outcome: Result<DsId, FileError>) -> FileReply<'static>
-    ensures { model_reply result ≡ done_reply outcome }
-{
-    match outcome {
-        Ok(_) => FileReply::Done,
-        Err(error) => FileReply::Refused(error),
-    }
-}
-
-/// What that does to the buffer.
-fn goes(outcome: Result<DsId, FileError>) -> Effect
-    ensures { result ≡ gone_effect outcome }
-{
-    match outcome {
-        Ok(space) => Effect::Gone(space),
-        Err(_) => Effect::Nothing,
+        Ok(space) => {
+            FileReply::Done.write(reply);
+            Effect::Gone(space)
+        }
+        Err(error) => {
+            FileReply::Refused(error).write(reply);
+            Effect::Nothing
+        }
     }
 }

@@ -1,9 +1,9 @@
-use Rattle.std.proofs.Common.{◌≡◌, ℕ, ◌<◌, refl, sym, ◌∙◌, subst, arith}
+use Rattle.std.proofs.Common.{ℕ, ◌<◌, refl, subst, arith}
 use Rattle.avl_tree.specs.Tree.{Leaf}
 use Rattle.avl_tree.specs.View.{height_at}
 use Rattle.avl_tree.proofs.ViewLemmas.{fork_forms}
 use Rattle.avl_tree.proofs.StepLemmas.{lower_to_left, lower_to_right}
-use Rattle.avl_tree.proofs.GrowLemmas.{Grows, grow-leaf_made, grow-left_asks, grow-right_asks, grow-left_new_asks, grow-right_new_asks, grow-left_made, grow-right_made, grow-left_loads, grow-right_loads}
+use Rattle.avl_tree.proofs.GrowLemmas.{Grows, grow-leaf_made, grow-left_asks, grow-right_asks, grow-left_new_asks, grow-right_new_asks, grow-left_made, grow-right_made, grow-left_loads, grow-right_loads, grow-here_none}
 use Rattle.avl_tree.proofs.tree.+grow.Goals as goal
 
 -- the tree without a node
@@ -100,3 +100,9 @@ pub returns-in-Right-clause-keeps : goal.returns-in-Right-clause-keeps
 returns-in-Right-clause-keeps g t c =
     let then = g.met.N.Nodes.keeps_then in
     then _ _ _ _ c.step.ensures.keeps (then _ _ _ _ c.grow-right.ensures.keeps c.with_right.ensures.keeps)
+
+pub returns-in-Here-clause-made : goal.returns-in-Here-clause-made
+returns-in-Here-clause-made g t c u stands new = absurd (grow-here_none _ _ _ _ c.args.root c.if-root-eq0.false c.in-Here.ensures.step u stands new)
+
+pub returns-in-Here-clause-loads : goal.returns-in-Here-clause-loads
+returns-in-Here-clause-loads g t c u stands new = absurd (grow-here_none _ _ _ _ c.args.root c.if-root-eq0.false c.in-Here.ensures.step u stands new)

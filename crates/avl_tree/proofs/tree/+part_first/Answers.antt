@@ -1,6 +1,7 @@
-use Rattle.std.proofs.Common.{ℕ, ◌<◌, refl, sym, ◌∙◌, subst, arith}
+use Rattle.std.proofs.Common.{ℕ, ◌<◌, subst, arith}
 use Rattle.avl_tree.specs.View.{height_at}
 use Rattle.avl_tree.proofs.PartLemmas.{Parts, part-here_first, part-here_made, part_lower, part-left_asks, part-left_first, part-left_new_asks, part-left_made, part-left_loads}
+use Rattle.avl_tree.proofs.ViewLemmas.{root_node}
 use Rattle.avl_tree.proofs.tree.+part_first.Goals as goal
 
 -- the root is the first node
@@ -61,3 +62,14 @@ returns-clause-loads g t c =
     let q = c.requires in
     part-left_loads _ _ c.args.root c.links-links.result q.3 c.links-links.ensures.links _ (g.N.Nodes.loads c.part_first-parted.new.memory) _ (g.N.Nodes.loads c.args.memory.now) c.with_left-rest.ensures.loads
     (λ u stands. omega (arith, c.links-links.ensures.loads, c.part_first-parted.ensures.loads u (rw c.links-links.ensures.view stands)))
+
+pub returns-clause-keeps : goal.returns-clause-keeps
+returns-clause-keeps g t c =
+    let then = g.met.N.Nodes.keeps_then in
+    then _ _ _ _ c.links-links.ensures.keeps (then _ _ _ _ c.part_first-parted.ensures.keeps c.with_left-rest.ensures.keeps)
+
+pub returns-then-links-eq0-clause-keeps : goal.returns-then-links-eq0-clause-keeps
+returns-then-links-eq0-clause-keeps g t c = g.met.N.Nodes.keeps_then _ _ _ _ c.links-links.ensures.keeps c.limb_of.ensures.keeps
+
+pub links-links-requires : goal.links-links-requires
+links-links-requires g t c = let q = c.requires in root_node _ q.0 _ q.2 q.1.at q.3

@@ -1,9 +1,6 @@
-use Rattle.std.proofs.Common.{◌≡◌, ℕ, ◌<◌, refl, sym, ◌∙◌, subst, arith}
-use Rattle.avl_tree.specs.Tree.{removed}
+use Rattle.std.proofs.Common.{ℕ, ◌<◌, sym, subst, arith}
 use Rattle.avl_tree.specs.View.{height_at}
-use Rattle.avl_tree.specs.Made.{Reforms}
-use Rattle.avl_tree.proofs.ViewLemmas.{leaf_is, changes_none}
-use Rattle.avl_tree.proofs.StepLemmas.{Prunes, lower_to_left, lower_to_right, prune-leaf_made, prune-left_asks, prune-right_asks, prune-left_new_asks, prune-right_new_asks, prune-left_made, prune-right_made, join_asks, prune-here_made, left_loads, right_loads, here_loads}
+use Rattle.avl_tree.proofs.StepLemmas.{Prunes, lower_to_left, lower_to_right, prune-leaf_made, prune-left_asks, prune-right_asks, prune-left_new_asks, prune-right_new_asks, prune-left_made, prune-right_made, prune-here_made, left_loads, right_loads, here_loads, prune-here_asks}
 use Rattle.avl_tree.proofs.tree.+prune.Goals as goal
 
 -- the tree without a node
@@ -112,3 +109,9 @@ pub returns-in-Here-clause-keeps : goal.returns-in-Here-clause-keeps
 returns-in-Here-clause-keeps g t c =
     let then = g.met.N.Nodes.keeps_then in
     then _ _ _ _ c.step.ensures.keeps c.join.ensures.keeps
+
+pub join-requires : goal.join-requires
+join-requires g t c =
+    let q = c.requires in
+    rw c.step.ensures.view
+    (prune-here_asks _ _ (g.N.Nodes.rank c.args.key) c.args.root c.if-root-eq0.false _ q.0 q.1 (λ a there. g.met.N.Nodes.keeps_node _ _ _ a c.step.ensures.keeps (q.2 a there)))

@@ -1,5 +1,5 @@
-use Rattle.std.proofs.Common.{◌≡◌, ◌≢◌, refl, sym, ◌∙◌, subst, arith}
-use Rattle.avl_tree.specs.Tree.{Node, root_of}
+use Rattle.std.proofs.Common.{refl, sym, ◌∙◌, subst, arith}
+use Rattle.avl_tree.specs.Tree.{Node}
 use Rattle.avl_tree.specs.View.{AreNodes}
 use Rattle.avl_tree.proofs.ViewLemmas.{root_node, nodes_in}
 use Rattle.avl_tree.proofs.PartLemmas.{Parts, join_left, join_right, join-left_none, join-right_none, join_rest_asks, join_rest_made}
@@ -63,3 +63,28 @@ pub returns-then-links-eq0-2-clause-keeps : goal.returns-then-links-eq0-2-clause
 returns-then-links-eq0-2-clause-keeps g c =
     let then = g.met.N.Nodes.keeps_then in
     then _ _ _ _ c.links-links.ensures.keeps c.limb_of-then-links-eq0-2.ensures.keeps
+
+pub links-links-requires : goal.links-links-requires
+links-links-requires g c = let q = c.requires in root_node _ (Node q.0 c.args.node q.1 q.2 q.3) _ q.5 refl (λ none. omega (arith, q.4.holds.0.some, none))
+
+pub limb_of-requires : goal.limb_of-requires
+limb_of-requires g c some =
+    let q = c.requires in
+    g.met.N.Nodes.keeps_node _ _ _ _ c.links-links.ensures.keeps
+    (root_node _ q.3 _ (nodes_in _ q.3 (Node q.0 c.args.node q.1 q.2 q.3) (λ a. omega arith) q.5)
+    (join_right _ _ q.0 c.args.node q.1 q.2 q.3 c.links-links.result q.4 c.links-links.ensures.links) some)
+
+pub limb_of-requires-then-links-eq0-2 : goal.limb_of-requires-then-links-eq0-2
+limb_of-requires-then-links-eq0-2 g c some =
+    let q = c.requires in
+    g.met.N.Nodes.keeps_node _ _ _ _ c.links-links.ensures.keeps
+    (root_node _ q.0 _ (nodes_in _ q.0 (Node q.0 c.args.node q.1 q.2 q.3) (λ a. omega arith) q.5)
+    (join_left _ _ q.0 c.args.node q.1 q.2 q.3 c.links-links.result q.4 c.links-links.ensures.links) some)
+
+pub limb_of-left-requires : goal.limb_of-left-requires
+limb_of-left-requires g c some =
+    let q = c.requires in
+    let keep = g.met.N.Nodes.keeps_node in
+    keep _ _ _ _ c.part_first-parted.ensures.keeps (keep _ _ _ _ c.links-links.ensures.keeps
+    (root_node _ q.0 _ (nodes_in _ q.0 (Node q.0 c.args.node q.1 q.2 q.3) (λ a. omega arith) q.5)
+    (join_left _ _ q.0 c.args.node q.1 q.2 q.3 c.links-links.result q.4 c.links-links.ensures.links) some))

@@ -1,4 +1,4 @@
-use Rattle.std.proofs.Common.{◌≡◌, ◌∙◌, refl, sym, subst, arith}
+use Rattle.std.proofs.Common.{◌≡◌, ◌∙◌, refl, subst, arith}
 use Rattle.avl_tree.specs.Tree.{Node}
 use Rattle.avl_tree.specs.View.{AreNodes}
 use Rattle.avl_tree.proofs.ViewLemmas.{root_node, nodes_in, limb_some}

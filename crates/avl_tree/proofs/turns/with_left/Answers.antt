@@ -1,5 +1,5 @@
-use Rattle.std.proofs.Common.{◌≡◌, Some, None, refl, sym, ◌∙◌, subst, arith}
-use Rattle.avl_tree.specs.Tree.{Tree, Node, root_of, balanced}
+use Rattle.std.proofs.Common.{◌≡◌, sym, ◌∙◌, subst, arith}
+use Rattle.avl_tree.specs.Tree.{Node, root_of, balanced}
 use Rattle.avl_tree.specs.Made.{IsLeftNew, Reforms}
 use Rattle.avl_tree.proofs.ViewLemmas.{root_node, nodes_in}
 use Rattle.avl_tree.proofs.NewLemmas.{left-same, left-slope, left-formed}
@@ -37,3 +37,8 @@ returns-clause-made g c l l' s h r new =
     let kept = c.limb_of-right.ensures.view ∙ c.links-links.ensures.view in
     let made = c.balance-tree.ensures.made l' s r (rw kept (left-slope _ _ l l' c.args.node s h r c.in_ok-left.left _ some right)) in
     left-formed _ _ l l' c.args.node s h r _ c.in_ok-left.left c.balance-tree.result _ _ some (λ i. (sym c.links-links.ensures.links i).high) (rw (sym kept) made) c.unless_same.ensures
+
+pub returns-clause-keeps : goal.returns-clause-keeps
+returns-clause-keeps g c =
+    let then = g.met.N.Nodes.keeps_then in
+    then _ _ _ _ c.links-links.ensures.keeps (then _ _ _ _ c.limb_of-right.ensures.keeps c.balance-tree.ensures.keeps)

@@ -1,5 +1,5 @@
-use Rattle.std.proofs.Common.{◌≡◌, Some, None, refl, sym, ◌∙◌, subst, arith}
-use Rattle.avl_tree.specs.Tree.{Tree, Node, root_of, balanced}
+use Rattle.std.proofs.Common.{◌≡◌, sym, ◌∙◌, subst, arith}
+use Rattle.avl_tree.specs.Tree.{Node, root_of, balanced}
 use Rattle.avl_tree.specs.Made.{IsRightNew, Reforms}
 use Rattle.avl_tree.proofs.ViewLemmas.{root_node, nodes_in}
 use Rattle.avl_tree.proofs.NewLemmas.{right-same, right-slope, right-formed}
@@ -37,3 +37,8 @@ returns-clause-made g c l s h r r' new =
     let kept = c.limb_of-left.ensures.view ∙ c.links-links.ensures.view in
     let made = c.balance-tree.ensures.made l s r' (rw kept (right-slope _ _ l c.args.node s h r r' _ c.in_ok-right.right some left)) in
     right-formed _ _ l c.args.node s h r r' _ c.in_ok-right.right c.balance-tree.result _ _ some (λ i. (sym c.links-links.ensures.links i).high) (rw (sym kept) made) c.unless_same.ensures
+
+pub returns-clause-keeps : goal.returns-clause-keeps
+returns-clause-keeps g c =
+    let then = g.met.N.Nodes.keeps_then in
+    then _ _ _ _ c.links-links.ensures.keeps (then _ _ _ _ c.limb_of-left.ensures.keeps c.balance-tree.ensures.keeps)

@@ -1,9 +1,9 @@
--- A request of files does nothing to the buffer.
-use Rattle.std.proofs.Common.{◌++◌, refl, ap, subst, ◌∙◌, Some, None}
-use Rattle.own_model.specs.FileText.{file_reply}
+-- A request of files does nothing to the buffer, and one of the buffer tells what it does to it.
+use Rattle.std.proofs.Common.{refl, subst}
 use Rattle.session_proto.specs.File.{HasHex}
-use Rattle.file_service.proofs.BufferRequestLemmas.{files_answered, read_as}
-use Rattle.file_service.proofs.RequestLemmas.{hex_is_short, name_reply, named_served}
+use Rattle.server_frame.specs.declared.effect.Effect.TheVariants.{Nothing}
+use Rattle.file_service.proofs.BufferRequestLemmas.{buffer_answered, files_answered, read_as}
+use Rattle.file_service.proofs.RequestLemmas.{has_room, hex_is_short}
 use Rattle.file_service.proofs.ResultLemmas.{keeps_same}
 use Rattle.file_service.proofs.ServeLemmas.{serves_same}
 use Rattle.file_service.proofs.service.answer.Goals as goal
@@ -19,7 +19,7 @@ returns-in-Some-Create c =
     let r = c.in-Some-Create in
     record {
       answered = files_answered c.requires.ready a.request.now _ _ a.reply.now _ (read_as a.request.now _ _ r.field-0-is r.ensures.request) c.create.ensures.keeps c.create.ensures.serves
-          (c.write-in-Some-Create.ensures ∙ ap (λ p. record a.reply.now { text = a.reply.now.text ++ file_reply p }) c.done.ensures) c.requires.reply;
+          c.tell_done.ensures c.requires.reply;
     }
 
 pub returns-in-Some-Write : goal.returns-in-Some-Write
@@ -28,7 +28,7 @@ returns-in-Some-Write c =
     let r = c.in-Some-Write in
     record {
       answered = files_answered c.requires.ready a.request.now _ _ a.reply.now _ (read_as a.request.now _ _ r.field-0-is r.ensures.request) c.write-in-Some-Write.ensures.keeps c.write-in-Some-Write.ensures.serves
-          (c.write-in-Some-Write-2.ensures ∙ ap (λ p. record a.reply.now { text = a.reply.now.text ++ file_reply p }) c.counted.ensures) c.requires.reply;
+          c.tell_count.ensures c.requires.reply;
     }
 
 pub returns-in-Some-Read : goal.returns-in-Some-Read
@@ -48,7 +48,7 @@ returns-in-Some-Drop c =
     let r = c.in-Some-Drop in
     record {
       answered = files_answered c.requires.ready a.request.now _ _ a.reply.now _ (read_as a.request.now _ _ r.field-0-is r.ensures.request) c.remove.ensures.keeps c.remove.ensures.serves
-          (c.write-in-Some-Drop.ensures ∙ ap (λ p. record a.reply.now { text = a.reply.now.text ++ file_reply p }) c.done-in-Some-Drop.ensures) c.requires.reply;
+          c.tell_done-in-Some-Drop.ensures c.requires.reply;
     }
 
 pub returns-in-Some-Clear : goal.returns-in-Some-Clear
@@ -57,26 +57,97 @@ returns-in-Some-Clear c =
     let r = c.in-Some-Clear in
     record {
       answered = files_answered c.requires.ready a.request.now _ _ a.reply.now _ (read_as a.request.now _ _ r.field-0-is r.ensures.request) c.clear.ensures.keeps c.clear.ensures.serves
-          (c.write-in-Some-Clear.ensures ∙ ap (λ p. record a.reply.now { text = a.reply.now.text ++ file_reply p }) c.done-in-Some-Clear.ensures) c.requires.reply;
+          c.tell_done-in-Some-Clear.ensures c.requires.reply;
     }
 
-pub returns-in-Some : goal.returns-in-Some
-returns-in-Some c =
+pub returns-in-Some-Name : goal.returns-in-Some-Name
+returns-in-Some-Name c =
     let a = c.args in
     let r = c.in-Some-Name in
-    let name = Some c.deref.result.now in
-    let serves = named_served r.place name a.session.now a.memory.now _ a.map.now c.requires.ready.files c.file_at.ensures.memory (ap Some c.deref.ensures.0 ∙ c.in-Some.ensures.name) in
+    let t = c.tell_name.ensures.told in
     record {
-      answered = files_answered c.requires.ready a.request.now _ (name_reply name) a.reply.now _ (read_as a.request.now _ _ r.field-0-is r.ensures.request)
-          (keeps_same c.requires.ready.furnished refl refl c.file_at.ensures.memory refl) serves c.write-in-Some.ensures c.requires.reply;
+      answered = files_answered c.requires.ready a.request.now _ t.0 a.reply.now _ (read_as a.request.now _ _ r.field-0-is r.ensures.request)
+          (keeps_same c.requires.ready.furnished refl refl c.tell_name.ensures.memory refl) t.1.0 t.1.1 c.requires.reply;
     }
 
-pub returns-in-None-file_at : goal.returns-in-None-file_at
-returns-in-None-file_at c =
+pub tell_done-requires : goal.tell_done-requires
+tell_done-requires c = has_room c.args.reply.now c.requires.reply
+
+pub tell_done-requires-in-Some-Clear : goal.tell_done-requires-in-Some-Clear
+tell_done-requires-in-Some-Clear c = has_room c.args.reply.now c.requires.reply
+
+pub tell_done-requires-in-Some-Drop : goal.tell_done-requires-in-Some-Drop
+tell_done-requires-in-Some-Drop c = has_room c.args.reply.now c.requires.reply
+
+pub tell_count-requires : goal.tell_count-requires
+tell_count-requires c = has_room c.args.reply.now c.requires.reply
+
+pub tell_count-requires-in-Some-Size : goal.tell_count-requires-in-Some-Size
+tell_count-requires-in-Some-Size c = has_room c.args.reply.now c.requires.reply
+
+pub tell_count-requires-in-Some-Put : goal.tell_count-requires-in-Some-Put
+tell_count-requires-in-Some-Put c = has_room c.args.reply.now c.requires.reply
+
+pub tell_count-requires-in-Some-Get : goal.tell_count-requires-in-Some-Get
+tell_count-requires-in-Some-Get c = has_room c.args.reply.now c.requires.reply
+
+pub tell_read-requires-clause-room : goal.tell_read-requires-clause-room
+tell_read-requires-clause-room c = has_room c.args.reply.now c.requires.reply
+
+pub tell_name-requires-clause-room : goal.tell_name-requires-clause-room
+tell_name-requires-clause-room c = has_room c.args.reply.now c.requires.reply
+
+pub tell_shares-requires-clause-room : goal.tell_shares-requires-clause-room
+tell_shares-requires-clause-room c = has_room c.args.reply.now c.requires.reply
+
+pub tell_lent-requires : goal.tell_lent-requires
+tell_lent-requires c = has_room c.args.reply.now c.requires.reply
+
+pub tell_gone-requires : goal.tell_gone-requires
+tell_gone-requires c = has_room c.args.reply.now c.requires.reply
+
+pub returns-in-Some-Size : goal.returns-in-Some-Size
+returns-in-Some-Size c =
     let a = c.args in
-    let r = c.in-Some-Name in
-    let serves = named_served r.place None a.session.now a.memory.now _ a.map.now c.requires.ready.files c.file_at.ensures.memory c.in-None-file_at.ensures.name in
+    let r = c.in-Some-Size in
     record {
-      answered = files_answered c.requires.ready a.request.now _ (name_reply None) a.reply.now _ (read_as a.request.now _ _ r.field-0-is r.ensures.request)
-          (keeps_same c.requires.ready.furnished refl refl c.file_at.ensures.memory refl) serves c.write-in-None-file_at.ensures c.requires.reply;
+      answered = files_answered c.requires.ready a.request.now _ _ a.reply.now _ (read_as a.request.now _ _ r.field-0-is r.ensures.request)
+          (keeps_same c.requires.ready.furnished refl refl c.size.ensures.memory refl)
+          (serves_same _ _ a.session.now a.memory.now _ a.map.now c.requires.ready.files c.size.ensures.memory c.size.ensures.told) c.tell_count-in-Some-Size.ensures c.requires.reply;
+    }
+
+pub returns-in-Some-Buffer : goal.returns-in-Some-Buffer
+returns-in-Some-Buffer c =
+    let a = c.args in
+    let r = c.in-Some-Buffer in
+    record {
+      answered = buffer_answered c.requires.ready a.request.now _ _ c.tell_lent.result _ a.reply.now _ (read_as a.request.now _ _ r.field-0-is r.ensures.request)
+          c.lend.ensures.answers c.tell_lent.ensures.effect c.lend.ensures.effect c.lend.ensures.stays c.tell_lent.ensures.told c.requires.reply;
+    }
+
+pub returns-in-Some-Unbuffer : goal.returns-in-Some-Unbuffer
+returns-in-Some-Unbuffer c =
+    let a = c.args in
+    let r = c.in-Some-Unbuffer in
+    record {
+      answered = buffer_answered c.requires.ready a.request.now _ _ c.tell_gone.result _ a.reply.now _ (read_as a.request.now _ _ r.field-0-is r.ensures.request)
+          c.take_back.ensures.answers c.tell_gone.ensures.effect c.take_back.ensures.effect c.take_back.ensures.stays c.tell_gone.ensures.told c.requires.reply;
+    }
+
+pub returns-in-Some-Put : goal.returns-in-Some-Put
+returns-in-Some-Put c =
+    let a = c.args in
+    let r = c.in-Some-Put in
+    record {
+      answered = buffer_answered c.requires.ready a.request.now _ _ Nothing Nothing a.reply.now _ (read_as a.request.now _ _ r.field-0-is r.ensures.request)
+          c.put.ensures.answers refl c.put.ensures.same c.put.ensures.stays c.tell_count-in-Some-Put.ensures c.requires.reply;
+    }
+
+pub returns-in-Some-Get : goal.returns-in-Some-Get
+returns-in-Some-Get c =
+    let a = c.args in
+    let r = c.in-Some-Get in
+    record {
+      answered = buffer_answered c.requires.ready a.request.now _ _ Nothing Nothing a.reply.now _ (read_as a.request.now _ _ r.field-0-is r.ensures.request)
+          c.get.ensures.answers refl refl c.get.ensures.stays c.tell_count-in-Some-Get.ensures c.requires.reply;
     }

@@ -2,7 +2,9 @@
 use Rattle.std.proofs.Common.{◌∙◌, ◌+◌, ◌≤◌, length, sym, ap, subst, arith}
 use Rattle.dataspace_core.specs.Store.{Store, Exists, space_at}
 use Rattle.file_service.specs.Node.{word_from}
-use Rattle.file_service.proofs.NameReadLemmas.{word_read}
+use Rattle.file_service.proofs.NameReadLemmas.{names_after, word_read}
+use Rattle.file_service.specs.Index.{names_in}
+use Rattle.file_service.specs.Rooms.{stock_of}
 use Rattle.file_service.proofs.names.FileNodesCountedNodes.links.Goals as goal
 
 pub load-left-requires-clause-range : goal.load-left-requires-clause-range
@@ -36,3 +38,12 @@ returns-clause-links g c =
     let right = c.load-right.ensures.value ∙ ap (λ (m : Store). word_from (space_at m ds).bytes (at + 72)) c.load-left.ensures.memory ∙ word_read c.requires ds at found 72 (omega arith) in
     let high = c.load-high.ensures.value ∙ ap (λ (m : Store). word_from (space_at m ds).bytes (at + 80)) (c.load-right.ensures.memory ∙ c.load-left.ensures.memory) ∙ word_read c.requires ds at found 80 (omega arith) in
     λ i. record { left = left i; right = right i; high = high i }
+
+pub load-left-requires-clause-exists : goal.load-left-requires-clause-exists
+load-left-requires-clause-exists g c = (c.find_node-at.ensures.found 64 8 (omega arith) (omega arith)).there.exists
+
+pub returns-clause-view : goal.returns-clause-view
+returns-clause-view g c = ap (λ m. names_in m (stock_of c.args.self.now.rooms.now m c.args.self.now.map.now).nodes) (c.load-high.ensures.memory ∙ c.load-right.ensures.memory ∙ c.load-left.ensures.memory)
+
+pub returns-clause-keeps : goal.returns-clause-keeps
+returns-clause-keeps g c = (c.load-high.ensures.same_reference ∙ c.load-right.ensures.same_reference ∙ c.load-left.ensures.same_reference, names_after c.args.self.now.rooms.now.nodes c.args.self.now.rooms.now.contents c.args.self.now.map.now (c.load-high.ensures.memory ∙ c.load-right.ensures.memory ∙ c.load-left.ensures.memory))

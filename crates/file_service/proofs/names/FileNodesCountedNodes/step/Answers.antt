@@ -3,8 +3,10 @@ use Rattle.std.proofs.Common.{◌∙◌, ◌+◌, ◌≤◌, ◌<◌, length, sy
 use Rattle.std.specs.Prelude.{slice_index}
 use Rattle.dataspace_core.specs.Store.{Store, Exists, space_at}
 use Rattle.file_service.specs.Node.{rank_by, word_from}
-use Rattle.file_service.proofs.NameReadLemmas.{name_low, rank_read, word_read}
+use Rattle.file_service.proofs.NameReadLemmas.{names_after, name_low, rank_read, word_read}
 use Rattle.file_service.proofs.RankLemmas.{cmp_is_less, cmp_is_equal, cmp_is_more}
+use Rattle.file_service.specs.Index.{names_in}
+use Rattle.file_service.specs.Rooms.{stock_of}
 use Rattle.file_service.proofs.names.FileNodesCountedNodes.step.Goals as goal
 
 pub order-requires-clause-range : goal.order-requires-clause-range
@@ -57,3 +59,24 @@ returns-in-Greater-clause-step g c =
       subst (λ n. n < rank_by (slice_index c.args.key.words)) (rank_read c.requires ds at found) more,
       sym (c.load-in-Greater.ensures.value ∙ ap (λ (m : Store). word_from (space_at m ds).bytes (at + 72)) c.order.ensures.memory ∙ word_read c.requires ds at found 72 (omega arith)),
     )
+
+pub order-requires-clause-exists : goal.order-requires-clause-exists
+order-requires-clause-exists g c = (c.find_node-at.ensures.found 24 40 (omega arith) (omega arith)).there.exists
+
+pub returns-in-Less-clause-view : goal.returns-in-Less-clause-view
+returns-in-Less-clause-view g c = ap (λ m. names_in m (stock_of c.args.self.now.rooms.now m c.args.self.now.map.now).nodes) (c.load.ensures.memory ∙ c.order.ensures.memory)
+
+pub returns-in-Less-clause-keeps : goal.returns-in-Less-clause-keeps
+returns-in-Less-clause-keeps g c = (c.load.ensures.same_reference ∙ c.order.ensures.same_reference, names_after c.args.self.now.rooms.now.nodes c.args.self.now.rooms.now.contents c.args.self.now.map.now (c.load.ensures.memory ∙ c.order.ensures.memory))
+
+pub returns-in-Equal-clause-view : goal.returns-in-Equal-clause-view
+returns-in-Equal-clause-view g c = ap (λ m. names_in m (stock_of c.args.self.now.rooms.now m c.args.self.now.map.now).nodes) (c.order.ensures.memory)
+
+pub returns-in-Equal-clause-keeps : goal.returns-in-Equal-clause-keeps
+returns-in-Equal-clause-keeps g c = (c.order.ensures.same_reference, names_after c.args.self.now.rooms.now.nodes c.args.self.now.rooms.now.contents c.args.self.now.map.now c.order.ensures.memory)
+
+pub returns-in-Greater-clause-view : goal.returns-in-Greater-clause-view
+returns-in-Greater-clause-view g c = ap (λ m. names_in m (stock_of c.args.self.now.rooms.now m c.args.self.now.map.now).nodes) (c.load-in-Greater.ensures.memory ∙ c.order.ensures.memory)
+
+pub returns-in-Greater-clause-keeps : goal.returns-in-Greater-clause-keeps
+returns-in-Greater-clause-keeps g c = (c.load-in-Greater.ensures.same_reference ∙ c.order.ensures.same_reference, names_after c.args.self.now.rooms.now.nodes c.args.self.now.rooms.now.contents c.args.self.now.map.now (c.load-in-Greater.ensures.memory ∙ c.order.ensures.memory))

@@ -14,6 +14,7 @@ use Rattle.file_service.proofs.AppendLemmas.{last_there, files_new}
 use Rattle.file_service.proofs.EnterLemmas.{can_enter, are_appended, stand_linked}
 use Rattle.file_service.proofs.NodeStoreLemmas.{small_bytes}
 use Rattle.file_service.proofs.TailFileLemmas.{files_tails}
+use Rattle.file_service.proofs.ServeLemmas.{keeps_both}
 use Rattle.file_service.proofs.session.FileSession.append.Goals as goal
 
 pub link-requires-clause-there : goal.link-requires-clause-there
@@ -79,3 +80,7 @@ returns-clause-files c =
 pub returns-clause-account : goal.returns-clause-account
 returns-clause-account c =
     ap (λ (s : Stock). s.account) c.enter-self.ensures.tree.tails.rest ∙ ap (λ (s : Stock). s.account) c.link.ensures.rest ∙ ap (λ (s : Stock). s.account) c.store_new.ensures.stored
+
+pub returns-clause-keeps : goal.returns-clause-keeps
+returns-clause-keeps c =
+    keeps_both _ _ _ _ _ _ _ _ _ _ _ c.store_new.ensures.keeps (keeps_both _ _ _ _ _ _ _ _ _ _ _ c.link.ensures.keeps c.enter-self.ensures.keeps)

@@ -1,5 +1,5 @@
 -- The file that is found gets no content.
-use Rattle.std.proofs.Common.{◌≡◌, ◌∙◌, [], Some, ap, subst}
+use Rattle.std.proofs.Common.{◌≡◌, ◌∙◌, [], Some, ap, subst, refl}
 use Rattle.std.specs.Prelude.{IfSome}
 use Rattle.std.specs.Result.{result_ok}
 use Rattle.own_model.specs.FileService.{content_credited, rewritten}
@@ -12,7 +12,8 @@ use Rattle.file_service.specs.Rooms.{stock_of}
 use Rattle.file_service.specs.Node.{value_of}
 use Rattle.file_service.specs.Session.{files_in, served_in, Finds}
 use Rattle.file_service.proofs.SearchLemmas.{found_named}
-use Rattle.file_service.proofs.ServeLemmas.{serves_done, clear_done, file_name, found_name}
+use Rattle.file_service.proofs.ServeLemmas.{serves_done, clear_done, file_name, found_name, found_after, furnished_after, files_after, keeps_after}
+use Rattle.file_service.proofs.ResultLemmas.{keeps_same}
 use Rattle.file_service.proofs.session.FileSession.clear.Goals as goal
 
 pub returns-clause-serves : goal.returns-clause-serves
@@ -37,3 +38,21 @@ returns-clause-serves c =
     (found_named c.args.self.now.first c.args.self.now.last was.nodes was.contents c.args.name.now previous address node found)
     (file_name c.args.self.now.first c.args.self.now.last was c.args.name.now previous address node found))
     account files c.replace.ensures.kept c.replace.ensures.own
+
+pub returns-in_err-found-clause-keeps : goal.returns-in_err-found-clause-keeps
+returns-in_err-found-clause-keeps c = keeps_same c.requires.furnished refl refl c.find.ensures.memory refl
+
+pub replace-requires-clause-furnished : goal.replace-requires-clause-furnished
+replace-requires-clause-furnished c = furnished_after c.find.ensures.memory c.requires.furnished
+
+pub replace-requires-clause-found : goal.replace-requires-clause-found
+replace-requires-clause-found c =
+    let was : Stock = stock_of c.args.self.now.rooms c.args.memory.now c.args.map.now in
+    let some : c.find.result ≡ Some c.in_ok-found.found = c.ok_or.ensures.ok_part ∙ ap result_ok c.in_ok-found.was in
+    found_after c.args.self.now c.args.map.now c.args.name.now c.in_ok-found.found c.find.ensures.memory (subst (λ o. IfSome o (Finds c.args.self.now was c.args.name.now)) some c.find.ensures.some)
+
+pub replace-requires-clause-indexed : goal.replace-requires-clause-indexed
+replace-requires-clause-indexed c = (files_after c.args.self.now c.args.map.now c.find.ensures.memory c.requires.files).indexed
+
+pub returns-clause-keeps : goal.returns-clause-keeps
+returns-clause-keeps c = keeps_after c.find.ensures.memory c.replace.ensures.keeps

@@ -1,8 +1,8 @@
 -- The name and the files are looked at first, then the heap.
-use Rattle.std.proofs.Common.{◌≡◌, ◌∙◌, ◌-◌, ◌++◌, ◌∷◌, [], true, None, is_some, sym, ap, subst, arith}
-use Rattle.std.specs.Prelude.{IfSome, IfNone, IfOk}
+use Rattle.std.proofs.Common.{◌≡◌, ◌∙◌, ◌-◌, ◌++◌, ◌∷◌, [], true, None, is_some, sym, ap, subst, arith, rules, Some, Err, refl}
+use Rattle.std.specs.Prelude.{IfSome, IfNone, IfOk, OnErr}
 use Rattle.std.specs.Result.{result_err}
-use Rattle.own_model.specs.FileService.{File, FileServed, node_size, file_named}
+use Rattle.own_model.specs.FileService.{File, FileServed, node_size, file_named, error_of, told}
 use Rattle.own_model.specs.FileText.FileReply.{Refused}
 use Rattle.own_model.specs.FileText.FileError.{Exists}
 use Rattle.own_model.specs.FileText.FileRequest.{Create}
@@ -15,7 +15,7 @@ use Rattle.file_service.specs.Furnished.{Stock}
 use Rattle.file_service.specs.Rooms.{stock_of}
 use Rattle.file_service.specs.Node.{value_of, rank_of}
 use Rattle.sliced_heap.specs.Chain.{is_listed}
-use Rattle.file_service.specs.Session.{files_in, Finds, served_in}
+use Rattle.file_service.specs.Session.{files_in, Finds, served_in, done_reply}
 use Rattle.file_service.proofs.CreateLemmas.{Takes, takes_node}
 use Rattle.file_service.proofs.KeptLemmas.{blocks_are, files_are}
 use Rattle.file_service.proofs.NodeKeptLemmas.{indexed_kept, place_same}
@@ -23,7 +23,9 @@ use Rattle.file_service.proofs.NodeStoreLemmas.{small_bytes}
 use Rattle.file_service.proofs.SeekLemmas.{name_fits, none_ranked}
 use Rattle.file_service.proofs.PlaceLemmas.{furnished_has_places}
 use Rattle.file_service.proofs.SearchLemmas.{found_named}
-use Rattle.file_service.proofs.ServeLemmas.{serves_same, create_exists, create_done, was_ok}
+use Rattle.file_service.proofs.ServeLemmas.{serves_same, create_exists, create_done, was_ok, create_refused, furnished_after, keeps_after, keeps_both, serves_refused}
+use Rattle.session_proto.specs.FileReply.{model_error}
+use Rattle.file_service.proofs.ResultLemmas.{err_case, err_and, keeps_same}
 use Rattle.file_service.proofs.session.FileSession.create.Goals as goal
 
 pub returns-then-is_some-clause-serves : goal.returns-then-is_some-clause-serves
@@ -119,3 +121,34 @@ returns-clause-serves c =
         own = record { label = c.append.ensures.own.label; buffer = c.append.ensures.own.buffer };
       };
     }
+
+pub returns-in_err-address-clause-serves : goal.returns-in_err-address-clause-serves
+returns-in_err-address-clause-serves c =
+    let was : Stock = stock_of c.args.self.now.rooms c.args.memory.now c.args.map.now in
+    let refused = err_case c.take_node.result c.map_err.result c.in_err-address.field-0.0 _ c.map_err.ensures.cases c.map_err.ensures.variant c.in_err-address.was in
+    let error : model_error c.in_err-address.field-0.0 ≡ error_of refused.0 = err_and c.map_err.result c.in_err-address.field-0.0 _ c.in_err-address.was refused.1.1 in
+    let tells : c.from_residual.result ≡ Err c.in_err-address.field-0.0 = search rules in
+    let none : file_named c.args.name.now (files_in c.args.self.now was) ≡ None =
+    subst (λ o. IfNone o (file_named c.args.name.now (files_in c.args.self.now was) ≡ None)) (none_of c.find.result (sym c.is_some.ensures ∙ c.if-is_some.false)) c.find.ensures.none in
+    let short : heap_refusal node_size was.nodes.shape was.account ≡ Some refused.0 =
+    subst (λ m. let s = stock_of c.args.self.now.rooms m c.args.map.now in heap_refusal node_size s.nodes.shape s.account ≡ Some refused.0) c.find.ensures.memory
+    (sym c.take_node.ensures.refusal ∙ ap result_err refused.1.0) in
+    serves_refused (served_in (Create c.args.name.now) c.args.self.now was) _ c.args.self.now c.take_node.new.self c.args.memory.now c.take_node.new.memory c.args.map.now c.take_node.new.map c.requires.files
+    (subst (λ r. OnErr r (c.take_node.new.self ≡ c.args.self.now.rooms)) refused.1.0 c.take_node.ensures.err)
+    (subst (λ r. OnErr r (c.take_node.new.memory ≡ c.find.new.memory)) refused.1.0 c.take_node.ensures.memory_err ∙ c.find.ensures.memory)
+    (subst (λ r. OnErr r (c.take_node.new.map ≡ c.args.map.now)) refused.1.0 c.take_node.ensures.map_err)
+    (create_refused c.args.name.now c.args.self.now was (sym c.if-not-is_name.ensures) none refused.0 short
+    ∙ ap (λ e. told (Refused e) (files_in c.args.self.now was) was.account) (sym error)
+    ∙ ap (λ r. told (done_reply r) (files_in c.args.self.now was) was.account) (sym tells))
+
+pub returns-then-is_some-clause-keeps : goal.returns-then-is_some-clause-keeps
+returns-then-is_some-clause-keeps c = keeps_same c.requires.furnished refl refl c.find.ensures.memory refl
+
+pub take_node-requires : goal.take_node-requires
+take_node-requires c = record { furnished = furnished_after c.find.ensures.memory c.requires.furnished }
+
+pub returns-in_err-address-clause-keeps : goal.returns-in_err-address-clause-keeps
+returns-in_err-address-clause-keeps c = keeps_after c.find.ensures.memory c.take_node.ensures.keeps
+
+pub returns-clause-keeps : goal.returns-clause-keeps
+returns-clause-keeps c = keeps_both _ _ _ _ _ _ _ _ _ _ _ (keeps_after c.find.ensures.memory c.take_node.ensures.keeps) c.append.ensures.keeps

@@ -17,7 +17,7 @@ use Rattle.session_proto.specs.FileReply.{model_error}
 use Rattle.file_service.specs.Calls.{payload_in}
 use Rattle.file_service.specs.Files.{file_at}
 use Rattle.file_service.specs.Furnished.{Stock}
-use Rattle.file_service.specs.Rooms.{stock_of}
+use Rattle.file_service.specs.Rooms.{stock_of, StayFurnished}
 use Rattle.file_service.specs.Lent.{HasBuffer, buffer_key}
 use Rattle.file_service.specs.Node.{value_of}
 use Rattle.file_service.specs.Session.{files_in, session_served, counted_reply, Answers, Finds, IsReady}
@@ -25,6 +25,8 @@ use Rattle.file_service.proofs.FrontLemmas.{front_part}
 use Rattle.file_service.proofs.SearchLemmas.{found_named, found_long, found_has, found_bytes}
 use Rattle.file_service.proofs.SourceLemmas.{buffer_exists}
 use Rattle.file_service.proofs.BufferRequestLemmas as request
+use Rattle.file_service.proofs.ResultLemmas.{keeps_same}
+use Rattle.file_service.proofs.ServeLemmas.{furnished_after}
 use Rattle.file_service.proofs.session.FileSession.get.Goals.{In_ok-found, In_ok-lent}
 use Rattle.file_service.proofs.session.FileSession.get.Goals as goal
 
@@ -156,3 +158,21 @@ returns-else-part-gt0-clause-answers c =
     (ap (λ o. got c.args.offset c.args.place c.args.count b o (files_in c.args.self.now s) s.account) (named_now at)
     ∙ request.got_done c.args.offset c.args.place c.args.count b (files_in c.args.self.now s) s.account (file_of at) (omega (arith, long_now at)) [] is.good same
     ∙ ap (λ l. beside l (told (Count 0) (files_in c.args.self.now s) s.account)) (request.nothing_got b c.args.place))))
+
+pub returns-in_err-found-clause-stays : goal.returns-in_err-found-clause-stays
+returns-in_err-found-clause-stays c = (keeps_same c.requires.ready.furnished refl refl c.find.ensures.memory refl).stays
+
+pub returns-then-offset-size-clause-stays : goal.returns-then-offset-size-clause-stays
+returns-then-offset-size-clause-stays c = (keeps_same c.requires.ready.furnished refl refl c.find.ensures.memory refl).stays
+
+pub returns-in_err-lent-clause-stays : goal.returns-in_err-lent-clause-stays
+returns-in_err-lent-clause-stays c = (keeps_same c.requires.ready.furnished refl refl c.find.ensures.memory refl).stays
+
+pub returns-else-part-gt0-clause-stays : goal.returns-else-part-gt0-clause-stays
+returns-else-part-gt0-clause-stays c = (keeps_same c.requires.ready.furnished refl refl c.find.ensures.memory refl).stays
+
+pub fill_buffer-requires-clause-furnished : goal.fill_buffer-requires-clause-furnished
+fill_buffer-requires-clause-furnished c = furnished_after c.find.ensures.memory c.requires.ready.furnished
+
+pub returns-then-part-gt0-clause-stays : goal.returns-then-part-gt0-clause-stays
+returns-then-part-gt0-clause-stays c = subst (λ m. StayFurnished c.args.self.now.rooms c.args.self.now.rooms m c.fill_buffer.new.memory c.args.map.now c.args.map.now) c.find.ensures.memory c.fill_buffer.ensures.stays

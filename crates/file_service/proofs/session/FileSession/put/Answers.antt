@@ -1,5 +1,5 @@
 -- The offset is looked at first, then the range of the buffer, and then it is a write.
-use Rattle.std.proofs.Common.{rules, ◌≡◌, ◌+◌, length, Some, None, Err, sym, ap, subst, ◌∙◌, arith}
+use Rattle.std.proofs.Common.{rules, ◌≡◌, ◌+◌, length, Some, None, Err, sym, ap, subst, ◌∙◌, arith, refl}
 use Rattle.std.specs.Prelude.{IfSome, IfOk, slice_range}
 use Rattle.std.specs.Option.{option_map}
 use Rattle.std.specs.Result.{result_ok, result_err}
@@ -20,9 +20,10 @@ use Rattle.file_service.specs.Lent.{HasBuffer, buffer_key}
 use Rattle.file_service.specs.Node.{value_of}
 use Rattle.file_service.specs.Session.{files_in, session_served, counted_reply, Answers, Finds, IsReady}
 use Rattle.file_service.proofs.SearchLemmas.{found_named, found_long}
-use Rattle.file_service.proofs.ServeLemmas.{found_name}
+use Rattle.file_service.proofs.ServeLemmas.{found_name, found_after, furnished_after, files_after, keeps_after}
 use Rattle.file_service.proofs.SourceLemmas.{buffer_exists}
 use Rattle.file_service.proofs.BufferRequestLemmas as request
+use Rattle.file_service.proofs.ResultLemmas.{keeps_same}
 use Rattle.file_service.proofs.session.FileSession.put.Goals.{In_ok-found, In_ok-lent}
 use Rattle.file_service.proofs.session.FileSession.put.Goals as goal
 
@@ -115,3 +116,25 @@ returns-clause-answers c =
     subst (λ m. Answers (session_served (Some (OfBuffer (Put c.args.name.now c.args.offset c.args.place c.args.count))) c.args.self.now m c.args.map.now) (counted_reply c.overwrite.result) c.args.self.now c.overwrite.new.self c.overwrite.new.memory c.overwrite.new.map) c.find.ensures.memory
     (subst (λ o. Answers o (counted_reply c.overwrite.result) c.args.self.now c.overwrite.new.self c.overwrite.new.memory c.overwrite.new.map) (sym served)
     (record { reply_is = c.overwrite.ensures.serves.reply_is; leaves = request.files_leave (found_now at).ready _ c.overwrite.ensures.keeps c.overwrite.ensures.serves.leaves }))
+
+pub returns-in_err-found-clause-stays : goal.returns-in_err-found-clause-stays
+returns-in_err-found-clause-stays c = (keeps_same c.requires.ready.furnished refl refl c.find.ensures.memory refl).stays
+
+pub returns-then-offset-found-clause-stays : goal.returns-then-offset-found-clause-stays
+returns-then-offset-found-clause-stays c = (keeps_same c.requires.ready.furnished refl refl c.find.ensures.memory refl).stays
+
+pub returns-in_err-lent-clause-stays : goal.returns-in_err-lent-clause-stays
+returns-in_err-lent-clause-stays c = (keeps_same c.requires.ready.furnished refl refl c.find.ensures.memory refl).stays
+
+pub overwrite-requires-clause-furnished : goal.overwrite-requires-clause-furnished
+overwrite-requires-clause-furnished c = furnished_after c.find.ensures.memory c.requires.ready.furnished
+
+pub overwrite-requires-clause-files : goal.overwrite-requires-clause-files
+overwrite-requires-clause-files c = files_after c.args.self.now c.args.map.now c.find.ensures.memory c.requires.ready.files
+
+pub overwrite-requires-clause-found : goal.overwrite-requires-clause-found
+overwrite-requires-clause-found c =
+    found_after c.args.self.now c.args.map.now c.args.name.now c.in_ok-found.found refl (found_now (goal.at.overwrite-requires-clause-found c).In_ok-found).found
+
+pub returns-clause-stays : goal.returns-clause-stays
+returns-clause-stays c = (keeps_after c.find.ensures.memory c.overwrite.ensures.keeps).stays

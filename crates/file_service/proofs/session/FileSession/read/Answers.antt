@@ -12,7 +12,7 @@ use Rattle.file_service.specs.Node.{value_of}
 use Rattle.file_service.specs.Session.{Finds}
 use Rattle.file_service.proofs.FrontLemmas.{front_part, front_read}
 use Rattle.file_service.proofs.SearchLemmas.{found_named, found_long, found_has, found_bytes}
-use Rattle.file_service.proofs.ServeLemmas.{read_gap, read_long, read_found}
+use Rattle.file_service.proofs.ServeLemmas.{read_gap, read_long, read_found, furnished_after}
 use Rattle.file_service.proofs.session.FileSession.read.Goals as goal
 
 pub returns-then-offset-size-clause-told : goal.returns-then-offset-size-clause-told
@@ -89,3 +89,6 @@ returns-else-count-gt0-clause-told c =
     (ap (λ b. take c.args.len (drop c.args.offset b)) bytes
     ∙ front_part node.size c.args.len c.args.offset c.min-count.result payload (omega arith) c.min-count.ensures
     ∙ ap (λ n. take n (drop c.args.offset payload)) none ∙ sym (ap (λ n. take n c.args.buffer.now) none))
+
+pub read_content-requires-clause-furnished : goal.read_content-requires-clause-furnished
+read_content-requires-clause-furnished c = furnished_after c.find.ensures.memory c.requires.furnished

@@ -1,12 +1,12 @@
 -- The node leaves the tree, the links lead past it, and then it and its content go.
-use Rattle.std.proofs.Common.{◌≡◌, ◌∙◌, ◌++◌, Some, sym, ap, subst, arith}
+use Rattle.std.proofs.Common.{◌≡◌, ◌∙◌, ◌++◌, Some, sym, ap, subst, arith, refl}
 use Rattle.std.specs.Prelude.{IfSome, ◌==◌, if◌then◌else◌}
 use Rattle.std.specs.Result.{result_ok}
 use Rattle.own_model.specs.FileText.FileReply.{Done}
 use Rattle.own_model.specs.FileText.FileRequest.{Drop}
 use Rattle.sliced_heap.specs.Chain.{is_listed}
 use Rattle.file_service.specs.Furnished.{Stock}
-use Rattle.file_service.specs.Rooms.{stock_of, KeepsRooms}
+use Rattle.file_service.specs.Rooms.{stock_of}
 use Rattle.file_service.specs.Index.{IsNamed}
 use Rattle.file_service.specs.Node.{value_of}
 use Rattle.file_service.specs.Session.{Finds, IsListed, KeepsOwn, LinksTo, Serves, served_in}
@@ -14,7 +14,8 @@ use Rattle.file_service.specs.declared.session.FileSession.{FileSession}
 use Rattle.file_service.proofs.DropLemmas.{is_unlisted, previous_there, linked_there, given_there, serves_empty, serves_full}
 use Rattle.file_service.proofs.KeptLemmas.{blocks_are}
 use Rattle.file_service.proofs.SearchLemmas.{in_blocks}
-use Rattle.file_service.proofs.ServeLemmas.{keeps_both}
+use Rattle.file_service.proofs.ServeLemmas.{keeps_both, furnished_after, files_after, keeps_after}
+use Rattle.file_service.proofs.ResultLemmas.{keeps_same}
 use Rattle.file_service.proofs.session.FileSession.remove.Goals as goal
 
 pub unlist-previous-requires-clause-listed : goal.unlist-previous-requires-clause-listed
@@ -150,6 +151,19 @@ returns-else-node-gt0-clause-serves c =
 
 pub returns-then-node-gt0-clause-keeps : goal.returns-then-node-gt0-clause-keeps
 returns-then-node-gt0-clause-keeps c =
-    let found = subst (λ m. KeepsRooms c.args.self.now.rooms c.unlist-previous.new.self.rooms m c.unlist-previous.new.memory c.args.map.now c.args.map.now) c.find.ensures.memory c.unlist-previous.ensures.keeps in
-    keeps_both _ _ _ _ _ _ _ _ _ _ _ found
+    keeps_both _ _ _ _ _ _ _ _ _ _ _ (keeps_after c.find.ensures.memory c.unlist-previous.ensures.keeps)
     (keeps_both _ _ _ _ _ _ _ _ _ _ _ c.link.ensures.keeps (keeps_both _ _ _ _ _ _ _ _ _ _ _ c.give_node.ensures.keeps c.give_content.ensures.keeps))
+
+pub returns-else-node-gt0-clause-keeps : goal.returns-else-node-gt0-clause-keeps
+returns-else-node-gt0-clause-keeps c =
+    keeps_both _ _ _ _ _ _ _ _ _ _ _ (keeps_after c.find.ensures.memory c.unlist-previous.ensures.keeps)
+    (keeps_both _ _ _ _ _ _ _ _ _ _ _ c.link.ensures.keeps c.give_node.ensures.keeps)
+
+pub returns-in_err-found-clause-keeps : goal.returns-in_err-found-clause-keeps
+returns-in_err-found-clause-keeps c = keeps_same c.requires.furnished refl refl c.find.ensures.memory refl
+
+pub unlist-previous-requires-clause-furnished : goal.unlist-previous-requires-clause-furnished
+unlist-previous-requires-clause-furnished c = furnished_after c.find.ensures.memory c.requires.furnished
+
+pub unlist-previous-requires-clause-files : goal.unlist-previous-requires-clause-files
+unlist-previous-requires-clause-files c = files_after c.args.self.now c.args.map.now c.find.ensures.memory c.requires.files

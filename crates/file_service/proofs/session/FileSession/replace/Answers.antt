@@ -16,6 +16,7 @@ use Rattle.file_service.specs.Node.{FileNode, value_of}
 use Rattle.file_service.proofs.NewContentLemmas.{two_words}
 use Rattle.file_service.proofs.ReplaceLemmas.{kept_alone, files_alone, kept_left, files_left, credited_is}
 use Rattle.file_service.proofs.SearchLemmas.{found_file, found_long}
+use Rattle.file_service.proofs.ServeLemmas.{keeps_both}
 use Rattle.file_service.proofs.session.FileSession.replace.Goals as goal
 
 pub store_content-requires-clause-there : goal.store_content-requires-clause-there
@@ -104,3 +105,6 @@ returns-then-node-gt0-clause-account c =
     ∙ credited_is was.account c.args.found.node.size has.payload some long
     ∙ ap (λ n. credited was.account (content_ram n) (content_caps n))
     (sym (found_long c.args.self.now.first c.args.self.now.last was.nodes was.contents c.args.found.node.name.items (previous_at was.nodes c.args.found.address) c.args.found.address (value_of c.args.found.node) c.requires.found))
+
+pub returns-then-node-gt0-clause-keeps : goal.returns-then-node-gt0-clause-keeps
+returns-then-node-gt0-clause-keeps c = keeps_both _ _ _ _ _ _ _ _ _ _ _ c.store_content.ensures.keeps c.give_content.ensures.keeps

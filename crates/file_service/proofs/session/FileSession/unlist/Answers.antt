@@ -7,6 +7,7 @@ use Rattle.file_service.specs.NameLaws.{tails_then}
 use Rattle.file_service.specs.Node.{value_of, rank_of}
 use Rattle.file_service.proofs.TailLemmas.{tail_there}
 use Rattle.file_service.proofs.UnlistLemmas.{listed_there, unlisted_by}
+use Rattle.file_service.proofs.ServeLemmas.{keeps_both}
 use Rattle.file_service.proofs.session.FileSession.unlist.Goals as goal
 
 pub load_word-previous-requires-clause-there : goal.load_word-previous-requires-clause-there
@@ -33,3 +34,6 @@ returns-clause-unlists c before behind stand =
     let now : Stock = stock_of c.args.self.now.rooms c.link_back.new.memory c.args.map.now in
     unlisted_by c.args.self.now was mid now c.args.address (value_of c.args.node.now) before behind stand c.requires.files c.requires.listed c.leave-self.result c.load_word-previous.result c.load_word-previous.ensures
     (subst (λ n. Leaves c.args.self.now.root (rank_of n) c.leave-self.result was.nodes mid.nodes) c.deref.ensures.0 c.leave-self.ensures.gone) c.leave-self.ensures.tree c.link_back.ensures.links
+
+pub returns-clause-keeps : goal.returns-clause-keeps
+returns-clause-keeps c = keeps_both _ _ _ _ _ _ _ _ _ _ _ c.leave-self.ensures.keeps c.link_back.ensures.keeps

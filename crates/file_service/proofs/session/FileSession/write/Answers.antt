@@ -1,5 +1,5 @@
 -- The offset is looked at first, then whether the file gets longer.
-use Rattle.std.proofs.Common.{◌∙◌, ap, subst, arith}
+use Rattle.std.proofs.Common.{◌∙◌, ap, subst, arith, refl}
 use Rattle.std.specs.Prelude.{IfSome}
 use Rattle.std.specs.Result.{result_ok}
 use Rattle.own_model.specs.FileText.FileError.{Gap}
@@ -10,9 +10,10 @@ use Rattle.file_service.specs.Index.{previous_at}
 use Rattle.file_service.specs.Furnished.{Stock}
 use Rattle.file_service.specs.Rooms.{stock_of}
 use Rattle.file_service.specs.Node.{value_of}
-use Rattle.file_service.specs.Session.{served_in, Finds}
+use Rattle.file_service.specs.Session.{served_in, Finds, Serves, counted_reply}
 use Rattle.file_service.proofs.SearchLemmas.{found_named, found_long}
-use Rattle.file_service.proofs.ServeLemmas.{serves_same, write_gap}
+use Rattle.file_service.proofs.ServeLemmas.{serves_same, write_gap, found_name, found_after, furnished_after, files_after, keeps_after}
+use Rattle.file_service.proofs.ResultLemmas.{keeps_same}
 use Rattle.file_service.proofs.session.FileSession.write.Goals.{In_ok-found}
 use Rattle.file_service.proofs.session.FileSession.write.Goals as goal
 
@@ -34,3 +35,33 @@ returns-then-offset-found-clause-serves c =
     c.requires.files c.find.ensures.memory
     (write_gap c.args.name.now c.args.self.now was c.args.offset c.args.bytes.now (file_at was.nodes was.contents address)
     (found_named c.args.self.now.first c.args.self.now.last was.nodes was.contents c.args.name.now previous address node found) (omega (arith, long)))
+
+pub returns-in_err-found-clause-keeps : goal.returns-in_err-found-clause-keeps
+returns-in_err-found-clause-keeps c = keeps_same c.requires.furnished refl refl c.find.ensures.memory refl
+
+pub returns-then-offset-found-clause-keeps : goal.returns-then-offset-found-clause-keeps
+returns-then-offset-found-clause-keeps c = keeps_same c.requires.furnished refl refl c.find.ensures.memory refl
+
+pub overwrite-requires-clause-furnished : goal.overwrite-requires-clause-furnished
+overwrite-requires-clause-furnished c = furnished_after c.find.ensures.memory c.requires.furnished
+
+pub overwrite-requires-clause-files : goal.overwrite-requires-clause-files
+overwrite-requires-clause-files c = files_after c.args.self.now c.args.map.now c.find.ensures.memory c.requires.files
+
+pub overwrite-requires-clause-found : goal.overwrite-requires-clause-found
+overwrite-requires-clause-found c =
+    found_after c.args.self.now c.args.map.now c.args.name.now c.in_ok-found.found c.find.ensures.memory (finds (goal.at.overwrite-requires-clause-found c).In_ok-found)
+
+pub returns-clause-keeps : goal.returns-clause-keeps
+returns-clause-keeps c = keeps_after c.find.ensures.memory c.overwrite.ensures.keeps
+
+pub returns-clause-serves : goal.returns-clause-serves
+returns-clause-serves c =
+    let was : Stock = stock_of c.args.self.now.rooms c.args.memory.now c.args.map.now in
+    let now : Stock = stock_of c.overwrite.new.self.rooms c.overwrite.new.memory c.overwrite.new.map in
+    let address = c.in_ok-found.found.address in
+    let node = value_of c.in_ok-found.found.node in
+    let called = found_name c.args.self.now.first c.args.self.now.last c.args.self.now was c.args.name.now (previous_at was.nodes address) address node (finds (goal.at.returns-clause-serves c).In_ok-found) in
+    subst (λ n. Serves (served_in (Write n c.args.offset c.args.bytes.now) c.args.self.now was) (counted_reply c.overwrite.result) c.args.self.now c.overwrite.new.self now) called
+    (subst (λ m. Serves (served_in (Write node.name c.args.offset c.args.bytes.now) c.args.self.now (stock_of c.args.self.now.rooms m c.args.map.now)) (counted_reply c.overwrite.result) c.args.self.now c.overwrite.new.self now) c.find.ensures.memory
+    c.overwrite.ensures.serves)
