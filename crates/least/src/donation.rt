@@ -13,17 +13,22 @@ pub(crate) fn args_with(
     args: &[u8],
 ) -> Result<Vec<u8>, AllocError> {
     let (ram, caps) = (donation.ram, donation.caps);
-    let named = format!(in alloc; "ram_quota={ram}, cap_quota={caps}")?;
-    let mut text = Vec::new(alloc);
-    text.extend_from_slice(named.as_bytes())?;
+    let mut text = format!(in alloc; "ram_quota={ram}, cap_quota={caps}")?.into_bytes();
     if let Ok(given) = SessionArgs::read(args) {
-        if !given.label().is_empty() {
-            text.extend_from_slice(b", label=\"")?;
-            text.extend_from_slice(given.label())?;
-            text.extend_from_slice(b"\"")?;
-        }
+        add_label(&mut text, given.label())?;
     }
     Ok(text)
+}
+
+// Adds a label, if there is one.
+fn add_label(text: &mut Vec<u8>, label: &[u8]) -> Result<(), AllocError> {
+    if label.is_empty() {
+        return Ok(());
+    }
+    text.extend_from_slice(b", label=\"")?;
+    text.extend_from_slice(label)?;
+    text.extend_from_slice(b"\"")?;
+    Ok(())
 }
 
 /// Whether a text names a donation, and the same label as another.

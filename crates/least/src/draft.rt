@@ -192,22 +192,29 @@ pub(crate) fn home_of(list: &StartList, component: usize) -> Option<usize> {
 fn places_of(alloc: Global, list: &StartList) -> Result<Vec<String>, BootFault> {
     let mut places: Vec<String> = Vec::new(alloc);
     for (component, entry) in list.entries().iter().enumerate() {
-        let mut before = 0usize;
-        for other in list.entries().iter().take(component) {
-            if other.home() == entry.home() {
-                before = before.saturating_add(1);
-            }
-        }
-        let place = match home_of(list, component) {
-            Some(init) => within(alloc, places.get(init), before)?,
-            None => format!(in alloc; "/start/{before}")?,
+        let before = count_of_home(list, component, entry.home());
+        let init = match home_of(list, component) {
+            Some(init) => places.get(init),
+            None => None,
         };
+        let place = within(alloc, init, before)?;
         places.push(place)?;
     }
     Ok(places)
 }
 
-// Where an entry of the list of an init stands, which stands at a place.
+// How many components before one have this home.
+fn count_of_home(list: &StartList, component: usize, home: usize) -> usize {
+    let mut count = 0usize;
+    for other in list.entries().iter().take(component) {
+        if other.home() == home {
+            count = count.saturating_add(1);
+        }
+    }
+    count
+}
+
+// Where an entry of the list of an init stands, which stands at a place, or else one of the outermost list.
 fn within(alloc: Global, init: Option<&String>, before: usize) -> Result<String, BootFault> {
     match init {
         Some(place) => Ok(format!(in alloc; "{place}/config/start/{before}")?),

@@ -36,8 +36,38 @@ impl Trial {
             Shows (entry_at (entries_of (start_list_of list.now)) component) (calls_of steps.now) s
             (amounts_of start) (is_some trial.refused) trial.meter) }
     {
-        let core = boot(alloc, list)?;
+        let mut core = boot(alloc, list)?;
         let heard = AccountMeter::new(core.account(component), true);
+        OwnRun::trial(alloc, &mut core, component, heard, steps, start)
+    }
+}
+
+// A component of a core whose calls are heard.
+#[derive(Drop)]
+struct OwnRun<'a, R: Router + Drop> {
+    core: &'a mut Core<R>,
+    component: usize,
+    reply: Reply,
+    heard: AccountMeter,
+    trial: Trial,
+}
+
+impl<'a, R: Router + Drop> OwnRun<'a, R> {
+    // What is shown by the calls of lines, none of which was made.
+    fn trial(
+        alloc: Global,
+        core: &'a mut Core<R>,
+        component: usize,
+        heard: AccountMeter,
+        steps: &[Step],
+        start: Budget,
+    ) -> Result<Trial, BootFault>
+        requires { component < length core.old.entries }
+        ensures { IfOk result (λ trial. (calls : List Said) (budget : Amounts) (s : OwnState) →
+            HasLeft core.old component heard calls (calls_of steps.now) budget s →
+            Shows (entry_at core.old.entries component) calls s budget
+            (is_some trial.refused) trial.meter) }
+    {
         let mut run = OwnRun {
             core,
             component,
@@ -50,27 +80,15 @@ impl Trial {
         trial.meter = run.heard.meter;
         Ok(trial)
     }
-}
 
-// A component of a core whose calls are heard.
-#[derive(Drop)]
-struct OwnRun<R: Router + Drop> {
-    core: Core<R>,
-    component: usize,
-    reply: Reply,
-    heard: AccountMeter,
-    trial: Trial,
-}
-
-impl<R: Router + Drop> OwnRun<R> {
     // Makes the calls of lines, up to the first in want or an exit.
     fn go_through(&mut self, steps: &[Step]) -> Result<(), BootFault>
-        requires there { self.old.component < length self.old.core.entries }
+        requires there { self.old.component < length self.old.core.now.entries }
         requires none { self.old.trial.refused ≡ None }
         ensures shows { OnOk result ((calls : List Said) (budget : Amounts) (s : OwnState) →
-            HasLeft self.old.core self.old.component self.old.heard calls (calls_of steps.now)
+            HasLeft self.old.core.now self.old.component self.old.heard calls (calls_of steps.now)
             budget s →
-            Shows (entry_at self.old.core.entries self.old.component) calls s budget
+            Shows (entry_at self.old.core.now.entries self.old.component) calls s budget
             (is_some self.new.trial.refused) self.new.heard.meter) }
     {
         for step in steps {
@@ -83,21 +101,21 @@ impl<R: Router + Drop> OwnRun<R> {
 
     // Makes the call of a line, and answers whether the run goes on.
     fn goes_on(&mut self, step: &Step) -> Result<bool, BootFault>
-        requires there { self.old.component < length self.old.core.entries }
+        requires there { self.old.component < length self.old.core.now.entries }
         requires none { self.old.trial.refused ≡ None }
         ensures same { self.new.component ≡ self.old.component }
-        ensures entries { self.new.core.entries ≡ self.old.core.entries }
+        ensures entries { self.new.core.now.entries ≡ self.old.core.now.entries }
         ensures on { IfOk result (λ goes_on. goes_on ≡ true → self.new.trial.refused ≡ None) }
         ensures left { IfOk result (λ goes_on. goes_on ≡ true →
             (calls rest : List Said) (budget : Amounts) (s : OwnState) →
-            HasLeft self.old.core self.old.component self.old.heard calls
+            HasLeft self.old.core.now self.old.component self.old.heard calls
             (calls_with step.now.is_left_out (call_of step.now) rest) budget s →
-            HasLeft self.new.core self.new.component self.new.heard calls rest budget s) }
+            HasLeft self.new.core.now self.new.component self.new.heard calls rest budget s) }
         ensures ends { IfOk result (λ goes_on. goes_on ≡ false →
             (calls rest : List Said) (budget : Amounts) (s : OwnState) →
-            HasLeft self.old.core self.old.component self.old.heard calls
+            HasLeft self.old.core.now self.old.component self.old.heard calls
             (calls_with step.now.is_left_out (call_of step.now) rest) budget s →
-            Shows (entry_at self.old.core.entries self.old.component) calls s budget
+            Shows (entry_at self.old.core.now.entries self.old.component) calls s budget
             (is_some self.new.trial.refused) self.new.heard.meter) }
     {
         let Some(call) = step.call() else {
@@ -118,22 +136,22 @@ impl<R: Router + Drop> OwnRun<R> {
 
     // Makes a call, and answers whether the run goes on.
     fn make(&mut self, line: u64, call: Call<'_>) -> Result<bool, BootFault>
-        requires there { self.old.component < length self.old.core.entries }
+        requires there { self.old.component < length self.old.core.now.entries }
         requires call { IsWellFormed call }
         requires none { self.old.trial.refused ≡ None }
         ensures same { self.new.component ≡ self.old.component }
-        ensures entries { self.new.core.entries ≡ self.old.core.entries }
+        ensures entries { self.new.core.now.entries ≡ self.old.core.now.entries }
         ensures on { IfOk result (λ goes_on. goes_on ≡ true → self.new.trial.refused ≡ None) }
         ensures left { IfOk result (λ goes_on. goes_on ≡ true →
             (calls rest : List Said) (budget : Amounts) (s : OwnState) →
-            HasLeft self.old.core self.old.component self.old.heard calls
+            HasLeft self.old.core.now self.old.component self.old.heard calls
             (model_call call.entry ∷ rest) budget s →
-            HasLeft self.new.core self.new.component self.new.heard calls rest budget s) }
+            HasLeft self.new.core.now self.new.component self.new.heard calls rest budget s) }
         ensures ends { IfOk result (λ goes_on. goes_on ≡ false →
             (calls rest : List Said) (budget : Amounts) (s : OwnState) →
-            HasLeft self.old.core self.old.component self.old.heard calls
+            HasLeft self.old.core.now self.old.component self.old.heard calls
             (model_call call.entry ∷ rest) budget s →
-            Shows (entry_at self.old.core.entries self.old.component) calls s budget
+            Shows (entry_at self.old.core.now.entries self.old.component) calls s budget
             (is_some self.new.trial.refused) self.new.heard.meter) }
     {
         self.core.step(self.component, call, &mut self.reply);

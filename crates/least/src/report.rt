@@ -7,7 +7,6 @@ use crate::script::Script;
 use crate::shown::Csv;
 use budget_meter::Budget;
 use calls::Call;
-use init_core::boot;
 use scenario_names::Known;
 use start_lists::{Binary, BootFault, Entry, StartList};
 use std::alloc::Global;
@@ -37,16 +36,34 @@ impl Report {
     /// The answer to a question, where names stand for what is given and what the run binds. An error is that of the start list, which may be none or not boot, or want of memory.
     pub fn of(alloc: Global, question: Question<'_>, given: Known) -> Result<Report, BootFault> {
         let list = StartList::read(alloc, question.machine)?;
-        let core = boot(alloc, &list)?;
-        let mut scene = Scene::read(alloc, &list, core, question.scenario, given)?;
-        let accounts = accounts_of(alloc, question, &list, &mut scene)?;
+        let scene = Scene::read(alloc, &list, question.scenario, given)?;
         let mut report = Report {
             list,
-            accounts,
+            accounts: Vec::new(alloc),
             scene,
         };
+        report.add_accounts(alloc, question)?;
         report.sum_inits();
         Ok(report)
+    }
+
+    // Adds the accounts of all components, without what inits need.
+    fn add_accounts(&mut self, alloc: Global, question: Question<'_>) -> Result<(), BootFault> {
+        let mut draft = Draft::empty(alloc, question.machine, &self.list)?;
+        for component in 0..self.list.count() {
+            if let Some(steps) = self.scene.steps.get_mut(component) {
+                add_component(
+                    alloc,
+                    question.as_donated,
+                    &self.list,
+                    component,
+                    &mut draft,
+                    steps.as_mut_slice(),
+                    &mut self.accounts,
+                )?;
+            }
+        }
+        Ok(())
     }
 
     // Sums up what each init needs for its list, the innermost first.
@@ -154,32 +171,6 @@ impl Report {
         }
         Ok(found)
     }
-}
-
-// The accounts of all components of a list, without what inits need.
-fn accounts_of(
-    alloc: Global,
-    question: Question<'_>,
-    list: &StartList,
-    scene: &mut Scene,
-) -> Result<Vec<Account>, BootFault> {
-    let mut accounts = Vec::new(alloc);
-    let mut draft = Draft::empty(alloc, question.machine, list)?;
-    for component in 0..list.count() {
-        if let Some(steps) = scene.steps.get_mut(component) {
-            let steps = steps.as_mut_slice();
-            add_component(
-                alloc,
-                question.as_donated,
-                list,
-                component,
-                &mut draft,
-                steps,
-                &mut accounts,
-            )?;
-        }
-    }
-    Ok(accounts)
 }
 
 // Adds the accounts of a component.

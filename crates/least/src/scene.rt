@@ -7,10 +7,11 @@ use crate::stage::Stage;
 use call_lines::{LONGEST_LINE, read_line};
 use calls::Call;
 use friendly_lines::{Fault, Line, Said, meets, read_friendly};
+use init_core::boot;
 use pd_core::{Core, Router};
 use scenario_names::{Directive, Filled, Known, NameFault, directive_of, fill, source_column};
 use start_lists::{BootFault, StartList};
-use std::alloc::Global;
+use std::alloc::{AllocError, Global};
 use std::fmt;
 use text_codec::find_byte;
 
@@ -126,36 +127,75 @@ struct Rooms {
 }
 
 impl Scene {
-    /// Those of a scenario's unfolded text, by the components of a list, filled with what the run on this core binds.
-    pub(crate) fn read<R: Router + Drop>(
+    /// Those of a scenario's unfolded text, by the components of a list, filled with what the run on its machine binds.
+    pub(crate) fn read(
         alloc: Global,
         list: &StartList,
-        core: Core<R>,
         text: &[u8],
         given: Known,
     ) -> Result<Scene, BootFault> {
-        let mut scene = Scene {
-            steps: Vec::new(alloc),
+        let mut core = boot(alloc, list)?;
+        Scene::on(alloc, list, &mut core, text, given)
+    }
+
+    // Those by the run on a machine that has just booted.
+    fn on<R: Router + Drop>(
+        alloc: Global,
+        list: &StartList,
+        core: &mut Core<R>,
+        text: &[u8],
+        given: Known,
+    ) -> Result<Scene, BootFault> {
+        let binds = find_byte(b'$', text).is_some();
+        let mut stage = Stage::new(alloc, core, given, binds)?;
+        Scene::in_turn(alloc, list, &mut stage, text)
+    }
+
+    // Those that are answered in turn on a stage.
+    fn in_turn<R: Router + Drop>(
+        alloc: Global,
+        list: &StartList,
+        stage: &mut Stage<'_, R>,
+        text: &[u8],
+    ) -> Result<Scene, BootFault> {
+        let mut scene = Scene::empty(alloc, list.count())?;
+        scene.add_all(alloc, list, stage, text)?;
+        Ok(scene)
+    }
+
+    // No lines of so many components.
+    fn empty(alloc: Global, components: usize) -> Result<Scene, AllocError> {
+        let mut steps = Vec::new(alloc);
+        for _ in 0..components {
+            steps.push(Vec::new(alloc))?;
+        }
+        Ok(Scene {
+            steps,
             misread: Vec::new(alloc),
             number: 1,
-        };
-        for _ in 0..list.count() {
-            scene.steps.push(Vec::new(alloc))?;
-        }
+        })
+    }
+
+    // Adds the lines of a text.
+    fn add_all<R: Router + Drop>(
+        &mut self,
+        alloc: Global,
+        list: &StartList,
+        stage: &mut Stage<'_, R>,
+        text: &[u8],
+    ) -> Result<(), BootFault> {
         let mut rooms = Rooms {
             filled: Line::new(),
             read: Line::new(),
         };
-        let binds = find_byte(b'$', text).is_some();
-        let mut stage = Stage::new(alloc, core, given, binds)?;
         for line in text.split(|byte| *byte == b'\n') {
-            let number = scene.number;
-            scene.number = number.saturating_add(1);
+            let number = self.number;
+            self.number = number.saturating_add(1);
             if line.len() <= LONGEST_LINE {
-                scene.add(alloc, list, &mut stage, number, line, &mut rooms)?;
+                self.add(alloc, list, stage, number, line, &mut rooms)?;
             }
         }
-        Ok(scene)
+        Ok(())
     }
 
     // Adds a line with what its names stand for.
@@ -163,7 +203,7 @@ impl Scene {
         &mut self,
         alloc: Global,
         list: &StartList,
-        stage: &mut Stage<R>,
+        stage: &mut Stage<'_, R>,
         number: u64,
         line: &[u8],
         rooms: &mut Rooms,
@@ -213,7 +253,7 @@ impl Scene {
         &mut self,
         alloc: Global,
         list: &StartList,
-        stage: &mut Stage<R>,
+        stage: &mut Stage<'_, R>,
         number: u64,
         line: &[u8],
         reply: Option<&[u8]>,

@@ -8,24 +8,24 @@ use std::alloc::Global;
 
 /// A machine on which all lines are answered in turn, and what names stand for.
 #[derive(Drop)]
-pub(crate) struct Stage<R: Router + Drop> {
+pub(crate) struct Stage<'a, R: Router + Drop> {
     pub(crate) known: Known,
-    core: Core<R>,
+    core: &'a mut Core<R>,
     reply: Reply,
     /// Whether replies may bind names; without any no line has to be answered.
     binds: bool,
 }
 
-impl<R: Router + Drop> Stage<R> {
+impl<'a, R: Router + Drop> Stage<'a, R> {
     ghost use Rattle.calls.specs.Call.{IsWellFormed};
 
     /// A machine that has answered nothing.
     pub(crate) fn new(
         alloc: Global,
-        core: Core<R>,
+        core: &'a mut Core<R>,
         known: Known,
         binds: bool,
-    ) -> Result<Stage<R>, BootFault> {
+    ) -> Result<Stage<'a, R>, BootFault> {
         Ok(Stage {
             known,
             core,

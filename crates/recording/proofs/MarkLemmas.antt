@@ -1,6 +1,6 @@
 -- What is met in each line: an event more is a mark more, at its place.
-use Rattle.std.proofs.Common.{◌≡◌, ℕ, ◌+◌, ◌<◌, ◌≤◌, zero, suc, nat_eq, cond, ◌&&◌, ◌||◌, Bool, true, false, List, [], ◌∷◌, ◌++◌, length, get_or, slice_set, append-nil, append_assoc, Option, Some, None, Result, Ok, Err, OnOk, arith, refl, sym, ap, ◌∙◌}
-use Rattle.std.specs.List.{flat_map, list_all, list_any}
+use Rattle.std.proofs.Common.{◌≡◌, ℕ, ◌+◌, ◌<◌, ◌≤◌, zero, suc, nat_eq, cond, ◌&&◌, ◌||◌, Bool, true, false, List, [], ◌∷◌, ◌++◌, length, get_or, slice_set, append-nil, append_assoc, Some, None, Result, Ok, Err, OnOk, arith, refl, sym, ap, ◌∙◌}
+use Rattle.std.specs.List.{list_all, list_any}
 use Rattle.std.proofs.lemmas.Bool.Decides.{nat_tests}
 use Rattle.std.proofs.lemmas.Grind.{flat_map-append}
 use Rattle.std.proofs.lemmas.List.{get_or-map, map-set}
@@ -12,7 +12,7 @@ use Rattle.recording.specs.Played.{Event, Hearing, Meeting}
 use Rattle.recording.specs.Played.Meeting.{Logs, Hears}
 use Rattle.recording.specs.Views.{mark_view, marks_view}
 use Rattle.recording.specs.declared.marks.Mark.{Mark as Marked}
-use Rattle.recording.specs.Recorded.{Mark, Note, expecting, hearings_at, hears, holds, is_logged, logs_at, mark_of, marks_of, note_of, noted, verdict}
+use Rattle.recording.specs.Recorded.{Mark, expecting, hearings_at, hears, holds, is_logged, logs_at, mark_of, marks_of, note_of, noted, verdict}
 
 -- ---- one line
 

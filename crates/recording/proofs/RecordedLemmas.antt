@@ -1,5 +1,5 @@
 -- What is recorded of a scenario that is played line by line.
-use Rattle.std.proofs.Common.{◌≡◌, ℕ, ◌<◌, ◌≤◌, nat_le, nat_lt, cond, not, ◌&&◌, Bool, true, false, is_some, List, [], ◌∷◌, ◌++◌, length, Option, Some, None, Result, Ok, Err, OnOk, arith, ap, refl, subst, sym, ◌∙◌}
+use Rattle.std.proofs.Common.{◌≡◌, ℕ, ◌<◌, ◌≤◌, nat_le, nat_lt, cond, not, ◌&&◌, Bool, true, false, is_some, List, [], ◌∷◌, length, Option, Some, None, Result, Ok, Err, IfOk, OnOk, arith, ap, refl, subst, sym, ◌∙◌}
 use Rattle.std.specs.List.{flat_map}
 use Rattle.std.proofs.lemmas.Bool.Decides.{nat_tests}
 use Rattle.own_model.specs.Listed.{Listed, start_list_of}
@@ -8,6 +8,7 @@ use Rattle.own_model.specs.StartList.{Boots}
 use Rattle.own_model.specs.Transcript.{heard as heard_call, longest_line}
 use Rattle.own_model.specs.World.{World, start_world}
 use Rattle.start_lists.specs.StartText.{list_in}
+use Rattle.start_lists.specs.declared.fault.BootFault.{BootFault}
 use Rattle.friendly_lines.specs.Friendly.{Said, said_of}
 use Rattle.friendly_lines.specs.declared.fault.Fault.{Fault}
 use Rattle.scenario_lines.specs.Answer.{finished_lines}
@@ -20,9 +21,10 @@ use Rattle.recording.specs.Marked.{TurnsTo, all_marked, marks_after, unmarked}
 use Rattle.recording.specs.Played.{Deed, Hearing, Stage, deed_by, deed_filled, deed_of, deed_said, events, first_stage, hearing_of, met_in, number_behind, passed, reply_in, stage_after, stage_behind}
 use Rattle.recording.specs.Played.Deed.{Passes, Follows, Awaits, Calls}
 use Rattle.recording.specs.Played.Meeting.{Hears}
-use Rattle.recording.specs.Recorded.{IsRecorded, Mark, pieces_of, without_last, written_lines}
+use Rattle.recording.specs.Recorded.{IsRecorded, Mark, pieces_of, recorded, without_last, written_lines}
 use Rattle.recording.specs.Views.{hearing_view, stage_in}
 use Rattle.recording.specs.declared.hearing.Hearing.{Hearing as Heard}
+use Rattle.recording.specs.declared.recording.Recording.{Recording}
 use Rattle.recording.specs.declared.stand.Stand.{Stand}
 use Rattle.recording.proofs.MarkLemmas.{marked_on, marks_in_all}
 
@@ -153,21 +155,29 @@ pub first_in : (stand : Stand) (world : World) (given : Known) → stand.number 
 first_in stand world given number known awaits = rw (number, known, awaits) refl
 
 -- the whole text
-pub whole_recorded : (machine : List ℕ) (all made_all : Bool) (given : Known) (played scenario : List ℕ) (listed : Listed) (world : World)
+pub whole_recorded : (all made_all : Bool) (given : Known) (played scenario : List ℕ) (world : World)
     (stage : Stage) (first marks : List Mark) (text : List ℕ) →
-    list_in machine ≡ Ok listed → Boots (start_list_of listed) → world ≡ start_world (start_list_of listed) → made_all ≡ all →
-    stage ≡ first_stage world given → first ≡ unmarked (pieces_of scenario) →
+    made_all ≡ all → stage ≡ first_stage world given → first ≡ unmarked (pieces_of scenario) →
     marks ≡ all_marked (events made_all stage (pieces_of played)) first → text ≡ without_last (written_lines made_all marks) →
-    IsRecorded machine all given played scenario text
-whole_recorded machine all made_all given played scenario listed world stage first marks text reads boots starts all_is stage_is first_is marks_is text_is = record {
+    text ≡ recorded all world given played scenario
+whole_recorded all made_all given played scenario world stage first marks text all_is stage_is first_is marks_is text_is =
+    text_is
+    ∙ ap (λ ms. without_last (written_lines made_all ms))
+    (marks_is ∙ ap (all_marked (events made_all stage (pieces_of played))) first_is
+    ∙ marks_in_all (events made_all stage (pieces_of played)) (pieces_of scenario))
+    ∙ rw (stage_is, all_is) refl
+
+-- and on the machine of a list
+pub recorded_there : (machine : List ℕ) (all : Bool) (given : Known) (played scenario : List ℕ) (listed : Listed) (world : World)
+    (made : Result Recording BootFault) →
+    list_in machine ≡ Ok listed → Boots (start_list_of listed) → world ≡ start_world (start_list_of listed) →
+    IfOk made (λ recording. recording.text.items ≡ recorded all world given played scenario) →
+    IfOk made (λ recording. IsRecorded machine all given played scenario recording.text.items)
+recorded_there machine all given played scenario listed world (Ok recording) reads boots starts is = record {
   listed = listed;
   boots = record { reads = reads; boots = boots };
-  is =
-      text_is
-      ∙ ap (λ ms. without_last (written_lines made_all ms))
-      (marks_is ∙ ap (all_marked (events made_all stage (pieces_of played))) first_is
-      ∙ marks_in_all (events made_all stage (pieces_of played)) (pieces_of scenario))
-      ∙ rw (stage_is, starts, all_is) refl;
+  is = is ∙ ap (λ w. recorded all w given played scenario) starts;
 }
+recorded_there machine all given played scenario listed world (Err fault) reads boots starts none = tt
 
 pub ruleset unbooted = (fault_of_list, fault_of_text)

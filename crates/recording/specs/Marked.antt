@@ -1,5 +1,5 @@
 -- What is met in each line of a scenario, event by event.
-use Rattle.std.specs.Prelude.{◌≡◌, ℕ, ◌+◌, Bool, true, false, List, [], ◌∷◌, ◌++◌, map, nat_eq, if◌then◌else◌, Option, Some, None}
+use Rattle.std.specs.Prelude.{◌≡◌, ℕ, ◌+◌, Bool, true, false, List, [], ◌∷◌, map, nat_eq, if◌then◌else◌, Option, Some, None}
 use Rattle.recording.specs.Notes.{heard_first, heard_more}
 use Rattle.recording.specs.Played.{Deed, Event, Hearing, Meeting, Stage, met_in, stage_after}
 use Rattle.recording.specs.Played.Meeting.{Logs, Hears}

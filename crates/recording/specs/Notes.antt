@@ -1,7 +1,7 @@
 -- What the turns of a line say together, turn by turn.
-use Rattle.std.specs.Prelude.{ℕ, ◌&&◌, ◌||◌, true, false, List, [], Option, Some, None}
+use Rattle.std.specs.Prelude.{ℕ, ◌&&◌, ◌||◌, true, false, List}
 use Rattle.recording.specs.Played.{Hearing}
-use Rattle.recording.specs.Recorded.{Note, expecting, holds, note_of, verdict}
+use Rattle.recording.specs.Recorded.{Note, expecting, holds, verdict}
 
 -- before the first
 abbrev pub heard_first : Hearing → Note

@@ -1,5 +1,5 @@
 -- What contracts see of hearings, notes and marks.
-use Rattle.std.specs.Prelude.{ℕ, Bool, true, false, List, [], ◌∷◌, ◌++◌, map, if◌then◌else◌, Option, Some, None}
+use Rattle.std.specs.Prelude.{ℕ, Bool, List, ◌++◌, map, if◌then◌else◌, Option, Some, None}
 use Rattle.std.specs.Option.{option_map}
 use Rattle.own_model.specs.World.{World}
 use Rattle.recording.specs.Played.{Hearing, Stage}

@@ -4,12 +4,13 @@ ghost use Rattle.own_model.specs.Listed.{start_list_of};
 ghost use Rattle.own_model.specs.StartList.{entries_of};
 ghost use Rattle.start_lists.specs.declared.fault.BootFault.TheVariants.{NoMemory};
 ghost use Rattle.scenario_lines.specs.Machine.{boot_fault};
-ghost use Rattle.recording.specs.Recorded.{IsRecorded};
+ghost use Rattle.recording.specs.Recorded.{IsRecorded, recorded};
 
 use crate::marks::Marks;
 use crate::player::Player;
 use crate::unread::Unread;
 use init_core::boot;
+use pd_core::{Core, Router};
 use scenario_names::Known;
 use start_lists::{BootFault, StartList};
 use std::alloc::Global;
@@ -53,8 +54,25 @@ pub fn record(
 {
     let list = StartList::read(alloc, machine)?;
     let mut core = boot(alloc, &list)?;
+    record_on(alloc, &list, &mut core, scenario, given, all)
+}
+
+// Records a scenario on the machine of a list, which has just booted.
+fn record_on<R: Router + Drop>(
+    alloc: Global,
+    list: &StartList,
+    core: &mut Core<R>,
+    scenario: Scenario<'_>,
+    given: Known,
+    all: bool,
+) -> Result<Recording, BootFault>
+    requires listed { core.old.entries ≡ entries_of (start_list_of list.now) }
+    ensures recorded { IfOk result (λ recording. recording.text.items ≡ recorded all core.old given
+        scenario.entry.unfolded.now scenario.entry.text.now) }
+    ensures fault { IfErr result (λ fault. fault ≡ NoMemory) }
+{
     let marks = Marks::new(alloc, scenario.text)?;
     let mut player = Player::new(alloc, marks, given, all)?;
-    player.play_all(&list, &mut core, scenario.unfolded)?;
+    player.play_all(list, core, scenario.unfolded)?;
     Ok(player.into_recording()?)
 }

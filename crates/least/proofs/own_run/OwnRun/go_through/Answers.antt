@@ -18,7 +18,7 @@ returns-then-not-branch g c =
       shows = λ calls budget s left.
           subst (λ e. Shows e calls s budget (is_some c.goes_on.new.self.trial.refused) c.goes_on.new.self.heard.meter) c.loop-step.invariant.entry
           (c.in_ok-goes_on.ensures.ends c.if-not-branch.true calls (calls_of (drop (i + 1) steps)) budget s
-          (subst (λ each. HasLeft now.core now.component now.heard calls each budget s) (next_calls steps i item c.loop-step-test.true c.step-item.is)
+          (subst (λ each. HasLeft now.core.now now.component now.heard calls each budget s) (next_calls steps i item c.loop-step-test.true c.step-item.is)
           (c.loop-step.invariant.left calls budget s left)));
     }
 
@@ -32,13 +32,13 @@ loop-step-preserved g c =
     let kept = c.loop-step.invariant in
     record {
       there =
-          subst (λ n. n < length new.core.entries) (sym c.goes_on.ensures.same)
+          subst (λ n. n < length new.core.now.entries) (sym c.goes_on.ensures.same)
           (subst (λ es. now.component < length es) (sym c.goes_on.ensures.entries) kept.there);
       none = c.in_ok-goes_on.ensures.on c.if-not-branch.false;
       entry = (λ k. entry_at (c.goes_on.ensures.entries k) (c.goes_on.ensures.same k)) ∙ kept.entry;
       left = λ calls budget s before.
           c.in_ok-goes_on.ensures.left c.if-not-branch.false calls (calls_of (drop (i + 1) steps)) budget s
-          (subst (λ each. HasLeft now.core now.component now.heard calls each budget s) (next_calls steps i item c.loop-step-test.true c.step-item.is)
+          (subst (λ each. HasLeft now.core.now now.component now.heard calls each budget s) (next_calls steps i item c.loop-step-test.true c.step-item.is)
           (kept.left calls budget s before));
     }
 
@@ -49,7 +49,7 @@ returns g c =
     record {
       shows = λ calls budget s left.
           subst (λ e. Shows e calls s budget (is_some now.trial.refused) now.heard.meter) kept.entry
-          (all_done now.core now.component now.heard calls budget s now.trial.refused kept.none
-          (subst (λ each. HasLeft now.core now.component now.heard calls each budget s)
+          (all_done now.core.now now.component now.heard calls budget s now.trial.refused kept.none
+          (subst (λ each. HasLeft now.core.now now.component now.heard calls each budget s)
           (no_calls c.args.steps.now c.loop-step.step-index c.loop-step-test.false) (kept.left calls budget s left)));
     }

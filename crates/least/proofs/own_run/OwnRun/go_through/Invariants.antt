@@ -10,10 +10,10 @@ use Rattle.least.proofs.own_run.OwnRun.go_through.Given as goal
 
 abbrev pub invariant-loop-step : goal.invariant-loop-step
 invariant-loop-step g l = record {
-  there : l.self.component < length l.self.core.entries;
+  there : l.self.component < length l.self.core.now.entries;
   none : l.self.trial.refused ≡ None;
-  entry : entry_at l.self.core.entries l.self.component ≡ entry_at l.initial.self.core.entries l.initial.self.component;
+  entry : entry_at l.self.core.now.entries l.self.component ≡ entry_at l.initial.self.core.now.entries l.initial.self.component;
   left : (calls : List Call) (budget : Amounts) (s : OwnState) →
-      HasLeft l.initial.self.core l.initial.self.component l.initial.self.heard calls (calls_of l.steps) budget s →
-      HasLeft l.self.core l.self.component l.self.heard calls (calls_of (drop l.step-index l.steps)) budget s;
+      HasLeft l.initial.self.core.now l.initial.self.component l.initial.self.heard calls (calls_of l.steps) budget s →
+      HasLeft l.self.core.now l.self.component l.self.heard calls (calls_of (drop l.step-index l.steps)) budget s;
 }

@@ -7,7 +7,7 @@ use Rattle.least.proofs.own_run.OwnRun.make.Goals as goal
 
 pub returns-then-follow-clause-ends : goal.returns-then-follow-clause-ends
 returns-then-follow-clause-ends g c = λ _ calls rest budget s left.
-    let world = c.args.self.now.core in
+    let world = c.args.self.now.core.now in
     let component = c.args.self.now.component in
     c.follow.ensures.end c.if-follow.true (entry_at world.entries component) calls rest budget s (state_at world.states component) left.left
     (is_told world c.step.new.self component (model_call c.args.call) c.text.result.now c.account-after.result (c.text.ensures ∙ c.step.ensures.answered)

@@ -1,5 +1,5 @@
 -- A line more is played, and then no line is left.
-use Rattle.std.proofs.Common.{ap, sym, ◌∙◌}
+use Rattle.std.proofs.Common.{ap, ◌∙◌}
 use Rattle.std.specs.Option.{option_copied}
 use Rattle.recording.specs.Marked.{all_marked}
 use Rattle.recording.specs.Pieces.{pieces_in}
