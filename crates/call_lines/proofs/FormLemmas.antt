@@ -3,7 +3,6 @@ use Rattle.std.proofs.Common.{◌≡◌, ℕ, true, false, cond, List, [], ◌�
 use Rattle.std.specs.Prelude.{find, map}
 use Rattle.std.specs.Option.{option_and_then}
 use Rattle.std.specs.Str.{bytes_eq}
-use Rattle.std.proofs.lemmas.Cmp.{nat_list_eq_equiv}
 use Rattle.own_model.specs.Call as model
 use Rattle.own_model.specs.Call.{call_in, form_of}
 use Rattle.own_model.specs.Text.{first_word}
@@ -14,13 +13,12 @@ use Rattle.call_lines.specs.declared.form.Form.{Form}
 abbrev row : Form → model.Form
 row form = record { word = word_of form; call = made_of form }
 
--- the call of the first form with a word, where the model compares the other way round
+-- the call of the first form with a word
 made_in_rows : (word : List ℕ) (arguments : Option (List ℕ)) (among : List Form) →
-    option_and_then (λ form. made_of form arguments) (find (λ form. bytes_eq (word_of form) word) among) ≡ call_in (map row among) word arguments
+    option_and_then (λ form. made_of form arguments) (find (λ form. bytes_eq word (word_of form)) among) ≡ call_in (map row among) word arguments
 made_in_rows word arguments [] = refl
 made_in_rows word arguments (form ∷ rest) =
-    rw (nat_list_eq_equiv.symm (word_of form) word) (
-    elim (bytes_eq word (word_of form)) as (λ b. option_and_then (λ form. made_of form arguments) (cond b (Some form) (find (λ form. bytes_eq (word_of form) word) rest)) ≡ cond b (made_of form arguments) (call_in (map row rest) word arguments)) [ true ↦ refl | false ↦ made_in_rows word arguments rest ])
+    elim (bytes_eq word (word_of form)) as (λ b. option_and_then (λ form. made_of form arguments) (cond b (Some form) (find (λ form. bytes_eq word (word_of form)) rest)) ≡ cond b (made_of form arguments) (call_in (map row rest) word arguments)) [ true ↦ refl | false ↦ made_in_rows word arguments rest ]
 
 -- so a text makes the call of its form, if it has one
 pub made_by_form : (text : List ℕ) (form : Option Form) → form ≡ form_named (first_word text).word → option_and_then (λ form. made_of form (first_word text).rest) form ≡ form_of text

@@ -59,7 +59,7 @@ word_of Yield = codes "yield"
 
 -- the form of a word
 abbrev pub form_named : List ℕ → Option Form
-form_named word = find (λ form. bytes_eq (word_of form) word) forms
+form_named word = find (λ form. bytes_eq word (word_of form)) forms
 
 -- the call that a form makes of its arguments
 abbrev pub made_of : Form → Option (List ℕ) → Option model.Call

@@ -1,5 +1,7 @@
 //! The forms of the file service's requests, by their words.
-ghost use Rattle.std.specs.Prelude.{◌≡◌};
+ghost use Rattle.std.specs.Prelude.{◌≡◌, find};
+ghost use Rattle.std.specs.Str.{bytes_eq};
+ghost use Rattle.text_codec.specs.Firsts.{with_first};
 ghost use Rattle.session_proto.specs.Forms.{form_named, forms, word_of};
 
 /// A form of requests.
@@ -32,26 +34,6 @@ pub(crate) enum FileForm {
 }
 
 impl FileForm {
-    /// All forms.
-    fn all() -> &'static [FileForm]
-        ensures { result.now ≡ forms }
-    {
-        &[
-            FileForm::Create,
-            FileForm::Write,
-            FileForm::Read,
-            FileForm::Size,
-            FileForm::Clear,
-            FileForm::Drop,
-            FileForm::Name,
-            FileForm::Stat,
-            FileForm::Buffer,
-            FileForm::Unbuffer,
-            FileForm::Put,
-            FileForm::Get,
-        ]
-    }
-
     /// Its word.
     fn word(self) -> &'static [u8]
         ensures { result.now ≡ word_of self }
@@ -76,9 +58,35 @@ impl FileForm {
     pub(crate) fn named(word: &[u8]) -> Option<FileForm>
         ensures { result ≡ form_named word.now }
     {
-        FileForm::all()
-            .iter()
-            .copied()
-            .find(|form| word == form.word())
+        match word.first() {
+            Some(first) => form_among(word, FileForm::beginning_with(*first)),
+            None => None,
+        }
     }
+
+    /// The forms whose words begin with a byte.
+    fn beginning_with(first: u8) -> &'static [FileForm]
+        ensures { result.now ≡ with_first word_of first forms }
+    {
+        match first {
+            b'B' => &[FileForm::Buffer],
+            b'C' => &[FileForm::Create, FileForm::Clear],
+            b'D' => &[FileForm::Drop],
+            b'G' => &[FileForm::Get],
+            b'N' => &[FileForm::Name],
+            b'P' => &[FileForm::Put],
+            b'R' => &[FileForm::Read],
+            b'S' => &[FileForm::Size, FileForm::Stat],
+            b'U' => &[FileForm::Unbuffer],
+            b'W' => &[FileForm::Write],
+            _ => &[],
+        }
+    }
+}
+
+// The first of these with a word.
+fn form_among(word: &[u8], forms: &[FileForm]) -> Option<FileForm>
+    ensures { result ≡ find (λ form. bytes_eq word.now (word_of form)) forms.now }
+{
+    forms.iter().copied().find(|form| word == form.word())
 }

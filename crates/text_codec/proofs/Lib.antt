@@ -8,3 +8,4 @@ pub mod NameLemmas
 pub mod PathLemmas
 pub mod DigitLemmas
 pub mod SpellingLemmas
+pub mod FirstLemmas
