@@ -1,9 +1,9 @@
 -- What is kept of peaks from call to call.
-use Rattle.std.proofs.Common.{Bor, ◌≡◌, ◌≤◌, inl, inr, ℕ, ◌+◌, ◌<◌, ◌==◌, ◌&&◌, Bool, true, false, true≢false, cond, eqb-true, List, [], ◌∷◌, ◌++◌, length, is_some, max, Option, Some, None, refl, sym, ◌∙◌, ap, arith}
+use Rattle.std.proofs.Common.{Bor, ◌≡◌, ◌≤◌, inl, inr, ℕ, ◌+◌, ◌<◌, ◌==◌, ◌&&◌, Bool, true, false, true≢false, cond, eqb-true, not, List, [], ◌∷◌, ◌++◌, length, is_some, max, Option, Some, None, refl, sym, ◌∙◌, ap, arith}
 use Rattle.std.proofs.lemmas.Bool.{eq-eqb}
 use Rattle.std.proofs.lemmas.Bool.Decides.{nat_tests}
 use Rattle.std.proofs.lemmas.Option.{none-some, same_Some}
-use Rattle.std.specs.Prelude.{nat_le, nat_lt, ◌||◌}
+use Rattle.std.specs.Prelude.{nat_le, nat_lt, not, ◌||◌}
 use Rattle.std.specs.List.{position}
 use Rattle.std.specs.Str.{bytes_eq}
 use Rattle.std.specs.Option.{option_map, option_map_or, option_or}
@@ -51,6 +51,14 @@ found-more (first ∷ kept) session component selector =
 or_none : (o : Option Noted) → option_or o None ≡ o
 or_none None = refl
 or_none (Some noted) = refl
+
+and_false : (b : Bool) → (b && false) ≡ false
+and_false true = refl
+and_false false = refl
+
+-- nothing more is kept where nothing is begun
+pub none_kept : (was begun : Option Noted) → begun ≡ None → was ≡ option_or was begun
+none_kept was begun none = sym (ap (option_or was) none ∙ or_none was)
 
 -- whose a session is hangs on its component and its selector alone
 at_same : (component selector : ℕ) (one other : Kept) → one.component ≡ other.component → one.selector ≡ other.selector → is_kept_at component selector one ≡ is_kept_at component selector other
@@ -149,6 +157,34 @@ module _ (starts : ℕ → Option Noted) (component count c q : ℕ) (was now : 
       already was now (c == component) (nat_lt q count) (q == count) (starts q) so_far (λ own equal. some (eqb-true c component own) (eqb-true q count equal))
       ∙ ap (λ b. option_or was (cond (c == component && b) (starts q) None)) (below_next q count)
 
+-- what is kept once one more was looked at
+module _ (starts : ℕ → Option Noted) (component count : ℕ) (was now : List Kept)
+    (so_far : (c q : ℕ) → found now c q ≡ option_or (found was c q) (begun_below starts component count c q)) where
+  pub kept_more : (then : List Kept) → ((c q : ℕ) → found then c q ≡ option_or (found now c q) (cond (c == component && q == count) (starts count) None)) →
+      (c q : ℕ) → found then c q ≡ option_or (found was c q) (begun_below starts component (count + 1) c q)
+  kept_more then is c q = begun_more starts component count c q (found was c q) (found now c q) (so_far c q) (found then c q) (is c q)
+
+  pub kept_already : is_some (found now component count) ≡ true → (c q : ℕ) → found now c q ≡ option_or (found was c q) (begun_below starts component (count + 1) c q)
+  kept_already some c q =
+      begun_already starts component count c q (found was c q) (found now c q) (so_far c q)
+      (λ own under. ap (λ k. is_some (found now k q)) own ∙ ap (λ n. is_some (found now component n)) under ∙ some)
+
+-- none was looked at
+pub kept_first : (starts : ℕ → Option Noted) (component : ℕ) (was : List Kept) (c q : ℕ) → found was c q ≡ option_or (found was c q) (begun_below starts component 0 c q)
+kept_first starts component was c q = none_kept (found was c q) (begun_below starts component 0 c q) none
+  where
+    below : nat_lt q 0 ≡ false
+    below = grind (arith, nat_tests)
+
+    none : begun_below starts component 0 c q ≡ None
+    none = ap (λ b. cond ((c == component) && b) (starts q) None) below ∙ ap (λ b. cond b (starts q) None) (and_false (c == component))
+
+-- what is there is found
+pub is_found : {A : Type 0} (of : A → Noted) (o : Option A) (is : Option Noted) (none : Bool) → option_map of o ≡ is → is_some o ≡ not none → none ≡ false → is_some is ≡ true
+is_found of None is true noted there some = absurd (true≢false some)
+is_found of None is false noted there some = absurd (true≢false (sym there))
+is_found of (Some x) is none noted there some = ap is_some (sym noted)
+
 -- what is noted of a session that is there
 abbrev pub noted_first_of : Account → Option ℕ → List ℕ → Noted
 noted_first_of account server label = record { peak = in_use account; server = server; label = label }
@@ -164,10 +200,6 @@ begun_there (Some x) account server label is = let same : account ≡ x.account 
 pub heard_said : (entries : List Entry) (line : List ℕ) → heard entries line ≡ heard_spoken entries (said_in line)
 heard_said entries line =
     elim (nat_le (length line) longest_line) as (λ b. cond b (heard_spoken entries (spoken line)) NoCall ≡ heard_spoken entries (cond b (spoken line) None)) [ true ↦ refl | false ↦ refl ]
-
-and_false : (b : Bool) → (b && false) ≡ false
-and_false true = refl
-and_false false = refl
 
 opens_not_of : (kind : Kind) (says : Spoken) (component c : ℕ) → opens says.call ≡ false → opens_for c (heard_of kind says component) ≡ false
 opens_not_of Script says component c other = ap (λ b. (c == component) && b) other ∙ and_false (c == component)

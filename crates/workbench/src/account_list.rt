@@ -71,10 +71,10 @@ pub fn accounts<S: Source, K: Sink, E: Sink>(
         ((reader.new ≡ reader.old) × (writer.new ≡ writer.old)
         × (complaints.new ≡ complaints.old)) }
 {
+    let rooms = Rooms::new(alloc)?;
     let list = StartList::read(alloc, play.machine)?;
     let core = boot(alloc, &list)?;
     let mut watch = Accounting::new(alloc, &core)?;
-    let rooms = Rooms::new(alloc)?;
     let notes = Notes::new(alloc, play.scenario, play.given);
     let run = Run {
         list: &list,

@@ -249,12 +249,12 @@ pub fn alone<S: Source, K: Sink, E: Sink>(
         ((reader.new ≡ reader.old) × (writer.new ≡ writer.old)
         × (complaints.new ≡ complaints.old)) }
 {
+    let rooms = Rooms::new(alloc)?;
+    let reply = Reply::boot(alloc)?;
     let list = StartList::read(alloc, play.machine)?;
     let whole = boot(alloc, &list)?;
-    let mut notes = Notes::new(alloc, play.scenario, play.given);
-    let rooms = Rooms::new(alloc)?;
     let alone = boot(alloc, &list)?;
-    let reply = Reply::boot(alloc)?;
+    let mut notes = Notes::new(alloc, play.scenario, play.given);
     let machines = Machines {
         whole,
         alone,

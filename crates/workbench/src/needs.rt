@@ -139,7 +139,6 @@ impl Needs {
     }
 
     /// Takes an answer in, with the core after it, and with the peaks before it.
-    #[tactic(auto, using(crate::proofs::HearLemmas::still_sees))]
     pub(crate) fn hear<R: Router + Drop>(
         &mut self,
         core: &Core<R>,

@@ -272,10 +272,10 @@ pub fn trace<S: Source, K: Sink, E: Sink>(
         ((reader.new ≡ reader.old) × (writer.new ≡ writer.old)
         × (complaints.new ≡ complaints.old)) }
 {
+    let rooms = Rooms::new(alloc)?;
     let list = StartList::read(alloc, play.machine)?;
     let core = boot(alloc, &list)?;
     let notes = Notes::new(alloc, play.scenario, play.given);
-    let rooms = Rooms::new(alloc)?;
     let run = Run {
         list: &list,
         only: None,

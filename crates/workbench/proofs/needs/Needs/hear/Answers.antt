@@ -1,7 +1,18 @@
 -- What its meters have heard then, whether or not there was room for what is kept of sessions.
+use Rattle.std.proofs.Common.{arith}
 use Rattle.calls.specs.Call.{model_call}
-use Rattle.workbench.proofs.HearLemmas.{on_ok, sees_more}
+use Rattle.scenario_lines.proofs.AccountLemmas.{entries_listed}
+use Rattle.workbench.proofs.HearLemmas.{on_ok, sees_more, still_sees}
 use Rattle.workbench.proofs.needs.Needs.hear.Goals as goal
+
+pub account-requires : goal.account-requires
+account-requires g c = omega (arith, c.in-Some.ensures.inside, entries_listed c.args.list.now c.args.core.now c.requires.listed)
+
+pub hear-requires : goal.hear-requires
+hear-requires g c = omega (arith, c.in-Some.ensures.inside, entries_listed c.args.list.now c.args.core.now c.requires.listed)
+
+pub returns-in_default : goal.returns-in_default
+returns-in_default g c = λ start earlier sees told. still_sees c.args.list.now c.requires.listed sees told c.in_default.ensures.none
 
 pub returns : goal.returns
 returns g c = λ start earlier sees told.

@@ -1,20 +1,41 @@
 -- The session is the last that is found.
-use Rattle.std.proofs.Common.{ℕ, ◌≡◌, List, Option, cond, ◌&&◌, ◌==◌, Some, None, sym, ap, ◌∙◌}
-use Rattle.std.specs.Option.{option_or}
+use Rattle.std.proofs.Common.{Bool, true, false, refl, ℕ, ◌≡◌, List, Option, cond, ◌&&◌, ◌==◌, Some, None, sym, ap, ◌∙◌}
+use Rattle.std.specs.Option.{option_map, option_or}
 use Rattle.own_model.specs.Routes.{label_with}
 use Rattle.own_model.specs.Transcript.{entry_at}
 use Rattle.own_model.specs.Listed.{route_of}
 use Rattle.pd_core.specs.Answer.{quotas_account}
 use Rattle.workbench.specs.Kept.{found}
 use Rattle.workbench.specs.Peaks.{session_at}
-use Rattle.workbench.proofs.KeptLemmas.{found-more, begun_there}
-use Rattle.own_model.specs.Session.{given}
+use Rattle.workbench.proofs.KeptLemmas.{found-more, begun_there, none_kept}
+use Rattle.scenario_lines.proofs.AccountLemmas.{entries_within}
+use Rattle.std.proofs.lemmas.Option.{none-some}
+use Rattle.own_model.specs.Session.{Session, given}
 use Rattle.own_model.specs.Amounts.{Amounts}
 use Rattle.workbench.specs.Peaks.{Noted}
 use Rattle.workbench.proofs.peaks.Peaks.keep_new.Goals as goal
 
 abbrev noted_with : Amounts → Option ℕ → List ℕ → Noted
 noted_with peak server label = record { peak = peak; server = server; label = label }
+
+-- none is there
+not_begun : (own : Bool) (now : Option Session) (first : Session → Noted) → None ≡ option_map (λ (x : Session). x.account) now → cond own (option_map first now) None ≡ None
+not_begun true None first none = refl
+not_begun true (Some x) first none = absurd (none-some x.account none)
+not_begun false now first none = refl
+
+pub returns-in_default-clause-sessions : goal.returns-in_default-clause-sessions
+returns-in_default-clause-sessions g c = λ k q.
+    none_kept _ _ (not_begun (k == c.args.opening.component && q == c.args.selector) (session_at c.args.opening.component c.args.selector c.args.core.now) _ c.in_default.ensures)
+
+pub label-requires : goal.label-requires
+label-requires g c = entries_within c.args.list.now c.args.core.now c.requires.listed c.requires.component
+
+pub route-requires : goal.route-requires
+route-requires g c = record {
+  client = entries_within c.args.list.now c.args.core.now c.requires.listed c.requires.component;
+  label = c.label_given-given.ensures.short;
+}
 
 pub returns-clause-sessions : goal.returns-clause-sessions
 returns-clause-sessions g c = λ k q.
