@@ -11,7 +11,7 @@ ghost use Rattle.start_review.specs.Values.{seen};
 
 use crate::bad_rule::{bad_rule, rule_flaw};
 use crate::part::{Owner, Part, Steps, rule_at};
-use crate::quoted::{Quoted, show_within};
+use crate::quoted::{show_quoted, show_within};
 use crate::values::{EntryValue, find_entries, member, runs};
 use arrayvec::ArrayString;
 use serde_json::{Number, Value};
@@ -88,21 +88,12 @@ impl fmt::Display for Sort {
             Sort::Whole(number) => show_within(f, "", number, ""),
             Sort::Negative(number) => show_within(f, "", number, ""),
             Sort::Number => f.write_str("a number that isn't whole"),
-            Sort::Text(text) => show_text(f, text.as_str()),
+            Sort::Text(text) => show_quoted(f, text.as_str()),
             Sort::LongText(length) => show_within(f, "a text of ", length, " bytes"),
             Sort::List(count) => show_within(f, "a list of ", count, ""),
             Sort::Object => f.write_str("an object"),
         }
     }
-}
-
-// A text in quotes.
-fn show_text<W: fmt::Write>(f: &mut fmt::Formatter<W>, text: &str) -> fmt::Result {
-    let quoted = Quoted {
-        text,
-        in_graph: false,
-    };
-    write!(f, "{quoted}")
 }
 
 /// What is expected of a member, or of a whole rule or entry.
@@ -185,16 +176,14 @@ pub struct Flaw {
 
 impl fmt::Display for Flaw {
     fn fmt<W: fmt::Write>(&self, f: &mut fmt::Formatter<W>) -> fmt::Result {
-        write!(f, "{}: ", self.part)?;
+        show_within(f, "", &self.part, ": ")?;
         if let Some(member) = self.member {
-            write!(f, "{member}: ")?;
+            show_within(f, "", &member, ": ")?;
         }
         match (self.sort, self.expected) {
-            (Sort::Text(_), Expected::Amount) => write!(
-                f,
-                "{} is no amount: a suffix is K, M or G",
-                self.sort
-            ),
+            (Sort::Text(_), Expected::Amount) => {
+                show_within(f, "", &self.sort, " is no amount: a suffix is K, M or G")
+            }
             _ => write!(f, "{}, expected {}", self.sort, self.expected),
         }
     }

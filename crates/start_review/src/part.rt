@@ -158,10 +158,25 @@ impl fmt::Display for Part {
             Part::Entry(_, steps) => show_within(f, "", steps, ""),
             Part::Config(_, steps) => show_within(f, "", steps, ": config"),
             Part::DefaultRule(rule) => show_within(f, "default-route[", rule, "]"),
-            Part::Rule(_, steps, rule) => write!(f, "{steps}: route[{rule}]"),
-            Part::InnerRule(_, steps, rule) => write!(f, "{steps}: config: default-route[{rule}]"),
+            Part::Rule(_, steps, rule) => show_rule(f, steps, ": route", *rule),
+            Part::InnerRule(_, steps, rule) => show_rule(
+                f,
+                steps,
+                ": config: default-route",
+                *rule,
+            ),
         }
     }
+}
+
+// A rule of a list that an entry has as a member.
+fn show_rule<W: fmt::Write>(
+    f: &mut fmt::Formatter<W>,
+    steps: &Steps,
+    member: &str,
+    rule: usize,
+) -> fmt::Result {
+    write!(f, "{steps}{member}[{rule}]")
 }
 
 /// Whose list a rule is of: the machine's default route, the route of the entry of a number, or the default route of what that

@@ -55,6 +55,15 @@ impl Quoted<'_> {
     }
 }
 
+/// A text in quotes.
+pub(crate) fn show_quoted<W: fmt::Write>(f: &mut fmt::Formatter<W>, text: &str) -> fmt::Result {
+    let quoted = Quoted {
+        text,
+        in_graph: false,
+    };
+    write!(f, "{quoted}")
+}
+
 /// A value, and the texts before and behind it.
 pub(crate) fn show_within<W: fmt::Write, T: fmt::Display>(
     f: &mut fmt::Formatter<W>,
