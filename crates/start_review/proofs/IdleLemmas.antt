@@ -1,5 +1,5 @@
 -- Whether a rule is one of those that decide a wish, list by list outward.
-use Rattle.std.proofs.Common.{◌≡◌, ℕ, zero, suc, ◌==◌, ◌&&◌, ◌||◌, Bool, true, false, List, ◌∷◌, Option, Some, None, refl, ap, ◌∙◌}
+use Rattle.std.proofs.Common.{◌≡◌, ℕ, suc, ◌==◌, ◌&&◌, ◌||◌, Bool, true, false, List, ◌∷◌, Some, None, refl, ap, ◌∙◌}
 use Rattle.std.specs.List.{slice_get}
 use Rattle.own_model.specs.Listed.{Listed, ListedEntry}
 use Rattle.start_review.specs.Idle.{is_among, is_of, of_home}

@@ -1,5 +1,5 @@
 -- Servers' budgets that nothing uses: no call changes what a server's account has.
-use Rattle.std.specs.Prelude.{ℕ, ◌&&◌, ◌||◌, List, [], ◌∷◌, flat_map, nat_lt, if◌then◌else◌, Option, Some, None}
+use Rattle.std.specs.Prelude.{◌&&◌, ◌||◌, List, [], ◌∷◌, flat_map, nat_lt, if◌then◌else◌, Option, Some, None}
 use Rattle.own_model.specs.Listed.{Listed, ListedEntry}
 use Rattle.start_review.specs.Outer.{is_server}
 use Rattle.start_review.specs.declared.spare.Spare.{Spare}

@@ -4,6 +4,7 @@ ghost use Rattle.start_lists.specs.declared.fault.BootFault.TheVariants.{NoMemor
 
 use crate::flaw::Flaw;
 use crate::left::Lack;
+use crate::quoted::show_within;
 use arrayvec::ArrayString;
 use serde_json::Error;
 use start_lists::BootFault;
@@ -82,9 +83,9 @@ impl fmt::Display for Fault {
             Whereabouts::Text(line, column, reason) => {
                 write!(f, ": line {line}, column {column}: {reason}")
             }
-            Whereabouts::List(flaw) => write!(f, ": {flaw}"),
-            Whereabouts::Budget(lack) => write!(f, ": {lack}"),
-            Whereabouts::Size(size) => write!(f, ": {size} bytes, expected at most 65536"),
+            Whereabouts::List(flaw) => show_within(f, ": ", flaw, ""),
+            Whereabouts::Budget(lack) => show_within(f, ": ", lack, ""),
+            Whereabouts::Size(size) => show_within(f, ": ", size, " bytes, expected at most 65536"),
             Whereabouts::Nowhere => Ok(()),
         }
     }

@@ -3,7 +3,7 @@ ghost use Rattle.std.specs.Prelude.{◌≡◌, IfOk};
 
 use crate::asked::Asked;
 use crate::part::Part;
-use crate::quoted::{Quoted, show_within};
+use crate::quoted::{show_quoted, show_within};
 use start_lists::Name;
 use std::alloc::{AllocError, Global};
 use std::fmt;
@@ -122,88 +122,89 @@ pub enum Remark {
 
 impl fmt::Display for Remark {
     fn fmt<W: fmt::Write>(&self, f: &mut fmt::Formatter<W>) -> fmt::Result {
+        f.write_str(self.before())?;
+        self.show_value(f)?;
+        f.write_str(self.behind())?;
+        show_near(f, self.near())
+    }
+}
+
+impl Remark {
+    // What stands before the value that is told.
+    fn before(&self) -> &'static str {
         match self {
-            Remark::GivenTwice(member) => show_member(
-                f,
-                member,
-                ": given twice; the last one counts",
-                None,
-            ),
-            Remark::Unread(member, near) => show_member(
-                f,
-                member,
-                ": nothing reads this member",
-                known_text(near),
-            ),
-            Remark::NoChild(child, near) => show_no_child(f, child, near),
-            Remark::NotProvided(child, service) => show_not_provided(f, child, service),
-            Remark::NoProvider(service) => {
-                show_within(f, "any-child: no entry provides ", service, "")
+            Remark::GivenTwice(_) | Remark::Unread(_, _) => "",
+            Remark::NoChild(_, _) => "child: no entry has the name \"",
+            Remark::NotProvided(_, _) => "child: \"",
+            Remark::NoProvider(_) => "any-child: no entry provides ",
+            Remark::SeveralProviders(_) => "any-child: several entries provide ",
+            Remark::Hidden(_) => "hidden: rule [",
+            Remark::OtherCase(_, _) => "service: no server has ",
+            Remark::Idle => "decides nothing: no script's wish comes to this rule, with any label",
+            Remark::NoLabel(_) => "decides nothing: ",
+            Remark::Arrow => {
+                "decides nothing: label: who gives no label is seen by the names alone, without the arrow"
             }
-            Remark::SeveralProviders(service) => show_within(
-                f,
-                "any-child: several entries provide ",
-                service,
-                ", so it is denied",
-            ),
-            Remark::Hidden(rule) => show_within(
-                f,
-                "hidden: rule [",
-                rule,
-                "] of the same list matches whatever this one does",
-            ),
-            Remark::OtherCase(service, meant) => show_other_case(f, service, meant),
-            Remark::Idle => f.write_str(
-                "decides nothing: no script's wish comes to this rule, with any label",
-            ),
-            Remark::NoLabel(member) => show_within(
-                f,
-                "decides nothing: ",
-                &member.as_str(),
-                ": no label can have this text",
-            ),
-            Remark::Arrow => f.write_str(
-                "decides nothing: label: who gives no label is seen by the names alone, without the arrow",
-            ),
+            Remark::LetsIn(_, _) => "label_prefix: ",
+            Remark::ChosenEnd => {
+                "label_suffix: a client chooses it with any label that isn't empty, and it may reach into the names"
+            }
+            Remark::NotProviding(_) => "provides: it could provide ",
+            Remark::Unreached => "no script's route leads to this server",
+            Remark::LowRam(_, _) | Remark::LowCaps(_, _) => "",
+            Remark::PartPages(_) => "quantum: ",
+            Remark::PartReserve(_) => "reserve: ",
+        }
+    }
+
+    // The value, if there is one.
+    fn show_value<W: fmt::Write>(&self, f: &mut fmt::Formatter<W>) -> fmt::Result {
+        match self {
+            Remark::GivenTwice(member) | Remark::Unread(member, _) => {
+                show_quoted(f, member.as_str())
+            }
+            Remark::NoChild(name, _)
+            | Remark::NoProvider(name)
+            | Remark::SeveralProviders(name)
+            | Remark::OtherCase(name, _) => f.write_str(name.as_str()),
+            Remark::NotProvided(child, service) => {
+                write!(f, "{child}\" doesn't provide {service}")
+            }
             Remark::LetsIn(front, name) => show_let_in(f, front, name),
-            Remark::ChosenEnd => f.write_str(
-                "label_suffix: a client chooses it with any label that isn't empty, and it may reach into the names",
-            ),
-            Remark::NotProviding(service) => show_within(
-                f,
-                "provides: it could provide ",
-                &service.as_str(),
-                ", and doesn't say so",
-            ),
-            Remark::Unreached => f.write_str("no script's route leads to this server"),
-            Remark::LowRam(own, kept) => show_within(
-                f,
-                "",
-                &Asked::ram(*own, *kept),
-                " bytes pay for no session, which takes at least 4096",
-            ),
-            Remark::LowCaps(own, kept) => show_within(
-                f,
-                "",
-                &Asked::caps(*own, *kept),
-                " capabilities pay for no session, which takes at least 2",
-            ),
-            Remark::PartPages(ram) => {
-                show_within(
-                    f,
-                    "quantum: ",
-                    ram,
-                    " bytes aren't whole pages of 4096 bytes",
-                )
+            Remark::NoLabel(known) | Remark::NotProviding(known) => f.write_str(known.as_str()),
+            Remark::Hidden(rule) => show_within(f, "", rule, ""),
+            Remark::LowRam(own, kept) => show_within(f, "", &Asked::ram(*own, *kept), ""),
+            Remark::LowCaps(own, kept) => show_within(f, "", &Asked::caps(*own, *kept), ""),
+            Remark::PartPages(ram) | Remark::PartReserve(ram) => show_within(f, "", ram, ""),
+            Remark::Idle | Remark::Arrow | Remark::ChosenEnd | Remark::Unreached => Ok(()),
+        }
+    }
+
+    // What stands behind it.
+    fn behind(&self) -> &'static str {
+        match self {
+            Remark::GivenTwice(_) => ": given twice; the last one counts",
+            Remark::Unread(_, _) => ": nothing reads this member",
+            Remark::NoChild(_, _) => "\"",
+            Remark::SeveralProviders(_) => ", so it is denied",
+            Remark::Hidden(_) => "] of the same list matches whatever this one does",
+            Remark::NoLabel(_) => ": no label can have this text",
+            Remark::NotProviding(_) => ", and doesn't say so",
+            Remark::LowRam(_, _) => " bytes pay for no session, which takes at least 4096",
+            Remark::LowCaps(_, _) => " capabilities pay for no session, which takes at least 2",
+            Remark::PartPages(_) | Remark::PartReserve(_) => {
+                " bytes aren't whole pages of 4096 bytes"
             }
-            Remark::PartReserve(ram) => {
-                show_within(
-                    f,
-                    "reserve: ",
-                    ram,
-                    " bytes aren't whole pages of 4096 bytes",
-                )
-            }
+            _ => "",
+        }
+    }
+
+    // What may have been meant, if something may.
+    fn near(&self) -> Option<&str> {
+        match self {
+            Remark::Unread(_, Some(known)) | Remark::OtherCase(_, known) => Some(known.as_str()),
+            Remark::NoChild(_, Some(name)) => Some(name.as_str()),
+            _ => None,
         }
     }
 }
@@ -214,58 +215,8 @@ fn show_let_in<W: fmt::Write>(
     front: &Written,
     name: &Name,
 ) -> fmt::Result {
-    let front = Quoted {
-        text: front.as_str(),
-        in_graph: false,
-    };
-    write!(f, "label_prefix: {front} lets \"{name}\" in too")
-}
-
-// What is to be told of a member, and what may have been meant.
-fn show_member<W: fmt::Write>(
-    f: &mut fmt::Formatter<W>,
-    member: &Written,
-    said: &str,
-    near: Option<&str>,
-) -> fmt::Result {
-    let member = Quoted {
-        text: member.as_str(),
-        in_graph: false,
-    };
-    write!(f, "{member}{said}")?;
-    show_near(f, near)
-}
-
-// That no entry has the name of a child.
-fn show_no_child<W: fmt::Write>(
-    f: &mut fmt::Formatter<W>,
-    child: &Name,
-    near: &Option<Name>,
-) -> fmt::Result {
-    write!(f, "child: no entry has the name \"{child}\"")?;
-    show_near(f, text_of(near))
-}
-
-// That a child doesn't provide a service.
-fn show_not_provided<W: fmt::Write>(
-    f: &mut fmt::Formatter<W>,
-    child: &Name,
-    service: &Name,
-) -> fmt::Result {
-    write!(f, "child: \"{child}\" doesn't provide {service}")
-}
-
-// That no server has a service, and which may have been meant.
-fn show_other_case<W: fmt::Write>(
-    f: &mut fmt::Formatter<W>,
-    service: &Name,
-    meant: &Known,
-) -> fmt::Result {
-    write!(
-        f,
-        "service: no server has {service}; did you mean \"{}\"?",
-        meant.as_str()
-    )
+    show_quoted(f, front.as_str())?;
+    write!(f, " lets \"{name}\" in too")
 }
 
 // What may have been meant, if something may.
@@ -273,21 +224,5 @@ fn show_near<W: fmt::Write>(f: &mut fmt::Formatter<W>, near: Option<&str>) -> fm
     match near {
         Some(near) => write!(f, "; did you mean \"{near}\"?"),
         None => Ok(()),
-    }
-}
-
-// A member's, if there is one.
-fn known_text(known: &Option<Known>) -> Option<&str> {
-    match known {
-        Some(known) => Some(known.as_str()),
-        None => None,
-    }
-}
-
-// A name's text, if there is one.
-fn text_of(name: &Option<Name>) -> Option<&str> {
-    match name {
-        Some(name) => Some(name.as_str()),
-        None => None,
     }
 }

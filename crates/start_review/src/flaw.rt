@@ -5,13 +5,13 @@ ghost use Rattle.serde_json.specs.Find.{get};
 ghost use Rattle.serde_json.specs.View.{view};
 ghost use Rattle.start_lists.specs.Misread.{entry_at_fault};
 ghost use Rattle.start_lists.specs.declared.fault.BootFault.TheVariants.{NoMemory};
-ghost use Rattle.start_review.specs.Places.{FaultsHavePlaces, bad_rule, field_of, inner_rules_spot, member_in, own_rules_spot, rules_spot, spot_at, spot_before, spot_in, spot_of, spot_of_flaw, start_spot, whole};
+ghost use Rattle.start_review.specs.Places.{FaultsHavePlaces, bad_rule, field_of, inner_rules_spot, member_in, member_of, own_rules_spot, rules_spot, spot_at, spot_before, spot_in, spot_of, spot_of_flaw, start_spot, whole};
 ghost use Rattle.start_review.specs.RuleFaults.{rule_fault};
 ghost use Rattle.start_review.specs.Values.{seen};
 
 use crate::bad_rule::{bad_rule, rule_flaw};
 use crate::part::{Owner, Part, Steps, rule_at};
-use crate::quoted::{Quoted, show_within};
+use crate::quoted::{show_quoted, show_within};
 use crate::values::{EntryValue, find_entries, member, runs};
 use arrayvec::ArrayString;
 use serde_json::{Number, Value};
@@ -88,21 +88,12 @@ impl fmt::Display for Sort {
             Sort::Whole(number) => show_within(f, "", number, ""),
             Sort::Negative(number) => show_within(f, "", number, ""),
             Sort::Number => f.write_str("a number that isn't whole"),
-            Sort::Text(text) => show_text(f, text.as_str()),
+            Sort::Text(text) => show_quoted(f, text.as_str()),
             Sort::LongText(length) => show_within(f, "a text of ", length, " bytes"),
             Sort::List(count) => show_within(f, "a list of ", count, ""),
             Sort::Object => f.write_str("an object"),
         }
     }
-}
-
-// A text in quotes.
-fn show_text<W: fmt::Write>(f: &mut fmt::Formatter<W>, text: &str) -> fmt::Result {
-    let quoted = Quoted {
-        text,
-        in_graph: false,
-    };
-    write!(f, "{quoted}")
 }
 
 /// What is expected of a member, or of a whole rule or entry.
@@ -185,16 +176,14 @@ pub struct Flaw {
 
 impl fmt::Display for Flaw {
     fn fmt<W: fmt::Write>(&self, f: &mut fmt::Formatter<W>) -> fmt::Result {
-        write!(f, "{}: ", self.part)?;
+        show_within(f, "", &self.part, ": ")?;
         if let Some(member) = self.member {
-            write!(f, "{member}: ")?;
+            show_within(f, "", &member, ": ")?;
         }
         match (self.sort, self.expected) {
-            (Sort::Text(_), Expected::Amount) => write!(
-                f,
-                "{} is no amount: a suffix is K, M or G",
-                self.sort
-            ),
+            (Sort::Text(_), Expected::Amount) => {
+                show_within(f, "", &self.sort, " is no amount: a suffix is K, M or G")
+            }
             _ => write!(f, "{}, expected {}", self.sort, self.expected),
         }
     }
@@ -329,37 +318,63 @@ fn flaw_in(
         (λ flaw. option_map spot_of_flaw flaw ≡ spot_in number field (seen found.now)) }
 {
     let value = found.value;
-    let steps = found.steps.copy(alloc)?;
-    let (member, expected) = match field {
-        Field::Size | Field::Machine | Field::Pages => return Ok(None),
-        Field::Start => return Ok(Some(flaw_of_start(value, number, steps))),
-        Field::DefaultRoute => return Ok(Some(in_inner_route(alloc, value, number, &steps)?)),
-        Field::Route => return Ok(Some(in_route(alloc, value, number, &steps)?)),
-        Field::Name => (
-            "name",
-            if taken {
-                Expected::NewName
-            } else {
-                Expected::Name
-            },
-        ),
-        Field::Binary => ("binary", Expected::Binary),
-        Field::Quantum => ("quantum", Expected::Amount),
-        Field::Caps => ("caps", Expected::Caps),
-        Field::Provides => ("provides", Expected::Provides),
-        Field::Reserve => ("reserve", if_script(value, Expected::Amount)),
-        Field::ReserveCaps => ("reserve-caps", if_script(value, Expected::Caps)),
-        Field::Config => ("config", config_expected(value)),
-    };
-    Ok(Some(at(Part::Entry(number, steps), Some(value), member, expected)))
+    Ok(match field {
+        Field::Size | Field::Machine | Field::Pages => None,
+        Field::Start => Some(flaw_of_start(alloc, found, number)?),
+        Field::DefaultRoute => Some(in_inner_route(alloc, value, number, &found.steps)?),
+        Field::Route => Some(in_route(alloc, value, number, &found.steps)?),
+        _ => {
+            let part = Part::Entry(number, found.steps.copy(alloc)?);
+            let expected = expected_of(value, field, taken);
+            Some(at(part, Some(value), member_of(field), expected))
+        }
+    })
+}
+
+// The member that a fault of an entry's member is of.
+fn member_of(field: Field) -> &'static str
+    ensures { result.now ≡ member_of field }
+{
+    match field {
+        Field::Size => "size",
+        Field::Machine => "machine",
+        Field::Pages => "pages",
+        Field::Caps => "caps",
+        Field::DefaultRoute => "default-route",
+        Field::Start => "start",
+        Field::Name => "name",
+        Field::Binary => "binary",
+        Field::Quantum => "quantum",
+        Field::Provides => "provides",
+        Field::Route => "route",
+        Field::Reserve => "reserve",
+        Field::ReserveCaps => "reserve-caps",
+        Field::Config => "config",
+    }
+}
+
+// What is expected of such a member; of a name that an earlier entry has, another one.
+fn expected_of(entry: &Value, field: Field, taken: bool) -> Expected {
+    match field {
+        Field::Name if taken => Expected::NewName,
+        Field::Name => Expected::Name,
+        Field::Binary => Expected::Binary,
+        Field::Quantum => Expected::Amount,
+        Field::Caps => Expected::Caps,
+        Field::Provides => Expected::Provides,
+        Field::Reserve => if_script(entry, Expected::Amount),
+        Field::ReserveCaps => if_script(entry, Expected::Caps),
+        _ => config_expected(entry),
+    }
 }
 
 // The flaw of an entry that is no object, or of what an init starts.
-fn flaw_of_start(value: &Value, number: usize, steps: Steps) -> Flaw
-    ensures { spot_of_flaw result
-        ≡ start_spot number (record { steps = steps; value = view value.now }) }
+fn flaw_of_start(alloc: Global, found: &EntryValue<'_>, number: usize) -> Result<Flaw, AllocError>
+    ensures { IfOk result (λ flaw. spot_of_flaw flaw ≡ start_spot number (seen found.now)) }
 {
-    if value.is_object() {
+    let value = found.value;
+    let steps = found.steps.copy(alloc)?;
+    Ok(if value.is_object() {
         at(
             Part::Config(number, steps),
             value.get("config"),
@@ -368,7 +383,7 @@ fn flaw_of_start(value: &Value, number: usize, steps: Steps) -> Flaw
         )
     } else {
         whole(Part::Entry(number, steps), value, Expected::Object)
-    }
+    })
 }
 
 // The flaw of an entry's own route.

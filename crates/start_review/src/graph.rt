@@ -1,7 +1,7 @@
 //! The components of a start list, and where their wishes for sessions lead, as a graph.
 use crate::leads::{Decided, all_decided, show_denied};
 use crate::left::{Inits, kept, left_of};
-use crate::tree::{Amount, show_kept, show_reserve};
+use crate::tree::show_budget;
 use start_lists::{Binary, Entry, StartList};
 use std::alloc::{AllocError, Global};
 use std::fmt;
@@ -26,27 +26,28 @@ impl<'a> Graph<'a> {
 
 impl fmt::Display for Graph<'_> {
     fn fmt<W: fmt::Write>(&self, f: &mut fmt::Formatter<W>) -> fmt::Result {
-        let list = self.list;
-        let inits = kept(list);
-        let left = left_of(&inits, 0);
-        writeln!(f, "digraph machine {{")?;
-        writeln!(f, "  rankdir=LR;")?;
-        write!(f, "  label=\"{} pages, {} caps", list.pages(), list.caps())?;
-        writeln!(
-            f,
-            "; init keeps {}, {} caps\";",
-            Amount(left.ram),
-            left.caps
-        )?;
-        self.show_nodes(f, &inits)?;
-        for one in self.decided.as_slice() {
-            one.show(f, list, true)?;
-        }
-        writeln!(f, "}}")
+        self.show_with(f, &kept(self.list))
     }
 }
 
 impl Graph<'_> {
+    // The graph of a machine of whose RAM and capabilities inits keep these.
+    fn show_with<W: fmt::Write>(&self, f: &mut fmt::Formatter<W>, inits: &Inits) -> fmt::Result {
+        let list = self.list;
+        let left = left_of(inits, 0);
+        write!(
+            f,
+            "digraph machine {{\n  rankdir=LR;\n  label=\"{} pages, {} caps; init keeps {left}\";\n",
+            list.pages(),
+            list.caps()
+        )?;
+        self.show_nodes(f, inits)?;
+        for one in self.decided.as_slice() {
+            one.show(f, list, true)?;
+        }
+        f.write_str("}\n")
+    }
+
     // The nodes, each within the boxes of the inits above it.
     fn show_nodes<W: fmt::Write>(&self, f: &mut fmt::Formatter<W>, inits: &Inits) -> fmt::Result {
         self.show_denied(f, 0, 0)?;
@@ -152,10 +153,8 @@ fn show_text<W: fmt::Write>(
     entry: &Entry,
 ) -> fmt::Result {
     let binary = entry.binary();
-    write!(f, "{} ({})", entry.to_path(), binary.as_str())?;
-    write!(f, "\\n{}, {} caps", Amount(entry.ram()), entry.caps())?;
-    show_reserve(f, entry, "\\n")?;
-    show_kept(f, inits, number, entry, "\\n")?;
+    write!(f, "{} ({})\\n", entry.to_path(), binary.as_str())?;
+    show_budget(f, inits, number, entry, "\\n")?;
     match binary.service() {
         Some(service) if entry.provides() => write!(f, "\\nprovides {}", service.name()),
         _ => Ok(()),

@@ -1,7 +1,7 @@
 //! Where a script's wishes for a service lead, rule by rule, through the lists around it.
 ghost use Rattle.std.specs.Prelude.{◌<◌, length};
 
-use crate::quoted::Quoted;
+use crate::quoted::{Quoted, show_within};
 use crate::wishes::{init_entry, is_parent, rules_of};
 use reach::{Label, Trail, Trails, Wishes};
 use routes::MOST_LISTS;
@@ -163,12 +163,13 @@ impl<'a> Lead<'a> {
     ) -> fmt::Result {
         self.show_start(f, None)?;
         self.show_rules(f)?;
-        match (self.in_graph, self.count) {
-            (true, 0) => Ok(()),
-            (true, _) => write!(f, "\\nno rule for {}", entry.to_path()),
-            (false, 0) => f.write_str(" by no rule"),
-            (false, _) => write!(f, ", then by no rule for {}", entry.to_path()),
-        }?;
+        f.write_str(match (self.in_graph, self.count) {
+            (true, 0) => "",
+            (true, _) => "\\nno rule",
+            (false, 0) => " by no rule",
+            (false, _) => ", then by no rule",
+        })?;
+        show_whose(f, entry, self.count)?;
         self.show_end(f)
     }
 
@@ -209,12 +210,15 @@ impl<'a> Lead<'a> {
 
     // With which label, where others lead elsewhere.
     fn show_end<W: fmt::Write>(&self, f: &mut fmt::Formatter<W>) -> fmt::Result {
-        match (self.in_graph, self.label) {
-            (true, Some(label)) => writeln!(f, "\\nwith label \\\"{label}\\\"\"];"),
-            (true, None) => writeln!(f, "\"];"),
-            (false, Some(label)) => writeln!(f, ", with label \"{label}\""),
-            (false, None) => writeln!(f),
+        let (before, behind, end) = if self.in_graph {
+            ("\\nwith label \\\"", "\\\"", "\"];\n")
+        } else {
+            (", with label \"", "\"", "\n")
+        };
+        if let Some(label) = self.label {
+            show_within(f, before, label, behind)?;
         }
+        f.write_str(end)
     }
 
     // By which rules, list by list, and what these ask of the label.
@@ -238,19 +242,30 @@ impl<'a> Lead<'a> {
         lists: usize,
         place: usize,
     ) -> fmt::Result {
-        f.write_str(match (self.in_graph, lists) {
+        let before = match (self.in_graph, lists) {
             (true, _) => "\\n",
             (false, 0) => " by ",
             (false, _) => ", then by ",
-        })?;
-        write!(f, "{}[{place}]", route_name(entry))?;
-        if lists > 0 {
-            write!(f, " for {}", entry.to_path())?;
-        }
+        };
+        write!(f, "{before}{}[{place}]", route_name(entry))?;
+        show_whose(f, entry, lists)?;
         match rules_of(self.list, entry).get(place) {
             Some(rule) => show_label(f, rule, self.in_graph),
             None => Ok(()),
         }
+    }
+}
+
+// For which entry rules decide, where these aren't of the client's own list.
+fn show_whose<W: fmt::Write>(
+    f: &mut fmt::Formatter<W>,
+    entry: &Entry,
+    lists: usize,
+) -> fmt::Result {
+    if lists > 0 {
+        write!(f, " for {}", entry.to_path())
+    } else {
+        Ok(())
     }
 }
 

@@ -160,14 +160,21 @@ pub struct Lack {
 
 impl fmt::Display for Lack {
     fn fmt<W: fmt::Write>(&self, f: &mut fmt::Formatter<W>) -> fmt::Result {
-        write!(f, "{}: ", self.steps)?;
-        if covers_both(self.ram_left, self.ram, self.reserve_ram) {
+        let (asked, unit, left) = if covers_both(self.ram_left, self.ram, self.reserve_ram) {
             let asked = Asked::caps(self.caps, self.reserve_caps);
-            write!(f, "{asked}, and init still had {}", self.caps_left)
+            (asked, "", u64::from(self.caps_left))
         } else {
-            let asked = Asked::ram(self.ram, self.reserve_ram);
-            write!(f, "{asked} bytes, and init still had {}", self.ram_left)
-        }
+            (
+                Asked::ram(self.ram, self.reserve_ram),
+                " bytes",
+                self.ram_left,
+            )
+        };
+        write!(
+            f,
+            "{}: {asked}{unit}, and init still had {left}",
+            self.steps
+        )
     }
 }
 

@@ -101,10 +101,8 @@ impl Steps {
 impl fmt::Display for Steps {
     fn fmt<W: fmt::Write>(&self, f: &mut fmt::Formatter<W>) -> fmt::Result {
         for (place, step) in self.steps.as_slice().iter().enumerate() {
-            if place > 0 {
-                f.write_str(": config: ")?;
-            }
-            write!(f, "{step}")?;
+            let before = if place > 0 { ": config: " } else { "" };
+            show_within(f, before, step, "")?;
         }
         Ok(())
     }
@@ -136,18 +134,18 @@ impl Part {
     pub(crate) fn copy(&self, alloc: Global) -> Result<Part, AllocError>
         ensures { IfOk result (λ part. part ≡ self.now) }
     {
-        Ok(match self {
-            Part::Text(line, column) => Part::Text(*line, *column),
-            Part::List => Part::List,
-            Part::Machine => Part::Machine,
-            Part::Entry(number, steps) => Part::Entry(*number, steps.copy(alloc)?),
-            Part::Config(number, steps) => Part::Config(*number, steps.copy(alloc)?),
-            Part::DefaultRule(rule) => Part::DefaultRule(*rule),
-            Part::Rule(number, steps, rule) => Part::Rule(*number, steps.copy(alloc)?, *rule),
+        match self {
+            Part::Text(line, column) => Ok(Part::Text(*line, *column)),
+            Part::List => Ok(Part::List),
+            Part::Machine => Ok(Part::Machine),
+            Part::Entry(number, steps) => Ok(Part::Entry(*number, steps.copy(alloc)?)),
+            Part::Config(number, steps) => Ok(Part::Config(*number, steps.copy(alloc)?)),
+            Part::DefaultRule(rule) => Ok(Part::DefaultRule(*rule)),
+            Part::Rule(number, steps, rule) => rule_at(alloc, Owner::Entry(*number), steps, *rule),
             Part::InnerRule(number, steps, rule) => {
-                Part::InnerRule(*number, steps.copy(alloc)?, *rule)
+                rule_at(alloc, Owner::Inner(*number), steps, *rule)
             }
-        })
+        }
     }
 }
 
@@ -160,10 +158,25 @@ impl fmt::Display for Part {
             Part::Entry(_, steps) => show_within(f, "", steps, ""),
             Part::Config(_, steps) => show_within(f, "", steps, ": config"),
             Part::DefaultRule(rule) => show_within(f, "default-route[", rule, "]"),
-            Part::Rule(_, steps, rule) => write!(f, "{steps}: route[{rule}]"),
-            Part::InnerRule(_, steps, rule) => write!(f, "{steps}: config: default-route[{rule}]"),
+            Part::Rule(_, steps, rule) => show_rule(f, steps, ": route", *rule),
+            Part::InnerRule(_, steps, rule) => show_rule(
+                f,
+                steps,
+                ": config: default-route",
+                *rule,
+            ),
         }
     }
+}
+
+// A rule of a list that an entry has as a member.
+fn show_rule<W: fmt::Write>(
+    f: &mut fmt::Formatter<W>,
+    steps: &Steps,
+    member: &str,
+    rule: usize,
+) -> fmt::Result {
+    write!(f, "{steps}{member}[{rule}]")
 }
 
 /// Whose list a rule is of: the machine's default route, the route of the entry of a number, or the default route of what that

@@ -34,22 +34,34 @@ impl Quoted<'_> {
 
     // A sign of the text.
     fn show_sign<W: fmt::Write>(&self, f: &mut fmt::Formatter<W>, sign: char) -> fmt::Result {
-        let backslash = self.backslash();
-        match sign {
-            '"' => show_both(f, backslash, self.quote()),
-            '\\' => show_both(f, backslash, backslash),
-            '\n' => show_both(f, backslash, "n"),
-            '\t' => show_both(f, backslash, "t"),
-            sign if sign.is_control() => write!(f, "{backslash}u{:04x}", sign as u32),
-            sign => write!(f, "{sign}"),
+        let behind = match sign {
+            '"' => self.quote(),
+            '\\' => self.backslash(),
+            '\n' => "n",
+            '\t' => "t",
+            sign => return self.show_other(f, sign),
+        };
+        f.write_str(self.backslash())?;
+        f.write_str(behind)
+    }
+
+    // A sign that has no short form behind a backslash.
+    fn show_other<W: fmt::Write>(&self, f: &mut fmt::Formatter<W>, sign: char) -> fmt::Result {
+        if sign.is_control() {
+            write!(f, "{}u{:04x}", self.backslash(), sign as u32)
+        } else {
+            write!(f, "{sign}")
         }
     }
 }
 
-// Two texts.
-fn show_both<W: fmt::Write>(f: &mut fmt::Formatter<W>, first: &str, second: &str) -> fmt::Result {
-    f.write_str(first)?;
-    f.write_str(second)
+/// A text in quotes.
+pub(crate) fn show_quoted<W: fmt::Write>(f: &mut fmt::Formatter<W>, text: &str) -> fmt::Result {
+    let quoted = Quoted {
+        text,
+        in_graph: false,
+    };
+    write!(f, "{quoted}")
 }
 
 /// A value, and the texts before and behind it.

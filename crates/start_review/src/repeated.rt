@@ -1,10 +1,10 @@
 //! Members of one object of a start list's text that have one name.
-ghost use Rattle.std.specs.Prelude.{◌≡◌, ◌++◌, OnOk};
-ghost use Rattle.start_review.specs.Repeated.{repeated_in};
+ghost use Rattle.std.specs.Prelude.{◌≡◌, ◌++◌, IfOk, OnOk};
+ghost use Rattle.start_review.specs.Repeated.{given_twice, repeated_in};
 
 use crate::finding::{Finding, Remark, Written};
 use crate::part::Part;
-use json_keys::repeats;
+use json_keys::{Repeat, repeats};
 use std::alloc::{AllocError, Global};
 
 /// Tells those that an earlier member has the name of, in the order of the text.
@@ -17,11 +17,19 @@ pub(crate) fn tell_repeated(
 {
     let repeats = repeats(alloc, text)?;
     for repeat in repeats.as_slice() {
-        let place = repeat.place();
-        found.push(Finding {
-            part: Part::Text(place.line, place.column),
-            remark: Remark::GivenTwice(Written::copy_of(alloc, repeat.name())?),
-        })?;
+        found.push(given_twice(alloc, repeat)?)?;
     }
     Ok(())
+}
+
+// That a member's name is one of an earlier member's.
+fn given_twice(alloc: Global, repeat: &Repeat) -> Result<Finding, AllocError>
+    ensures { IfOk result (λ finding. finding ≡ given_twice repeat.now) }
+{
+    let name = Written::copy_of(alloc, repeat.name())?;
+    let place = repeat.place();
+    Ok(Finding {
+        part: Part::Text(place.line, place.column),
+        remark: Remark::GivenTwice(name),
+    })
 }

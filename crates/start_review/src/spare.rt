@@ -3,6 +3,7 @@ ghost use Rattle.std.specs.Prelude.{◌≡◌, ◌++◌, IfOk, OnOk};
 ghost use Rattle.start_review.specs.Spare.{spare_in, spare_of};
 
 use crate::outer::is_server;
+use crate::quoted::show_within;
 use crate::tree::Amount;
 use start_lists::{Entry, Path, StartList};
 use std::alloc::{AllocError, Global};
@@ -41,10 +42,8 @@ impl fmt::Display for Advice<'_> {
     fn fmt<W: fmt::Write>(&self, f: &mut fmt::Formatter<W>) -> fmt::Result {
         f.write_str("servers' accounts stay as they began: ")?;
         for (place, spare) in self.servers.iter().enumerate() {
-            if place > 0 {
-                f.write_str(", ")?;
-            }
-            write!(f, "{spare}")?;
+            let before = if place > 0 { ", " } else { "" };
+            show_within(f, before, spare, "")?;
         }
         f.write_str(" that nothing uses")
     }

@@ -1,6 +1,6 @@
 //! The components of a start list, and where their wishes for sessions lead, as text.
 use crate::leads::{Decided, all_decided, show_indent};
-use crate::left::{Inits, kept, left_of};
+use crate::left::{Inits, Left, kept, left_of};
 use start_lists::{Entry, StartList};
 use std::alloc::{AllocError, Global};
 use std::fmt;
@@ -25,18 +25,34 @@ impl<'a> Tree<'a> {
 
 impl fmt::Display for Tree<'_> {
     fn fmt<W: fmt::Write>(&self, f: &mut fmt::Formatter<W>) -> fmt::Result {
+        self.show_with(f, &kept(self.list))
+    }
+}
+
+impl Tree<'_> {
+    // The tree of a machine of whose RAM and capabilities inits keep these.
+    fn show_with<W: fmt::Write>(&self, f: &mut fmt::Formatter<W>, inits: &Inits) -> fmt::Result {
         let list = self.list;
-        let inits = kept(list);
-        let left = left_of(&inits, 0);
-        writeln!(f, "machine: {} pages, {} caps", list.pages(), list.caps())?;
-        writeln!(f, "init keeps: {}, {} caps", Amount(left.ram), left.caps)?;
+        let left = left_of(inits, 0);
+        writeln!(
+            f,
+            "machine: {} pages, {} caps\ninit keeps: {left}",
+            list.pages(),
+            list.caps()
+        )?;
         for (number, entry) in list.entries().iter().enumerate() {
             show_indent(f, entry)?;
-            show_entry(f, &inits, number, entry)?;
-            for one in self.decided.as_slice() {
-                if one.client == number {
-                    one.show(f, list, false)?;
-                }
+            show_entry(f, inits, number, entry)?;
+            self.show_decided(f, number)?;
+        }
+        Ok(())
+    }
+
+    // Where the wishes of the script of a number lead.
+    fn show_decided<W: fmt::Write>(&self, f: &mut fmt::Formatter<W>, number: usize) -> fmt::Result {
+        for one in self.decided.as_slice() {
+            if one.client == number {
+                one.show(f, self.list, false)?;
             }
         }
         Ok(())
@@ -57,61 +73,52 @@ impl fmt::Display for Amount {
     }
 }
 
-// A component with what its account starts with, its reserve, what it keeps, if it is an init, and what it provides.
+/// RAM and capabilities.
+impl fmt::Display for Left {
+    fn fmt<W: fmt::Write>(&self, f: &mut fmt::Formatter<W>) -> fmt::Result {
+        write!(f, "{}, {} caps", Amount(self.ram), self.caps)
+    }
+}
+
+// A component with what it has, and what it provides.
 fn show_entry<W: fmt::Write>(
     f: &mut fmt::Formatter<W>,
     inits: &Inits,
     number: usize,
     entry: &Entry,
 ) -> fmt::Result {
-    let name = entry.to_name();
     let binary = entry.binary();
-    let ram = Amount(entry.ram());
-    write!(
-        f,
-        "{name} ({}): {ram}, {} caps",
-        binary.as_str(),
-        entry.caps()
-    )?;
-    show_reserve(f, entry, ", ")?;
-    show_kept(f, inits, number, entry, ", ")?;
-    if let Some(service) = binary.service() {
-        if entry.provides() {
-            write!(f, ", provides {}", service.name())?;
-        } else {
-            write!(f, ", provides nothing")?;
-        }
-    }
-    writeln!(f)
-}
-
-/// The reserve of an entry that is given one, and what stands before it.
-pub(crate) fn show_reserve<W: fmt::Write>(
-    f: &mut fmt::Formatter<W>,
-    entry: &Entry,
-    before: &str,
-) -> fmt::Result {
-    match entry.reserve() {
-        Some(reserve) => {
-            let ram = Amount(reserve.ram.0);
-            write!(f, "{before}reserve {ram}, {} caps", reserve.caps.0)
-        }
-        None => Ok(()),
+    write!(f, "{} ({}): ", entry.to_name(), binary.as_str())?;
+    show_budget(f, inits, number, entry, ", ")?;
+    match binary.service() {
+        Some(service) if entry.provides() => writeln!(f, ", provides {}", service.name()),
+        Some(_) => f.write_str(", provides nothing\n"),
+        None => f.write_str("\n"),
     }
 }
 
-/// What an init of a number keeps of what it is given, and what stands before it.
-pub(crate) fn show_kept<W: fmt::Write>(
+/// What a component's account starts with, and what a script has in its reserve or an init keeps, and what stands between the two.
+pub(crate) fn show_budget<W: fmt::Write>(
     f: &mut fmt::Formatter<W>,
     inits: &Inits,
     number: usize,
     entry: &Entry,
-    before: &str,
+    between: &str,
 ) -> fmt::Result {
-    if entry.is_init() {
-        let left = left_of(inits, number.saturating_add(1));
-        write!(f, "{before}keeps {}, {} caps", Amount(left.ram), left.caps)
-    } else {
-        Ok(())
-    }
+    let own = Left {
+        ram: entry.ram(),
+        caps: entry.caps(),
+    };
+    let (part, left) = match entry.reserve() {
+        Some(reserve) => (
+            "reserve",
+            Left {
+                ram: reserve.ram.0,
+                caps: reserve.caps.0,
+            },
+        ),
+        None if entry.is_init() => ("keeps", left_of(inits, number.saturating_add(1))),
+        None => return write!(f, "{own}"),
+    };
+    write!(f, "{own}{between}{part} {left}")
 }

@@ -1,6 +1,6 @@
 use Rattle.std.proofs.Common.{◌≡◌, ◌++◌, drop}
 use Rattle.std.specs.List.{flat_map}
-use Rattle.start_review.specs.Spare.{spare_in, spare_of}
+use Rattle.start_review.specs.Spare.{spare_in}
 use Rattle.start_review.proofs.spare.spare_of.Given as goal
 
 -- what is found so far and what is to be found in the other entries
