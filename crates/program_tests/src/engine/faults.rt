@@ -35,9 +35,18 @@ struct Outcome<'a> {
 // Runs a case on the built-in machine.
 fn outcome_of<'a>(alloc: Global, case: &Case<'a>) -> Result<Outcome<'a>, Failure> {
     let list = StartList::read(alloc, MACHINE_A.as_bytes())?;
+    outcome_with(alloc, &list, case)
+}
+
+// Runs a case on the machine of a list.
+fn outcome_with<'a>(
+    alloc: Global,
+    list: &StartList,
+    case: &Case<'a>,
+) -> Result<Outcome<'a>, Failure> {
     let mut reply = Reply::boot(alloc)?;
-    let mut core = boot(alloc, &list)?;
-    Ok(outcome_on(alloc, &mut core, &list, &mut reply, case))
+    let mut core = boot(alloc, list)?;
+    Ok(outcome_on(alloc, &mut core, list, &mut reply, case))
 }
 
 // Runs a case on a machine.
@@ -380,22 +389,31 @@ fn devices_that_fail(rt: HostRuntime) {
     check_all(&rt, CASES);
 }
 
-// Each byte comes alone, and one read fails: what was answered is what stands before it.
+// Whether this is written where each byte comes alone and this read fails.
+fn is_left_by_read(alloc: Global, failing: usize, written: &[u8]) -> bool {
+    let case = Case {
+        scenario: DONATION,
+        given: 1,
+        failing,
+        kind: Some(ErrorKind::Other),
+        ended: Err(RunFault::ReadFault),
+        written,
+        ..CALM
+    };
+    writes_so(alloc, &case)
+}
+
+// What was answered is what stands before the read that fails.
 #[test]
 fn each_read_fails_in_turn(rt: HostRuntime) {
     let mut answers = DONATION_ANSWERED.split_inclusive(|byte| *byte == b'\n');
     let mut answered = 0usize;
     for end in 0..DONATION.len() {
-        let case = Case {
-            scenario: DONATION,
-            given: 1,
-            failing: end.saturating_add(1),
-            kind: Some(ErrorKind::Other),
-            ended: Err(RunFault::ReadFault),
-            written: &DONATION_ANSWERED[..DONATION_ANSWERED.len().min(answered)],
-            ..CALM
-        };
-        assert!(rt; writes_so(rt.alloc(), &case), "read {end}");
+        let written = &DONATION_ANSWERED[..DONATION_ANSWERED.len().min(answered)];
+        assert!(rt;
+            is_left_by_read(rt.alloc(), end.saturating_add(1), written),
+            "read {end}"
+        );
         if DONATION[end] == b'\n' {
             answered = answered.saturating_add(answers.next().unwrap_or(b"").len());
         }
@@ -403,22 +421,28 @@ fn each_read_fails_in_turn(rt: HostRuntime) {
     assert!(rt; answered == DONATION_ANSWERED.len());
 }
 
-// A write fails behind each byte: a front of the DONATION_ANSWERED is written.
+// Whether this is written where so many bytes come at once, and the write behind it fails.
+fn is_left_by_write(alloc: Global, given: usize, written: &[u8]) -> bool {
+    let case = Case {
+        scenario: DONATION,
+        given,
+        taken: 10,
+        room: written.len(),
+        ended: Err(RunFault::WriteFault),
+        written,
+        ..CALM
+    };
+    writes_so(alloc, &case)
+}
+
+// A write fails behind each byte: a front of the answers is written.
 #[test]
 fn each_write_fails_in_turn(rt: HostRuntime) {
     for room in 0..DONATION_ANSWERED.len() {
-        for given in [1, 100_000] {
-            let case = Case {
-                scenario: DONATION,
-                given,
-                taken: 10,
-                room,
-                ended: Err(RunFault::WriteFault),
-                written: &DONATION_ANSWERED[..room],
-                ..CALM
-            };
-            assert!(rt; writes_so(rt.alloc(), &case), "after {room} bytes");
-        }
+        let written = &DONATION_ANSWERED[..room];
+        let is_left = is_left_by_write(rt.alloc(), 1, written)
+            && is_left_by_write(rt.alloc(), 100_000, written);
+        assert!(rt; is_left, "after {room} bytes");
     }
 }
 
