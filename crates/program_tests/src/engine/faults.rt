@@ -35,18 +35,8 @@ struct Outcome<'a> {
 // Runs a case on the built-in machine.
 fn outcome_of<'a>(alloc: Global, case: &Case<'a>) -> Result<Outcome<'a>, Failure> {
     let list = StartList::read(alloc, MACHINE_A.as_bytes())?;
-    outcome_with(alloc, &list, case)
-}
-
-// Runs a case on the machine of a list.
-fn outcome_with<'a>(
-    alloc: Global,
-    list: &StartList,
-    case: &Case<'a>,
-) -> Result<Outcome<'a>, Failure> {
-    let mut reply = Reply::boot(alloc)?;
-    let mut core = boot(alloc, list)?;
-    Ok(outcome_on(alloc, &mut core, list, &mut reply, case))
+    let mut core = boot(alloc, &list)?;
+    outcome_on(alloc, &mut core, &list, case)
 }
 
 // Runs a case on a machine.
@@ -54,11 +44,11 @@ fn outcome_on<'a, R: Router + Drop>(
     alloc: Global,
     core: &mut Core<R>,
     list: &StartList,
-    reply: &mut Reply,
     case: &Case<'a>,
-) -> Outcome<'a>
+) -> Result<Outcome<'a>, Failure>
     requires { core.old.entries ≡ entries_of (start_list_of list.now) }
 {
+    let mut reply = Reply::boot(alloc)?;
     let mut source = Input::new(Reader {
         failing: case.failing,
         kind: case.kind.unwrap_or(ErrorKind::UnexpectedEof),
@@ -70,16 +60,16 @@ fn outcome_on<'a, R: Router + Drop>(
         kind: case.kind,
         ..Writer::new(alloc)
     });
-    let ended = run_some(core, list, reply, case, &mut source, &mut sink);
-    let left = left_of(alloc, core, list, reply);
-    Outcome {
+    let ended = run_some(core, list, &mut reply, case, &mut source, &mut sink);
+    let left = left_of(alloc, core, list, &mut reply);
+    Ok(Outcome {
         ended,
         read_failed: source.failed(),
         write_failed: sink.failed(),
         reader: source.into_inner(),
         writer: sink.into_inner(),
         left,
-    }
+    })
 }
 
 // Runs all lines, or those of one name, over these devices.
