@@ -112,7 +112,9 @@ def written():
                 words = [base + ".json"] if os.path.exists(base + ".json") else []
                 is_case = name.endswith(".scenario")
             else:
-                words = open(path + ".args").read().split("\n")[:-1] if os.path.exists(path + ".args") else []
+                words = []
+                if os.path.exists(path + ".args"):
+                    words = open(path + ".args", errors="surrogateescape").read().split("\n")[:-1]
                 words = [word for word in words if word != "--accounts"]
                 is_case = os.path.exists(path + ".stdout") and not os.path.exists(path + ".status")
                 is_case = is_case and len(words) <= 1 and not any(word.startswith("-") for word in words)

@@ -2,10 +2,10 @@
 
 mod configs;
 mod device_calls;
-mod devices;
 mod faults;
 mod rows;
 mod tasks;
+mod tries;
 mod wants;
 mod wishes;
 mod words;

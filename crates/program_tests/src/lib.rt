@@ -4,4 +4,6 @@
 #[cfg(test)]
 mod desk;
 #[cfg(test)]
+mod devices;
+#[cfg(test)]
 mod engine;

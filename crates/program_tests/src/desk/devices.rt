@@ -1,8 +1,10 @@
 //! Readers and writers that fail, and the status of each ending.
+use crate::devices::{Reader, Writer};
 use init_core::{BootFault, MACHINE_A};
-use scenario_lines::{DeviceFault, Output, Sink, Source};
+use scenario_lines::{Input, Output};
 use scenario_names::Known;
 use std::alloc::Global;
+use std::io::ErrorKind;
 use std::process::Abort;
 use workbench::{Ending, Play, PlayFault, Showing, accounts, alone, exit_status, run, trace};
 
@@ -12,72 +14,6 @@ const LISTED: Showing<'static> = Showing {
     accounts: true,
     numbers: false,
 };
-
-/// Gives bytes once, and then fails.
-#[derive(Drop)]
-struct Breaking<'a> {
-    bytes: &'a [u8],
-    failed: bool,
-}
-
-impl Source for Breaking<'_> {
-    ghost has_failed = { λ source. source.failed };
-
-    fn read(&mut self, buffer: &mut [u8]) -> Result<usize, DeviceFault> {
-        let count = self.bytes.len().min(buffer.len());
-        if count == 0 {
-            self.failed = true;
-            return Err(DeviceFault);
-        }
-        buffer[..count].copy_from_slice(&self.bytes[..count]);
-        self.bytes = &self.bytes[count..];
-        Ok(count)
-    }
-
-    fn failed(&self) -> bool {
-        self.failed
-    }
-}
-
-/// Takes nothing, and counts how often it was asked.
-#[derive(Drop)]
-struct Refuser {
-    writes: usize,
-    failed: bool,
-}
-
-impl Refuser {
-    /// One that wasn't asked yet.
-    fn new() -> Refuser {
-        Refuser {
-            writes: 0,
-            failed: false,
-        }
-    }
-}
-
-impl Sink for Refuser {
-    ghost has_failed = { λ sink. sink.failed };
-
-    fn write(&mut self, _buffer: &[u8]) -> Result<usize, DeviceFault> {
-        self.writes = self.writes.saturating_add(1);
-        self.failed = true;
-        Err(DeviceFault)
-    }
-
-    fn failed(&self) -> bool {
-        self.failed
-    }
-}
-
-// What is played on a machine.
-fn on(alloc: Global, machine: &str) -> Play<'_> {
-    Play {
-        machine: machine.as_bytes(),
-        scenario: b"it",
-        given: Known::new(alloc),
-    }
-}
 
 // An ending at a fault.
 fn stopped(lines: u64, complaints: u64, fault: PlayFault) -> Option<Ending> {
@@ -89,7 +25,7 @@ fn stopped(lines: u64, complaints: u64, fault: PlayFault) -> Option<Ending> {
 }
 
 /// The four plays.
-#[derive(Clone, Copy, Debug)]
+#[derive(Clone, Copy)]
 enum Kind {
     Run,
     Trace,
@@ -97,22 +33,52 @@ enum Kind {
     Alone,
 }
 
-// Plays a scenario on the built-in machine.
-fn played<S: Source, K: Sink, E: Sink>(
+// Plays a scenario on a machine.
+fn played(
     alloc: Global,
+    machine: &str,
     kind: Kind,
-    reader: &mut S,
-    writer: &mut K,
-    complaints: &mut E,
-) -> Option<Ending> {
-    let play = on(alloc, MACHINE_A);
+    reader: &mut Input<Reader<'_>>,
+    writer: &mut Output<Writer>,
+    complaints: &mut Output<Writer>,
+) -> Result<Ending, BootFault> {
+    let play = Play {
+        machine: machine.as_bytes(),
+        scenario: b"it",
+        given: Known::new(alloc),
+    };
     match kind {
         Kind::Run => run(alloc, play, LISTED, reader, writer, complaints),
         Kind::Trace => trace(alloc, play, reader, writer, complaints),
         Kind::Accounts => accounts(alloc, play, reader, writer, complaints),
         Kind::Alone => alone(alloc, play, b"alice", reader, writer, complaints),
     }
-    .ok()
+}
+
+// How a play on the built-in machine ends over a reader that doesn't fail.
+fn ending_of(
+    alloc: Global,
+    kind: Kind,
+    scenario: &[u8],
+    writer: &mut Output<Writer>,
+    complaints: &mut Output<Writer>,
+) -> Option<Ending> {
+    let mut reader = Input::new(Reader::new(scenario, usize::MAX));
+    played(alloc, MACHINE_A, kind, &mut reader, writer, complaints).ok()
+}
+
+// A writer that takes all.
+fn taking(alloc: Global) -> Output<Writer> {
+    Output::new(Writer::new(alloc))
+}
+
+// A writer that fails once.
+fn refusing(alloc: Global) -> Output<Writer> {
+    Output::new(Writer {
+        room: 0,
+        kind: Some(ErrorKind::Other),
+        ..Writer::new(alloc)
+    })
 }
 
 /// Each play, and what it has written when the second of two lines can't be read.
@@ -131,24 +97,30 @@ const BROKEN: &[(Kind, &[u8])] = &[
     ),
 ];
 
-// A play whose reader fails in its second line has written this.
-fn check_broken<R: Abort + AllocGlobal>(rt: &R, kind: Kind, want: &[u8]) {
-    let mut reader = Breaking {
-        bytes: b"alice alloc 4K\nalice quo",
-        failed: false,
-    };
-    let mut writer = Output::new(Vec::new(rt.alloc()));
-    let mut complaints = Output::new(Vec::new(rt.alloc()));
-    let ended = played(rt.alloc(), kind, &mut reader, &mut writer, &mut complaints);
-    assert!(rt; ended == stopped(1, 0, PlayFault::ReadFault), "{kind:?}");
-    assert!(rt; writer.into_inner().as_slice() == want, "{kind:?}");
-    assert!(rt; complaints.into_inner().is_empty(), "{kind:?}");
+// Whether a play whose second read fails, in its second line, has written this.
+fn is_broken(alloc: Global, kind: Kind, want: &[u8]) -> bool {
+    let mut reader = Input::new(Reader {
+        failing: 2,
+        ..Reader::new(b"alice alloc 4K\nalice quo", usize::MAX)
+    });
+    let (mut writer, mut complaints) = (taking(alloc), taking(alloc));
+    let ended = played(
+        alloc,
+        MACHINE_A,
+        kind,
+        &mut reader,
+        &mut writer,
+        &mut complaints,
+    );
+    ended.ok() == stopped(1, 0, PlayFault::ReadFault)
+        && writer.into_inner().bytes.as_slice() == want
+        && complaints.into_inner().bytes.is_empty()
 }
 
 // Each play of a table.
 fn check_all_broken<R: Abort + AllocGlobal>(rt: &R, rows: &[(Kind, &[u8])]) {
     for (kind, want) in rows {
-        check_broken(rt, *kind, want);
+        assert!(rt; is_broken(rt.alloc(), *kind, want));
     }
 }
 
@@ -160,46 +132,49 @@ fn a_read_that_fails_ends_each_play(rt: HostRuntime) {
 /// All plays.
 const KINDS: &[Kind] = &[Kind::Run, Kind::Trace, Kind::Accounts, Kind::Alone];
 
-// A writer that has failed isn't asked again by any play.
-fn check_refused<R: Abort + AllocGlobal>(rt: &R, kinds: &[Kind], writer: &mut Refuser) {
+// Whether a writer that fails ends a play so.
+fn is_refused(
+    alloc: Global,
+    kind: Kind,
+    scenario: &[u8],
+    writer: &mut Output<Writer>,
+    ending: Option<Ending>,
+) -> bool {
+    ending_of(alloc, kind, scenario, writer, &mut taking(alloc)) == ending
+}
+
+// A writer that has failed ends each play at once.
+fn check_refused<R: Abort + AllocGlobal>(rt: &R, kinds: &[Kind], writer: &mut Output<Writer>) {
     for kind in kinds {
-        let mut rest = b"alice quota\n".as_slice();
-        let mut complaints = Output::new(Vec::new(rt.alloc()));
-        let again = played(rt.alloc(), *kind, &mut rest, writer, &mut complaints);
-        assert!(rt; again == stopped(0, 0, PlayFault::WriteFault), "{kind:?}");
-        assert!(rt; writer.writes == 1, "{kind:?}");
+        let at_once = stopped(0, 0, PlayFault::WriteFault);
+        assert!(rt; is_refused(rt.alloc(), *kind, b"alice quota\n", writer, at_once));
     }
 }
 
+// And it isn't asked again by any play.
 #[test]
 fn a_writer_that_fails_is_not_tried_again(rt: HostRuntime) {
-    let mut reader = b"alice alloc 4K\nalice quot\n".as_slice();
-    let mut writer = Refuser::new();
-    let mut complaints = Output::new(Vec::new(rt.alloc()));
-    let ended = played(
-        rt.alloc(),
-        Kind::Run,
-        &mut reader,
-        &mut writer,
-        &mut complaints,
-    );
-    assert!(rt; ended == stopped(2, 1, PlayFault::WriteFault) && writer.writes == 1);
+    let scenario = b"alice alloc 4K\nalice quot\n";
+    let mut writer = refusing(rt.alloc());
+    let ending = stopped(2, 1, PlayFault::WriteFault);
+    assert!(rt; is_refused(rt.alloc(), Kind::Run, scenario, &mut writer, ending));
     check_refused(&rt, KINDS, &mut writer);
+    assert!(rt; writer.into_inner().writes == 1);
 }
 
 #[test]
 fn complaints_that_fail_end_the_run(rt: HostRuntime) {
-    let mut reader = b"alice alloc 4K\nalice quot\nalice quot\n".as_slice();
-    let mut writer = Output::new(Vec::new(rt.alloc()));
-    let mut complaints = Refuser::new();
-    let ended = played(
+    let scenario = b"alice alloc 4K\nalice quot\nalice quot\n";
+    let (mut writer, mut complaints) = (taking(rt.alloc()), refusing(rt.alloc()));
+    let ended = ending_of(
         rt.alloc(),
         Kind::Run,
-        &mut reader,
+        scenario,
         &mut writer,
         &mut complaints,
     );
-    assert!(rt; ended == stopped(1, 0, PlayFault::WriteFault) && complaints.writes == 1);
+    let is_tried_once = complaints.into_inner().writes == 1;
+    assert!(rt; is_tried_once && ended == stopped(1, 0, PlayFault::WriteFault));
 }
 
 /// How many complaints there are, the fault, and the status of that.
@@ -227,31 +202,34 @@ fn endings_have_statuses(rt: HostRuntime) {
     check_statuses(&rt, STATUSES);
 }
 
-#[test]
-fn a_list_that_is_none_is_refused(rt: HostRuntime) {
-    let mut reader = b"alice quota\n".as_slice();
-    let mut writer = Output::new(Vec::new(rt.alloc()));
-    let mut complaints = Output::new(Vec::new(rt.alloc()));
-    let unbooted: Result<Ending, BootFault> = run(
-        rt.alloc(),
-        on(rt.alloc(), "{"),
-        LISTED,
+// Whether a text that is no list is told with its status, and the scenario isn't read.
+fn is_unread(alloc: Global) -> bool {
+    let mut reader = Input::new(Reader::new(b"alice quota\n", 100));
+    let (mut writer, mut complaints) = (taking(alloc), taking(alloc));
+    let unbooted = played(
+        alloc,
+        "{",
+        Kind::Run,
         &mut reader,
         &mut writer,
         &mut complaints,
     );
-    assert!(rt; exit_status(&unbooted) == 2 && reader == b"alice quota\n".as_slice());
+    exit_status(&unbooted) == 2 && reader.into_inner().reads == 0
+}
+
+#[test]
+fn a_list_that_is_none_is_refused(rt: HostRuntime) {
+    assert!(rt; is_unread(rt.alloc()));
 }
 
 #[test]
 fn lines_and_complaints_are_counted(rt: HostRuntime) {
-    let mut reader = b"# a comment\n\nalice quot\nalice quota => ok\n".as_slice();
-    let mut writer = Output::new(Vec::new(rt.alloc()));
-    let mut complaints = Output::new(Vec::new(rt.alloc()));
-    let ended = played(
+    let scenario = b"# a comment\n\nalice quot\nalice quota => ok\n";
+    let (mut writer, mut complaints) = (taking(rt.alloc()), taking(rt.alloc()));
+    let ended = ending_of(
         rt.alloc(),
         Kind::Accounts,
-        &mut reader,
+        scenario,
         &mut writer,
         &mut complaints,
     );

@@ -1,9 +1,11 @@
 //! The bytes of CONFIG, from sources and files of all kinds.
-use crate::engine::devices::Reader;
+use crate::devices::Reader;
+use crate::engine::tries::one_is_as_usual;
 use scenario::{ConfigFault, Input, LONGEST_CONFIG_READ, Source, read_config, read_config_at};
 use std::alloc::{AllocError, Global};
 use std::io::ErrorKind;
 use std::process::Abort;
+use std::rt::Files;
 use std::test::Fail;
 
 // So many bytes, of which neighbours differ.
@@ -34,32 +36,40 @@ const LENGTHS: &[(usize, usize)] = &[
     (20_000, 4097),
 ];
 
-// So many bytes are read whole up to the bound, and no more of them.
-fn check_length<R: Abort + AllocGlobal>(rt: &R, length: usize, size: usize) -> Result<(), Fail> {
-    let bytes = bytes_of(rt.alloc(), length)?;
-    let expected = length.min(LONGEST_CONFIG_READ);
-    let mut source = Input::new(Reader::new(&bytes, size));
-    let text = read_config(rt.alloc(), &mut source)?;
-    let is_front = bytes.starts_with(text.as_slice()) && text.len() == expected;
-    let (failed, left) = (source.failed(), source.into_inner().bytes.len());
-    assert!(rt;
-        is_front && !failed && left == length - expected,
-        "{length} bytes by {size}"
-    );
-    Ok(())
+// Whether bytes are read whole up to the bound, and no more of them.
+fn is_front_read(alloc: Global, bytes: &[u8], size: usize) -> bool {
+    let expected = bytes.len().min(LONGEST_CONFIG_READ);
+    let mut source = Input::new(Reader::new(bytes, size));
+    let read = read_config(alloc, &mut source);
+    let failed = source.failed();
+    let left = source.into_inner().bytes.len();
+    match read {
+        Ok(text) => {
+            bytes.starts_with(text.as_slice())
+                && text.len() == expected
+                && !failed
+                && left == bytes.len() - expected
+        }
+        Err(_) => false,
+    }
 }
 
-// The same of each length of a table.
-fn check_lengths<R: Abort + AllocGlobal>(rt: &R, lengths: &[(usize, usize)]) -> Result<(), Fail> {
+// So many of these bytes are, for each length of a table.
+fn check_lengths<R: Abort + AllocGlobal>(rt: &R, bytes: &[u8], lengths: &[(usize, usize)]) {
     for (length, size) in lengths {
-        check_length(rt, *length, *size)?;
+        let front = &bytes[..bytes.len().min(*length)];
+        assert!(rt;
+            front.len() == *length && is_front_read(rt.alloc(), front, *size),
+            "{length} bytes by {size}"
+        );
     }
-    Ok(())
 }
 
 #[test]
 fn all_bytes_are_read_up_to_the_bound(rt: HostRuntime) -> Result<(), Fail> {
-    check_lengths(&rt, LENGTHS)
+    let bytes = bytes_of(rt.alloc(), 70_000)?;
+    check_lengths(&rt, &bytes, LENGTHS);
+    Ok(())
 }
 
 /// Which read fails, and how.
@@ -102,33 +112,53 @@ fn a_read_that_fails_is_not_tried_again(rt: HostRuntime) -> Result<(), Fail> {
     Ok(())
 }
 
-#[test]
-fn files_are_opened_by_their_paths(rt: HostRuntime) -> Result<(), Fail> {
-    for path in ["", "no/such/file", "/", ".", "/dev/null/list.json", "a\0b"] {
-        let read = read_config_at(&rt, path);
-        assert!(rt; matches!(read, Err(ConfigFault::Unreadable)), "{path:?}");
+/// Paths, and how many bytes are read there.
+const PATHS: &[(&str, Result<usize, ConfigFault>)] = &[
+    ("", Err(ConfigFault::Unreadable)),
+    ("no/such/file", Err(ConfigFault::Unreadable)),
+    ("/", Err(ConfigFault::Unreadable)),
+    (".", Err(ConfigFault::Unreadable)),
+    ("/dev/null/list.json", Err(ConfigFault::Unreadable)),
+    ("a\0b", Err(ConfigFault::Unreadable)),
+    ("/dev/null", Ok(0)),
+    ("/dev/zero", Ok(LONGEST_CONFIG_READ)),
+];
+
+// How many bytes are read of a path.
+fn length_at<R: Files + AllocGlobal>(rt: &R, path: &str) -> Result<usize, ConfigFault> {
+    match read_config_at(rt, path) {
+        Ok(text) => Ok(text.len()),
+        Err(fault) => Err(fault),
     }
-    assert!(rt; read_config_at(&rt, "/dev/null")?.is_empty());
-    assert!(rt; read_config_at(&rt, "/dev/zero")?.len() == LONGEST_CONFIG_READ);
-    Ok(())
 }
 
-// Reads bytes twice, with an allocation refused somewhere (`rt try --test --fail-alloc N`): one of the two may want
-// memory, and is told so.
+// So many bytes are read of each path of a table.
+fn check_paths<R: Abort + Files + AllocGlobal>(
+    rt: &R,
+    paths: &[(&str, Result<usize, ConfigFault>)],
+) {
+    for (path, want) in paths {
+        assert!(rt; length_at(rt, path) == *want, "{path}");
+    }
+}
+
+#[test]
+fn files_are_opened_by_their_paths(rt: HostRuntime) {
+    check_paths(&rt, PATHS);
+}
+
+// Whether bytes are read whole.
+fn is_read(alloc: Global, bytes: &[u8]) -> Option<bool> {
+    let mut source = Input::new(Reader::new(bytes, 70_000));
+    match read_config(alloc, &mut source) {
+        Ok(text) => Some(text.as_slice() == bytes),
+        Err(ConfigFault::NoMemory) => None,
+        Err(_) => Some(false),
+    }
+}
+
 #[test]
 fn refused_memory_is_told_as_such(rt: HostRuntime) {
     let bytes = [7; 9000];
-    let mut wanted = false;
-    for _ in 0..2 {
-        let mut source = Input::new(Reader::new(&bytes, 70_000));
-        match read_config(rt.alloc(), &mut source) {
-            Ok(text) => {
-                assert!(rt; text.as_slice() == bytes.as_slice());
-            }
-            Err(fault) => {
-                assert!(rt; fault == ConfigFault::NoMemory && !wanted);
-                wanted = true;
-            }
-        }
-    }
+    assert!(rt; one_is_as_usual(is_read(rt.alloc(), &bytes), is_read(rt.alloc(), &bytes)));
 }

@@ -77,11 +77,15 @@ impl Write for TakesOne {
     }
 }
 
-// A short write is told as one, at once.
+// Whether a short write is told as one, at once.
+fn is_handed_on() -> bool {
+    let mut output = Output::new(TakesOne { calls: 0 });
+    let first = output.write(b"text") == Ok(1) && !output.failed();
+    let second = first && output.write(b"ext") == Ok(1);
+    output.into_inner().calls == 2 && second
+}
+
 #[test]
 fn a_write_is_handed_on_at_once(rt: HostRuntime) {
-    let mut output = Output::new(TakesOne { calls: 0 });
-    assert!(rt; output.write(b"text") == Ok(1) && !output.failed());
-    assert!(rt; output.write(b"ext") == Ok(1));
-    assert!(rt; output.into_inner().calls == 2);
+    assert!(rt; is_handed_on());
 }

@@ -3,9 +3,10 @@ ghost use Rattle.std.specs.Prelude.{◌≡◌};
 ghost use Rattle.own_model.specs.Listed.{start_list_of};
 ghost use Rattle.own_model.specs.StartList.{entries_of};
 
-use crate::engine::devices::{Reader, Writer};
-use crate::engine::rows::repeat;
+use crate::devices::{Reader, Writer};
 use crate::engine::rows::sessions::{DONATION, DONATION_ANSWERED};
+use crate::engine::rows::{PLAIN, repeated};
+use crate::engine::tasks::fault_of;
 use init_core::{MACHINE_A, StartList, boot};
 use pd_core::{Core, Reply, Router};
 use scenario::{Failure, Input, Output, RunFault, Sink, Source, Summary, run, run_only};
@@ -31,36 +32,36 @@ struct Outcome<'a> {
     left: Vec<u8>,
 }
 
-impl Outcome<'_> {
-    // Whether the run ended with this fault, and this was written by then.
-    fn has_written(&self, fault: RunFault, written: &[u8]) -> bool {
-        self.ended == Err(fault) && self.writer.bytes.as_slice() == written
-    }
-}
-
-// Runs all lines, or those of one name, on the built-in machine, at most so many.
-fn outcome_of<'a>(
-    alloc: Global,
-    only: Option<&[u8]>,
-    reader: Reader<'a>,
-    writer: Writer,
-    max_lines: u64,
-) -> Result<Outcome<'a>, Failure> {
+// Runs a case on the built-in machine.
+fn outcome_of<'a>(alloc: Global, case: &Case<'a>) -> Result<Outcome<'a>, Failure> {
     let list = StartList::read(alloc, MACHINE_A.as_bytes())?;
     let mut core = boot(alloc, &list)?;
+    outcome_on(alloc, &mut core, &list, case)
+}
+
+// Runs a case on a machine.
+fn outcome_on<'a, R: Router + Drop>(
+    alloc: Global,
+    core: &mut Core<R>,
+    list: &StartList,
+    case: &Case<'a>,
+) -> Result<Outcome<'a>, Failure>
+    requires { core.old.entries ≡ entries_of (start_list_of list.now) }
+{
     let mut reply = Reply::boot(alloc)?;
-    let mut source = Input::new(reader);
-    let mut sink = Output::new(writer);
-    let ended = run_some(
-        &mut core,
-        &list,
-        &mut reply,
-        only,
-        &mut source,
-        &mut sink,
-        max_lines,
-    );
-    let left = left_of(alloc, &mut core, &list, &mut reply);
+    let mut source = Input::new(Reader {
+        failing: case.failing,
+        kind: case.kind.unwrap_or(ErrorKind::UnexpectedEof),
+        ..Reader::new(case.scenario, case.given)
+    });
+    let mut sink = Output::new(Writer {
+        size: case.taken,
+        room: case.room,
+        kind: case.kind,
+        ..Writer::new(alloc)
+    });
+    let ended = run_some(core, list, &mut reply, case, &mut source, &mut sink);
+    let left = left_of(alloc, core, list, &mut reply);
     Ok(Outcome {
         ended,
         read_failed: source.failed(),
@@ -76,17 +77,16 @@ fn run_some<R: Router + Drop, S: Source, K: Sink>(
     core: &mut Core<R>,
     list: &StartList,
     reply: &mut Reply,
-    only: Option<&[u8]>,
+    case: &Case<'_>,
     reader: &mut S,
     writer: &mut K,
-    max_lines: u64,
 ) -> Result<Summary, RunFault>
     requires { core.old.entries ≡ entries_of (start_list_of list.now) }
     ensures { core.new.entries ≡ core.old.entries }
 {
-    match only {
-        None => run(core, list, reply, reader, writer, max_lines),
-        Some(name) => run_only(core, list, reply, name, reader, writer, max_lines),
+    match case.only {
+        None => run(core, list, reply, reader, writer, case.max_lines),
+        Some(name) => run_only(core, list, reply, name, reader, writer, case.max_lines),
     }
 }
 
@@ -108,10 +108,10 @@ fn left_of<R: Router + Drop>(
 /// A run whose reader gives so many bytes at a time and fails at one read, and whose writer takes so many at a time and
 /// fails after some.
 #[derive(Clone, Copy)]
-struct Case {
+struct Case<'a> {
     shows: &'static str,
     only: Option<&'static [u8]>,
-    scenario: &'static [u8],
+    scenario: &'a [u8],
     given: usize,
     failing: usize,
     taken: usize,
@@ -119,14 +119,14 @@ struct Case {
     kind: Option<ErrorKind>,
     max_lines: u64,
     ended: Result<Summary, RunFault>,
-    written: &'static [u8],
+    written: &'a [u8],
     reads: usize,
     writes: usize,
     caps: u8,
 }
 
 /// Both lines at once, over devices that don't fail.
-const CALM: Case = Case {
+const CALM: Case<'static> = Case {
     shows: "two lines at once",
     only: None,
     scenario: BOTH,
@@ -143,7 +143,7 @@ const CALM: Case = Case {
     caps: b'0',
 };
 
-const CASES: &[Case] = &[
+const CASES: &[Case<'static>] = &[
     CALM,
     Case {
         shows: "each line comes alone: answers are written before the next read",
@@ -334,30 +334,11 @@ const CASES: &[Case] = &[
     },
 ];
 
-// A run ends so.
-fn check<R: Abort + AllocGlobal>(rt: &R, case: &Case) -> Result<(), Fail> {
-    let reader = Reader {
-        failing: case.failing,
-        kind: case.kind.unwrap_or(ErrorKind::UnexpectedEof),
-        ..Reader::new(case.scenario, case.given)
-    };
-    let writer = Writer {
-        size: case.taken,
-        room: case.room,
-        kind: case.kind,
-        ..Writer::new(rt.alloc())
-    };
-    let ran = outcome_of(rt.alloc(), case.only, reader, writer, case.max_lines)?;
-    assert!(rt; is_so(&ran, case), "{}", case.shows);
-    Ok(())
-}
-
 // Whether a run ended so.
-fn is_so(ran: &Outcome<'_>, case: &Case) -> bool {
-    ran.ended == case.ended
+fn is_so(ran: &Outcome<'_>, case: &Case<'_>) -> bool {
+    has_written(ran, case)
         && ran.read_failed == (ran.ended == Err(RunFault::ReadFault))
         && ran.write_failed == (ran.ended == Err(RunFault::WriteFault))
-        && ran.writer.bytes.as_slice() == case.written
         && ran.reader.reads == case.reads
         && ran.writer.writes == case.writes
         && ran
@@ -365,133 +346,165 @@ fn is_so(ran: &Outcome<'_>, case: &Case) -> bool {
             .ends_with(&[b' ', case.caps, b'/', b'1', b'6', b'\n'])
 }
 
-// Each run of a table.
-fn check_all<R: Abort + AllocGlobal>(rt: &R, cases: &[Case]) -> Result<(), Fail> {
-    for case in cases {
-        check(rt, case)?;
+// Whether a run ended so, and this was written by then.
+fn has_written(ran: &Outcome<'_>, case: &Case<'_>) -> bool {
+    ran.ended == case.ended && ran.writer.bytes.as_slice() == case.written
+}
+
+// Whether a run ends so.
+fn ends_so(alloc: Global, case: &Case<'_>) -> bool {
+    match outcome_of(alloc, case) {
+        Ok(ran) => is_so(&ran, case),
+        Err(_) => false,
     }
-    Ok(())
+}
+
+// Whether a run ends so, with this written, however often its devices were used.
+fn writes_so(alloc: Global, case: &Case<'_>) -> bool {
+    match outcome_of(alloc, case) {
+        Ok(ran) => has_written(&ran, case),
+        Err(_) => false,
+    }
+}
+
+// Each run of a table.
+fn check_all<R: Abort + AllocGlobal>(rt: &R, cases: &[Case<'_>]) {
+    for case in cases {
+        assert!(rt; ends_so(rt.alloc(), case), "{}", case.shows);
+    }
 }
 
 #[test]
-fn devices_that_fail(rt: HostRuntime) -> Result<(), Fail> {
-    check_all(&rt, CASES)
+fn devices_that_fail(rt: HostRuntime) {
+    check_all(&rt, CASES);
 }
 
-// Each byte comes alone, and one read fails: what was answered is what stands before it.
+// Whether this is written where each byte comes alone and this read fails.
+fn is_left_by_read(alloc: Global, failing: usize, written: &[u8]) -> bool {
+    let case = Case {
+        scenario: DONATION,
+        given: 1,
+        failing,
+        kind: Some(ErrorKind::Other),
+        ended: Err(RunFault::ReadFault),
+        written,
+        ..CALM
+    };
+    writes_so(alloc, &case)
+}
+
+// What was answered is what stands before the read that fails.
 #[test]
-fn each_read_fails_in_turn(rt: HostRuntime) -> Result<(), Fail> {
+fn each_read_fails_in_turn(rt: HostRuntime) {
     let mut answers = DONATION_ANSWERED.split_inclusive(|byte| *byte == b'\n');
-    let mut answered = Vec::new(rt.alloc());
+    let mut answered = 0usize;
     for end in 0..DONATION.len() {
-        let reader = Reader {
-            failing: end.saturating_add(1),
-            ..Reader::new(DONATION, 1)
-        };
-        let ran = outcome_of(rt.alloc(), None, reader, Writer::new(rt.alloc()), 10)?;
+        let written = &DONATION_ANSWERED[..DONATION_ANSWERED.len().min(answered)];
         assert!(rt;
-            ran.has_written(RunFault::ReadFault, &answered),
+            is_left_by_read(rt.alloc(), end.saturating_add(1), written),
             "read {end}"
         );
         if DONATION[end] == b'\n' {
-            answered.extend_from_slice(answers.next().unwrap_or(b""))?;
+            answered = answered.saturating_add(answers.next().unwrap_or(b"").len());
         }
     }
-    assert!(rt; answered.as_slice() == DONATION_ANSWERED);
-    Ok(())
+    assert!(rt; answered == DONATION_ANSWERED.len());
 }
 
-// A write fails behind each byte: a front of the DONATION_ANSWERED is written.
+// Whether this is written where so many bytes come at once, and the write behind it fails.
+fn is_left_by_write(alloc: Global, given: usize, written: &[u8]) -> bool {
+    let case = Case {
+        scenario: DONATION,
+        given,
+        taken: 10,
+        room: written.len(),
+        ended: Err(RunFault::WriteFault),
+        written,
+        ..CALM
+    };
+    writes_so(alloc, &case)
+}
+
+// A write fails behind each byte: a front of the answers is written.
 #[test]
-fn each_write_fails_in_turn(rt: HostRuntime) -> Result<(), Fail> {
+fn each_write_fails_in_turn(rt: HostRuntime) {
     for room in 0..DONATION_ANSWERED.len() {
-        for size in [1, 100_000] {
-            let writer = Writer {
-                size: 10,
-                room,
-                ..Writer::new(rt.alloc())
-            };
-            let ran = outcome_of(rt.alloc(), None, Reader::new(DONATION, size), writer, 10)?;
-            assert!(rt;
-                ran.has_written(RunFault::WriteFault, &DONATION_ANSWERED[..room]),
-                "after {room} bytes"
-            );
-        }
+        let written = &DONATION_ANSWERED[..room];
+        let is_left = is_left_by_write(rt.alloc(), 1, written)
+            && is_left_by_write(rt.alloc(), 100_000, written);
+        assert!(rt; is_left, "after {room} bytes");
     }
-    Ok(())
 }
 
 // Whether a hundred bytes were written in three writes, and not a fourth was tried, and no line was answered after that.
-fn is_cut(writer: &Writer, left: &[u8]) -> bool {
-    writer.writes == 3
-        && writer.bytes.len() == 100
-        && writer
+fn is_cut(ran: &Outcome<'_>) -> bool {
+    ran.ended == Err(RunFault::WriteFault)
+        && ran.writer.writes == 3
+        && ran.writer.bytes.len() == 100
+        && ran
+            .writer
             .bytes
             .starts_with(b"alice: cap 1\nalice: ram 0/65536 caps 1/16\nalice: ram")
-        && left == b"alice: ram 0/65536 caps 1/16\n".as_slice()
+        && ran.left.as_slice() == b"alice: ram 0/65536 caps 1/16\n".as_slice()
+}
+
+// Whether a scenario ends so over a writer that takes a hundred bytes, in two writes.
+fn is_cut_short(alloc: Global, scenario: &[u8]) -> bool {
+    let case = Case {
+        scenario,
+        given: 100_000,
+        taken: 70,
+        room: 100,
+        max_lines: 1000,
+        ..CALM
+    };
+    match outcome_of(alloc, &case) {
+        Ok(ran) => is_cut(&ran),
+        Err(_) => false,
+    }
 }
 
 // The replies of a block fill more than is gathered at once, so a line is answered whose reply is cut; and none after it.
 #[test]
 fn writer_fails_while_more_is_gathered(rt: HostRuntime) -> Result<(), Fail> {
-    let mut scenario = Vec::from_slice(rt.alloc(), b"alice capalloc\n")?;
-    repeat(&mut scenario, b"alice quota\n", 400)?;
-    scenario.extend_from_slice(b"alice capalloc\n")?;
-    let writer = Writer {
-        size: 70,
-        room: 100,
-        ..Writer::new(rt.alloc())
-    };
-    let ran = outcome_of(
+    let scenario = repeated(
         rt.alloc(),
-        None,
-        Reader::new(&scenario, 100_000),
-        writer,
-        1000,
+        b"alice capalloc\n",
+        b"alice quota\n",
+        400,
+        b"alice capalloc\n",
     )?;
-    assert!(rt; ran.ended == Err(RunFault::WriteFault));
-    assert!(rt; is_cut(&ran.writer, &ran.left));
+    assert!(rt; is_cut_short(rt.alloc(), &scenario));
     Ok(())
 }
 
-// With a device that had failed before, neither is touched; the writer is told first.
-fn check_failed<A: Abort + AllocGlobal, R: Router + Drop>(
-    rt: &A,
-    core: &mut Core<R>,
-    list: &StartList,
-    reply: &mut Reply,
-)
-    requires { core.old.entries ≡ entries_of (start_list_of list.now) }
-{
+// Whether a source that fails ends two runs, and neither writes.
+fn ends_unread(alloc: Global, source: &mut Input<Reader<'_>>) -> bool {
+    let mut sink = Output::new(Writer::new(alloc));
+    let first = fault_of(alloc, PLAIN, source, &mut sink);
+    let second = fault_of(alloc, PLAIN, source, &mut sink);
+    first == Some(RunFault::ReadFault) && second == first && sink.into_inner().bytes.is_empty()
+}
+
+// Whether a sink that fails ends a run, and the next one, whose source had failed too: the sink is told first.
+fn ends_unwritten(alloc: Global, source: &mut Input<Reader<'_>>) -> bool {
+    let mut quota = Input::new(Reader::new(b"alice quota\n", 100));
+    let mut sink = Output::new(Writer {
+        room: 0,
+        ..Writer::new(alloc)
+    });
+    let first = fault_of(alloc, PLAIN, &mut quota, &mut sink);
+    let second = fault_of(alloc, PLAIN, source, &mut sink);
+    first == Some(RunFault::WriteFault) && second == first && sink.into_inner().writes == 1
+}
+
+// With a device that had failed before, neither is touched.
+#[test]
+fn failed_devices_are_not_tried(rt: HostRuntime) {
     let mut source = Input::new(Reader {
         failing: 1,
         ..Reader::new(b"alice quota\n", 100)
     });
-    let mut sink = Output::new(Writer::new(rt.alloc()));
-    let mut unwritable = Output::new(Writer {
-        room: 0,
-        ..Writer::new(rt.alloc())
-    });
-    let mut quota = Input::new(Reader::new(b"alice quota\n", 100));
-    let ended = [
-        run(core, list, reply, &mut source, &mut sink, 10),
-        run(core, list, reply, &mut source, &mut sink, 10),
-        run(core, list, reply, &mut quota, &mut unwritable, 10),
-        run(core, list, reply, &mut source, &mut unwritable, 10),
-    ];
-    let read = Err(RunFault::ReadFault);
-    let write = Err(RunFault::WriteFault);
-    assert!(rt; ended == [read, read, write, write]);
+    assert!(rt; ends_unread(rt.alloc(), &mut source) && ends_unwritten(rt.alloc(), &mut source));
     assert!(rt; source.into_inner().reads == 1);
-    assert!(rt; sink.into_inner().bytes.is_empty());
-    assert!(rt; unwritable.into_inner().writes == 1);
-}
-
-#[test]
-fn failed_devices_are_not_tried(rt: HostRuntime) -> Result<(), Fail> {
-    let list = StartList::read(rt.alloc(), MACHINE_A.as_bytes())?;
-    let mut core = boot(rt.alloc(), &list)?;
-    let mut reply = Reply::boot(rt.alloc())?;
-    check_failed(&rt, &mut core, &list, &mut reply);
-    Ok(())
 }

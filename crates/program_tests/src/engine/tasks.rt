@@ -1,12 +1,14 @@
 //! What is asked of a machine: how it ends, as text and as status, and what it reads and writes for it.
-use crate::engine::devices::{Reader, Writer};
-use crate::engine::rows::{LISTED, PLAIN, repeat};
+use crate::devices::{Reader, Writer};
+use crate::engine::rows::{LISTED, PLAIN, repeated};
+use crate::engine::tries::one_is_as_usual;
 use init_core::{BootFault, Field, MACHINE_A};
 use scenario::{
     ConfigFault, Failure, Input, Output, RunFault, Summary, Task, boot_and_run, exit_status,
     run_bytes,
 };
-use std::alloc::{AllocError, Global};
+use std::alloc::Global;
+use std::fmt::Display;
 use std::io::ErrorKind;
 use std::process::Abort;
 use std::test::Fail;
@@ -110,39 +112,35 @@ const CASES: &[Case] = &[
     },
 ];
 
-// How a task ended, as it is told.
-fn told(alloc: Global, failure: &Failure) -> Result<String, AllocError> {
-    format!(in alloc; "{failure}")
+// Whether a value is shown so.
+fn is_shown<D: Display>(alloc: Global, value: &D, text: &str) -> bool {
+    match format!(in alloc; "{value}") {
+        Ok(shown) => shown.as_str() == text,
+        Err(_) => false,
+    }
 }
 
-// A task ends so.
-fn check<R: Abort + AllocGlobal>(rt: &R, case: &Case) -> Result<(), Fail> {
+// Whether a task ends so.
+fn ends_so(alloc: Global, case: &Case) -> bool {
     let mut source = Input::new(Reader::new(b"alice quota\n", 100));
     let mut sink = Output::new(Writer {
         size: 1,
         room: case.room,
         kind: case.kind,
-        ..Writer::new(rt.alloc())
+        ..Writer::new(alloc)
     });
     let text = case.list.as_bytes();
-    let ended = boot_and_run(rt.alloc(), text, case.task, &mut source, &mut sink);
-    let (reader, writer) = (source.into_inner(), sink.into_inner());
-    assert!(rt; is_told(rt.alloc(), &ended, case)?, "{}", case.shows);
-    assert!(rt; is_done(&reader, &writer, case), "{}", case.shows);
-    Ok(())
+    let ended = boot_and_run(alloc, text, case.task, &mut source, &mut sink);
+    is_told(alloc, &ended, case) && is_done(&source.into_inner(), &sink.into_inner(), case)
 }
 
 // Whether a task's end is told so, with this status.
-fn is_told(
-    alloc: Global,
-    ended: &Result<Summary, Failure>,
-    case: &Case,
-) -> Result<bool, AllocError> {
+fn is_told(alloc: Global, ended: &Result<Summary, Failure>, case: &Case) -> bool {
     let is_told = match ended {
         Ok(_) => case.told.is_empty(),
-        Err(failure) => told(alloc, failure)?.as_str() == case.told,
+        Err(failure) => is_shown(alloc, failure, case.told),
     };
-    Ok(is_told && exit_status(ended) == case.status)
+    is_told && exit_status(ended) == case.status
 }
 
 // Whether the devices were used so.
@@ -153,55 +151,67 @@ fn is_done(reader: &Reader<'_>, writer: &Writer, case: &Case) -> bool {
 }
 
 // Each task of a table.
-fn check_all<R: Abort + AllocGlobal>(rt: &R, cases: &[Case]) -> Result<(), Fail> {
+fn check_all<R: Abort + AllocGlobal>(rt: &R, cases: &[Case]) {
     for case in cases {
-        check(rt, case)?;
+        assert!(rt; ends_so(rt.alloc(), case), "{}", case.shows);
     }
-    Ok(())
 }
 
 #[test]
-fn tasks_over_writers_that_fail(rt: HostRuntime) -> Result<(), Fail> {
-    check_all(&rt, CASES)
+fn tasks_over_writers_that_fail(rt: HostRuntime) {
+    check_all(&rt, CASES);
 }
 
-// A sink that has failed isn't written to for the next task.
-fn check_tried_once<R: Abort + AllocGlobal>(rt: &R, task: Task<'_>, scenario: &[u8]) {
-    let text = MACHINE_A.as_bytes();
+/// The fault of the run that a task on the built-in machine ends with, if it does.
+pub fn fault_of(
+    alloc: Global,
+    task: Task<'_>,
+    source: &mut Input<Reader<'_>>,
+    sink: &mut Output<Writer>,
+) -> Option<RunFault> {
+    match boot_and_run(alloc, MACHINE_A.as_bytes(), task, source, sink) {
+        Err(Failure::Run(fault)) => Some(fault),
+        _ => None,
+    }
+}
+
+// Whether a sink that has failed isn't written to for the next task.
+fn is_tried_once(alloc: Global, task: Task<'_>, scenario: &[u8]) -> bool {
+    let mut source = Input::new(Reader::new(scenario, 100_000));
     let mut sink = Output::new(Writer {
         room: 0,
-        ..Writer::new(rt.alloc())
+        ..Writer::new(alloc)
     });
-    for next in [task, Task::Check] {
-        let mut source = Input::new(Reader::new(scenario, 100_000));
-        let ended = boot_and_run(rt.alloc(), text, next, &mut source, &mut sink);
-        assert!(rt; matches!(ended, Err(Failure::Run(RunFault::WriteFault))));
-    }
-    assert!(rt; sink.into_inner().writes == 1);
+    let first = fault_of(alloc, task, &mut source, &mut sink);
+    let second = fault_of(alloc, Task::Check, &mut source, &mut sink);
+    first == Some(RunFault::WriteFault) && second == first && sink.into_inner().writes == 1
 }
 
 // An account list or many replies are tried once too.
 #[test]
 fn writer_that_failed_is_not_tried_again(rt: HostRuntime) -> Result<(), Fail> {
-    check_tried_once(&rt, LISTED, b"");
-    let mut many = Vec::new(rt.alloc());
-    repeat(&mut many, b"alice quota\n", 400)?;
-    check_tried_once(&rt, PLAIN, &many);
+    let alloc = rt.alloc();
+    let many = repeated(alloc, b"", b"alice quota\n", 400, b"")?;
+    assert!(rt; is_tried_once(alloc, LISTED, b"") && is_tried_once(alloc, PLAIN, &many));
     Ok(())
 }
 
-// A scenario that stops gives back what was told by then.
-#[test]
-fn bytes_stop_at_an_endless_line(rt: HostRuntime) -> Result<(), Fail> {
-    let mut scenario = Vec::from_slice(rt.alloc(), b"alice quota\n")?;
-    scenario.resize(1_048_590, b'x')?;
-    match run_bytes(rt.alloc(), MACHINE_A.as_bytes(), PLAIN, &scenario) {
-        Ok(_) => assert!(rt; false, "the line has 1,048,578 bytes"),
+// Whether a scenario on the built-in machine stops with this told, and gives back what was answered by then.
+fn is_stopped(alloc: Global, scenario: &[u8], told: &str, written: &[u8]) -> bool {
+    match run_bytes(alloc, MACHINE_A.as_bytes(), PLAIN, scenario) {
+        Ok(_) => false,
         Err(stopped) => {
-            assert!(rt; told(rt.alloc(), &stopped.failure)?.as_str() == "run: Read_fault");
-            assert!(rt; stopped.written.as_slice() == b"alice: ram 0/65536 caps 0/16\n".as_slice());
+            is_shown(alloc, &stopped.failure, told) && stopped.written.as_slice() == written
         }
     }
+}
+
+// The second line has 1,048,578 bytes.
+#[test]
+fn bytes_stop_at_an_endless_line(rt: HostRuntime) -> Result<(), Fail> {
+    let scenario = repeated(rt.alloc(), b"alice quota\n", b"xxxxxx", 174_763, b"")?;
+    let written = b"alice: ram 0/65536 caps 0/16\n";
+    assert!(rt; is_stopped(rt.alloc(), &scenario, "run: Read_fault", written));
     Ok(())
 }
 
@@ -210,14 +220,13 @@ fn are_told<R: Abort + AllocGlobal>(
     rt: &R,
     failures: &[(Failure, &str)],
     faults: &[(ConfigFault, &str)],
-) -> Result<(), Fail> {
+) {
     for (failure, text) in failures {
-        assert!(rt; told(rt.alloc(), failure)?.as_str() == *text);
+        assert!(rt; is_shown(rt.alloc(), failure, text));
     }
     for (fault, text) in faults {
-        assert!(rt; format!(in rt.alloc(); "{fault}")?.as_str() == *text);
+        assert!(rt; is_shown(rt.alloc(), fault, text));
     }
-    Ok(())
 }
 
 /// Why CONFIG isn't read, and the texts of that.
@@ -227,7 +236,7 @@ const CONFIG_FAULTS: &[(ConfigFault, &str)] = &[
 ];
 
 #[test]
-fn failures_have_texts(rt: HostRuntime) -> Result<(), Fail> {
+fn failures_have_texts(rt: HostRuntime) {
     are_told(
         &rt,
         &[
@@ -241,27 +250,28 @@ fn failures_have_texts(rt: HostRuntime) -> Result<(), Fail> {
             ),
         ],
         CONFIG_FAULTS,
-    )
+    );
 }
 
-// Runs twice with an allocation refused somewhere (`rt try --test --fail-alloc N`): one of the two may want memory, and is
-// told so, or has no room for the transcript.
-#[test]
-fn refused_memory_is_told_as_such(rt: HostRuntime) {
-    let mut wanted = false;
-    for _ in 0..2 {
-        match run_bytes(rt.alloc(), MACHINE_A.as_bytes(), LISTED, b"alice alloc 1\n") {
-            Ok(written) => {
-                assert!(rt; written.starts_with(b"alice: cap 1\naccount init "));
-            }
-            Err(stopped) => {
-                let told = matches!(
-                    stopped.failure,
-                    Failure::Boot(BootFault::NoMemory) | Failure::Run(RunFault::WriteFault)
-                );
-                assert!(rt; told && stopped.written.is_empty() && !wanted);
-                wanted = true;
+// Whether a run is answered. One that wants memory is told so, or has no room for the transcript.
+fn is_listed(alloc: Global) -> Option<bool> {
+    match run_bytes(alloc, MACHINE_A.as_bytes(), LISTED, b"alice alloc 1\n") {
+        Ok(written) => Some(written.starts_with(b"alice: cap 1\naccount init ")),
+        Err(stopped) => {
+            let is_wanted = matches!(
+                stopped.failure,
+                Failure::Boot(BootFault::NoMemory) | Failure::Run(RunFault::WriteFault)
+            );
+            if is_wanted && stopped.written.is_empty() {
+                None
+            } else {
+                Some(false)
             }
         }
     }
+}
+
+#[test]
+fn refused_memory_is_told_as_such(rt: HostRuntime) {
+    assert!(rt; one_is_as_usual(is_listed(rt.alloc()), is_listed(rt.alloc())));
 }

@@ -1,6 +1,7 @@
 //! Want of memory at the boot: with any one allocation refused (`rt try --test --fail-alloc N`), one of two tries tells it and
 //! nothing else, and the other one is answered as usual.
 
+use crate::engine::tries::one_is_as_usual;
 use init_core::{BootFault, MACHINE_A, StartList, boot, route};
 use pd_core::Reply;
 use services::Host;
@@ -54,89 +55,95 @@ const NESTED: &str = r#"{"machine":{"pages":64,"caps":64},
      "start":[{"name":"alice","binary":"script","quantum":"0","caps":0,"route":[]}]}},
     {"name":"log","quantum":"0","caps":0,"provides":["LOG"]}]}}]}"#;
 
-/// What a try made, if there was memory for it.
-fn made<T>(rt: &impl Abort, tried: Result<T, BootFault>) -> Option<T> {
-    match tried {
-        Ok(made) => Some(made),
-        Err(BootFault::NoMemory) => None,
-        Err(_) => {
-            assert!(rt; false, "another fault than want of memory");
-            None
-        }
+/// Lists, a client of each, and which server its wish for files leads to.
+const MACHINES: &[(&str, usize, Option<usize>)] = &[
+    (MACHINE_A, 2, Some(1)),
+    (TO_FILES2, 1, Some(2)),
+    (TO_ANY, 1, None),
+    (BY_DEFAULT, 1, None),
+    (BELOW_AN_INIT, 2, Some(3)),
+    (NESTED, 2, None),
+];
+
+// No answer where memory was wanted.
+fn unless_wanted(fault: &BootFault) -> Option<bool> {
+    match fault {
+        BootFault::NoMemory => None,
+        _ => Some(false),
     }
 }
 
-/// Reads and boots a text, each twice, and says whether a client's wish for files leads there.
-fn check(rt: &impl Abort, alloc: Global, text: &str, client: usize, leads: Option<usize>) {
-    let mut lists = 0u8;
-    for _ in 0..2 {
-        if let Some(list) = made(rt, StartList::read(alloc, text.as_bytes())) {
-            lists = lists.wrapping_add(1);
-            check_boots(rt, alloc, &list, client, leads);
-        }
+// Whether a list boots with all its components.
+fn boots(alloc: Global, list: &StartList) -> Option<bool> {
+    match boot(alloc, list) {
+        Ok(core) => Some(core.count() == list.count()),
+        Err(fault) => unless_wanted(&fault),
     }
-    assert!(rt; lists > 0, "one of two lists is read");
 }
 
-/// Boots a list twice.
-fn check_boots(
-    rt: &impl Abort,
-    alloc: Global,
-    list: &StartList,
-    client: usize,
-    leads: Option<usize>,
-) {
-    assert!(rt; client < list.count());
-    assert_eq!(rt; route(list, client, b"File_system", b""), leads);
-    let mut boots = 0u8;
-    for _ in 0..2 {
-        if let Some(core) = made(rt, boot(alloc, list)) {
-            boots = boots.wrapping_add(1);
-            assert_eq!(rt; core.count(), list.count());
-        }
+// Whether a client's wish for files leads there, and one of two boots goes as usual.
+fn is_led(alloc: Global, list: &StartList, client: usize, leads: Option<usize>) -> bool {
+    client < list.count()
+        && route(list, client, b"File_system", b"") == leads
+        && one_is_as_usual(boots(alloc, list), boots(alloc, list))
+}
+
+// Whether a text is read as a list of which this holds.
+fn is_read(alloc: Global, text: &str, client: usize, leads: Option<usize>) -> Option<bool> {
+    match StartList::read(alloc, text.as_bytes()) {
+        Ok(list) => Some(is_led(alloc, &list, client, leads)),
+        Err(fault) => unless_wanted(&fault),
     }
-    assert!(rt; boots > 0, "one of two boots");
+}
+
+// Each list of a table is read and booted, each twice.
+fn check_all(rt: &impl Abort, alloc: Global, rows: &[(&str, usize, Option<usize>)]) {
+    for (text, client, leads) in rows {
+        let first = is_read(alloc, text, *client, *leads);
+        let second = is_read(alloc, text, *client, *leads);
+        assert!(rt; one_is_as_usual(first, second), "{text}");
+    }
 }
 
 #[test]
 fn want_of_memory_for_a_machine(rt: HostRuntime) {
-    for (text, client, leads) in [
-        (MACHINE_A, 2, Some(1)),
-        (TO_FILES2, 1, Some(2)),
-        (TO_ANY, 1, None),
-        (BY_DEFAULT, 1, None),
-        (BELOW_AN_INIT, 2, Some(3)),
-        (NESTED, 2, None),
-    ] {
-        check(&rt, rt.alloc(), text, client, leads);
-    }
+    check_all(&rt, rt.alloc(), MACHINES);
+}
+
+// Whether a server boots.
+fn serves(alloc: Global, service: Service) -> bool {
+    Host::boot(alloc, service, 2048, 4096).is_ok()
 }
 
 #[test]
 fn want_of_memory_for_a_server(rt: HostRuntime) {
     for service in [Service::Log, Service::Files] {
-        let first = Host::boot(rt.alloc(), service, 2048, 4096);
-        let second = Host::boot(rt.alloc(), service, 2048, 4096);
-        assert!(rt; first.is_ok() || second.is_ok(), "one of two servers");
+        let (first, second) = (serves(rt.alloc(), service), serves(rt.alloc(), service));
+        assert!(rt; first || second, "one of two servers");
     }
+}
+
+// Whether a reply boots.
+fn replies(alloc: Global) -> bool {
+    Reply::boot(alloc).is_ok()
 }
 
 #[test]
 fn want_of_memory_for_a_reply(rt: HostRuntime) {
-    let first = Reply::boot(rt.alloc());
-    let second = Reply::boot(rt.alloc());
-    assert!(rt; first.is_ok() || second.is_ok(), "one of two replies");
+    let (first, second) = (replies(rt.alloc()), replies(rt.alloc()));
+    assert!(rt; first || second, "one of two replies");
+}
+
+// Whether a text that is no JSON is told as such.
+fn is_no_json(alloc: Global) -> Option<bool> {
+    match StartList::read(alloc, b"{") {
+        Err(BootFault::BadJson) => Some(true),
+        Err(BootFault::NoMemory) => None,
+        _ => Some(false),
+    }
 }
 
 #[test]
 fn want_of_memory_for_a_text_that_is_no_json(rt: HostRuntime) {
-    let mut told = 0u8;
-    for _ in 0..2 {
-        match StartList::read(rt.alloc(), b"{") {
-            Err(BootFault::BadJson) => told = told.wrapping_add(1),
-            Err(BootFault::NoMemory) => {}
-            _ => assert!(rt; false, "another fault than want of memory"),
-        }
-    }
-    assert!(rt; told > 0, "one of two texts is told");
+    assert!(rt; one_is_as_usual(is_no_json(rt.alloc()), is_no_json(rt.alloc())));
 }

@@ -20,41 +20,46 @@ const LED_OUT: &str = r#"{"machine":{"pages":64,"caps":64},
     {"name":"b","binary":"init","quantum":"0","caps":0,"config":{
      "start":[{"name":"alice","binary":"script","quantum":"0","caps":0}]}}]}}]}"#;
 
-/// Wishes: an init's path, the service, the label, and behind ` => ` the path of the server that it leads to.
-const WISHES: &str = "a/b LOG alice => log
-a/b LOG alice -> xy => log2
-a/b LOG  => nobody
-a/b LOG z => log
-a/b File_system alice => nobody
-a LOG b -> alice => log
-a LOG z => nobody
-a LOG b -> z => log";
+/// A wish: an init's path, the service, the label, and the path of the server that it leads to, or `nobody`.
+type Wish = (&'static str, &'static str, &'static str, &'static [u8]);
 
-/// The path of the server that a wish leads to, or `nobody`.
-fn led<'a>(rt: &impl Abort, list: &'a StartList, wish: &str) -> &'a [u8] {
-    let (client, rest) = wish.split_once(' ').expect(rt, "a wish has a client");
-    let (service, label) = rest.split_once(' ').expect(rt, "a wish has a service");
-    let client = list
-        .find(client.as_bytes())
-        .expect(rt, "the client is of the list");
-    assert!(rt; client < list.count() && label.len() <= 64);
+const WISHES: &[Wish] = &[
+    ("a/b", "LOG", "alice", b"log"),
+    ("a/b", "LOG", "alice -> xy", b"log2"),
+    ("a/b", "LOG", "", b"nobody"),
+    ("a/b", "LOG", "z", b"log"),
+    ("a/b", "File_system", "alice", b"nobody"),
+    ("a", "LOG", "b -> alice", b"log"),
+    ("a", "LOG", "z", b"nobody"),
+    ("a", "LOG", "b -> z", b"log"),
+];
+
+// The path of the server that a wish leads to, or `nobody`; none where the client isn't of the list.
+fn led<'a>(list: &'a StartList, client: &str, service: &str, label: &str) -> Option<&'a [u8]> {
+    let client = list.find(client.as_bytes())?;
+    if client >= list.count() || label.len() > 64 {
+        return None;
+    }
     match route(list, client, service.as_bytes(), label.as_bytes()) {
-        Some(server) => {
-            assert!(rt; server < list.count());
-            list.name(server)
-        }
-        None => b"nobody",
+        Some(server) if server < list.count() => Some(list.name(server)),
+        Some(_) => None,
+        None => Some(b"nobody"),
+    }
+}
+
+// Each wish of a table leads there.
+fn check_all(rt: &impl Abort, list: &StartList, wishes: &[Wish]) {
+    for (client, service, label, want) in wishes {
+        assert!(rt;
+            led(list, client, service, label) == Some(*want),
+            "of {label}"
+        );
     }
 }
 
 #[test]
 fn wishes_of_inits_lead_outward(rt: HostRuntime) -> Result<(), Fail> {
     let list = StartList::read(rt.alloc(), LED_OUT.as_bytes())?;
-    for line in WISHES.lines() {
-        let (wish, want) = line
-            .split_once(" => ")
-            .expect(&rt, "a wish has what it leads to");
-        assert!(rt; led(&rt, &list, wish) == want.as_bytes(), "of {wish}");
-    }
+    check_all(&rt, &list, WISHES);
     Ok(())
 }
