@@ -145,36 +145,6 @@ impl Form {
         }
     }
 
-    /// Whether a word is its own: each is compared as a constant, since every line asks for one.
-    fn is(self, word: &[u8]) -> bool
-        ensures { result ≡ bytes_eq word.now (word_of self) }
-    {
-        match self {
-            Form::Alloc => word == b"alloc".as_slice(),
-            Form::Free => word == b"free".as_slice(),
-            Form::Attach => word == b"attach".as_slice(),
-            Form::AttachAt => word == b"attach_at".as_slice(),
-            Form::Detach => word == b"detach".as_slice(),
-            Form::Peek => word == b"peek".as_slice(),
-            Form::Poke => word == b"poke".as_slice(),
-            Form::Capalloc => word == b"capalloc".as_slice(),
-            Form::Capfree => word == b"capfree".as_slice(),
-            Form::New => word == b"new".as_slice(),
-            Form::Del => word == b"del".as_slice(),
-            Form::Snew => word == b"snew".as_slice(),
-            Form::Sdel => word == b"sdel".as_slice(),
-            Form::Open => word == b"open".as_slice(),
-            Form::Upgrade => word == b"upgrade".as_slice(),
-            Form::Call => word == b"call".as_slice(),
-            Form::Close => word == b"close".as_slice(),
-            Form::Exit => word == b"exit".as_slice(),
-            Form::Quota => word == b"quota".as_slice(),
-            Form::Reserve => word == b"reserve".as_slice(),
-            Form::Request => word == b"request".as_slice(),
-            Form::Yield => word == b"yield".as_slice(),
-        }
-    }
-
     /// The form of a word.
     pub fn named(word: &[u8]) -> Option<Form>
         ensures { result ≡ form_named word.now }
@@ -212,5 +182,5 @@ impl Form {
 fn form_among(word: &[u8], forms: &[Form]) -> Option<Form>
     ensures { result ≡ find (λ form. bytes_eq word.now (word_of form)) forms.now }
 {
-    forms.iter().copied().find(|form| form.is(word))
+    forms.iter().copied().find(|form| word == form.word())
 }

@@ -1,15 +1,13 @@
 //! The lines that make calls.
-ghost use Rattle.std.specs.Prelude.{◌≡◌, IfSome, None, Some, [], IfOk, IfErr, OnErr};
-ghost use Rattle.std.specs.Option.{option_copied, option_map, unwrap_or};
+ghost use Rattle.std.specs.Prelude.{◌≡◌, IfSome, None, Some, [], IfOk, IfErr, OnErr, drop};
+ghost use Rattle.std.specs.Option.{option_and_then, option_copied, option_map, unwrap_or};
 ghost use Rattle.trade_base.specs.declared.refusal.Refusal.TheVariants.{BadLine};
 ghost use Rattle.own_model.specs.Text.{address_of, number_of};
-ghost use Rattle.own_model.specs.Call.{form_of, name_of, of_text, of_two, some_bytes_of_hex, spoken};
+ghost use Rattle.own_model.specs.Call.{call_in, call_of, form_of, forms, name_of, of_none, of_text, of_two, some_bytes_of_hex, spoken, Spoken};
 ghost use Rattle.own_model.specs.Call.Call.{AttachAt, Peek, Poke, Open, Upgrade, CallSession};
 ghost use Rattle.calls.specs.Call.{model_call, IsWellFormed};
 ghost use Rattle.call_lines.specs.Read.{IsReadAs, spoken_as};
-ghost use Rattle.call_lines.specs.Forms.{made_of, made_of_number};
 
-use crate::form::Form;
 use calls::Call;
 use text_codec::{read_address, read_hex, split_first_word, split_name, split_path};
 use trade_base::{Refusal, read_number};
@@ -72,81 +70,139 @@ fn read_call(text: &[u8]) -> Option<Call<'_>>
     ensures call { option_map model_call result ≡ form_of text.now }
     ensures well_formed { IfSome result IsWellFormed }
 {
-    let (word, arguments) = split_first_word(text);
-    let Some(form) = Form::named(word) else {
-        return None;
-    };
-    match arguments {
-        Some(arguments) => call_with(form, arguments),
-        None => bare_call(form),
-    }
+    let (form, arguments) = split_first_word(text);
+    call_from(form, arguments)
 }
 
-/// The call of a form with what stands after its word and a space as its arguments.
-fn call_with(form: Form, arguments: &[u8]) -> Option<Call<'_>>
-    ensures call { option_map model_call result ≡ made_of form (Some arguments.now) }
+/// The call of a form by its word, with what stands after the word and a space as its arguments.
+///
+/// Each form returns where it is found: along a chain of `else if` its call would be copied at each form. The forms are looked
+/// for in their order, in four functions.
+fn call_from<'a>(word: &[u8], arguments: Option<&'a [u8]>) -> Option<Call<'a>>
+    ensures call { option_map model_call result ≡ call_of word.now (option_copied arguments.entry) }
     ensures well_formed { IfSome result IsWellFormed }
 {
-    match form {
-        Form::AttachAt => read_attach_at(arguments),
-        Form::Detach | Form::Del | Form::Sdel => match read_address(arguments) {
-            Some(address) => number_call(form, address),
-            None => None,
-        },
-        Form::Peek => read_peek(arguments),
-        Form::Poke => read_poke(arguments),
-        Form::Open => read_open(arguments),
-        Form::Upgrade => read_upgrade(arguments),
-        Form::Call => read_session_call(arguments),
-        Form::Request => Some(Call::Request(arguments)),
-        Form::Yield => Some(Call::Yield(arguments)),
-        Form::Alloc
-        | Form::Free
-        | Form::Attach
-        | Form::Capfree
-        | Form::New
-        | Form::Snew
-        | Form::Close => match read_number(arguments) {
-            Some(number) => number_call(form, number),
-            None => None,
-        },
-        Form::Capalloc | Form::Quota | Form::Reserve | Form::Exit => None,
+    if word == b"alloc".as_slice() {
+        return Some(Call::Alloc(number(arguments)?));
     }
+    if word == b"free".as_slice() {
+        return Some(Call::Free(number(arguments)?));
+    }
+    if word == b"attach".as_slice() {
+        return Some(Call::Attach(number(arguments)?));
+    }
+    if word == b"attach_at".as_slice() {
+        return read_attach_at(arguments?);
+    }
+    if word == b"detach".as_slice() {
+        return Some(Call::Detach(address(arguments)?));
+    }
+    if word == b"peek".as_slice() {
+        return read_peek(arguments?);
+    }
+    if word == b"poke".as_slice() {
+        return read_poke(arguments?);
+    }
+    block_call_from(word, arguments)
 }
 
-/// The call of a form of one number or address.
-fn number_call<'a>(form: Form, number: u64) -> Option<Call<'a>>
-    ensures call { option_map model_call result ≡ made_of_number form number }
+/// That of a form of capabilities or of blocks, or of one behind these.
+fn block_call_from<'a>(word: &[u8], arguments: Option<&'a [u8]>) -> Option<Call<'a>>
+    ensures call { option_map model_call result
+        ≡ call_in (drop 7 forms) word.now (option_copied arguments.entry) }
     ensures well_formed { IfSome result IsWellFormed }
 {
-    match form {
-        Form::Alloc => Some(Call::Alloc(number)),
-        Form::Free => Some(Call::Free(number)),
-        Form::Attach => Some(Call::Attach(number)),
-        Form::Detach => Some(Call::Detach(number)),
-        Form::Capfree => Some(Call::Capfree(number)),
-        Form::New => Some(Call::New(number)),
-        Form::Del => Some(Call::Del(number)),
-        Form::Snew => Some(Call::Snew(number)),
-        Form::Sdel => Some(Call::Sdel(number)),
-        Form::Close => Some(Call::Close(number)),
-        _ => None,
+    if word == b"capalloc".as_slice() {
+        return read_none(Call::Capalloc, arguments);
     }
+    if word == b"capfree".as_slice() {
+        return Some(Call::Capfree(number(arguments)?));
+    }
+    if word == b"new".as_slice() {
+        return Some(Call::New(number(arguments)?));
+    }
+    if word == b"del".as_slice() {
+        return Some(Call::Del(address(arguments)?));
+    }
+    if word == b"snew".as_slice() {
+        return Some(Call::Snew(number(arguments)?));
+    }
+    if word == b"sdel".as_slice() {
+        return Some(Call::Sdel(address(arguments)?));
+    }
+    session_call_from(word, arguments)
 }
 
-/// The call of a form whose word stands alone.
-fn bare_call<'a>(form: Form) -> Option<Call<'a>>
-    ensures call { option_map model_call result ≡ made_of form None }
+/// That of a form of sessions, or of one behind these.
+fn session_call_from<'a>(word: &[u8], arguments: Option<&'a [u8]>) -> Option<Call<'a>>
+    ensures call { option_map model_call result
+        ≡ call_in (drop 13 forms) word.now (option_copied arguments.entry) }
     ensures well_formed { IfSome result IsWellFormed }
 {
-    match form {
-        Form::Capalloc => Some(Call::Capalloc),
-        Form::Quota => Some(Call::Quota),
-        Form::Reserve => Some(Call::Reserve),
-        Form::Request => Some(Call::Request(&[])),
-        Form::Yield => Some(Call::Yield(&[])),
-        Form::Exit => Some(Call::Exit),
-        _ => None,
+    if word == b"open".as_slice() {
+        return read_open(arguments?);
+    }
+    if word == b"upgrade".as_slice() {
+        return read_upgrade(arguments?);
+    }
+    if word == b"call".as_slice() {
+        return read_session_call(arguments?);
+    }
+    if word == b"close".as_slice() {
+        return Some(Call::Close(number(arguments)?));
+    }
+    account_call_from(word, arguments)
+}
+
+/// That of a form of the component's own account.
+fn account_call_from<'a>(word: &[u8], arguments: Option<&'a [u8]>) -> Option<Call<'a>>
+    ensures call { option_map model_call result
+        ≡ call_in (drop 17 forms) word.now (option_copied arguments.entry) }
+    ensures well_formed { IfSome result IsWellFormed }
+{
+    if word == b"exit".as_slice() {
+        return read_none(Call::Exit, arguments);
+    }
+    if word == b"quota".as_slice() {
+        return read_none(Call::Quota, arguments);
+    }
+    if word == b"reserve".as_slice() {
+        return read_none(Call::Reserve, arguments);
+    }
+    if word == b"request".as_slice() {
+        return Some(Call::Request(text_or_none(arguments)));
+    }
+    if word == b"yield".as_slice() {
+        return Some(Call::Yield(text_or_none(arguments)));
+    }
+    None
+}
+
+/// A number as the only argument.
+fn number(arguments: Option<&[u8]>) -> Option<u64>
+    ensures { result ≡ option_and_then number_of (option_copied arguments.entry) }
+{
+    read_number(arguments?)
+}
+
+/// An address as the only argument.
+fn address(arguments: Option<&[u8]>) -> Option<u64>
+    ensures { result ≡ option_and_then address_of (option_copied arguments.entry) }
+{
+    read_address(arguments?)
+}
+
+/// A call without arguments, where there are none.
+fn read_none<'a>(call: Call<'a>, arguments: Option<&[u8]>) -> Option<Call<'a>>
+    requires { IsWellFormed call }
+    ensures call { option_map model_call result
+        ≡ of_none (model_call call.entry) (option_copied arguments.entry) }
+    ensures well_formed { IfSome result IsWellFormed }
+{
+    if arguments.is_none() {
+        Some(call)
+    } else {
+        None
     }
 }
 
@@ -156,12 +212,9 @@ fn read_attach_at(arguments: &[u8]) -> Option<Call<'_>>
         ≡ of_two AttachAt number_of address_of (Some arguments.now) }
     ensures well_formed { IfSome result IsWellFormed }
 {
-    let (selector, Some(address)) = split_first_word(arguments) else {
-        return None;
-    };
-    let (Some(selector), Some(address)) = (read_number(selector), read_address(address)) else {
-        return None;
-    };
+    let (selector, address) = split_first_word(arguments);
+    let selector = read_number(selector)?;
+    let address = read_address(address?)?;
     Some(Call::AttachAt { selector, address })
 }
 
@@ -171,12 +224,9 @@ fn read_peek(arguments: &[u8]) -> Option<Call<'_>>
         ≡ of_two Peek address_of number_of (Some arguments.now) }
     ensures well_formed { IfSome result IsWellFormed }
 {
-    let (address, Some(count)) = split_first_word(arguments) else {
-        return None;
-    };
-    let (Some(address), Some(count)) = (read_address(address), read_number(count)) else {
-        return None;
-    };
+    let (address, count) = split_first_word(arguments);
+    let address = read_address(address)?;
+    let count = read_number(count?)?;
     Some(Call::Peek { address, count })
 }
 
@@ -186,12 +236,9 @@ fn read_poke(arguments: &[u8]) -> Option<Call<'_>>
         ≡ of_two Poke address_of some_bytes_of_hex (Some arguments.now) }
     ensures well_formed { IfSome result IsWellFormed }
 {
-    let (address, Some(hex)) = split_first_word(arguments) else {
-        return None;
-    };
-    let (Some(address), Some(hex)) = (read_address(address), read_hex(hex)) else {
-        return None;
-    };
+    let (address, hex) = split_first_word(arguments);
+    let address = read_address(address)?;
+    let hex = read_hex(hex?)?;
     Some(Call::Poke { address, hex })
 }
 
@@ -200,13 +247,9 @@ fn read_open(arguments: &[u8]) -> Option<Call<'_>>
     ensures call { option_map model_call result ≡ of_text Open name_of (Some arguments.now) }
     ensures well_formed { IfSome result IsWellFormed }
 {
-    let Some((service, args)) = split_name(arguments) else {
-        return None;
-    };
-    Some(Call::Open {
-        service,
-        args: text_or_none(args),
-    })
+    let (service, args) = split_name(arguments)?;
+    let args = text_or_none(args);
+    Some(Call::Open { service, args })
 }
 
 /// A selector, and the arguments of a session after a space, if there are any.
@@ -216,13 +259,9 @@ fn read_upgrade(arguments: &[u8]) -> Option<Call<'_>>
     ensures well_formed { IfSome result IsWellFormed }
 {
     let (selector, args) = split_first_word(arguments);
-    let Some(selector) = read_number(selector) else {
-        return None;
-    };
-    Some(Call::Upgrade {
-        selector,
-        args: text_or_none(args),
-    })
+    let selector = read_number(selector)?;
+    let args = text_or_none(args);
+    Some(Call::Upgrade { selector, args })
 }
 
 /// A selector, and a request after a space, if there is one.
@@ -232,13 +271,9 @@ fn read_session_call(arguments: &[u8]) -> Option<Call<'_>>
     ensures well_formed { IfSome result IsWellFormed }
 {
     let (selector, request) = split_first_word(arguments);
-    let Some(selector) = read_number(selector) else {
-        return None;
-    };
-    Some(Call::CallSession {
-        selector,
-        request: text_or_none(request),
-    })
+    let selector = read_number(selector)?;
+    let request = text_or_none(request);
+    Some(Call::CallSession { selector, request })
 }
 
 /// A text, which is empty where it is left out.
