@@ -1,8 +1,6 @@
 //! The forms of calls, by their words.
-ghost use Rattle.std.specs.Prelude.{◌≡◌, find};
-ghost use Rattle.std.specs.Str.{bytes_eq};
+ghost use Rattle.std.specs.Prelude.{◌≡◌};
 ghost use Rattle.call_lines.specs.Forms.{form_named, forms, word_of};
-ghost use Rattle.text_codec.specs.Firsts.{with_first};
 
 use std::fmt;
 
@@ -149,38 +147,6 @@ impl Form {
     pub fn named(word: &[u8]) -> Option<Form>
         ensures { result ≡ form_named word.now }
     {
-        match word.first() {
-            Some(first) => form_among(word, Form::beginning_with(*first)),
-            None => None,
-        }
+        Form::all().iter().copied().find(|form| word == form.word())
     }
-
-    /// The forms whose words begin with a byte.
-    fn beginning_with(first: u8) -> &'static [Form]
-        ensures { result.now ≡ with_first word_of first forms }
-    {
-        match first {
-            b'a' => &[Form::Alloc, Form::Attach, Form::AttachAt],
-            b'c' => &[Form::Capalloc, Form::Capfree, Form::Call, Form::Close],
-            b'd' => &[Form::Detach, Form::Del],
-            b'e' => &[Form::Exit],
-            b'f' => &[Form::Free],
-            b'n' => &[Form::New],
-            b'o' => &[Form::Open],
-            b'p' => &[Form::Peek, Form::Poke],
-            b'q' => &[Form::Quota],
-            b'r' => &[Form::Reserve, Form::Request],
-            b's' => &[Form::Snew, Form::Sdel],
-            b'u' => &[Form::Upgrade],
-            b'y' => &[Form::Yield],
-            _ => &[],
-        }
-    }
-}
-
-// The first of these with a word.
-fn form_among(word: &[u8], forms: &[Form]) -> Option<Form>
-    ensures { result ≡ find (λ form. bytes_eq word.now (word_of form)) forms.now }
-{
-    forms.iter().copied().find(|form| word == form.word())
 }
