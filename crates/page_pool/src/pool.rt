@@ -28,12 +28,13 @@ pub struct Pool {
     head: usize,
     /// How many free pages are linked.
     free: usize,
-    /// How many pages have never been handed out. They come behind the others.
+    /// How many pages have never been handed out. They come after the others.
     fresh: usize,
+    ghost leased: { (lease.alloc ≡ alloc) × (lease.ptr ≡ block.ptr) × (lease.size ≡ block.size) },
 }
 
 impl Model for Pool {
-    ghost use Rattle.std.specs.Prelude.{◌≡◌, List, Option, ℕ};
+    ghost use Rattle.std.specs.Prelude.{List, Option, ℕ};
     ghost use Rattle.page_pool.specs.Layout.{linked, pool_of, IsPool};
 
     ghost Value = { List (Option (List ℕ)) };
@@ -42,9 +43,7 @@ impl Model for Pool {
         pool_of (linked p.block.bytes p.free p.head) p.block.bytes p.fresh };
 
     ghost invariant = { λ p.
-        IsPool (linked p.block.bytes p.free p.head) p.block.bytes p.fresh p.block.size
-        × (p.lease.alloc ≡ p.alloc) × (p.lease.ptr ≡ p.block.ptr)
-        × (p.lease.size ≡ p.block.size) };
+        IsPool (linked p.block.bytes p.free p.head) p.block.bytes p.fresh p.block.size };
 }
 
 impl Drop for Pool {
@@ -68,15 +67,17 @@ impl Pool {
         ensures fresh { IfOk result (λ pool. pool ≡ fresh_pages pages) }
         ensures count { IfOk result (λ pool. free_count pool ≡ pages) }
     {
-        let (block, lease) = Block::new(&alloc, pages * PAGE_BYTES).ok_or(NoMemory)?;
-        Ok(Pool {
-            block,
-            lease,
-            alloc,
-            head: 0,
-            free: 0,
-            fresh: pages,
-        })
+        match Block::new(&alloc, pages * PAGE_BYTES) {
+            Some((block, lease)) => Ok(Pool {
+                block,
+                lease,
+                alloc,
+                head: 0,
+                free: 0,
+                fresh: pages,
+            }),
+            None => Err(NoMemory),
+        }
     }
 
     /// Any free page, all zero from now on, or `None` where no page is free.
