@@ -22,7 +22,7 @@ const FORMS: &str = "A line is NAME CALL, with one space between two words. CALL
 N, S and LEN are decimal numbers, A is 0x and hexadecimal digits, HEX an even
 number of those digits. ARGS and REQUEST are the rest of the line, or nothing.
 
-docs/FORMATS.md has the forms of lines, replies and start lists.";
+docs/reference has the forms of lines, replies and start lists.";
 
 /// What the program was asked to do.
 #[derive(Clone, Copy, PartialEq, Eq)]

@@ -36,8 +36,9 @@ at will, label=\"..\". SERVICE is LOG or File_system.
                 and more
 
 Status: 0; 1 a fault of the run; 2 the command line or the start list; 3 a reply
-that isn't as expected, or a line that is no call. With --strict a finding is 2.
-docs/FORMATS.md has all forms of lines, replies and start lists.";
+that isn't as expected, or a line that is no call; 4 diff found a difference; 141
+the output's pipe is closed. With --strict a finding is 2.
+docs/reference has all forms of lines, replies and start lists, and all statuses.";
 
 pub(crate) const RUN: &str =
     "Answer a scenario, and tell each line that isn't answered as it expects";
