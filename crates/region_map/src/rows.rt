@@ -1,4 +1,4 @@
-//! The rows of a table, in the order of their starts. What moves when a row comes or goes is small: its place, one word. The
+//! The rows of a table, in the order of their starts. What moves when a row comes or goes is its place, which is small. The
 //! rest of the row stays where it is, in a slot.
 ghost use Rattle.std.specs.Prelude.{◌≡◌, ℕ, ◌^◌, ◌<◌, ◌≤◌, ◌==◌, [], drop, length, not, nat_le, nat_lt, if◌then◌else◌, slice_index_or, vec_capacity, IfOk};
 ghost use Rattle.std.specs.List.{insert, remove, filter};
@@ -9,7 +9,7 @@ ghost use Rattle.region_map.specs.Known.{AreKnown};
 ghost use Rattle.region_map.specs.Places.{times};
 
 use super::packed::Packed;
-use super::place::{pages_of, placed, slot_of, start_of};
+use super::place::Place;
 use super::row::Row;
 use super::search::{behind, count_to, gap_from};
 use std::alloc::Global;
@@ -26,8 +26,8 @@ struct Kept {
 /// The rows of a table, which contracts see as a list, with room for so many.
 #[derive(Drop)]
 pub struct Rows {
-    /// Where the regions lie, in the order of their starts, each with its slot (`place_of`).
-    places: Vec<u64>,
+    /// Where the regions lie, in the order of their starts, each with its slot.
+    places: Vec<Place>,
     /// What doesn't move, by slots.
     kept: Vec<Kept>,
     /// The slots that no place names.
@@ -83,10 +83,10 @@ impl Rows {
         ensures { result ≡ slice_index_or self.now.items at result }
     {
         let place = self.places[at];
-        let kept = self.kept[slot_of(place)];
+        let kept = self.kept[place.slot as usize];
         Row {
-            start: start_of(place),
-            pages: pages_of(place),
+            start: place.start(),
+            pages: place.pages as u64,
             ds: kept.ds,
             tag: kept.tag,
         }
@@ -96,7 +96,7 @@ impl Rows {
     pub fn insert(&mut self, at: usize, row: Row)
         requires there { at ≤ length self.old.items }
         requires room { length self.old.items < self.old.capacity }
-        requires few { row.pages ≤ 65536 }
+        requires few { row.pages < 2 ^ 16 }
         requires small { row.start < 2 ^ 44 }
         ensures items { self.new.items ≡ insert self.old.items at row }
         ensures capacity { self.new.capacity ≡ self.old.capacity }
@@ -108,7 +108,7 @@ impl Rows {
         };
 
         // There is room, so it is never refused.
-        let _ = self.places.insert(at, placed(row.start, row.pages, slot));
+        let _ = self.places.insert(at, Place::of(row, slot));
     }
 
     /// Takes the row at an index out.
@@ -118,7 +118,7 @@ impl Rows {
         ensures capacity { self.new.capacity ≡ self.old.capacity }
     {
         let place = self.places.remove(at);
-        self.free.push_reserved(slot_of(place) as u16);
+        self.free.push_reserved(place.slot);
     }
 
     /// Takes all rows of a dataspace out, the last one first.

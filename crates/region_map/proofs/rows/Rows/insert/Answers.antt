@@ -14,7 +14,7 @@ index_mut-requires c =
     let there = (unnamed _ _ _ c.pop.new.self.items _ _ c.unwrap-slot.result c.self.invariant is_free).1 in
     omega arith
 
-put_in : (c : goal.After-insert) → c.insert.new.self.items ≡ insert c.self.inside.places.items c.args.at c.placed.result
+put_in : (c : goal.After-insert) → c.insert.new.self.items ≡ insert c.self.inside.places.items c.args.at c.of.result
 put_in c =
     let room = subst (λ (r : RowList). length r.items < r.capacity) (sym c.self.view_is) c.requires.room in
     let long = length-rows c.self.inside.kept.items c.self.inside.places.items in
@@ -31,4 +31,4 @@ returns-clause-items c =
     let there = alone.1 in
     rw (← c.self.view_is)
     (ap (rows_of _) (put_in c)
-    ∙ inserted c.self.inside.kept.items c.self.inside.places.items c.args.at c.unwrap-slot.result c.placed.result c.args.row c.placed.ensures c.requires.few c.requires.small (omega arith) (omega arith) alone.0)
+    ∙ inserted c.self.inside.kept.items c.self.inside.places.items c.args.at c.unwrap-slot.result c.of.result c.args.row c.of.ensures.start c.of.ensures.pages c.of.ensures.slot (omega arith) alone.0)
