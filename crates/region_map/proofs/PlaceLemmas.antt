@@ -1,9 +1,10 @@
 -- Rows, their places and their slots.
-use Rattle.std.proofs.Common.{◌≡◌, ◌≢◌, ℕ, suc, zero, ◌+◌, ◌*◌, ◌%◌, ◌^◌, ◌<◌, ◌≤◌, Bool, true, false, cond, List, [], ◌∷◌, ◌++◌, length, get_or, set, drop, refl, sym, ap, subst, ◌∙◌, arith, get_or-set_same, get_or-set_other, drop-cons, add-one, nat_le}
+use Rattle.std.proofs.Common.{◌≡◌, ◌≢◌, ℕ, suc, zero, ◌+◌, ◌*◌, ◌%◌, ◌^◌, ◌<◌, ◌≤◌, Bool, true, false, cond, List, [], ◌∷◌, ◌++◌, length, get_or, set, drop, refl, sym, ap, subst, ◌∙◌, arith, get_or-set_same, get_or-set_other, drop-cons, add-one, nat_le, inl, inr}
 use Rattle.std.proofs.Math.Path.{PathP, to_path_p}
 use Rattle.std.proofs.Props.{props}
 use Rattle.std.proofs.lemmas.Bool.Decides.{nat_tests}
-use Rattle.std.proofs.lemmas.List.{length-map, get_or-map, get_or_read}
+use Rattle.std.proofs.lemmas.Bool.{cases_lt}
+use Rattle.std.proofs.lemmas.List.{length-map, length_push, get_or-map, get_or_read}
 use Rattle.std.proofs.lemmas.List.Sums.{sum_by_push, sum_by-cons}
 use Rattle.std.specs.List.{filter, insert as insert_at, remove as remove_at}
 use Rattle.std.specs.List.Sorted.{IsNonDecreasingBy, IsPartitionPoint}
@@ -12,7 +13,7 @@ use Rattle.region_map.specs.declared.row.Row.{Row}
 use Rattle.region_map.specs.declared.rows.Kept.{Kept}
 use Rattle.region_map.specs.Rows.{count_to}
 use Rattle.region_map.proofs.GapLemmas.{drop-all}
-use Rattle.region_map.specs.Places.{start_in, kept_in, row_at, rows_of, is_slot, times, named, AreStored}
+use Rattle.region_map.specs.Places.{start_in, no_row, kept_in, row_at, rows_of, is_slot, times, named, IsSlot, AreStored}
 
 -- proofs of one fact of two equal things are the same, where the fact has one proof at most
 same_proof : (A : 𝕀 → Type 0) → ((x y : A 1) → x ≡ y) → (a : A 0) (b : A 1) → PathP A a b
@@ -95,7 +96,7 @@ rows_of-set kept slot k (place ∷ places) none =
     let more = sum_by-cons (λ p. is_slot slot p.slot) place places in
     let other : place.slot ≢ slot = λ same. let one : is_slot slot place.slot ≡ 1 = grind (arith, nat_tests) in absurd (omega arith) in
     let here : row_at (set kept slot k) place ≡ row_at kept place =
-    let read = get_or-set_other kept slot place.slot k (record { ds = record { 0 = 0 }; tag = 0 }) other in
+    let read = get_or-set_other kept slot place.slot k no_row other in
     same_row _ _ refl refl (ap (λ (x : Kept). x.ds) read) (ap (λ (x : Kept). x.tag) read) in
     λ i. here i ∷ rows_of-set kept slot k places (omega arith) i
 
@@ -112,7 +113,7 @@ named_at (p ∷ places) (suc at) place h is =
     let rest = named_at places at place (omega arith) is in
     omega arith
 
-module _ (places : List Place) (kept : List Kept) (free : List ℕ) (capacity room at : ℕ) (place : Place) (is : AreStored places kept free capacity room) (among : at < length (rows_of kept places)) (at_place : place ≡ get_or places at place) where
+module _ (places : List Place) (kept : List Kept) (free : List ℕ) (capacity kept_room free_room at : ℕ) (place : Place) (is : AreStored places kept free capacity kept_room free_room) (among : at < length (rows_of kept places)) (at_place : place ≡ get_or places at place) where
   below : at < length places
   below = subst (λ n. at < n) (length-rows kept places) among
 
@@ -120,30 +121,66 @@ module _ (places : List Place) (kept : List Kept) (free : List ℕ) (capacity ro
   pub slot_there : place.slot < length kept
   slot_there =
       let once = named_at places at place below at_place in
-      let there = is.there place.slot (omega arith) in
-      let slots = is.slots in
-      omega arith
+      is.there place.slot (omega arith)
 
   -- a row of what is read at the place and in its slot is the row
   pub read_row : (k : Kept) (row : Row) → k ≡ get_or kept place.slot k → row.start ≡ start_in place → row.pages ≡ place.pages → row.ds ≡ k.ds → row.tag ≡ k.tag → (d : Row) → row ≡ get_or (rows_of kept places) at d
   read_row k row at_slot start pages ds tag d =
-      let read : k ≡ kept_in kept place.slot = get_or_read kept place.slot k slot_there at_slot (record { ds = record { 0 = 0 }; tag = 0 }) in
+      let read : k ≡ kept_in kept place.slot = get_or_read kept place.slot k slot_there at_slot no_row in
       same_row row (row_at kept place) start pages (ds ∙ ap (λ (x : Kept). x.ds) read) (tag ∙ ap (λ (x : Kept). x.tag) read)
       ∙ ap (row_at kept) at_place ∙ sym (get_or-rows kept places at d place below)
 
--- a free slot is named by no place
-pub unnamed : (places : List Place) (kept : List Kept) (free rest : List ℕ) (capacity room slot : ℕ) → AreStored places kept free capacity room → free ≡ rest ++ slot ∷ [] → (named slot places ≡ 0) × (slot < capacity)
-unnamed places kept free rest capacity room slot is last =
-    let one : is_slot slot slot ≡ 1 = grind (arith, nat_tests) in
-    let times_is : times slot free ≡ times slot rest + is_slot slot slot = ap (times slot) last ∙ sum_by_push (is_slot slot) rest slot in
-    let once = is.once slot in
-    (omega arith, is.there slot (omega arith))
+-- what a slot keeps stays when another is made
+kept_in-more : (kept : List Kept) (slot : ℕ) → slot ≢ length kept → kept_in (kept ++ no_row ∷ []) slot ≡ kept_in kept slot
+kept_in-more [] zero other = absurd (other refl)
+kept_in-more [] (suc slot) other = refl
+kept_in-more (k ∷ kept) zero other = refl
+kept_in-more (k ∷ kept) (suc slot) other = kept_in-more kept slot (λ same. other (ap suc same))
+
+-- so do the rows of places that don't name it
+rows_of-more : (kept : List Kept) (places : List Place) → named (length kept) places ≡ 0 → rows_of (kept ++ no_row ∷ []) places ≡ rows_of kept places
+rows_of-more kept [] none = refl
+rows_of-more kept (place ∷ places) none =
+    let more = sum_by-cons (λ (p : Place). is_slot (length kept) p.slot) place places in
+    let other : place.slot ≢ length kept = λ same. let one : is_slot (length kept) place.slot ≡ 1 = grind (arith, nat_tests) in absurd (omega arith) in
+    let read = kept_in-more kept place.slot other in
+    let here : row_at (kept ++ no_row ∷ []) place ≡ row_at kept place = same_row _ _ refl refl (ap (λ (x : Kept). x.ds) read) (ap (λ (x : Kept). x.tag) read) in
+    λ i. here i ∷ rows_of-more kept places (omega arith) i
+
+-- a slot that is taken is there, no place names it, and the rows are as they were
+pub record IsTaken (places : List Place) (kept : List Kept) (slot : ℕ) (kept' : List Kept) : Type 0 where
+  pub there : slot < length kept'
+  pub none : named slot places ≡ 0
+  pub rows : rows_of kept' places ≡ rows_of kept places
+
+-- whether it was free or is new
+pub taken : (places : List Place) (kept : List Kept) (free : List ℕ) (capacity kept_room free_room slot : ℕ) (kept' : List Kept) (free' : List ℕ) → AreStored places kept free capacity kept_room free_room → IsSlot kept free slot kept' free' → IsTaken places kept slot kept'
+taken places kept free capacity kept_room free_room slot kept' free' is slot_is =
+    elim slot_is [
+      | inl was ↦
+          let one : is_slot slot slot ≡ 1 = grind (arith, nat_tests) in
+          let times_is : times slot free ≡ times slot free' + is_slot slot slot = ap (times slot) was.0 ∙ sum_by_push (is_slot slot) free' slot in
+          let once = is.once slot in
+          let there = is.there slot (omega arith) in
+          let long = ap length was.1 in
+          record { there = omega arith; none = omega arith; rows = ap (λ k. rows_of k places) was.1 }
+      | inr new ↦
+          let more = new.3 in
+          let long : length kept' ≡ length kept + 1 = ap length more ∙ length_push kept no_row in
+          let here = new.2 in
+          let none : named slot places ≡ 0 =
+          elim (cases_lt 0 (named slot places)) [
+            | inl some ↦ let there = is.there slot (omega arith) in absurd (omega arith)
+            | inr few ↦ omega arith
+          ] in
+          record { there = omega arith; none = none; rows = ap (λ k. rows_of k places) more ∙ rows_of-more kept places (subst (λ n. named n places ≡ 0) here none) }
+    ]
 
 -- with the rest of a row in a free slot, and its place among the others, the row is among theirs
 pub inserted : (kept : List Kept) (places : List Place) (at slot : ℕ) (place : Place) (row : Row) → start_in place ≡ row.start → place.pages ≡ row.pages → place.slot ≡ slot → slot < length kept → named slot places ≡ 0 → rows_of (set kept slot (record { ds = row.ds; tag = row.tag })) (insert_at places at place) ≡ insert_at (rows_of kept places) at row
 inserted kept places at slot place row start pages slot_is within none =
     let k : Kept = record { ds = row.ds; tag = row.tag } in
-    let read : kept_in (set kept slot k) place.slot ≡ k = ap (kept_in (set kept slot k)) slot_is ∙ get_or-set_same kept slot k (record { ds = record { 0 = 0 }; tag = 0 }) within in
+    let read : kept_in (set kept slot k) place.slot ≡ k = ap (kept_in (set kept slot k)) slot_is ∙ get_or-set_same kept slot k no_row within in
     let here : row_at (set kept slot k) place ≡ row = same_row _ _ start pages (ap (λ (x : Kept). x.ds) read) (ap (λ (x : Kept). x.tag) read) in
     insert-rows (set kept slot k) places at place
     ∙ ap (λ rows. insert_at rows at (row_at (set kept slot k) place)) (rows_of-set kept slot k places none)

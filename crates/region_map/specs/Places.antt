@@ -1,6 +1,6 @@
 -- How rows are kept: where each region lies, and the rest of the row in a slot. No public clause cites this module.
 use Rattle.std.proofs.Common.{arith}
-use Rattle.std.specs.Prelude.{◌≡◌, ℕ, ◌+◌, ◌*◌, ◌<◌, ◌≤◌, ◌==◌, List, map, length, slice_index_or, if◌then◌else◌, refl}
+use Rattle.std.specs.Prelude.{◌≡◌, ◌⊎◌, ℕ, ◌+◌, ◌*◌, ◌<◌, ◌≤◌, ◌==◌, List, [], ◌∷◌, ◌++◌, map, length, slice_index_or, if◌then◌else◌, refl}
 use Rattle.std.specs.List.{sum_by}
 use Rattle.std.specs.Coded.{Coded, code_by, coded×, coded_ℕ, coded_list}
 use Rattle.region_map.specs.declared.place.Place.{Place}
@@ -22,9 +22,13 @@ coded_rows row = code_by (List Row × ℕ) (coded× (coded_list row) coded_ℕ) 
 abbrev pub start_in : Place → ℕ
 start_in place = place.page * 4096
 
+-- what a slot keeps that no row has
+abbrev pub no_row : Kept
+no_row = record { ds = record { 0 = 0 }; tag = 0 }
+
 -- what a slot keeps
 abbrev pub kept_in : List Kept → ℕ → Kept
-kept_in kept slot = slice_index_or kept slot (record { ds = record { 0 = 0 }; tag = 0 })
+kept_in kept slot = slice_index_or kept slot no_row
 
 -- the row of a place
 abbrev pub row_at : List Kept → Place → Row
@@ -56,11 +60,18 @@ times slot slots = sum_by (is_slot slot) slots
 abbrev pub named : ℕ → List Place → ℕ
 named slot places = sum_by (λ place. is_slot slot place.slot) places
 
--- each slot is named by one place, or is free, and there is room for all among the free ones
-pub record AreStored (places : List Place) (kept : List Kept) (free : List ℕ) (capacity room : ℕ) : Type 0 where
-  pub counted : length places + length free ≡ capacity
-  pub slots : length kept ≡ capacity
+-- a slot was free and is so no more, or is new
+abbrev pub IsSlot : List Kept → List ℕ → ℕ → List Kept → List ℕ → Type 0
+IsSlot kept free slot kept' free' =
+    ((free ≡ free' ++ slot ∷ []) × (kept' ≡ kept))
+    ⊎ ((free ≡ []) × (free' ≡ []) × (slot ≡ length kept) × (kept' ≡ kept ++ no_row ∷ []))
+
+-- each slot is named by one place, or is free, and there is room for all
+pub record AreStored (places : List Place) (kept : List Kept) (free : List ℕ) (capacity kept_room free_room : ℕ) : Type 0 where
+  pub counted : length places + length free ≡ length kept
+  pub within : length kept ≤ capacity
   pub few : capacity ≤ 4096
-  pub roomy : capacity ≤ room
+  pub kept_roomy : capacity ≤ kept_room
+  pub free_roomy : capacity ≤ free_room
   pub once : (slot : ℕ) → named slot places + times slot free ≤ 1
-  pub there : (slot : ℕ) → 1 ≤ named slot places + times slot free → slot < capacity
+  pub there : (slot : ℕ) → 1 ≤ named slot places + times slot free → slot < length kept
