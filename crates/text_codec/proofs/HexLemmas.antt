@@ -96,10 +96,7 @@ no_bytes_there text other = no_bytes_found (bytes_of_hex text) (sym (decodes_ali
 
 pub ruleset read_bytes = (bytes_there, no_bytes_there, nat_tests)
 
-pub decodes : (text : List ℕ) → IsSome (bytes_of_hex text) → IsOk (decode_of text)
-decodes text some = decodes_alike text ∙ some
-
--- and to these
+-- what a text decodes to are its bytes
 pub bytes_decoded : (text bytes : List ℕ) → decode_of text ≡ Ok bytes → bytes_of_hex text ≡ Some bytes
 bytes_decoded text bytes is = sym (decoded text) ∙ ap result_ok is
 
@@ -109,6 +106,15 @@ ok_of (Err x) bytes e = absurd (cc)
 
 pub decoded_bytes : (text bytes : List ℕ) → bytes_of_hex text ≡ Some bytes → decode_of text ≡ Ok bytes
 decoded_bytes text bytes is = ok_of (decode_of text) bytes (decoded text ∙ is)
+
+-- so a caller decodes the bytes of the model
+pub decodes : (text : List ℕ) → bytes_of_hex text ≡ Some (hex_bytes text) → IsOk (decode_of text)
+decodes text some = decodes_alike text ∙ ap is_some some
+
+pub decoded_are : (text bytes : List ℕ) → decode_of text ≡ Ok bytes → bytes ≡ hex_bytes text
+decoded_are text bytes is = ap (λ o. unwrap_or o []) (sym (bytes_decoded text bytes is))
+
+pub ruleset decodings = (decodes, decoded_are)
 
 -- a text that decodes is an even number of digits
 pub are_digits : (text : List ℕ) → IsOk (decode_of text) → (length text % 2 ≡ 0) × ((i : ℕ) → i < length text → IsSome (hex_digit_value (get_or text i 0)))
