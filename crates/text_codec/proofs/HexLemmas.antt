@@ -1,6 +1,6 @@
 -- Texts of hexadecimal digits, and the bytes that they stand for.
 use Rattle.std.proofs.Common.{◌≡◌, ℕ, zero, suc, ◌+◌, ◌*◌, ◌%◌, ◌<◌, Bool, true, false, List, [], ◌∷◌, length, take, drop, get_or, Option, Some, None, is_some, Result, Ok, Err, inl, inr, refl, sym, ap, ◌∙◌, arith, ◌&&◌}
-use Rattle.std.specs.Prelude.{nat_eq, IsOk, IsSome}
+use Rattle.std.specs.Prelude.{nat_eq, IsOk, IsSome, OnOk}
 use Rattle.std.specs.Result.{is_ok, result_ok}
 use Rattle.std.specs.List.{list_all}
 use Rattle.std.specs.Option.{option_map, option_and_then, unwrap_or}
@@ -115,6 +115,11 @@ pub decoded_are : (text bytes : List ℕ) → decode_of text ≡ Ok bytes → by
 decoded_are text bytes is = ap (λ o. unwrap_or o []) (sym (bytes_decoded text bytes is))
 
 pub ruleset decodings = (decodes, decoded_are)
+
+-- what holds where the kit wrote all digits, and it did
+pub when_ok : (r : Result (Unit {0}) FromHexError) (P : Type 0) → IsOk r → OnOk r P → P
+when_ok (Ok tt) P ok holds = holds
+when_ok (Err e) P ok holds = absurd (cc)
 
 -- a text that decodes is an even number of digits
 pub are_digits : (text : List ℕ) → IsOk (decode_of text) → (length text % 2 ≡ 0) × ((i : ℕ) → i < length text → IsSome (hex_digit_value (get_or text i 0)))

@@ -31,15 +31,6 @@ pub fn encode_hex(bytes: &[u8], hex: &mut [u8])
     requires { length hex.old ≡ 2 * length bytes.now }
     ensures { hex.new ≡ encode_lower bytes.now }
 {
-    encode_each(bytes, hex);
-}
-
-/// Encodes bytes likewise, inlined for a caller with a fixed number of bytes.
-#[inline(always)]
-pub(crate) fn encode_each(bytes: &[u8], hex: &mut [u8])
-    requires { length hex.old ≡ 2 * length bytes.now }
-    ensures { hex.new ≡ encode_lower bytes.now }
-{
     for i in 0..bytes.len() {
         let [high, low] = pair_of_byte(bytes[i]);
         hex[2 * i] = high;

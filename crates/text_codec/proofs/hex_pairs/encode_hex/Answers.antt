@@ -3,7 +3,7 @@ use Rattle.std.proofs.Common.{◌<◌, ◌+◌, ◌*◌, length, arith, rules}
 use Rattle.hex.specs.Hex.{lower_digits}
 use Rattle.hex.proofs.Pairs.{encode_done}
 use Rattle.text_codec.proofs.PairLemmas.{encode_next}
-use Rattle.text_codec.proofs.hex_pairs.encode_each.Goals as goal
+use Rattle.text_codec.proofs.hex_pairs.encode_hex.Goals as goal
 
 pub loop-i-preserved : goal.loop-i-preserved
 loop-i-preserved c =
