@@ -1,8 +1,9 @@
 """Tests how the built engine takes memory of the host: allocations.py PROGRAM, PROGRAM being scenario_run.
 
 It builds a library to preload (allocations.c) with cc. On the built-in machine and on each list of cases/engine/rows it refuses
-one allocation after another until none is left: each run prints `boot: No_memory` and nothing else, with status 2, and a second
-run with ample memory answers as usual. One refusal a list, before the command line is read, may change nothing. Then it counts: on each shape of
+one allocation after another until none is left. While the command line is read, each run prints clap's `error: out of memory`;
+from then on each prints `boot: No_memory`. It prints nothing else, the status is 2, and a second run with ample memory answers
+as usual. One refusal a list, before the command line is read, may change nothing. Then it counts: on each shape of
 bench/generate.py a run of 20,000 lines takes memory as often as a run of none. It ends with a count; the status is 1 if
 something differs."""
 import glob
@@ -13,6 +14,7 @@ import tempfile
 
 TOP = os.path.dirname(os.path.dirname(os.path.abspath(__file__)))
 SCENARIO = b"alice open File_system ram_quota=8K, cap_quota=3\nalice call 1 CREATE a\nbob quota\n"
+UNREAD = (2, b"", b"error: out of memory\n")
 REFUSED = (2, b"", b"boot: No_memory\n")
 # The shapes of bench/generate.py that take a start list.
 MACHINES = {"eight": "examples/eight.json", "nested": "bench/nested.json"}
@@ -40,16 +42,18 @@ class Engine:
 def refusals(engine, words):
     """Refuses each allocation of a run in turn. Returns how many there are, and what was wrong."""
     usual, count = engine.run(words, SCENARIO)
-    wrong, unchanged = [], []
+    wrong, unchanged, expected = [], [], UNREAD
     for number in range(1, count + 1):
         answer, _ = engine.run(words, SCENARIO, refused=number)
-        if answer == usual:
+        if answer == REFUSED:
+            expected = REFUSED
+        if answer == usual and expected == UNREAD:
             unchanged.append(number)
-        elif answer != REFUSED:
+        elif answer != expected:
             wrong.append(f"allocation {number} refused: {answer}")
         if engine.run(words, SCENARIO)[0] != usual:
             wrong.append(f"the run after refused allocation {number} isn't as usual")
-    if usual[0] != 0 or len(unchanged) > 1 or count < 10:
+    if usual[0] != 0 or len(unchanged) > 1 or expected != REFUSED:
         wrong.append(f"{count} allocations, of which {unchanged} change nothing; status {usual[0]} without a refusal")
     return count, wrong
 
