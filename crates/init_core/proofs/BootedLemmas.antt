@@ -1,11 +1,11 @@
 -- A boot before the first entry, and after the last.
-use Rattle.std.proofs.Common.{◌≡◌, ℕ, zero, suc, Bool, true, false, cond, inl, inr, ◌&&◌, ◌==◌, ◌+◌, ◌*◌, ◌≤◌, List, [], ◌∷◌, is_some, length, get_or, map, take, Option, Some, None, IsSome, subst, refl, sym, ap, ◌∙◌, arith}
+use Rattle.std.proofs.Common.{◌≡◌, ℕ, true, false, inl, inr, ◌==◌, ◌+◌, ◌*◌, ◌≤◌, List, [], ◌∷◌, is_some, length, get_or, map, take, Option, Some, None, subst, refl, sym, ap, ◌∙◌, arith}
 use Rattle.std.specs.List.{enumerate_from, slice_get}
 use Rattle.std.specs.FinMap.{get, empty}
 use Rattle.std.specs.Option.{option_map, option_and_then, unwrap_or}
-use Rattle.std.proofs.lemmas.Bool.{eqb-true, eq-eqb, false≢true}
+use Rattle.std.proofs.lemmas.Bool.{eqb-true, eq-eqb}
 use Rattle.std.proofs.lemmas.List.{take_all, drop_all, length-map}
-use Rattle.std.proofs.lemmas.Option.{none-some, same_Some, slice_get-get_or, unwrap_or-slice_get, slice_get-map}
+use Rattle.std.proofs.lemmas.Option.{none-some, slice_get-get_or, unwrap_or-slice_get, slice_get-map}
 use Rattle.trade_base.specs.declared.id.AccountId.{AccountId}
 use Rattle.own_model.specs.Account.{Account, opened}
 use Rattle.own_model.specs.Listed.{Listed, ListedEntry, most_lists, route_within, server_at, service_at, service_of, start_of, start_list_of}

@@ -1,7 +1,6 @@
 -- What a boot does to the parts of the machine, entry by entry.
 use Rattle.std.specs.Prelude.{◌≡◌, ℕ, zero, suc, ◌+◌, ◌*◌, ◌≤◌, true, List, [], ◌∷◌, length, map, take, drop, Option, Some, None, IfSome}
 use Rattle.std.specs.List.{All, slice_get}
-use Rattle.std.specs.Option.{option_map}
 use Rattle.std.specs.FinMap.{get}
 use Rattle.trade_base.specs.declared.id.AccountId.{AccountId}
 use Rattle.own_model.specs.Listed.{Listed, ListedEntry, service_of, kind_of, levels_within, most_lists, start_of, start_list_of}
