@@ -1,6 +1,7 @@
 //! Bytes in memory that doesn't grow.
 ghost use Rattle.std.specs.Prelude.{◌≡◌, ◌+◌, ◌*◌, ◌≤◌, [], ◌++◌, length, map, decimal, IfOk};
-ghost use Rattle.own_model.specs.Reply.{hex_text, printed};
+ghost use Rattle.hex.specs.Hex.{encode_lower};
+ghost use Rattle.own_model.specs.Reply.{printed};
 
 use std::alloc::Global;
 use std::boxed::BoxedSlice;
@@ -88,7 +89,7 @@ impl BoundedBytes {
     pub(crate) fn add_hex(&mut self, bytes: &[u8])
         requires { length self.old.text + 2 * length bytes.now ≤ self.old.size }
         ensures added { self.new
-            ≡ record self.old { text = self.old.text ++ hex_text bytes.now } }
+            ≡ record self.old { text = self.old.text ++ encode_lower bytes.now } }
     {
         let end = self.len + 2 * bytes.len();
         encode_hex(bytes, &mut self.bytes[self.len..end]);

@@ -132,6 +132,7 @@ impl Reply {
     }
 
     /// Appends to the text bytes in hexadecimal digits of small letters, which still fit.
+    #[tactic(auto, using(own_model::proofs::HexLemmas::hex_text_is))]
     pub fn add_hex(&mut self, bytes: &[u8])
         requires { length self.old.text + 2 * length bytes.now ≤ LONGEST_TEXT }
         ensures { self.new ≡ record self.old { text = self.old.text ++ hex_text bytes.now } }

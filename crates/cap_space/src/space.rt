@@ -84,6 +84,22 @@ impl CapSpace {
         *slots.get(place as usize)?
     }
 
+    /// Removes the capability under a selector and returns it, which frees the selector. Returns `None` and changes
+    /// nothing if the selector isn't in use. Accepts any number, as `get` does.
+    pub fn remove(&mut self, selector: u64) -> Option<Cap>
+        ensures found { result ≡ get self.old.caps selector }
+        ensures gone { IfSome result (λ _. self.new ≡ without_cap self.old selector) }
+        ensures none { IfNone result (self.new ≡ self.old) }
+    {
+        let cap = self.get(selector)?;
+        let place = (selector - 1) as usize;
+        let slots = &mut self.slots;
+        slots[place] = None;
+        self.taken.free(place);
+        self.used -= 1;
+        Some(cap)
+    }
+
     /// Takes the dataspace that a selector names out again, which frees the selector. It takes any number, as `get`
     /// does, and changes nothing where that names no dataspace.
     pub fn take_dataspace(&mut self, selector: u64) -> Option<DsId>
@@ -93,7 +109,7 @@ impl CapSpace {
     {
         match self.get(selector) {
             Some(Cap::Dataspace(space)) => {
-                self.vacate(selector);
+                self.remove(selector);
                 Some(space)
             }
             _ => None,
@@ -109,7 +125,7 @@ impl CapSpace {
     {
         match self.get(selector) {
             Some(Cap::RpcObject) => {
-                self.vacate(selector);
+                self.remove(selector);
                 true
             }
             _ => false,
@@ -125,7 +141,7 @@ impl CapSpace {
     {
         match self.get(selector) {
             Some(Cap::Session { server, session }) => {
-                self.vacate(selector);
+                self.remove(selector);
                 Some((server, session))
             }
             _ => None,
@@ -145,7 +161,7 @@ impl CapSpace {
         ensures same { IfNone result (self.new ≡ self.old) }
     {
         let selector = self.buffer(space)?;
-        self.vacate(selector as u64);
+        self.remove(selector as u64);
         Some(Selector(selector))
     }
 
@@ -168,18 +184,6 @@ impl CapSpace {
             }
         }
         None
-    }
-
-    // Frees a selector that is in use.
-    fn vacate(&mut self, selector: u64)
-        requires taken { IsSome (get self.old.caps selector) }
-        ensures gone { self.new ≡ without_cap self.old selector }
-    {
-        let slots = &mut self.slots;
-        let place = (selector - 1) as usize;
-        slots[place] = None;
-        self.taken.free(place);
-        self.used -= 1;
     }
 
     /// How many places there are: at most 4096. Each selector in use is one of 1 to so many.

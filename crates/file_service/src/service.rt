@@ -238,6 +238,7 @@ fn write(
 }
 
 /// The same by way of a buffer of so many bytes. It stands alone, since who takes it in would clear its buffer at each request.
+#[tactic(auto, using(text_codec::proofs::HexLemmas::decodings))]
 #[inline(never)]
 fn write_by<const N: usize>(
     session: &mut FileSession,

@@ -1,13 +1,20 @@
 -- The signs of a text, one after another.
-use Rattle.std.proofs.Common.{◌≡◌, ℕ, ◌+◌, ◌-◌, ◌<◌, ◌≤◌, Bool, true, false, true≢false, cond, nat_eq, is_none, zero, suc, List, [], ◌∷◌, ◌++◌, length, drop, Option, Some, None, refl, sym, ap, ◌∙◌, subst, arith}
-use Rattle.std.specs.Option.{option_map, unwrap_or}
+use Rattle.std.proofs.Common.{◌≡◌, ℕ, ◌+◌, ◌-◌, ◌<◌, ◌≤◌, true, false, true≢false, cond, nat_eq, is_none, zero, suc, List, [], ◌∷◌, ◌++◌, length, drop, get_or, Option, Some, None, Ok, Err, refl, sym, ap, ◌∙◌, subst, arith}
+use Rattle.std.specs.Option.{option_and_then, option_map, unwrap_or}
+use Rattle.std.specs.Result.{result_ok}
+use Rattle.std.proofs.lemmas.Option.{same_Some}
+use Rattle.hex.specs.Hex.{decode_sized}
+use Rattle.hex.specs.declared.error.FromHexError.{FromHexError}
+use Rattle.hex.proofs.HexLemmas.{decode_sized-twice}
+use Rattle.text_codec.proofs.HexLemmas.{decoded}
+use Rattle.own_model.specs.Text.{byte_of_hex, bytes_of_hex}
 use Rattle.std.specs.List.{starts_with}
 use Rattle.std.specs.Str.{bytes_eq}
 use Rattle.std.proofs.lemmas.Bool.Decides.{Decides-eqb, nat_tests}
 use Rattle.std.proofs.lemmas.List.{drop-drop, drop_all, length-drop}
 use Rattle.std.proofs.lemmas.Slice.Eq.{bytes_eq-Decides, starts_is}
 use Rattle.own_model.specs.Reply.{hex_text}
-use Rattle.friendly_lines.specs.Signs.{bytes_from, bytes_of, fault_from, fault_of, sign_at, sign_of}
+use Rattle.friendly_lines.specs.Signs.{bytes_from, bytes_of, fault_from, sign_at, sign_of}
 use Rattle.friendly_lines.specs.Words.{spaced}
 use Rattle.friendly_lines.specs.Written.{added}
 use Rattle.friendly_lines.specs.declared.signs.Sign.{Sign}
@@ -185,3 +192,26 @@ pub fault_end : (text : List ℕ) (i : ℕ) → length text ≤ i → option_map
 fault_end text i past = rw (drop_all i text past) refl
 
 pub ruleset fault_signs = (fault_step, fault_found, fault_start, fault_end)
+
+-- ---- the two digits of an escape
+
+-- a byte that is read is the first of the bytes of its two digits
+one_byte : (o : Option ℕ) (bytes : List ℕ) → option_and_then (λ byte. option_map (λ (bytes : List ℕ). byte ∷ bytes) (Some [])) o ≡ Some bytes → o ≡ Some (get_or bytes 0 0)
+one_byte None bytes is = absurd (cc)
+one_byte (Some b) bytes is = ap (λ l. Some (get_or l 0 0)) (same_Some (b ∷ []) bytes is)
+
+no_byte : (o : Option ℕ) → option_and_then (λ byte. option_map (λ (bytes : List ℕ). byte ∷ bytes) (Some [])) o ≡ None → o ≡ None
+no_byte None is = refl
+no_byte (Some b) is = absurd (cc)
+
+-- what the kit decodes of two digits are the bytes of the model
+pair_decoded : (high low : ℕ) → result_ok (decode_sized (high ∷ low ∷ []) 1) ≡ bytes_of_hex (high ∷ low ∷ [])
+pair_decoded high low = ap result_ok (decode_sized-twice (high ∷ low ∷ []) 1 refl) ∙ decoded (high ∷ low ∷ [])
+
+pub byte_read : (high low : ℕ) (bytes : List ℕ) → decode_sized (high ∷ low ∷ []) 1 ≡ Ok bytes → byte_of_hex high low ≡ Some (get_or bytes 0 0)
+byte_read high low bytes is = one_byte (byte_of_hex high low) bytes (sym (pair_decoded high low) ∙ ap result_ok is)
+
+pub no_byte_read : (high low : ℕ) (e : FromHexError) → decode_sized (high ∷ low ∷ []) 1 ≡ Err e → byte_of_hex high low ≡ None
+no_byte_read high low e is = no_byte (byte_of_hex high low) (sym (pair_decoded high low) ∙ ap result_ok is)
+
+pub ruleset bytes_read = (byte_read, no_byte_read)

@@ -1,14 +1,12 @@
 //! A line that is put together.
-ghost use Rattle.std.specs.Prelude.{◌≡◌, ◌≤◌, false, None, Some, [], ◌∷◌, length, IfSome};
+ghost use Rattle.std.specs.Prelude.{◌≡◌, ◌≤◌, false, None, Some, [], length, IfSome};
 ghost use Rattle.std.specs.Option.{option_copied};
-ghost use Rattle.own_model.specs.Reply.{hex_text};
 ghost use Rattle.own_model.specs.Transcript.{longest_line};
 ghost use Rattle.friendly_lines.specs.Words.{spaced, words_spaced};
 ghost use Rattle.friendly_lines.specs.Written.{added};
 
 use crate::words::next_word;
 use std::marker::Model;
-use text_codec::encode_hex;
 
 /// The longest line that the engine reads as a call, in bytes.
 const LONGEST: usize = 8192;
@@ -78,15 +76,6 @@ impl Line {
         let end = self.len + more.len();
         self.bytes[self.len..end].copy_from_slice(more);
         self.len = end;
-    }
-
-    /// Puts a byte in hexadecimal digits at the end.
-    pub(crate) fn put_hex(&mut self, byte: u8)
-        ensures { self.new ≡ added self.old (hex_text (byte ∷ [])) }
-    {
-        let mut digits = [0; 2];
-        encode_hex(&[byte], &mut digits);
-        self.put(&digits);
     }
 
     /// Puts a word with a space before it at the end, or nothing where there is none.

@@ -3,13 +3,13 @@ ghost use Rattle.std.specs.Prelude.{◌≡◌, ◌≤◌, ◌<◌, ◌∷◌, []
 ghost use Rattle.std.specs.List.{starts_with};
 ghost use Rattle.std.specs.Str.{bytes_eq};
 ghost use Rattle.own_model.specs.Reply.{hex_text};
-ghost use Rattle.own_model.specs.Text.{byte_of_hex, hex_digit_of};
+ghost use Rattle.own_model.specs.Text.{byte_of_hex};
 ghost use Rattle.friendly_lines.specs.Signs.{bytes_of, escape_of, fault_of, sign_at, sign_of};
 ghost use Rattle.friendly_lines.specs.Written.{added};
 
 use crate::line::Line;
 use crate::words::behind;
-use text_codec::encode_hex;
+use hex::FromHex;
 
 /// A sign: the byte that it stands for, and how many bytes it has.
 #[derive(Clone, Copy)]
@@ -26,7 +26,7 @@ pub(crate) fn put_text(line: &mut Line, text: &[u8])
     let mut at = 0;
     while at < text.len() {
         let sign = sign_at(behind(text, at));
-        line.put_hex(sign.byte);
+        line.put(&digits_of(sign.byte));
         at += sign.size;
     }
 }
@@ -54,9 +54,16 @@ fn begins_with_hex(digits: &[u8], byte: u8) -> bool
     ensures value { result ≡ starts_with nat_eq digits.now (hex_text (byte ∷ [])) }
     ensures some { result ≡ true → 2 ≤ length digits.now }
 {
-    let mut pair = [0; 2];
-    encode_hex(&[byte], &mut pair);
-    digits.starts_with(&pair)
+    digits.starts_with(&digits_of(byte))
+}
+
+// The two hexadecimal digits of a byte.
+fn digits_of(byte: u8) -> [u8; 2]
+    ensures { result ≡ hex_text (byte ∷ []) }
+{
+    let mut digits = [0; 2];
+    let _ = hex::encode_to_slice([byte], &mut digits);
+    digits
 }
 
 /// Where a text has its first escape that is none.
@@ -147,25 +154,13 @@ fn hex_escape(text: &[u8]) -> Option<Sign>
     }
 }
 
-// The byte of two hexadecimal digits.
+// The byte of two hexadecimal digits, of either case.
+#[tactic(auto, using(crate::proofs::SignLemmas::bytes_read))]
 fn byte_of_pair(high: u8, low: u8) -> Option<u8>
     ensures { result ≡ byte_of_hex high low }
 {
-    match (digit_of(high), digit_of(low)) {
-        (Some(high), Some(low)) => Some(high * 16 + low),
-        _ => None,
-    }
-}
-
-// The value of a hexadecimal digit of either case.
-fn digit_of(digit: u8) -> Option<u8>
-    ensures value { result ≡ hex_digit_of digit }
-    ensures small { IfSome result (λ value. value < 16) }
-{
-    match digit {
-        b'A'..=b'F' => Some(digit - 55),
-        b'a'..=b'f' => Some(digit - 87),
-        b'0'..=b'9' => Some(digit - 48),
-        _ => None,
+    match <[u8; 1]>::from_hex([high, low]) {
+        Ok(bytes) => Some(bytes[0]),
+        Err(_) => None,
     }
 }

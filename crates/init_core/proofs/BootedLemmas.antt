@@ -1,22 +1,17 @@
 -- A boot before the first entry, and after the last.
 use Rattle.std.proofs.Common.{◌≡◌, ℕ, zero, suc, Bool, true, false, cond, inl, inr, ◌&&◌, ◌==◌, ◌+◌, ◌*◌, ◌≤◌, List, [], ◌∷◌, is_some, length, get_or, map, take, Option, Some, None, IsSome, subst, refl, sym, ap, ◌∙◌, arith}
-use Rattle.std.specs.Prelude.{position, count_by}
 use Rattle.std.specs.List.{enumerate_from, slice_get}
 use Rattle.std.specs.FinMap.{get, empty}
 use Rattle.std.specs.Option.{option_map, option_and_then, unwrap_or}
-use Rattle.std.specs.Str.{bytes_eq}
 use Rattle.std.proofs.lemmas.Bool.{eqb-true, eq-eqb, false≢true}
 use Rattle.std.proofs.lemmas.List.{take_all, drop_all, length-map}
-use Rattle.std.proofs.lemmas.List.Quantifiers.{position-Some}
 use Rattle.std.proofs.lemmas.Option.{none-some, same_Some, slice_get-get_or, unwrap_or-slice_get, slice_get-map}
 use Rattle.trade_base.specs.declared.id.AccountId.{AccountId}
 use Rattle.own_model.specs.Account.{Account, opened}
-use Rattle.own_model.specs.Listed.{Listed, ListedEntry, ListedRule, Binary, Target, Way, asks_for, end_of, init_entry, most_lists, named_provider, offers, only_provider, route_of, route_within, rules_for, server_at, serves, service_at, service_of, start_of, start_list_of, way_by, way_to}
-use Rattle.own_model.specs.Listed.Binary.{Script, Server, Init}
-use Rattle.own_model.specs.Listed.Target.{Child, AnyChild, Parent}
-use Rattle.own_model.specs.Listed.Way.{Inside, Outside}
+use Rattle.own_model.specs.Listed.{Listed, ListedEntry, most_lists, route_within, server_at, service_at, service_of, start_of, start_list_of}
+use Rattle.own_model.specs.Listed.Binary.{Script}
 use Rattle.trade_base.specs.declared.service.Service.{Service}
-use Rattle.own_model.specs.Routes.{ServerAt, label_with, provider}
+use Rattle.own_model.specs.Routes.{ServerAt, provider}
 use Rattle.own_model.specs.StartList.{AllCovered, Boots, inits_keep, start_state}
 use Rattle.own_model.specs.World.{start_world}
 use Rattle.own_model.proofs.StartListedLemmas.{routes_lead}
@@ -26,12 +21,14 @@ use Rattle.dataspace_core.specs.Store.{Store, fresh_store, root_in, account_in, 
 use Rattle.dataspace_core.proofs.RoomLaws.{room_at_first}
 use Rattle.pd_core.specs.Component.{Pays}
 use Rattle.pd_core.specs.Component.{service_of as service_in}
-use Rattle.pd_core.specs.Core.{IsInitOf, IsInits, inits_of, roles_of}
+use Rattle.pd_core.specs.Core.{Places, IsInitOf, IsInits, inits_of, roles_of}
 use Rattle.pd_core.specs.Fresh.{start_of as start_in, started_world, AreFresh}
 use Rattle.pd_core.specs.SessionCalls.{Agrees}
 use Rattle.pd_core.specs.SessionCalls.{server_at as server_at_place, service_at as service_at_place}
 use Rattle.pd_core.specs.declared.component.Component.{Component}
 use Rattle.init_core.specs.Boot.{HasStarted, places_at, place_of, to_come}
+use Rattle.init_core.specs.Rows.{leads_in, places_in, rows_of}
+use Rattle.init_core.proofs.RowLemmas.{places_listed}
 use Rattle.start_lists.specs.Quota.{first_uncovered}
 use Rattle.init_core.proofs.InitLemmas.{map_twice, within}
 use Rattle.init_core.proofs.BootLemmas.{counted}
@@ -88,115 +85,34 @@ nothing_yet {list} {store} {components} {keys} root pages caps places pages_is c
 
 -- ---- where routes lead
 
--- a binary that serves a service is a server's
-serves_some : (binary : Binary) (service : List ℕ) → serves binary service ≡ true → IsSome (service_of binary)
-serves_some Script service serving = absurd (false≢true serving)
-serves_some (Server of) service serving = refl
-serves_some Init service serving = absurd (false≢true serving)
+-- a server of a kind at a place
+abbrev stands : ℕ → Service → ServerAt
+stands place kind = record { kind = kind; place = place }
 
-both : (a b : Bool) → (a && b) ≡ true → b ≡ true
-both true b holds = holds
-both false b holds = absurd (false≢true holds)
-
-offers_some : (init : ℕ) (service : List ℕ) (entry : ListedEntry) → offers init service entry ≡ true → IsSome (service_of entry.binary)
-offers_some init service entry offering =
-    serves_some entry.binary service (both entry.provides (serves entry.binary service) (both (entry.home == init) (entry.provides && serves entry.binary service) offering))
-
-abbrev nobody : ListedEntry
+nobody : ListedEntry
 nobody = record { name = []; path = []; label = []; home = 0; binary = Script; ram = 0; caps = 0; provides = false; route = None; reserve = None; inner_route = [] }
 
--- the first entry that passes is a server where those that pass are
-passes_some : (passes : ListedEntry → Bool) → ((entry : ListedEntry) → passes entry ≡ true → IsSome (service_of entry.binary)) →
-    (entries : List ListedEntry) (child : ℕ) → position passes entries ≡ Some child → IsSome (service_at entries child)
-passes_some passes server entries child first =
-    let found = position-Some passes entries child nobody first in
-    subst (λ (entry : Option ListedEntry). IsSome (option_and_then (λ e. service_of e.binary) entry)) (sym (slice_get-get_or entries child nobody found.0))
-    (server (get_or entries child nobody) found.1)
+of_entry : (entry : Option ListedEntry) → unwrap_or (option_map (λ (e : ListedEntry). service_of e.binary) entry) None ≡ option_and_then (λ (e : ListedEntry). service_of e.binary) entry
+of_entry None = refl
+of_entry (Some entry) = refl
 
--- a child that something leads to is a server
-abbrev LeadsToServer : List ListedEntry → Option ℕ → Type 0
-LeadsToServer entries child = (k : ℕ) → child ≡ Some k → IsSome (service_at entries k)
+module _ (entries : List ListedEntry) (components : List Component) (same : map service_in components ≡ map (λ e. service_of e.binary) entries) where
+  -- a component serves what its entry says
+  served : (child : ℕ) → service_at_place components child ≡ service_at entries child
+  served child =
+      ap (λ services. get_or services child None) same
+      ∙ sym (unwrap_or-slice_get (map (λ e. service_of e.binary) entries) child None) ∙ ap (λ found. unwrap_or found None) (slice_get-map (λ e. service_of e.binary) entries child)
+      ∙ of_entry (slice_get entries child)
 
--- so is one at the end of a way
-abbrev WayToServer : List ListedEntry → Way → Type 0
-WayToServer entries way = (k : ℕ) → way ≡ Inside (Some k) → IsSome (service_at entries k)
-
-module _ (entries : List ListedEntry) where
-  -- so is one that one of two ways leads to, where both lead to servers
-  either_lead : (b : Bool) (x y : Option ℕ) → LeadsToServer entries x → LeadsToServer entries y → LeadsToServer entries (cond b x y)
-  either_lead true x y here there = here
-  either_lead false x y here there = there
-
-  either_way : (b : Bool) (x y : Way) → WayToServer entries x → WayToServer entries y → WayToServer entries (cond b x y)
-  either_way true x y here there = here
-  either_way false x y here there = there
-
-  inside_some : (child : Option ℕ) → LeadsToServer entries child → WayToServer entries (Inside child)
-  inside_some child led k is = led k cc
-
-  way_to_some : (init : ℕ) (target : Target) (service : List ℕ) → WayToServer entries (way_to entries init target service)
-  way_to_some init (Child name) service =
-      inside_some (named_provider entries init name service) (passes_some _ (λ entry passes. offers_some init service entry (both (bytes_eq entry.name name) (offers init service entry) passes)) entries)
-  way_to_some init AnyChild service =
-      inside_some (only_provider entries init service)
-      (either_lead (count_by (offers init service) entries == 1) (position (offers init service) entries) None (passes_some (offers init service) (offers_some init service) entries) (λ k is. absurd (none-some k is)))
-  way_to_some init Parent service = λ k is. absurd cc
-
-  way_by_some : (init : ℕ) (rules : List ListedRule) (service label : List ℕ) → WayToServer entries (way_by entries init rules service label)
-  way_by_some init [] service label = inside_some None (λ k is. absurd (none-some k is))
-  way_by_some init (rule ∷ rules) service label =
-      either_way (asks_for rule service label) (way_to entries init rule.target service) (way_by entries init rules service label) (way_to_some init rule.target service) (way_by_some init rules service label)
-
-  -- at the end of a way
-  end_some : (way : Way) (outward : Option ℕ) → WayToServer entries way → LeadsToServer entries outward → LeadsToServer entries (end_of way outward)
-  end_some (Inside child) outward here there k is = here k (ap Inside is)
-  end_some Outside outward here there k is = there k is
-
-  some_itself : (service : Option Service) → IsSome service → Some service ≡ option_map Some service
-  some_itself None some = absurd (false≢true some)
-  some_itself (Some kind) some = refl
-
-  of_entry : (entry : Option ListedEntry) → IsSome (option_and_then (λ e. service_of e.binary) entry) →
-      Some (unwrap_or (option_map (λ e. service_of e.binary) entry) None) ≡ option_map Some (option_and_then (λ e. service_of e.binary) entry)
-  of_entry None some = absurd (false≢true some)
-  of_entry (Some entry) some = some_itself (service_of entry.binary) some
-
-  -- its component serves what its entry says
-  served : (components : List Component) → map service_in components ≡ map (λ e. service_of e.binary) entries → (child : Option ℕ) → LeadsToServer entries child →
-      option_map (service_at_place components) child ≡ option_map Some (option_and_then (service_at entries) child)
-  served components same None some = refl
-  served components same (Some child) some =
-      ap (λ services. Some (get_or services child None)) same
-      ∙ ap Some (sym (unwrap_or-slice_get (map (λ e. service_of e.binary) entries) child None) ∙ ap (λ found. unwrap_or found None) (slice_get-map (λ e. service_of e.binary) entries child))
-      ∙ of_entry (slice_get entries child) (some child refl)
-
-  -- a server of a kind at a place
-  abbrev stands : ℕ → Service → ServerAt
-  stands place kind = record { kind = kind; place = place }
-
-  there : (place : ℕ) (found said : Option Service) → Some found ≡ option_map Some said →
-      Some (option_map (stands place) found) ≡ option_map Some (option_map (stands place) said)
-  there place found None is = absurd (none-some found (sym is))
-  there place found (Some kind) is = ap (λ o. Some (option_map (stands place) o)) (same_Some found (Some kind) is)
-
-  -- and stands at its place
-  served_there : (components : List Component) → map service_in components ≡ map (λ e. service_of e.binary) entries → (child : Option ℕ) → LeadsToServer entries child →
-      option_map (server_at_place components) child ≡ option_map Some (option_and_then (server_at entries) child)
-  served_there components same None some = refl
-  served_there components same (Some child) some = there child (service_at_place components child) (service_at entries child) (served components same (Some child) some)
-
--- the child that the wish of an entry leads to is a server, and so it is outward
-outward_some : (list : Listed) (routes : ListedEntry → Option ℕ) (init : Option ListedEntry) → ((entry : ListedEntry) → LeadsToServer list.entries (routes entry)) → LeadsToServer list.entries (option_and_then routes init)
-outward_some list routes None led = λ k is. absurd (none-some k is)
-outward_some list routes (Some entry) led = led entry
-
-route_some : (lists : ℕ) (list : Listed) (entry : ListedEntry) (service label : List ℕ) → LeadsToServer list.entries (route_within lists list entry service label)
-route_some zero list entry service label = λ k is. absurd (none-some k is)
-route_some (suc lists) list entry service label =
-    let outer = label_with entry.name label in
-    end_some list.entries (way_by list.entries entry.home (rules_for list entry) service label) (option_and_then (λ init. route_within lists list init service outer) (init_entry list entry.home))
-    (way_by_some list.entries entry.home (rules_for list entry) service label)
-    (outward_some list (λ init. route_within lists list init service outer) (init_entry list entry.home) (λ init. route_some lists list init service outer))
+  -- so a server of the list stands at its place
+  served_there : (child : Option ℕ) →
+      option_map (server_at_place components) (option_map (λ (server : ServerAt). server.place) (option_and_then (server_at entries) child)) ≡ option_map Some (option_and_then (server_at entries) child)
+  served_there None = refl
+  served_there (Some child) = served_at child (service_at entries child) (served child) where
+    served_at : (place : ℕ) (kind : Option Service) → service_at_place components place ≡ kind →
+        option_map (server_at_place components) (option_map (λ (server : ServerAt). server.place) (option_map (stands place) kind)) ≡ option_map Some (option_map (stands place) kind)
+    served_at place None is = refl
+    served_at place (Some kind) is = ap (λ found. Some (option_map (stands place) found)) is
 
 -- ---- after the last
 
@@ -224,16 +140,18 @@ module _ {list : Listed} {store : Store} {components : List Component} {keys : L
       let inits = so_far.inits ∙ ap (inits_keep (inits_of store components)) none_to_come in
       λ j. record { entries = entries j; inits = sym inits j; states = states j }
 
-  -- the list's routes lead where its rules do
-  pub agrees : Agrees (places_at list) (route_of list) store components
-  agrees = record {
+  -- where the list's rows lead to, a server stands
+  pub agrees : Agrees (places_in (rows_of list)) (leads_in (rows_of list)) store components
+  agrees = subst (λ (places : Places). Agrees places (leads_in (rows_of list)) store components) (sym (places_listed list)) (record {
     names = so_far.names;
     each = λ i service label within.
         let entry = get_or list.entries i nobody in
         let here = slice_get-get_or list.entries i nobody (omega (arith, within, all, counted so_far (omega (arith, all)))) in
-        let led = ap (option_and_then (λ e. route_within most_lists list e service label)) here in
-        ap (option_map (server_at_place components)) led
-        ∙ served_there list.entries components (so_far.services ∙ ap (map (λ e. service_of e.binary)) all_taken) (route_within most_lists list entry service label) (route_some most_lists list entry service label)
-        ∙ ap (option_map Some) (sym (routes_lead most_lists list entry service label) ∙ ap (λ found. provider (place_of list found).routes service label) (sym here));
+        let led : provider (places_at list i).routes service label ≡ option_and_then (server_at list.entries) (route_within most_lists list entry service label) =
+        ap (λ found. provider (place_of list found).routes service label) here ∙ routes_lead most_lists list entry service label in
+        ap (λ (server : Option ServerAt). option_map (server_at_place components) (option_map (λ (s : ServerAt). s.place) server))
+        (ap (λ (places : Places). provider (places i).routes service label) (places_listed list) ∙ led)
+        ∙ served_there list.entries components (so_far.services ∙ ap (map (λ e. service_of e.binary)) all_taken) (route_within most_lists list entry service label)
+        ∙ ap (option_map Some) (sym led);
     homes = so_far.homes;
-  }
+  })

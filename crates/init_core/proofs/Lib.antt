@@ -1,4 +1,5 @@
 pub mod StartLemmas
 pub mod InitLemmas
 pub mod BootLemmas
+pub mod RowLemmas
 pub mod BootedLemmas

@@ -1,6 +1,8 @@
 //! How a machine starts: its inits, and what each starts by its list; with start lists, and where their wishes for sessions lead.
 #![tactic(auto)]
 
+mod resolve;
+mod rule;
 mod startup;
 mod table;
 

@@ -27,7 +27,7 @@ const REGIONS: usize = 128;
 ///
 /// It is refused with `QuotaExceeded` and the path of the first entry that what its init still has doesn't cover. Wherever the
 /// host has no room for the machine's tables, `NoMemory` is told instead.
-pub fn boot(alloc: Global, list: &StartList) -> Result<Core<RouteTable<'_>>, BootFault>
+pub fn boot(alloc: Global, list: &StartList) -> Result<Core<RouteTable>, BootFault>
     ensures started { IfOk result (λ core. core ≡ start_world (start_list_of list.now)) }
     ensures covered { OnOk result (Boots (start_list_of list.now)) }
     ensures balanced { IfOk result (λ core. IsBalancedFor (start_list_of list.now) core) }
@@ -54,7 +54,8 @@ pub fn boot(alloc: Global, list: &StartList) -> Result<Core<RouteTable<'_>>, Boo
             alloc,
         )?;
     }
-    Ok(Core::from_parts(memory, components, RouteTable::new(list)))
+    let routes = RouteTable::of(alloc, list)?;
+    Ok(Core::from_parts(memory, components, routes))
 }
 
 /// The most sessions: half as many as the machine has capabilities, of which each takes two.

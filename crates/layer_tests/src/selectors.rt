@@ -74,6 +74,15 @@ fn check_taken(rt: &impl Abort, space: &mut CapSpace) {
             (DsId(6), Some(Selector(3))),
         ],
     );
-    assert!(rt; space.get(2) == Some(Cap::Dataspace(DsId(5))));
     assert!(rt; space.take_session(1) == Some((0, SessionId(7))));
+    check_removed(rt, space);
+}
+
+/// The capability under a selector is removed, whatever it is, and none where the selector isn't in use.
+fn check_removed(rt: &impl Abort, space: &mut CapSpace) {
+    for selector in [0, 1, 3, u64::MAX] {
+        assert!(rt; space.remove(selector).is_none());
+    }
+    assert!(rt; space.remove(2) == Some(Cap::Dataspace(DsId(5))));
+    assert!(rt; space.remove(2).is_none() && space.get(2).is_none());
 }

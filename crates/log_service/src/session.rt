@@ -66,6 +66,7 @@ impl LogSession {
 
     /// Writes the bytes that hexadecimal digits stand for. Lines that they finish go to the reply. It stands alone, since who
     /// takes it in would clear its buffer at each call of any kind.
+    #[tactic(auto, using(text_codec::proofs::HexLemmas::decodings))]
     #[inline(never)]
     pub(crate) fn write(&mut self, hex: &[u8], reply: &mut Reply)
         requires hex { bytes_of_hex hex.now ≡ Some (hex_bytes hex.now) }

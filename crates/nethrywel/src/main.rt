@@ -38,31 +38,32 @@ use std::process::ExitCode;
 use tests::{Wanted, test};
 use views::Viewing;
 use workbench_options::{
-    Alone, Check, Command, Reach, Request, Run, Test, Tree, alone_takes_a_name_or_all,
+    Alone, CALLS, Check, Command, Reach, Request, Run, Test, Tree, alone_takes_a_name_or_all,
     color_is_one_of_three, needs_command, words_given,
 };
 
 fn main(rt: HostRuntime) -> ExitCode {
     let words = match words_given(&rt) {
         Ok(words) => words,
-        Err(error) => return refuse(&rt, &error),
+        Err(error) => return ExitCode::from(refuse(&rt, &error)),
     };
-    match Request::read(rt.alloc(), words.as_slice()) {
-        Ok(Some(request)) => ExitCode::from(answer_request(&rt, &request)),
+    let status = match Request::read(rt.alloc(), words.as_slice()) {
+        Ok(Some(request)) => answer_request(&rt, &request),
         Ok(None) => match needs_command(rt.alloc()) {
             Ok(error) | Err(error) => refuse(&rt, &error),
         },
         Err(error) => refuse(&rt, &error),
-    }
+    };
+    ExitCode::from(status)
 }
 
-// Tells why the command line isn't taken, or the help that it asks for, which is a result.
-fn refuse(rt: &HostRuntime, error: &Error) -> ExitCode {
+// Prints why the command line is refused, or the help that it asks for, and returns the exit status.
+fn refuse(rt: &HostRuntime, error: &Error) -> u8 {
     let printed = error.print(rt);
     if error.use_stderr() {
-        return ExitCode::from(error.exit_code() as u8);
+        return error.exit_code() as u8;
     }
-    ExitCode::from(status_of(rt, printed))
+    status_of(rt, printed)
 }
 
 // Tells which words are taken, and answers the exit status.
@@ -104,6 +105,24 @@ fn answer<'a>(rt: &HostRuntime, command: &'a Command<'a>, given: Given<'a>) -> u
         Command::Alone(asked) => answer_alone(rt, asked, given),
         Command::Diff(asked) => diff(rt, asked),
         Command::Test(asked) => answer_test(rt, asked, given),
+        Command::Help(topic) => print_help(rt, *topic),
+    }
+}
+
+// Prints a page of help, and returns the exit status: on calls, else what `--help` prints of the program or of a command.
+fn print_help(rt: &HostRuntime, topic: Option<&str>) -> u8 {
+    match topic {
+        Some("calls") => status_of(rt, print!(rt; "{CALLS}")),
+        Some(command) => print_help_of(rt, &["nethrywel", command, "--help"]),
+        None => print_help_of(rt, &["nethrywel", "--help"]),
+    }
+}
+
+// Prints the help that these arguments ask for, or why they are refused, and returns the exit status.
+fn print_help_of(rt: &HostRuntime, arguments: &[&str]) -> u8 {
+    match Request::read(rt.alloc(), arguments) {
+        Ok(_) => 0,
+        Err(error) => refuse(rt, &error),
     }
 }
 

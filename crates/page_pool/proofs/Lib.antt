@@ -1,3 +1,4 @@
+pub mod Walks
 pub mod PageLaws
 pub mod NumberLemmas
 pub mod ByteLemmas

@@ -1,8 +1,7 @@
 -- What each call makes of a pool, behind whose pages come some that have never been handed out.
 use Rattle.std.proofs.Common.{◌≡◌, ◌≢◌, ℕ, suc, ◌+◌, ◌-◌, ◌*◌, ◌/◌, ◌<◌, ◌≤◌, ◌^◌, true, List, [], ◌∷◌, ◌++◌, length, get_or, Option, Some, None, ⊎_elim, refl, sym, ap, arith, rules, ◌∙◌}
-use Rattle.std.specs.Prelude.{Vec, slice_set, slice_get, slice_range}
-use Rattle.std.specs.Vec.{with_items}
-use Rattle.std.proofs.lemmas.List.{same_lists, places, length-replicate, length-append, get_or-replicate, get_or-append_right, get_or_append_left, get_or_past, set-append_left, append_assoc, with_items_is}
+use Rattle.std.specs.Prelude.{slice_set, slice_get, slice_range, replicate}
+use Rattle.std.proofs.lemmas.List.{same_lists, places, length-replicate, length-append, get_or-replicate, get_or-append_right, get_or_append_left, get_or_past, set-append_left, append_assoc}
 use Rattle.std.proofs.Math.Seq.{set-append_seam, get_or-append_seam}
 use Rattle.std.proofs.lemmas.List.Sums.{sum_by-append}
 use Rattle.std.proofs.lemmas.List.Folds.{sum_by-replicate}
@@ -41,12 +40,6 @@ module _ (used : List (Option (List ℕ))) (fresh : ℕ) where
 -- a part put into a page leaves as many bytes
 same_length : (bytes bytes' part : List ℕ) (at : ℕ) → at + length part ≤ length bytes → bytes' ≡ with_bytes bytes at part → length bytes' ≡ length bytes
 same_length bytes bytes' part at fits change = ap length change ∙ length-with_bytes bytes at part fits
-
--- what a call wrote through the bytes that a vec lent is written to the vec
-pub written : {Z : Type 0} (v : Vec ℕ Z) (lent after part : List ℕ) (at : ℕ) → lent ≡ v.items → at + length part ≤ length v.items → after ≡ with_bytes lent at part → (with_items v after).items ≡ with_bytes v.items at part
-written v lent after part at is fits change =
-    let e : after ≡ with_bytes v.items at part = rw is at change in
-    with_items_is v after (same_length v.items after part at fits e ∙ sym v.ok.0) ∙ e
 
 -- as many bytes are still those of a pool
 still_pool : (free free' bytes bytes' : List ℕ) (fresh room room' : ℕ) → IsPool free bytes fresh room → IsLaidOut free' bytes' → length bytes' ≡ length bytes → room ≤ room' → IsPool free' bytes' fresh room'
@@ -154,6 +147,11 @@ get-next used page fresh at some =
     slice_get-get_or (used ++ fresh_pages fresh) page None (omega (arith, long, many, at, some))
     ∙ ap Some (get_or-append_right used (fresh_pages fresh) (length used) page None refl (omega (arith, at)) ∙ get_or-replicate fresh (page - length used) None None (omega (arith, at, some)))
 
+-- so many zeros are a page of them
+pub zero_page_behind : (bytes : List ℕ) → bytes ++ replicate 4096 0 ≡ bytes ++ zero_page
+unfolding zero_page
+zero_page_behind bytes = refl
+
 -- a page is handed out that has never been
 pub take_next : (bytes bytes' : List ℕ) (count head page fresh room room' : ℕ) (pages : List (Option (List ℕ))) → IsPool (linked bytes count head) bytes fresh room → pool_of (linked bytes count head) bytes fresh ≡ pages → count ≡ 0 → fresh ≢ 0 → page ≡ length bytes / 4096 → bytes' ≡ bytes ++ zero_page → room ≤ room' →
     PoolTook (linked bytes' count head) bytes' (fresh - 1) room' pages page
@@ -250,16 +248,14 @@ pub ranges_apart : (from to from_offset to_offset count : ℕ) → from ≢ to �
 ranges_apart from to from_offset to_offset count apart there room below = omega (arith, apart)
 
 -- a part of a taken page put at a taken page's place is written to that page alone
-pub copied_taken : {Z : Type 0} (v : Vec ℕ Z) (lent after : List ℕ) (count head fresh : ℕ) (pages : List (Option (List ℕ))) (from from_offset to to_offset size : ℕ) → IsPool (linked v.items count head) v.items fresh v.cap → pool_of (linked v.items count head) v.items fresh ≡ pages → is_taken pages from ≡ true → is_taken pages to ≡ true → from_offset + size ≤ 4096 → to_offset + size ≤ 4096 → lent ≡ v.items →
+pub copied_taken : (bytes lent after : List ℕ) (count head fresh room : ℕ) (pages : List (Option (List ℕ))) (from from_offset to to_offset size : ℕ) → IsPool (linked bytes count head) bytes fresh room → pool_of (linked bytes count head) bytes fresh ≡ pages → is_taken pages from ≡ true → is_taken pages to ≡ true → from_offset + size ≤ 4096 → to_offset + size ≤ 4096 → lent ≡ bytes →
     after ≡ with_bytes lent (to * 4096 + to_offset) (slice_range lent (from * 4096 + from_offset) (from * 4096 + from_offset + size)) →
-    PoolWrote (linked (with_items v after).items count head) (with_items v after).items fresh v.cap pages to to_offset (slice_range (page_bytes pages from) from_offset (from_offset + size))
-copied_taken v lent after count head fresh pages from from_offset to to_offset size pool view source target there room is change =
-    let free = linked v.items count head in
+    PoolWrote (linked after count head) after fresh room pages to to_offset (slice_range (page_bytes pages from) from_offset (from_offset + size))
+copied_taken bytes lent after count head fresh room pages from from_offset to to_offset size pool view source target there fits is change =
+    let free = linked bytes count head in
     let part = slice_range (page_bytes pages from) from_offset (from_offset + size) in
-    let reads = read_taken free v.items fresh v.cap pages from from_offset size pool view source there in
-    let inside = (LiesIn-in_pool free v.items fresh v.cap pages to pool view target).inside in
+    let reads = read_taken free bytes fresh room pages from from_offset size pool view source there in
     let long : length part ≡ size = length-slice_range (page_bytes pages from) from_offset size (omega (arith, reads.size)) in
     let same : slice_range lent (from * 4096 + from_offset) (from * 4096 + from_offset + size) ≡ part = rw is reads.part in
-    let put : after ≡ with_bytes lent (to * 4096 + to_offset) part = change ∙ ap (with_bytes lent (to * 4096 + to_offset)) same in
-    write_taken v.items _ count head fresh v.cap v.cap pages to to_offset part pool view target (omega (arith, long, room))
-    (written v lent after part (to * 4096 + to_offset) is (omega (arith, long, room, inside)) put) (omega arith)
+    let put : after ≡ with_bytes bytes (to * 4096 + to_offset) part = change ∙ ap (with_bytes lent (to * 4096 + to_offset)) same ∙ ap (λ bs. with_bytes bs (to * 4096 + to_offset) part) is in
+    write_taken bytes after count head fresh room room pages to to_offset part pool view target (omega (arith, long, fits)) put (omega arith)

@@ -1,2 +1,4 @@
 pub mod Pages
 pub mod Layout
+pub mod Ownership
+pub mod Lends

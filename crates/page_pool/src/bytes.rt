@@ -1,26 +1,14 @@
 //! Bytes of host memory, read and written by ranges, by words and by pages.
-ghost use Rattle.std.specs.Prelude.{◌≡◌, ◌+◌, ◌<◌, ◌≤◌, [], ◌++◌, length, slice_range, vec_len, vec_capacity, IfOk};
+ghost use Rattle.std.specs.Prelude.{◌≡◌, ◌+◌, ◌<◌, ◌≤◌, length, slice_range};
 ghost use Rattle.trade_base.specs.Bytes.{with_bytes};
 ghost use Rattle.trade_base.specs.Word.{word_bytes};
 ghost use Rattle.page_pool.specs.Pages.{zero_page};
 ghost use Rattle.page_pool.specs.Layout.{word_at};
 
-use std::alloc::Global;
-use trade_base::{NoMemory, PAGE};
+use trade_base::PAGE;
 
 /// The bytes of a page, as a length.
 pub(crate) const PAGE_BYTES: usize = PAGE as usize;
-
-/// A page that is all zero.
-pub(crate) static ZEROS: [u8; PAGE_BYTES] = [0; PAGE_BYTES];
-
-/// No bytes, with room for so many.
-pub(crate) fn no_bytes(alloc: Global, size: usize) -> Result<Vec<u8>, NoMemory>
-    ensures none { IfOk result (λ bytes. bytes.items ≡ []) }
-    ensures room { IfOk result (λ bytes. vec_capacity bytes ≡ size) }
-{
-    Vec::with_capacity(alloc, size).map_err(|_| NoMemory)
-}
 
 /// Fills `buffer` with the bytes from `start` on.
 pub(crate) fn read(bytes: &[u8], start: usize, buffer: &mut [u8])
@@ -80,14 +68,4 @@ pub(crate) fn clear_page(bytes: &mut [u8], start: usize)
     ensures { bytes.new ≡ with_bytes bytes.old start zero_page }
 {
     bytes[start..start + PAGE_BYTES].fill(0);
-}
-
-/// Puts a page of zeros behind the bytes, for which they have room.
-#[tactic(auto, unfolding(crate::specs::Pages::zero_page))]
-pub(crate) fn add_page(bytes: &mut Vec<u8>)
-    requires { vec_len bytes.old + 4096 ≤ vec_capacity bytes.old }
-    ensures items { bytes.new.items ≡ bytes.old.items ++ zero_page }
-    ensures capacity { vec_capacity bytes.old ≤ vec_capacity bytes.new }
-{
-    let _ = bytes.extend_from_slice(&ZEROS);
 }

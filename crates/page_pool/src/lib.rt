@@ -2,6 +2,7 @@
 //! writes it until it is given back.
 #![tactic(auto)]
 
+mod block;
 mod bytes;
 mod pool;
 

@@ -5,6 +5,7 @@ ghost use Rattle.trade_base.specs.Bytes.{with_bytes};
 ghost use Rattle.trade_base.specs.Word.{word_bytes, word_of};
 ghost use Rattle.page_pool.specs.Pages.{fresh_pages, free_count, is_taken, page_bytes, zero_page};
 
+use crate::block::{Block, Lease};
 use crate::bytes::{self, PAGE_BYTES};
 use std::alloc::Global;
 use std::marker::Model;
@@ -16,31 +17,47 @@ pub struct PageNo(pub u16);
 
 /// Pages, each free or taken. Contracts see them as a list: for each page by its number `None`
 /// where it is free, and its 4096 bytes where it is taken.
-#[derive(Drop)]
 pub struct Pool {
     /// Page after page, of those that have been handed out once; room for all is taken at the boot. The first word of a free page is
     /// the number of the next free one.
-    bytes: Vec<u8>,
+    block: Block,
+    /// The right to return the block, and where to.
+    lease: Lease<Global>,
+    alloc: Global,
     /// The free page that is taken next, where one is linked.
     head: usize,
     /// How many free pages are linked.
     free: usize,
-    /// How many pages have never been handed out. They come behind the others.
+    /// How many pages have never been handed out. They come after the others.
     fresh: usize,
+    ghost leased: { (lease.alloc ≡ alloc) × (lease.ptr ≡ block.ptr) × (lease.size ≡ block.size) },
 }
 
 impl Model for Pool {
-    ghost use Rattle.std.specs.Prelude.{List, Option, ℕ, vec_capacity};
+    ghost use Rattle.std.specs.Prelude.{List, Option, ℕ};
     ghost use Rattle.page_pool.specs.Layout.{linked, pool_of, IsPool};
 
     ghost Value = { List (Option (List ℕ)) };
 
     ghost view = { λ p.
-        pool_of (linked p.bytes.items p.free p.head) p.bytes.items p.fresh };
+        pool_of (linked p.block.bytes p.free p.head) p.block.bytes p.fresh };
 
     ghost invariant = { λ p.
-        IsPool (linked p.bytes.items p.free p.head) p.bytes.items p.fresh
-        (vec_capacity p.bytes) };
+        IsPool (linked p.block.bytes p.free p.head) p.block.bytes p.fresh p.block.size };
+}
+
+impl Drop for Pool {
+    fn drop(self) {
+        let Pool {
+            block,
+            lease,
+            alloc,
+            head: _,
+            free: _,
+            fresh: _,
+        } = self;
+        block.free(lease, &alloc);
+    }
 }
 
 impl Pool {
@@ -50,13 +67,17 @@ impl Pool {
         ensures fresh { IfOk result (λ pool. pool ≡ fresh_pages pages) }
         ensures count { IfOk result (λ pool. free_count pool ≡ pages) }
     {
-        let bytes = bytes::no_bytes(alloc, pages * PAGE_BYTES)?;
-        Ok(Pool {
-            bytes,
-            head: 0,
-            free: 0,
-            fresh: pages,
-        })
+        match Block::new(&alloc, pages * PAGE_BYTES) {
+            Some((block, lease)) => Ok(Pool {
+                block,
+                lease,
+                alloc,
+                head: 0,
+                free: 0,
+                fresh: pages,
+            }),
+            None => Err(NoMemory),
+        }
     }
 
     /// Any free page, all zero from now on, or `None` where no page is free.
@@ -71,18 +92,18 @@ impl Pool {
         if self.free > 0 {
             let page = self.head;
             let start = page * PAGE_BYTES;
-            self.head = bytes::load(&self.bytes, start) as usize;
+            self.head = bytes::load(self.block.bytes(), start) as usize;
             self.free -= 1;
-            bytes::clear_page(&mut self.bytes, start);
+            bytes::clear_page(self.block.bytes_mut(), start);
             return Some(PageNo(page as u16));
         }
         if self.fresh == 0 {
             return None;
         }
-        let page = self.bytes.len() / PAGE_BYTES;
-        bytes::add_page(&mut self.bytes);
+        let known = self.block.bytes().len();
+        self.block.grow(known + PAGE_BYTES);
         self.fresh -= 1;
-        Some(PageNo(page as u16))
+        Some(PageNo((known / PAGE_BYTES) as u16))
     }
 
     /// Makes a taken page free. It takes no memory, and the page is cleared when it is next taken.
@@ -92,7 +113,7 @@ impl Pool {
         ensures count { free_count self.new ≡ free_count self.old + 1 }
     {
         let start = page.0 as usize * PAGE_BYTES;
-        bytes::store(&mut self.bytes, start, self.head as u64);
+        bytes::store(self.block.bytes_mut(), start, self.head as u64);
         self.head = page.0 as usize;
         self.free += 1;
     }
@@ -106,7 +127,7 @@ impl Pool {
         ensures size { length (page_bytes self.now page.0) ≡ 4096 }
     {
         let start = page.0 as usize * PAGE_BYTES + offset;
-        bytes::read(&self.bytes, start, buffer);
+        bytes::read(self.block.bytes(), start, buffer);
     }
 
     /// Puts `part` at `offset` into a taken page. Nothing else changes.
@@ -119,7 +140,7 @@ impl Pool {
         ensures count { free_count self.new ≡ free_count self.old }
     {
         let start = page.0 as usize * PAGE_BYTES + offset;
-        bytes::write(&mut self.bytes, start, part);
+        bytes::write(self.block.bytes_mut(), start, part);
     }
 
     /// Puts `count` bytes of a taken page, those from an offset on, into another one from an offset on. Nothing else changes.
@@ -144,7 +165,7 @@ impl Pool {
     {
         let source = from.0 as usize * PAGE_BYTES + from_offset;
         let target = to.0 as usize * PAGE_BYTES + to_offset;
-        bytes::copy(&mut self.bytes, source, target, count);
+        bytes::copy(self.block.bytes_mut(), source, target, count);
     }
 
     /// The word of a taken page that stands at `offset`, its lowest byte first.

@@ -7,6 +7,7 @@ pub mod ScriptSettleLemmas
 -- its calls on its account and its regions
 pub mod AccountLemmas
 pub mod RegionCallLemmas
+pub mod UserRangeLemmas
 -- its calls on its heaps
 pub mod HeapCallLemmas
 pub mod HeapChangeLemmas

@@ -71,6 +71,7 @@ pub(crate) fn put_hex(memory: &mut Memory, space: DsId, offset: u64, hex: &[u8])
 }
 
 /// The same by way of a buffer of so many bytes, as `tell_by` does it.
+#[tactic(auto, using(text_codec::proofs::HexLemmas::decodings))]
 #[inline(never)]
 fn put_by<const N: usize>(memory: &mut Memory, space: DsId, offset: u64, hex: &[u8])
     requires hex { bytes_of_hex hex.now ≡ Some (hex_bytes hex.now) }

@@ -1,5 +1,9 @@
 //! A script, and its calls: what each does to its account, its capabilities, its regions and the memory.
 
+ghost use Rattle.std.specs.Prelude.{◌≡◌, ◌≤◌};
+ghost use Rattle.std.specs.Option.{option_map};
+ghost use Rattle.own_model.specs.Region.{resolved};
+
 use crate::accounts::quotas_of;
 use crate::answer::{Granted, refuse, tell};
 use crate::bytes::{MOST_BYTES, put_hex, tell_range};
@@ -7,7 +11,7 @@ use calls::{Call, Quotas, Reply};
 use cap_space::{Cap, CapSpace};
 use dataspace_core::Memory;
 use heap_core::Heap;
-use region_map::RegionMap;
+use region_map::{HEAP_LOW, RegionMap};
 use sliced_heap::SlicedHeap;
 use trade_base::{AccountId, DsId, Refusal};
 
@@ -258,7 +262,7 @@ impl Script {
         if count == 0 || count > MOST_BYTES as u64 {
             return Err(Refusal::InvalidSize);
         }
-        if let Some(found) = self.regions.resolve_user(address, count) {
+        if let Some(found) = user_range(&self.regions, address, count) {
             return Ok(found);
         }
         if let Some(found) = self.sliced.block_of(memory, &self.regions, address, count) {
@@ -267,5 +271,20 @@ impl Script {
         self.heap
             .block_of(memory, &self.regions, address, count)
             .ok_or(Refusal::PageFault)
+    }
+}
+
+/// Returns the dataspace and the offset of a range that one user region holds, or `None` where none does. A region of the
+/// heap window is a heap's, which alone knows the payloads in it.
+fn user_range(regions: &RegionMap, address: u64, count: u64) -> Option<(DsId, u64)>
+    requires { 1 ≤ count }
+    ensures { option_map (λ at. (at.0.0, at.1)) result
+        ≡ resolved regions.now.user address count }
+{
+    if address < HEAP_LOW {
+        regions.resolve(address, count)
+    } else {
+        regions.lies_apart();
+        None
     }
 }

@@ -1,5 +1,6 @@
-//! Tests of the engine: the worked rows, devices that fail, and want of memory.
+//! Tests of the engine: the worked rows, each script alone, devices that fail, and want of memory.
 
+mod alone;
 mod configs;
 mod device_calls;
 mod faults;

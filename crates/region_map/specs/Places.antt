@@ -1,8 +1,9 @@
--- How rows are kept: where each region lies, in one word, and the rest of the row in a slot. No public clause cites this module.
+-- How rows are kept: where each region lies, and the rest of the row in a slot. No public clause cites this module.
 use Rattle.std.proofs.Common.{arith}
-use Rattle.std.specs.Prelude.{◌≡◌, ℕ, ◌+◌, ◌-◌, ◌*◌, ◌/◌, ◌%◌, ◌^◌, ◌<◌, ◌≤◌, ◌==◌, List, map, length, slice_index_or, if◌then◌else◌, refl}
+use Rattle.std.specs.Prelude.{◌≡◌, ◌⊎◌, ℕ, ◌+◌, ◌*◌, ◌<◌, ◌≤◌, ◌==◌, List, [], ◌∷◌, ◌++◌, map, length, slice_index_or, if◌then◌else◌, refl}
 use Rattle.std.specs.List.{sum_by}
 use Rattle.std.specs.Coded.{Coded, code_by, coded×, coded_ℕ, coded_list}
+use Rattle.region_map.specs.declared.place.Place.{Place}
 use Rattle.region_map.specs.declared.row.Row.{Row}
 use Rattle.region_map.specs.declared.rows.Kept.{Kept}
 
@@ -17,40 +18,32 @@ coded_rows row = code_by (List Row × ℕ) (coded× (coded_list row) coded_ℕ) 
 
 -- ---- one row
 
--- the place of a region that starts at an address, has so many pages, and whose row's rest stands in a slot
-abbrev pub place_of : ℕ → ℕ → ℕ → ℕ
-place_of start pages slot = start / 4096 * 2 ^ 32 + (pages - 1) * 2 ^ 16 + slot
-
 -- where the region at a place starts
-abbrev pub start_in : ℕ → ℕ
-start_in place = place / 2 ^ 32 % 2 ^ 32 * 4096
+abbrev pub start_in : Place → ℕ
+start_in place = place.page * 4096
 
--- its pages
-abbrev pub pages_in : ℕ → ℕ
-pages_in place = place / 2 ^ 16 % 2 ^ 16 + 1
-
--- the slot of the rest of its row
-abbrev pub slot_in : ℕ → ℕ
-slot_in place = place % 2 ^ 16
+-- what a slot keeps that no row has
+abbrev pub no_row : Kept
+no_row = record { ds = record { 0 = 0 }; tag = 0 }
 
 -- what a slot keeps
 abbrev pub kept_in : List Kept → ℕ → Kept
-kept_in kept slot = slice_index_or kept slot (record { ds = record { 0 = 0 }; tag = 0 })
+kept_in kept slot = slice_index_or kept slot no_row
 
 -- the row of a place
-abbrev pub row_at : List Kept → ℕ → Row
+abbrev pub row_at : List Kept → Place → Row
 row_at kept place = record {
   start = start_in place;
-  pages = pages_in place;
-  ds = (kept_in kept (slot_in place)).ds;
-  tag = (kept_in kept (slot_in place)).tag;
+  pages = place.pages;
+  ds = (kept_in kept place.slot).ds;
+  tag = (kept_in kept place.slot).tag;
   aligned = omega arith;
-  some = omega arith;
-  fits = omega arith;
+  some = place.some;
+  fits = let fits = place.fits in omega arith;
 }
 
 -- the rows of places
-abbrev pub rows_of : List Kept → List ℕ → List Row
+abbrev pub rows_of : List Kept → List Place → List Row
 rows_of kept places = map (row_at kept) places
 
 -- ---- slots
@@ -64,14 +57,21 @@ abbrev pub times : ℕ → List ℕ → ℕ
 times slot slots = sum_by (is_slot slot) slots
 
 -- how many places name a slot
-abbrev pub named : ℕ → List ℕ → ℕ
-named slot places = sum_by (λ place. is_slot slot (slot_in place)) places
+abbrev pub named : ℕ → List Place → ℕ
+named slot places = sum_by (λ place. is_slot slot place.slot) places
 
--- each slot is named by one place, or is free, and there is room for all among the free ones
-pub record AreStored (places : List ℕ) (kept : List Kept) (free : List ℕ) (capacity room : ℕ) : Type 0 where
-  pub counted : length places + length free ≡ capacity
-  pub slots : length kept ≡ capacity
+-- a slot was free and is so no more, or is new
+abbrev pub IsSlot : List Kept → List ℕ → ℕ → List Kept → List ℕ → Type 0
+IsSlot kept free slot kept' free' =
+    ((free ≡ free' ++ slot ∷ []) × (kept' ≡ kept))
+    ⊎ ((free ≡ []) × (free' ≡ []) × (slot ≡ length kept) × (kept' ≡ kept ++ no_row ∷ []))
+
+-- each slot is named by one place, or is free, and there is room for all
+pub record AreStored (places : List Place) (kept : List Kept) (free : List ℕ) (capacity kept_room free_room : ℕ) : Type 0 where
+  pub counted : length places + length free ≡ length kept
+  pub within : length kept ≤ capacity
   pub few : capacity ≤ 4096
-  pub roomy : capacity ≤ room
+  pub kept_roomy : capacity ≤ kept_room
+  pub free_roomy : capacity ≤ free_room
   pub once : (slot : ℕ) → named slot places + times slot free ≤ 1
-  pub there : (slot : ℕ) → 1 ≤ named slot places + times slot free → slot < capacity
+  pub there : (slot : ℕ) → 1 ≤ named slot places + times slot free → slot < length kept

@@ -9,4 +9,4 @@ mod rows;
 mod search;
 mod table;
 
-pub use map::RegionMap;
+pub use map::{HEAP_LOW, RegionMap};

@@ -18,8 +18,8 @@ const USER_LOW: u64 = 0x1000_0000;
 /// The address after the user window.
 const USER_HIGH: u64 = 0x2000_0000;
 
-/// The first address of the heap window.
-const HEAP_LOW: u64 = 0x1_0000_0000;
+/// The first address of the heap window. Every user region ends before it.
+pub const HEAP_LOW: u64 = 0x1_0000_0000;
 
 /// The number kept with a heap region that is no heap's: neither that of a chunk (below 64) nor of a large block (64) nor
 /// of a sliced block (2^64 - 1).
@@ -202,32 +202,22 @@ impl RegionMap {
         Some((row.start, row.ds, row.tag))
     }
 
-    /// The dataspace of the one region of either window that holds the whole range, and the offset in it at which the
-    /// range starts.
+    /// Returns the dataspace of the one region of either window that holds the whole range, and the offset in it at which the
+    /// range starts, in bytes; or `None` where no region holds the range.
     pub fn resolve(&self, address: u64, length: u64) -> Option<(DsId, u64)>
         requires { 1 ≤ length }
         ensures found { option_map (λ found. (found.0.0, found.1)) result
             ≡ either_resolved self.now address length }
         ensures sound { AreSound self.now }
     {
-        match self.resolve_user(address, length) {
+        match resolve_in(&self.user, address, length) {
             Some(found) => Some(found),
             None => resolve_in(&self.heap, address, length),
         }
     }
-
-    /// The same of the user window alone.
-    pub fn resolve_user(&self, address: u64, length: u64) -> Option<(DsId, u64)>
-        requires { 1 ≤ length }
-        ensures found { option_map (λ found. (found.0.0, found.1)) result
-            ≡ resolved self.now.user address length }
-        ensures sound { AreSound self.now }
-    {
-        resolve_in(&self.user, address, length)
-    }
 }
 
-/// The same of a table.
+/// Returns the same of the one region of a table.
 fn resolve_in(table: &Table, address: u64, length: u64) -> Option<(DsId, u64)>
     requires { 1 ≤ length }
     ensures { option_map (λ found. (found.0.0, found.1)) result

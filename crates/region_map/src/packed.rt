@@ -7,7 +7,7 @@ ghost use Rattle.region_map.specs.Known.{AreKnown};
 ghost use Rattle.region_map.specs.Places.{rows_of};
 ghost use Rattle.region_map.specs.declared.rows.Kept.{Kept as AnyKept};
 
-use super::place::{end_of, start_of};
+use super::place::Place;
 use super::row::Row;
 
 /// Two stretches of rows without a gap between them: those in front of `count`, from the window's first address on, and
@@ -54,13 +54,13 @@ impl Packed {
     }
 
     /// With the rows behind the first stretch that stand without a gap too, by the places of all.
-    pub fn raised(self, places: &[u64]) -> Packed
+    pub fn raised(self, places: &[Place]) -> Packed
         ensures { (low : ℕ) (kept : List AnyKept) → AreKnown low self (rows_of kept places.now)
             → AreKnown low result (rows_of kept places.now) }
     {
         let mut packed = self;
-        while packed.count < places.len() && start_of(places[packed.count]) == packed.end {
-            packed = Packed::front(packed.count + 1, end_of(places[packed.count]));
+        while packed.count < places.len() && places[packed.count].start() == packed.end {
+            packed = Packed::front(packed.count + 1, places[packed.count].end());
         }
         packed
     }

@@ -1,43 +1,51 @@
-//! Where a region lies, and which slot has the rest of its row, in one word.
+//! Where a region lies, and which slot has the rest of its row.
 ghost use Rattle.std.specs.Prelude.{◌≡◌, ◌+◌, ◌*◌, ◌^◌, ◌<◌, ◌≤◌};
-ghost use Rattle.region_map.specs.Places.{start_in, pages_in, slot_in, place_of};
 
+use super::row::Row;
 use trade_base::PAGE;
 
-/// A region's place: its first page from bit 32 on, its pages less one from bit 16 on, and its slot.
-pub fn placed(start: u64, pages: u64, slot: u16) -> u64
-    requires small { start < 2 ^ 44 }
-    requires some { 1 ≤ pages }
-    requires few { pages ≤ 65536 }
-    ensures { result ≡ place_of start pages slot }
-{
-    start / PAGE * 0x1_0000_0000 + (pages - 1) * 0x1_0000 + slot as u64
+/// A region's place. It is what moves when a row comes or goes, so it is small.
+#[derive(Clone, Copy)]
+pub struct Place {
+    /// The page where the region starts: its address over the size of a page.
+    pub page: u32,
+    /// The region's pages.
+    pub pages: u16,
+    /// The slot of the rest of the region's row.
+    pub slot: u16,
+    pub ghost some: { 1 ≤ pages },
+    pub ghost fits: { page * 4096 + pages * 4096 ≤ 2 ^ 45 },
 }
 
-/// Where the region at a place starts.
-pub fn start_of(place: u64) -> u64
-    ensures { result ≡ start_in place }
-{
-    place / 0x1_0000_0000 * PAGE
-}
+impl Place {
+    ghost use Rattle.region_map.specs.Places.{start_in};
 
-/// Its pages.
-pub fn pages_of(place: u64) -> u64
-    ensures { result ≡ pages_in place }
-{
-    place / 0x1_0000 % 0x1_0000 + 1
-}
+    /// The place of a row whose rest is in a slot.
+    pub fn of(row: Row, slot: u16) -> Place
+        requires small { row.start < 2 ^ 44 }
+        requires few { row.pages < 2 ^ 16 }
+        ensures start { start_in result ≡ row.start }
+        ensures pages { result.pages ≡ row.pages }
+        ensures slot { result.slot ≡ slot }
+    {
+        Place {
+            page: (row.start / PAGE) as u32,
+            pages: row.pages as u16,
+            slot,
+        }
+    }
 
-/// The address after it.
-pub fn end_of(place: u64) -> u64
-    ensures { result ≡ start_in place + pages_in place * 4096 }
-{
-    start_of(place) + pages_of(place) * PAGE
-}
+    /// The address where the region starts.
+    pub fn start(&self) -> u64
+        ensures { result ≡ start_in self.now }
+    {
+        self.page as u64 * PAGE
+    }
 
-/// The slot of the rest of its row.
-pub fn slot_of(place: u64) -> usize
-    ensures { result ≡ slot_in place }
-{
-    (place % 0x1_0000) as usize
+    /// The address after the region.
+    pub fn end(&self) -> u64
+        ensures { result ≡ start_in self.now + self.now.pages * 4096 }
+    {
+        self.start() + self.pages as u64 * PAGE
+    }
 }

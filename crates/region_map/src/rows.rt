@@ -1,15 +1,15 @@
-//! The rows of a table, in the order of their starts. What moves when a row comes or goes is small: its place, one word. The
+//! The rows of a table, in the order of their starts. What moves when a row comes or goes is its place, which is small. The
 //! rest of the row stays where it is, in a slot.
-ghost use Rattle.std.specs.Prelude.{◌≡◌, ℕ, ◌^◌, ◌<◌, ◌≤◌, ◌==◌, [], drop, length, not, nat_le, nat_lt, if◌then◌else◌, slice_index_or, vec_capacity, IfOk};
+ghost use Rattle.std.specs.Prelude.{◌≡◌, ℕ, ◌^◌, ◌<◌, ◌≤◌, ◌==◌, [], drop, length, not, nat_le, slice_index_or, vec_capacity, IfOk};
 ghost use Rattle.std.specs.List.{insert, remove, filter};
 ghost use Rattle.std.specs.List.Sorted.{IsNonDecreasingBy};
 ghost use Rattle.region_map.specs.declared.row.Row.{Row as AnyRow};
 ghost use Rattle.region_map.specs.Rows.{AreInOrder, count_to as counted_to, last_to as last_of, gap_from as first_from};
 ghost use Rattle.region_map.specs.Known.{AreKnown};
-ghost use Rattle.region_map.specs.Places.{times};
+ghost use Rattle.region_map.specs.Places.{IsSlot};
 
 use super::packed::Packed;
-use super::place::{pages_of, placed, slot_of, start_of};
+use super::place::Place;
 use super::row::Row;
 use super::search::{behind, count_to, gap_from};
 use std::alloc::Global;
@@ -26,9 +26,9 @@ struct Kept {
 /// The rows of a table, which contracts see as a list, with room for so many.
 #[derive(Drop)]
 pub struct Rows {
-    /// Where the regions lie, in the order of their starts, each with its slot (`place_of`).
-    places: Vec<u64>,
-    /// What doesn't move, by slots.
+    /// Where the regions lie, in the order of their starts, each with its slot.
+    places: Vec<Place>,
+    /// What doesn't move, by slots. A slot is made when a row comes and no slot is free, so a boot touches none.
     kept: Vec<Kept>,
     /// The slots that no place names.
     free: Vec<u16>,
@@ -50,7 +50,7 @@ impl Model for Rows {
         } };
 
     ghost invariant = { λ r. AreStored r.places.items r.kept.items r.free.items
-        (vec_capacity r.places) (vec_capacity r.free) };
+        (vec_capacity r.places) (vec_capacity r.kept) (vec_capacity r.free) };
 }
 
 impl Rows {
@@ -60,13 +60,9 @@ impl Rows {
         ensures none { IfOk result (λ rows. rows.items ≡ []) }
         ensures room { IfOk result (λ rows. rows.capacity ≡ most) }
     {
-        let nothing = Kept {
-            ds: DsId(0),
-            tag: 0,
-        };
         let places = Vec::with_capacity(alloc, most).map_err(|_| NoMemory)?;
-        let kept = Vec::from_elem(alloc, nothing, most).map_err(|_| NoMemory)?;
-        let free = slots_to(alloc, most)?;
+        let kept = Vec::with_capacity(alloc, most).map_err(|_| NoMemory)?;
+        let free = Vec::with_capacity(alloc, most).map_err(|_| NoMemory)?;
         Ok(Rows { places, kept, free })
     }
 
@@ -83,10 +79,10 @@ impl Rows {
         ensures { result ≡ slice_index_or self.now.items at result }
     {
         let place = self.places[at];
-        let kept = self.kept[slot_of(place)];
+        let kept = self.kept[place.slot as usize];
         Row {
-            start: start_of(place),
-            pages: pages_of(place),
+            start: place.start(),
+            pages: place.pages as u64,
             ds: kept.ds,
             tag: kept.tag,
         }
@@ -96,19 +92,19 @@ impl Rows {
     pub fn insert(&mut self, at: usize, row: Row)
         requires there { at ≤ length self.old.items }
         requires room { length self.old.items < self.old.capacity }
-        requires few { row.pages ≤ 65536 }
+        requires few { row.pages < 2 ^ 16 }
         requires small { row.start < 2 ^ 44 }
         ensures items { self.new.items ≡ insert self.old.items at row }
         ensures capacity { self.new.capacity ≡ self.old.capacity }
     {
-        let slot = self.free.pop().unwrap();
+        let slot = free_slot(&mut self.kept, &mut self.free);
         self.kept[slot as usize] = Kept {
             ds: row.ds,
             tag: row.tag,
         };
 
         // There is room, so it is never refused.
-        let _ = self.places.insert(at, placed(row.start, row.pages, slot));
+        let _ = self.places.insert(at, Place::of(row, slot));
     }
 
     /// Takes the row at an index out.
@@ -118,7 +114,7 @@ impl Rows {
         ensures capacity { self.new.capacity ≡ self.old.capacity }
     {
         let place = self.places.remove(at);
-        self.free.push_reserved(slot_of(place) as u16);
+        self.free.push_reserved(place.slot);
     }
 
     /// Takes all rows of a dataspace out, the last one first.
@@ -176,17 +172,22 @@ impl Rows {
     }
 }
 
-/// All slots below a number.
-fn slots_to(alloc: Global, most: usize) -> Result<Vec<u16>, NoMemory>
-    requires { most ≤ 4096 }
-    ensures each { IfOk result (λ slots. (slot : ℕ)
-        → times slot slots.items ≡ (if nat_lt slot most then 1 else 0)) }
-    ensures count { IfOk result (λ slots. length slots.items ≡ most) }
-    ensures room { IfOk result (λ slots. most ≤ vec_capacity slots) }
+/// Takes a free slot, or makes one where none is free.
+fn free_slot(kept: &mut Vec<Kept>, free: &mut Vec<u16>) -> u16
+    requires room { length free.old.items ≡ 0
+        → length kept.old.items < vec_capacity kept.old }
+    requires few { length kept.old.items ≤ 4096 }
+    ensures slot { IsSlot kept.old.items free.old.items result kept.new.items free.new.items }
+    ensures kept_room { vec_capacity kept.new ≡ vec_capacity kept.old }
+    ensures free_room { vec_capacity free.new ≡ vec_capacity free.old }
 {
-    let mut slots = Vec::with_capacity(alloc, most).map_err(|_| NoMemory)?;
-    for slot in 0..most {
-        slots.push_reserved(slot as u16);
+    if let Some(slot) = free.pop() {
+        return slot;
     }
-    Ok(slots)
+    let slot = kept.len() as u16;
+    kept.push_reserved(Kept {
+        ds: DsId(0),
+        tag: 0,
+    });
+    slot
 }

@@ -82,7 +82,7 @@ fn run_options<R: Files + io::Input + Print + AllocGlobal>(
     options: &Options<'_>,
 ) -> ProgramEnd {
     let task = task_of(options);
-    match options.path {
+    match options.path() {
         Some(path) => match read_config_at(rt, path) {
             Ok(text) => ProgramEnd::Ended(run_task(rt, &text, task)),
             Err(fault) => ProgramEnd::NoConfig(fault),

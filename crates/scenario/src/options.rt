@@ -22,19 +22,15 @@ const FORMS: &str = "A line is NAME CALL, with one space between two words. CALL
 N, S and LEN are decimal numbers, A is 0x and hexadecimal digits, HEX an even
 number of those digits. ARGS and REQUEST are the rest of the line, or nothing.
 
-docs/FORMATS.md has the forms of lines, replies and start lists.";
+docs/reference has the forms of lines, replies and start lists.";
 
 /// What the program was asked to do.
 #[derive(Clone, Copy, PartialEq, Eq)]
 pub struct Options<'a> {
-    /// Whether the start list is only read and booted.
-    pub check: bool,
-    /// Whether the account list is told after the last reply.
-    pub accounts: bool,
-    /// The name whose lines alone are answered, or none for all lines.
-    pub only: Option<&'a str>,
-    /// The path of a start list, or none for the built-in machine.
-    pub path: Option<&'a str>,
+    check: bool,
+    accounts: bool,
+    only: Option<&'a str>,
+    path: Option<&'a str>,
 }
 
 impl<'a> Options<'a> {
@@ -62,6 +58,34 @@ impl<'a> Options<'a> {
             only: matches.get_str("only"),
             path: matches.get_str("config"),
         })
+    }
+
+    /// Returns whether the start list is only read and booted.
+    pub fn check(&self) -> bool
+        ensures { result ≡ self.now.check }
+    {
+        self.check
+    }
+
+    /// Returns whether the account list is printed after the last reply.
+    pub fn accounts(&self) -> bool
+        ensures { result ≡ self.now.accounts }
+    {
+        self.accounts
+    }
+
+    /// Returns the name whose lines alone are answered, or `None` for all lines.
+    pub fn only(&self) -> Option<&'a str>
+        ensures { result ≡ self.now.only }
+    {
+        self.only
+    }
+
+    /// Returns the path of a start list, or `None` for the built-in machine.
+    pub fn path(&self) -> Option<&'a str>
+        ensures { result ≡ self.now.path }
+    {
+        self.path
     }
 }
 

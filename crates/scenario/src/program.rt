@@ -50,12 +50,12 @@ pub fn task_of<'a>(options: &Options<'a>) -> Task<'a>
     ensures { AsksFor options.now.check options.now.accounts
         (option_map (λ name. name.now) options.now.only) result }
 {
-    if options.check {
+    if options.check() {
         return Task::Check;
     }
     Task::Run {
-        accounts: options.accounts,
-        only: match options.only {
+        accounts: options.accounts(),
+        only: match options.only() {
             Some(name) => Some(name.as_bytes()),
             None => None,
         },

@@ -3,9 +3,11 @@ use Rattle.std.proofs.Common.{◌≡◌, ◌∙◌, ◌&&◌, ◌<◌, ℕ, suc,
 use Rattle.std.specs.List.{list_all}
 use Rattle.std.proofs.lemmas.Bool.{agree_below_at}
 use Rattle.std.proofs.lemmas.List.Folds.{list_all-append}
+use Rattle.hex.specs.Hex.{encode_with}
 use Rattle.test_report.specs.Xml.{AllStayInside, escaped, escaped_byte, is_inside}
 
 byte_inside : (byte : ℕ) → byte < 256 → list_all is_inside (escaped_byte byte) ≡ true
+unfolding encode_with
 byte_inside byte within = agree_below_at (λ b. list_all is_inside (escaped_byte b)) (λ _. true) 256 byte refl within
 
 pub all_stay_inside : AllStayInside

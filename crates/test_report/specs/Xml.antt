@@ -1,9 +1,7 @@
 -- Texts within XML.
-use Rattle.std.specs.Prelude.{◌≡◌, ℕ, ◌==◌, ◌&&◌, ◌+◌, ◌<◌, ◌/◌, ◌%◌, Bool, true, not, List, [], ◌∷◌, ◌++◌, All, codes, flat_map, nat_le, nat_lt, if◌then◌else◌}
+use Rattle.std.specs.Prelude.{◌≡◌, ℕ, ◌==◌, ◌&&◌, ◌<◌, Bool, true, not, List, [], ◌∷◌, ◌++◌, All, codes, flat_map, nat_le, if◌then◌else◌}
 use Rattle.std.specs.List.{list_all}
-
-abbrev pub hex_digit : ℕ → ℕ
-hex_digit value = if nat_lt value 10 then 48 + value else 87 + value
+use Rattle.hex.specs.Hex.{encode_lower}
 
 -- a sign that marks something by its name, a newline by its number, what else can be printed as it is, and each other byte in
 -- hexadecimal digits
@@ -15,7 +13,7 @@ escaped_byte byte =
     else (if byte == 34 then codes "&quot;"
     else (if byte == 10 then codes "&#10;"
     else (if nat_le 32 byte && nat_le byte 126 then byte ∷ []
-    else 92 ∷ 120 ∷ hex_digit (byte / 16) ∷ hex_digit (byte % 16) ∷ [])))))
+    else 92 ∷ 120 ∷ encode_lower (byte ∷ []))))))
 
 abbrev pub escaped : List ℕ → List ℕ
 escaped bytes = flat_map escaped_byte bytes

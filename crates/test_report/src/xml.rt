@@ -1,6 +1,7 @@
 //! Texts within XML.
-ghost use Rattle.std.specs.Prelude.{◌≡◌, ◌<◌, ◌++◌, OnOk};
-ghost use Rattle.test_report.specs.Xml.{between, escaped, escaped_byte, hex_digit};
+ghost use Rattle.std.specs.Prelude.{◌≡◌, ◌++◌, [], ◌∷◌, OnOk};
+ghost use Rattle.hex.specs.Hex.{encode_lower};
+ghost use Rattle.test_report.specs.Xml.{between, escaped, escaped_byte};
 
 use std::alloc::AllocError;
 
@@ -42,18 +43,15 @@ fn add_byte(text: &mut Vec<u8>, byte: u8) -> Result<(), AllocError>
         b'"' => text.extend_from_slice(b"&quot;"),
         b'\n' => text.extend_from_slice(b"&#10;"),
         b' '..=b'~' => text.extend_from_slice(&[byte]),
-        _ => text.extend_from_slice(&[b'\\', b'x', hex_digit(byte / 16), hex_digit(byte % 16)]),
+        _ => add_digits(text, byte),
     }
 }
 
-// A hexadecimal digit.
-fn hex_digit(value: u8) -> u8
-    requires { value < 16 }
-    ensures { result ≡ hex_digit value }
+// Adds a byte in hexadecimal digits.
+fn add_digits(text: &mut Vec<u8>, byte: u8) -> Result<(), AllocError>
+    ensures { OnOk result (text.new.items ≡ text.old.items ++ 92 ∷ 120 ∷ encode_lower (byte ∷ [])) }
 {
-    if value < 10 {
-        b'0' + value
-    } else {
-        b'a' - 10 + value
-    }
+    let mut escape = *b"\\x00";
+    let _ = hex::encode_to_slice([byte], &mut escape[2..]);
+    text.extend_from_slice(&escape)
 }

@@ -2,7 +2,7 @@
 use Rattle.std.proofs.Common.{◌≡◌, ℕ, ◌+◌, ◌-◌, ◌%◌, ◌<◌, Bool, true, false, cond, not, eqb, nat_eq, min, bit_and, bit_or, get_or, List, Option, Some, None, refl, ap}
 use Rattle.std.proofs.lemmas.Bool.{agree_below, agree_below_at, eqb-true, false≢true}
 use Rattle.own_model.specs.Text.{hex_digit_of}
-use Rattle.text_codec.specs.Digits.{is_hex_digit}
+use Rattle.hex.specs.Hex.{is_hex_digit}
 
 -- the table has this flag at a byte
 abbrev pub has_kind : List ℕ → ℕ → ℕ → Bool

@@ -1,18 +1,12 @@
 -- Bytes and pairs of hexadecimal digits: masks of both halves of a word, and steps of the loops over pairs.
-use Rattle.std.proofs.Common.{◌≡◌, ℕ, ◌+◌, ◌*◌, ◌/◌, ◌%◌, ◌<◌, ◌≤◌, List, [], ◌∷◌, ◌++◌, length, length-drop, take, drop, slice_index, slice_set, Some, true, refl, sym, ap, ◌∙◌, arith, bit_and, eqb}
+use Rattle.std.proofs.Common.{◌≡◌, ℕ, ◌+◌, ◌*◌, ◌/◌, ◌%◌, ◌<◌, List, [], ◌∷◌, ◌++◌, length, take, drop, slice_index, slice_set, Some, true, refl, arith, bit_and, eqb}
 use Rattle.std.proofs.lemmas.Nat.{and_block, and_mask, shr_split}
 use Rattle.std.proofs.lemmas.Nat.Bits.{and_pow}
 use Rattle.std.proofs.lemmas.Bool.Decides.{nat_tests}
-use Rattle.std.proofs.lemmas.List.{take_more_set, append_assoc, append-nil, take_all}
-use Rattle.std.proofs.lemmas.Option.{same_Some}
 use Rattle.std.proofs.lemmas.Bool.{agree_below_at, eqb-true}
-use Rattle.hex.specs.Hex.{encode_lower, lower_digits}
-use Rattle.hex.proofs.Pairs.{drop-pair, encode_step, encode_done}
-use Rattle.own_model.specs.Text.{hex_digit_of, byte_of_hex, bytes_of_hex, hex_bytes}
-use Rattle.own_model.specs.Reply.{hex_text}
-use Rattle.own_model.proofs.HexLemmas.{hex_text_is}
+use Rattle.hex.specs.Hex.{encode_lower, hex_digit_value, lower_digits}
+use Rattle.hex.proofs.Pairs.{encode_step}
 use Rattle.text_codec.specs.Digits.{bits_value, bits_digit}
-use Rattle.text_codec.proofs.HexLemmas.{Parts, parts}
 
 -- a mask of both halves of a word
 masked : (n a b : ℕ) → b < 256 → bit_and n (a * 256 + b) ≡ bit_and (n / 256) a * 256 + bit_and (n % 256) b
@@ -44,44 +38,13 @@ digits_by_bits n first second =
     rw (carry_bits (n + 1542), high, low) (omega arith)
 
 -- a digit's value is that of its bits
-pub value_of : (digit value : ℕ) → hex_digit_of digit ≡ Some value → value ≡ bits_value digit
+pub value_of : (digit value : ℕ) → hex_digit_value digit ≡ Some value → value ≡ bits_value digit
 value_of digit value is = grind (arith, nat_tests)
 
 -- a value's digit is that of its bits
 pub digit_of : (value : ℕ) → value < 16 → bits_digit value ≡ slice_index lower_digits value
 digit_of value small =
     search (arith, eqb-true (bits_digit value) (slice_index lower_digits value) (agree_below_at (λ v. eqb (bits_digit v) (slice_index lower_digits v)) (λ _. true) 16 value refl small))
-
--- the pair at a place of a text whose digits from there on stand for bytes
-pub pair_at : (text : List ℕ) (i : ℕ) → 2 * i + 1 < length text → bytes_of_hex (drop (2 * i) text) ≡ Some (hex_bytes (drop (2 * i) text)) →
-    Parts (hex_digit_of (slice_index text (2 * i))) (hex_digit_of (slice_index text (2 * i + 1))) (bytes_of_hex (drop (2 * (i + 1)) text)) (hex_bytes (drop (2 * i) text))
-pair_at text i fits is = parts _ _ _ _ (ap bytes_of_hex (sym (drop-pair text i fits)) ∙ is)
-
--- one byte more is decoded
-pub decode_next : (text out : List ℕ) (i byte : ℕ) → 2 * i + 1 < length text → i < length out →
-    bytes_of_hex (drop (2 * i) text) ≡ Some (hex_bytes (drop (2 * i) text)) →
-    byte_of_hex (slice_index text (2 * i)) (slice_index text (2 * i + 1)) ≡ Some byte →
-    hex_bytes text ≡ take i out ++ hex_bytes (drop (2 * i) text) →
-    hex_bytes text ≡ take (i + 1) (slice_set out i byte) ++ hex_bytes (drop (2 * (i + 1)) text)
-decode_next text out i byte fits room is e so_far =
-    let p = pair_at text i fits is in
-    let value : p.high * 16 + p.low ≡ byte = same_Some (p.high * 16 + p.low) byte (rw (p.is_high, p.is_low) at e) in
-    let rest : hex_bytes (drop (2 * (i + 1)) text) ≡ p.rest = rw p.is_rest refl in
-    so_far ∙ ap (λ bytes. take i out ++ bytes) p.all
-    ∙ rw (value, rest, take_more_set out i byte room, append_assoc) refl
-
--- fewer than two digits stand for no bytes
-no_pair : (text : List ℕ) → length text < 2 → hex_bytes text ≡ []
-no_pair [] short = refl
-no_pair (digit ∷ []) short = refl
-no_pair (high ∷ low ∷ rest) short = absurd (omega arith)
-
--- every byte is decoded
-pub decode_end : (text out : List ℕ) (i : ℕ) → length out ≤ i → length out ≡ length text / 2 →
-    hex_bytes text ≡ take i out ++ hex_bytes (drop (2 * i) text) → out ≡ hex_bytes text
-decode_end text out i done half so_far =
-    let left : hex_bytes (drop (2 * i) text) ≡ [] = no_pair (drop (2 * i) text) (omega (arith, length-drop (2 * i) text)) in
-    sym (rw (left, append-nil, take_all i out done) at so_far)
 
 -- the digits of one byte more are written
 pub encode_next : (input output pair : List ℕ) (i : ℕ) → i < length input → 2 * i + 1 < length output → slice_index input i < 256 →
@@ -93,8 +56,3 @@ encode_next input output pair i here fits small is so_far =
     let high : slice_index pair 0 ≡ slice_index lower_digits (byte / 16) = rw is (digit_of (byte / 16) (omega arith)) in
     let low : slice_index pair 1 ≡ slice_index lower_digits (byte % 16) = rw is (digit_of (byte % 16) (omega arith)) in
     encode_step lower_digits input output i _ _ here fits high low so_far
-
--- the digits of every byte are written
-pub encode_end : (input output : List ℕ) (i : ℕ) → length input ≤ i → length output ≡ 2 * length input →
-    take (2 * i) output ++ encode_lower (drop i input) ≡ encode_lower input → output ≡ hex_text input
-encode_end input output i done long so_far = encode_done lower_digits input output i done long so_far ∙ hex_text_is input

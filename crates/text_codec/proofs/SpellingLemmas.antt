@@ -8,7 +8,7 @@ use Rattle.std.proofs.lemmas.Nat.{leading_top}
 use Rattle.std.specs.Fmt.{digit_glyph, digits_onto, digits}
 use Rattle.std.specs.Int.{byte_at, bytes_high_first}
 use Rattle.std.specs.Int.Count.{count_leading_zeros, leading_of_zero}
-use Rattle.own_model.specs.Reply.{hex_text}
+use Rattle.hex.specs.Hex.{encode_lower, encode_with}
 
 -- the digits of a number from the one at a place on, down to the last
 unfoldable pub spelled : ℕ → ℕ → List ℕ
@@ -93,8 +93,8 @@ byte_small : (k n : ℕ) → byte_at k n < 256
 byte_small zero n = omega arith
 byte_small (suc k) n = omega arith
 
-bytes_spelled : (k m n : ℕ) → m ≡ k + k → hex_text (bytes_high_first k n) ≡ spelled m n
-unfolding hex_text spelled
+bytes_spelled : (k m n : ℕ) → m ≡ k + k → encode_lower (bytes_high_first k n) ≡ spelled m n
+unfolding encode_with spelled
 bytes_spelled zero zero n e = refl
 bytes_spelled zero (suc m) n e = absurd (omega (arith, e))
 bytes_spelled (suc k) zero n e = absurd (omega (arith, e))
@@ -136,7 +136,7 @@ unfolding digits
 whole n = refl
 
 -- what the bytes' digits are behind as many as there are zeros in front
-pub digits_behind : (n lead start : ℕ) (text : List ℕ) → n < 2 ^ 64 → lead ≡ count_leading_zeros 64 n → start ≡ min (lead / 4) 15 → text ≡ hex_text (bytes_high_first 8 n) →
+pub digits_behind : (n lead start : ℕ) (text : List ℕ) → n < 2 ^ 64 → lead ≡ count_leading_zeros 64 n → start ≡ min (lead / 4) 15 → text ≡ encode_lower (bytes_high_first 8 n) →
     drop start text ≡ digits 16 false n
 digits_behind n lead start text fits is at written =
     let has = counted n lead start fits is at in

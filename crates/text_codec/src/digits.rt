@@ -2,7 +2,6 @@
 ghost use Rattle.std.specs.Prelude.{◌≡◌, ◌+◌, ◌≤◌, ◌++◌, length, take, drop, decimal, false};
 ghost use Rattle.std.specs.Fmt.{digits};
 
-use crate::hex_pairs::encode_each;
 use itoa::write_digits;
 
 /// The most hexadecimal digits of a number.
@@ -56,8 +55,7 @@ pub fn write_hex(number: u64, text: &mut [u8; MOST_HEX_DIGITS]) -> usize
     ensures start { result ≤ MOST_HEX_DIGITS }
     ensures written { drop result text.new ≡ digits 16 false number }
 {
-    let bytes = number.to_be_bytes();
-    encode_each(&bytes, text);
+    let _ = hex::encode_to_slice(number.to_be_bytes(), text);
     let zeros = number.leading_zeros() as usize / 4;
     zeros.min(MOST_HEX_DIGITS - 1)
 }

@@ -1,43 +1,35 @@
 //! Bytes, and pairs of hexadecimal digits.
-ghost use Rattle.std.specs.Prelude.{◌≡◌, ◌+◌, ◌*◌, ◌/◌, ◌%◌, ◌<◌, ◌≤◌, length, take, drop, Some, IsSome, [], ◌∷◌};
-ghost use Rattle.own_model.specs.Text.{hex_digit_of, byte_of_hex, bytes_of_hex, hex_bytes};
-ghost use Rattle.own_model.specs.Reply.{hex_text};
+ghost use Rattle.std.specs.Prelude.{◌≡◌, ◌+◌, ◌*◌, ◌/◌, ◌%◌, ◌<◌, ◌≤◌, ℕ, length, take, drop, Ok, IsOk, IsSome, [], ◌∷◌};
+ghost use Rattle.std.specs.Result.{ForOk};
+ghost use Rattle.hex.specs.Hex.{decode_of, encode_lower, hex_digit_value, pair_value};
 ghost use Rattle.text_codec.specs.Digits.{bits_value, bits_digit};
 
-/// The bytes that a text of hexadecimal digits stands for, two digits of either case a byte.
+/// Decodes a text of hexadecimal digits of either case, two a byte.
 pub fn decode_hex(hex: &[u8], bytes: &mut [u8])
-    requires hex { bytes_of_hex hex.now ≡ Some (hex_bytes hex.now) }
+    requires hex { IsOk (decode_of hex.now) }
     requires len { length bytes.old ≡ length hex.now / 2 }
-    ensures { bytes.new ≡ hex_bytes hex.now }
+    ensures { decode_of hex.now ≡ Ok bytes.new }
 {
     for i in 0..bytes.len() {
         bytes[i] = byte_of_pair(hex[2 * i], hex[2 * i + 1]);
     }
 }
 
-/// So many of these bytes, from one on.
+/// Decodes a part of such a text: as many bytes as there is room for, from one on.
 pub fn decode_hex_from(hex: &[u8], start: usize, bytes: &mut [u8])
-    requires hex { bytes_of_hex hex.now ≡ Some (hex_bytes hex.now) }
+    requires hex { IsOk (decode_of hex.now) }
     requires range { start + length bytes.old ≤ length hex.now / 2 }
-    ensures { bytes.new ≡ take (length bytes.old) (drop start (hex_bytes hex.now)) }
+    ensures { ForOk (decode_of hex.now)
+        (λ all. bytes.new ≡ take (length bytes.old) (drop start all)) }
 {
     let end = start + bytes.len();
     decode_hex(&hex[2 * start..2 * end], bytes);
 }
 
-/// Bytes as hexadecimal digits of small letters, two a byte.
+/// Encodes bytes as hexadecimal digits of small letters, two a byte.
 pub fn encode_hex(bytes: &[u8], hex: &mut [u8])
     requires { length hex.old ≡ 2 * length bytes.now }
-    ensures { hex.new ≡ hex_text bytes.now }
-{
-    encode_each(bytes, hex);
-}
-
-/// The same, for who knows how many they are and takes it in.
-#[inline(always)]
-pub(crate) fn encode_each(bytes: &[u8], hex: &mut [u8])
-    requires { length hex.old ≡ 2 * length bytes.now }
-    ensures { hex.new ≡ hex_text bytes.now }
+    ensures { hex.new ≡ encode_lower bytes.now }
 {
     for i in 0..bytes.len() {
         let [high, low] = pair_of_byte(bytes[i]);
@@ -50,9 +42,9 @@ pub(crate) fn encode_each(bytes: &[u8], hex: &mut [u8])
 /// loop over pairs is one over vectors.
 #[inline]
 fn byte_of_pair(high: u8, low: u8) -> u8
-    requires high { IsSome (hex_digit_of high) }
-    requires low { IsSome (hex_digit_of low) }
-    ensures { byte_of_hex high low ≡ Some result }
+    requires high { IsSome (hex_digit_value high) }
+    requires low { IsSome (hex_digit_value low) }
+    ensures { (i : ℕ) → pair_value high low i ≡ Ok result }
 {
     packed(values(u16::from_le_bytes([high, low])))
 }

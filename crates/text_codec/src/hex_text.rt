@@ -1,14 +1,15 @@
 //! Texts of hexadecimal digits.
-ghost use Rattle.std.specs.Prelude.{◌≡◌, ◌==◌, is_some, IfSome, IsSome};
+ghost use Rattle.std.specs.Prelude.{◌≡◌, ◌==◌, IfSome, IsSome};
 ghost use Rattle.std.specs.Option.{option_map, option_copied};
 ghost use Rattle.std.specs.List.{list_all};
-ghost use Rattle.own_model.specs.Text.{hex_digit_of, bytes_of_hex, hex_bytes};
+ghost use Rattle.std.specs.Result.{is_ok};
+ghost use Rattle.hex.specs.Hex.{decode_of, hex_digit_value, is_hex_digit};
+ghost use Rattle.own_model.specs.Text.{bytes_of_hex, hex_bytes};
 ghost use Rattle.own_model.specs.Call.{some_bytes_of_hex};
-ghost use Rattle.text_codec.specs.Digits.{is_hex_digit};
 
 /// A text as it stands, where it is the hexadecimal digits, of either case, of one or more bytes: an even number of
 /// them, and at least two. `None` where it isn't.
-#[tactic(auto, using(crate::proofs::HexLemmas::bytes_found, crate::proofs::HexLemmas::no_bytes_found))]
+#[tactic(auto, using(crate::proofs::HexLemmas::read_bytes))]
 pub fn read_hex(text: &[u8]) -> Option<&[u8]>
     ensures bytes { option_map hex_bytes (option_copied result) ≡ some_bytes_of_hex text.now }
     ensures hex { IfSome result (λ hex. IsSome (bytes_of_hex hex.now)) }
@@ -23,7 +24,7 @@ pub fn read_hex(text: &[u8]) -> Option<&[u8]>
 /// Whether a text is the hexadecimal digits of bytes, or is empty.
 #[tactic(auto, using(crate::proofs::HexLemmas::even_digits))]
 fn is_hex(text: &[u8]) -> bool
-    ensures { result ≡ is_some (bytes_of_hex text.now) }
+    ensures { result ≡ is_ok (decode_of text.now) }
 {
     text.len() % 2 == 0 && has_hex_digits(text)
 }
@@ -65,7 +66,7 @@ static VALUES: [u8; 256] = *b"\
 /// comparisons.
 #[inline]
 pub(crate) fn hex_digit(byte: u8) -> Option<u8>
-    ensures { result ≡ hex_digit_of byte }
+    ensures { result ≡ hex_digit_value byte }
 {
     let sign = VALUES[byte as usize];
     if sign == b'@' { None } else { Some(sign & 15) }

@@ -143,6 +143,10 @@ diff =
     with_rules (codes "diff")
     (flag_rule (codes "json") ∷ file_rule (codes "before") ∷ file_rule (codes "after") ∷ word_rule (codes "scenario") ∷ [])
 
+-- the command that prints a page of help
+abbrev pub help : Shape
+help = with_rules (codes "help") (word_rule (codes "topic") ∷ [])
+
 -- what documents of JSON are asked for by
 abbrev pub json_flag : List Rule
 json_flag = flag_rule (codes "json") ∷ []
@@ -159,7 +163,7 @@ abbrev pub program : App
 program =
     with_commands bare
     (run ∷ record_shape ∷ check ∷ tree ∷ reach ∷ route ∷ of_scenario (codes "trace") json_flag
-    ∷ of_scenario (codes "accounts") json_flag ∷ alone ∷ least ∷ test ∷ diff ∷ [])
+    ∷ of_scenario (codes "accounts") json_flag ∷ alone ∷ least ∷ test ∷ diff ∷ help ∷ [])
 
 -- a text says that a flag was used
 abbrev pub is_true : Option Text → Bool
@@ -248,10 +252,12 @@ Asks (command.Test asked) name rows = (name ≡ codes "test")
     × (asked.json ≡ is_set (codes "json") rows)
     × IsColor asked.color (first_or (codes "auto") (codes "color") rows)
     × (map (λ t. t.now) asked.paths.items ≡ unwrap_or (all_of (codes "path") rows) [])
+Asks (command.Help topic) name rows = (name ≡ codes "help")
+    × (option_map (λ t. t.now) topic ≡ first_of (codes "topic") rows)
 
 -- the names of all commands
 abbrev pub names : List Text
-names = codes "run" ∷ codes "record" ∷ codes "check" ∷ codes "tree" ∷ codes "reach" ∷ codes "route" ∷ codes "trace" ∷ codes "accounts" ∷ codes "alone" ∷ codes "least" ∷ codes "test" ∷ codes "diff" ∷ []
+names = codes "run" ∷ codes "record" ∷ codes "check" ∷ codes "tree" ∷ codes "reach" ∷ codes "route" ∷ codes "trace" ∷ codes "accounts" ∷ codes "alone" ∷ codes "least" ∷ codes "test" ∷ codes "diff" ∷ codes "help" ∷ []
 
 -- a command, if there is one, is what these rows ask for behind this name
 abbrev pub IsCommand : Option Command → Text → List Row → Type 0

@@ -58,6 +58,8 @@ pub enum Command<'a> {
     Diff(Diff<'a>),
     /// Runs scenarios as tests.
     Test(Test<'a>),
+    /// Prints a page of help: on a command or on calls, or without a topic on the program.
+    Help(Option<&'a str>),
 }
 
 /// How a scenario is answered. Paths are as they stand, and `-` is standard input.
@@ -324,6 +326,7 @@ impl<'a> Command<'a> {
             "least" => Some(Command::least(found)),
             "alone" => Some(Command::alone(found)),
             "diff" => Some(Command::diff(found)),
+            "help" => Some(Command::help(found)),
             _ => None,
         }
     }
@@ -437,6 +440,13 @@ impl<'a> Command<'a> {
             name: word(found, "name"),
             scenario: found.get_str("scenario"),
         })
+    }
+
+    // The command that prints a page of help.
+    fn help(found: &ArgMatches<'a>) -> Command<'a>
+        ensures { Asks result (codes "help") (rows_of (found_of found.now)) }
+    {
+        Command::Help(found.get_str("topic"))
     }
 
     // The command that tells what a change changes.

@@ -128,7 +128,7 @@ pub fn needs_command(alloc: Global) -> Result<Error, Error> {
     refused(
         alloc,
         ErrorKind::MissingSubcommand,
-        "'nethrywel' requires a command: run, record, check, tree, reach, route, trace, accounts, alone, least, test or diff",
+        "'nethrywel' requires a command: run, record, check, tree, reach, route, trace, accounts, alone, least, test, diff or help",
     )
 }
 

@@ -1,18 +1,17 @@
 //! The texts of the help.
 
-/// The version that is told.
+/// The program's version.
 pub(crate) const VERSION: &str = "1.0";
 
 /// What the program is.
 pub(crate) const ABOUT: &str =
-    "A workbench for machines whose components trade quotas of RAM and capabilities.";
+    "Simulates machines whose components pay for each other's services with quotas of RAM and capabilities.";
 
-/// What a first scenario needs: names, calls, services and statuses.
+/// What a first scenario needs, and the exit statuses.
 pub(crate) const FIRST_STEPS: &str =
-    "A scenario has a call a line: NAME CALL. On the built-in machine NAME is alice or
-bob, both with 64K and 16 capabilities, and log and files are its servers. What
-follows a # is a comment, and what follows => is the reply that is expected: as it
-stands, granted, refused, or with a * for a word or for a number within one:
+    "A scenario has one call per line: NAME CALL. The built-in machine has the scripts
+alice and bob, each with 64K of RAM and 16 capabilities, and the servers log and
+files. A # begins a comment. A => begins the expected reply:
 
   alice alloc 4K => cap 1
   alice open File_system ram_quota=24K, cap_quota=4 => cap 2
@@ -22,65 +21,130 @@ stands, granted, refused, or with a * for a word or for a number within one:
 
   printf 'alice alloc 4K => cap 1\\nalice quota\\n' | nethrywel run -
 
-CALL is one of
-  alloc N       capalloc      attach S        new N     open SERVICE ARGS
-  free S        capfree S     attach_at S A   del A     upgrade S ARGS
-  peek A LEN    quota         detach A        snew N    call S REQUEST
-  poke A HEX    exit          reserve         sdel A    close S
-  request ARGS  yield ARGS
-N is bytes, also as 4K or 2M; S a selector as a reply told it; A an address as
-0x10000000; HEX hexadecimal digits or \"text\". ARGS is ram_quota=8K, cap_quota=3 and,
-at will, label=\"..\". SERVICE is LOG or File_system.
-  LOG           WRITE \"text\\n\"
-  File_system   CREATE F, WRITE F O \"text\", READ F O LEN, SIZE F, DROP F, STAT,
-                and more
+`nethrywel help calls` lists the calls, the requests of sessions and the expected
+replies. `nethrywel help COMMAND` lists the options of a command.
 
-Status: 0; 1 a fault of the run; 2 the command line or the start list; 3 a reply
-that isn't as expected, or a line that is no call. With --strict a finding is 2.
-docs/FORMATS.md has all forms of lines, replies and start lists.";
+Exit status:
+  0    success, and nothing to report
+  1    a failed read or write, too many lines, or no memory during a run
+  2    a refused command line, file or start list; with --strict also a finding
+  3    a reply that isn't as expected, a line that is no call, a failed test, a
+       broken policy, a denied request, or an unknown component
+  4    `diff` found a difference
+  141  the reader of the output closed it
+docs/reference/ has the formats of scenarios, start lists, policies and output.";
 
-pub(crate) const RUN: &str =
-    "Answer a scenario, and tell each line that isn't answered as it expects";
+/// The page on calls, requests and expected replies.
+pub const CALLS: &str =
+    "A line of a scenario is NAME CALL, or NAME CALL => REPLY with the expected reply.
+NAME is the path of a script, as alice or acme/web.
 
-pub(crate) const RECORD: &str =
-    "Write a scenario with each call's reply behind it, as what is expected";
+Calls:
+  alloc N            Allocate a dataspace of N bytes; reply: cap S
+  free S             Free a dataspace
+  attach S           Attach a dataspace at the lowest free address; reply: at A
+  attach_at S A      Attach a dataspace at an address; reply: at A
+  detach A           Detach the region that begins at A
+  peek A LEN         Read LEN bytes, 1 to 1024; reply: data HEX
+  poke A HEX         Write bytes: hexadecimal digits, or \"text\"
+  capalloc           Allocate an RPC object, one capability; reply: cap S
+  capfree S          Free an RPC object
+  new N              Allocate a block of N bytes on the heap; reply: at A
+  del A              Free a block of the heap
+  snew N             Allocate a block of N bytes on the sliced heap; reply: at A
+  sdel A             Free a block of the sliced heap
+  open SERVICE ARGS  Open a session and donate quota to it; reply: cap S
+  upgrade S ARGS     Donate more quota to a session
+  call S REQUEST     Send a request to a session; reply: OK .., or ERR ..
+  close S            Close a session; its donation returns
+  quota              Print use and limits; reply: ram U/L caps U/L
+  reserve            Print the reserve; reply: ram R caps C
+  request ARGS       Move quota from the reserve to the account
+  yield ARGS         Move unused quota from the account to the reserve
+  exit               Exit; all quota returns to the parent init
+N and LEN are bytes: 4096, 4K or 2M. S is a selector from a reply. A is an address:
+0x10000000. ARGS is ram_quota=8K, cap_quota=3, and optionally label=\"..\".
 
-pub(crate) const ANEW: &str = "Write each reply anew, also where one is expected";
+Requests of a LOG session:
+  WRITE HEX            Write bytes; each finished line is printed
+Requests of a File_system session:
+  CREATE F             Create an empty file
+  WRITE F O HEX        Write bytes at offset O
+  READ F O LEN         Read up to LEN bytes at offset O; reply: OK HEX
+  SIZE F               Return the size; reply: OK n
+  CLEAR F              Remove the contents
+  DROP F               Remove the file
+  NAME I               Return the name of file I in order of creation, from 0
+  STAT                 Return use and limits of the session
+  BUFFER N             Share a buffer of N bytes; reply: OK cap S
+  UNBUFFER             Remove the buffer
+  PUT F O B LEN        Write LEN bytes at B of the buffer at offset O of the file
+  GET F O B LEN        Read up to LEN bytes at offset O into B of the buffer
+HEX is hexadecimal digits, or \"text\" as the last argument of WRITE.
 
-pub(crate) const IN_PLACE: &str = "Write it in place of SCENARIO, by a new file beside it";
+Expected replies:
+  granted              any reply except a refusal and ERR ..
+  refused              a refusal, or ERR ..
+  *                    any reply
+  ram */65536 caps *   a * replaces an argument, or a number within one
+  data \"hello\"         the bytes of a text
+  cap $page            any selector; $page denotes it from then on
+  => [alice] text      on a line of its own: the next call prints this log line
 
-pub(crate) const CHECK: &str = "Tell what is wrong with a start list, and where";
+Other lines:
+  # text               a comment
+  @set NAME VALUE      $NAME denotes VALUE from then on
+  @repeat N as I       repeat the lines up to @end N times; I counts from 0
+  @end                 end the lines that @repeat repeats
+  !NAME CALL           a line of the engine's grammar, byte for byte
 
-pub(crate) const TREE: &str =
-    "Show a start list's components, their budgets, and where their sessions lead";
+Refusals:
+  Bad_line Unknown_component Not_a_script Gone Bad_args Invalid_size Invalid_cap
+  Invalid_session Out_of_ram Out_of_caps Too_many_chunks Too_many_regions
+  Region_conflict Page_fault Service_denied Insufficient_ram_quota
+  Insufficient_cap_quota
+docs/reference/calls.md states for each call when it is refused.
+";
 
-pub(crate) const REACH: &str = "Show which scripts reach which servers, always or with which label";
+pub(crate) const RUN: &str = "Run a scenario and report each reply that isn't as expected";
 
-pub(crate) const ROUTE: &str =
-    "Tell where one wish for a session leads, and by which rules, list by list";
+pub(crate) const RECORD: &str = "Write a scenario with each call's reply as its expected reply";
 
-pub(crate) const TRACE: &str = "Write a table (CSV) of all lines with what each left in use";
+pub(crate) const ANEW: &str = "Replace expected replies too";
 
-pub(crate) const ACCOUNTS: &str =
-    "Tell all accounts after a scenario, with each need and peak and each session's server";
+pub(crate) const IN_PLACE: &str = "Replace the file SCENARIO, by way of a new file in its folder";
+
+pub(crate) const CHECK: &str = "Validate a start list, and check it against a policy";
+
+pub(crate) const TREE: &str = "Show the components of a start list, their budgets and their routes";
+
+pub(crate) const REACH: &str = "Show which scripts reach which servers, and with which labels";
+
+pub(crate) const ROUTE: &str = "Resolve one session request, and show the rules that decide it";
+
+pub(crate) const TRACE: &str = "Write a table (CSV) of all calls with use and limits after each";
+
+pub(crate) const ACCOUNTS: &str = "Show all accounts after a scenario, with needs and peaks";
 
 pub(crate) const ALONE: &str =
-    "Show side by side what NAME, or with --all each script, is told among the others and alone";
+    "Compare the replies to NAME, or with --all to each script, with a run of its lines alone";
 
-pub(crate) const TEST: &str =
-    "Run each scenario of files and folders, and tell whether it is answered as it expects (TAP 13)";
+pub(crate) const TEST: &str = "Run scenarios as tests and report the results (TAP 13)";
 
 pub(crate) const DIFF: &str =
-    "Tell what a change of a start list changes: entries, budgets, who reaches whom, and replies";
+    "Compare two start lists: entries, budgets, who reaches whom, and replies";
 
-pub(crate) const LEAST: &str =
-    "Tell which budgets serve each account of a scenario, all that do, and the least";
+pub(crate) const LEAST: &str = "Compute the sufficient and the minimum budgets of a scenario";
 
-pub(crate) const AS_DONATED: &str = "Leave what the scenario donates for sessions as it is";
+pub(crate) const HELP: &str = "Print help on calls, or on a command";
 
-pub(crate) const LEAST_LIST: &str = "Write the start list with the least budgets in place";
+pub(crate) const TOPIC: &str = "calls, or a command; without it this page";
 
-pub(crate) const LEAST_SCENARIO: &str = "Write the scenario with the least donations in place";
+pub(crate) const AS_DONATED: &str = "Keep the donations of the scenario";
+
+pub(crate) const LEAST_LIST: &str = "Write the start list with the minimum budgets";
+
+pub(crate) const LEAST_SCENARIO: &str = "Write the scenario with the minimum donations";
 
 pub(crate) const SCENARIO: &str = "The path of a scenario; - is standard input";
 
@@ -88,42 +152,41 @@ pub(crate) const LIST: &str = "The path of a start list in JSON; - is standard i
 
 pub(crate) const MACHINE: &str = "A start list in JSON; without it the built-in machine";
 
-pub(crate) const ONLY: &str = "Answer the lines of this component alone";
+pub(crate) const ONLY: &str = "Run the lines of this component alone";
 
 pub(crate) const WITH_ACCOUNTS: &str = "Print all accounts after the last reply";
 
-pub(crate) const NUMBERS: &str = "Print the number of its line before what each line is told";
+pub(crate) const NUMBERS: &str = "Print the line number before each reply";
 
 pub(crate) const SET: &str =
-    "NAME stands for VALUE: $NAME in a scenario, ${NAME} in a start list; may be given again";
+    "Let NAME denote VALUE: $NAME in a scenario, ${NAME} in a start list; repeatable";
 
-pub(crate) const COLOR: &str =
-    "When refusals and complaints are coloured: auto (on a terminal), always or never";
+pub(crate) const COLOR: &str = "When to colour the output: auto (on a terminal), always or never";
 
-pub(crate) const STRICT: &str = "End with status 2 where there is a finding";
+pub(crate) const STRICT: &str = "Exit with status 2 if there is a finding";
 
-pub(crate) const POLICY: &str = "A policy: lines that say which scripts may reach which servers";
+pub(crate) const POLICY: &str = "A policy: lines that state which scripts may reach which servers";
 
-pub(crate) const DOT: &str = "Write a graph for Graphviz in place of the text";
+pub(crate) const DOT: &str = "Write a graph for Graphviz instead of text";
 
-pub(crate) const CSV: &str = "Write comma-separated values in place of the table";
+pub(crate) const CSV: &str = "Write comma-separated values instead of a table";
 
 pub(crate) const FROM: &str =
-    "Only scripts of this path, each way told; * as its last name stands for all of that list";
+    "Show only scripts of this path, with each route; a last name of * matches all of that list";
 
-pub(crate) const TO: &str = "Only servers of this path, each way told";
+pub(crate) const TO: &str = "Show only servers of this path, with each route";
 
-pub(crate) const CLIENT: &str = "The script that wishes, by its path";
+pub(crate) const CLIENT: &str = "The path of the script that requests the session";
 
 pub(crate) const SERVICE: &str = "The service: LOG or File_system";
 
-pub(crate) const ARGS: &str = "The arguments of the session; without them the label is empty";
+pub(crate) const ARGS: &str = "The session's arguments; without them the label is empty";
 
-pub(crate) const NAME: &str = "The component that is looked at; with --all the scenario";
+pub(crate) const NAME: &str = "The path of the component; with --all the scenario";
 
-pub(crate) const ALL: &str = "Look at each script of the machine in turn";
+pub(crate) const ALL: &str = "Compare each script of the machine in turn";
 
-pub(crate) const SUMMARY: &str = "With --all, tell a line each";
+pub(crate) const SUMMARY: &str = "With --all, print one line per script";
 
 pub(crate) const JSON: &str = "Write JSON for programs";
 
@@ -131,15 +194,15 @@ pub(crate) const BEFORE: &str = "The start list before the change, in JSON";
 
 pub(crate) const AFTER: &str = "The start list after the change, in JSON";
 
-pub(crate) const COMPARED: &str = "A scenario whose replies are compared, line by line";
+pub(crate) const COMPARED: &str = "A scenario whose replies are compared line by line";
 
 pub(crate) const PATHS: &str =
-    "A scenario, or a folder: each NAME.scenario in it and below, on NAME.json and held to NAME.policy beside it";
+    "A scenario, or a folder: each NAME.scenario in it, on NAME.json and checked against NAME.policy if these exist";
 
 pub(crate) const OTHER_MACHINE: &str =
-    "A start list in JSON for scenarios without one beside them, in place of the built-in machine";
+    "A start list in JSON for scenarios without their own, instead of the built-in machine";
 
 pub(crate) const COVERAGE: &str =
-    "Tell which rules decide a wish, and which refusals and errors are met, and which not";
+    "Report which rules decide a request, and which refusals and errors occur";
 
-pub(crate) const JUNIT: &str = "Write all results to FILE, as JUnit's XML";
+pub(crate) const JUNIT: &str = "Write the results to FILE as JUnit's XML";

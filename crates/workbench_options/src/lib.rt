@@ -11,3 +11,4 @@ pub use command::{
     Tree,
 };
 pub use commands::{alone_takes_a_name_or_all, color_is_one_of_three, needs_command, words_given};
+pub use help::CALLS;

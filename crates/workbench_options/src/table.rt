@@ -167,4 +167,9 @@ pub(crate) const COMMANDS: &[Form<'static>] = &[
             Word::Optional("scenario", "SCENARIO", help::COMPARED),
         ],
     },
+    Form {
+        name: "help",
+        about: help::HELP,
+        words: &[Word::Optional("topic", "TOPIC", help::TOPIC)],
+    },
 ];

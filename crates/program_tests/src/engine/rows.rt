@@ -73,12 +73,21 @@ fn check_all<R: Abort + AllocGlobal>(rt: &R, rows: &[Row<'_>]) {
     }
 }
 
+/// Returns all worked rows, a table for each area.
+pub fn all_rows() -> [&'static [Row<'static>]; 4] {
+    [
+        memory::rows(),
+        sessions::rows(),
+        machines::rows(),
+        many::rows(),
+    ]
+}
+
 #[test]
 fn worked_rows(rt: HostRuntime) {
-    check_all(&rt, memory::rows());
-    check_all(&rt, sessions::rows());
-    check_all(&rt, machines::rows());
-    check_all(&rt, many::rows());
+    for rows in all_rows() {
+        check_all(&rt, rows);
+    }
 }
 
 /// A text with so many equal pieces in its middle.

@@ -46,10 +46,10 @@ fn is_read(alloc: Global, row: &Words) -> bool {
     let (words, check, only, path) = row;
     match Options::read(alloc, words) {
         Ok(options) => {
-            options.check == *check
-                && options.only == *only
-                && options.path == *path
-                && !options.accounts
+            options.check() == *check
+                && options.only() == *only
+                && options.path() == *path
+                && !options.accounts()
         }
         Err(_) => false,
     }
@@ -70,7 +70,7 @@ fn words_that_are_read(rt: HostRuntime) {
 // Whether words ask for a check of `a.json`, or the kind of the error.
 fn asks_for_a_check(alloc: Global, words: &[&str]) -> Result<bool, ErrorKind> {
     match Options::read(alloc, words) {
-        Ok(options) => Ok(options.check && options.path == Some("a.json")),
+        Ok(options) => Ok(options.check() && options.path() == Some("a.json")),
         Err(error) => Err(error.kind()),
     }
 }

@@ -14,5 +14,5 @@ loop-at-preserved c = record {
       c.loop-at.invariant.put
       ∙ put_step c.loop-at.line c.args.text.now c.loop-at.at c.sign_at-sign.result c.loop-at-test.true (c.sign_at-sign.ensures.value ∙ ap sign_at c.behind.ensures)
       c.sign_at-sign.ensures.some
-      ∙ ap (λ line. added line (hex_text (bytes_from 0 (drop (c.loop-at.at + c.sign_at-sign.result.size) c.args.text.now)))) (sym c.put_hex.ensures);
+      ∙ ap (λ line. added line (hex_text (bytes_from 0 (drop (c.loop-at.at + c.sign_at-sign.result.size) c.args.text.now)))) (sym (c.put.ensures ∙ ap (added c.loop-at.line) c.digits_of.ensures));
 }

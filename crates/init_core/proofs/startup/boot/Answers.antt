@@ -1,12 +1,14 @@
 -- Before the first entry nothing has started, and after the last it is the list's machine.
 use Rattle.std.proofs.Common.{◌≡◌, ◌∷◌, ◌++◌, [], List, length, sym, ◌∙◌, ap, subst, arith}
 use Rattle.trade_base.specs.declared.id.AccountId.{AccountId}
-use Rattle.own_model.specs.Listed.{Listed, route_of, start_list_of}
+use Rattle.own_model.specs.Listed.{start_list_of}
 use Rattle.own_model.specs.World.{IsBalancedFor}
 use Rattle.own_model.proofs.StartLemmas.{start_balanced_for}
 use Rattle.pd_core.specs.Fresh.{started_world}
 use Rattle.pd_core.specs.SessionCalls.{Agrees}
-use Rattle.init_core.specs.Boot.{places_at}
+use Rattle.init_core.specs.Rows.{Row, leads_in, places_in}
+use Rattle.pd_core.specs.Core.{Places}
+use Rattle.init_core.proofs.RowLemmas.{places_listed}
 use Rattle.init_core.proofs.BootedLemmas.{nothing_yet, boots, booted, agrees, all_fresh}
 use Rattle.init_core.proofs.startup.boot.Goals as goal
 
@@ -30,13 +32,13 @@ from_parts-requires-clause-fresh c =
 pub from_parts-requires-clause-leads : goal.from_parts-requires-clause-leads
 from_parts-requires-clause-leads c =
     let all : c.loop-place.place ≡ length c.args.list.now.entries = omega (arith, c.loop-place.auto.place-end, c.loop-place-test.false, c.count-place-end.ensures.value) in
-    subst (λ (list : Listed). Agrees (places_at list) (route_of list) c.loop-place.memory c.loop-place.components.items) (sym c.new.ensures) (agrees c.loop-place.invariant all)
+    subst (λ (rows : List Row). Agrees (places_in rows) (leads_in rows) c.loop-place.memory c.loop-place.components.items) (sym c.in_ok-routes.ensures) (agrees c.loop-place.invariant all)
 
 pub returns-clause-started : goal.returns-clause-started
 returns-clause-started c =
     let all : c.loop-place.place ≡ length c.args.list.now.entries = omega (arith, c.loop-place.auto.place-end, c.loop-place-test.false, c.count-place-end.ensures.value) in
-    c.from_parts.ensures.started ∙ ap (λ (list : Listed). started_world (places_at list) c.loop-place.memory c.loop-place.components.items) c.new.ensures
-    ∙ booted c.loop-place.invariant all
+    c.from_parts.ensures.started ∙ ap (λ (rows : List Row). started_world (places_in rows) c.loop-place.memory c.loop-place.components.items) c.in_ok-routes.ensures
+    ∙ ap (λ (places : Places). started_world places c.loop-place.memory c.loop-place.components.items) (places_listed c.args.list.now) ∙ booted c.loop-place.invariant all
 
 pub returns-clause-covered : goal.returns-clause-covered
 returns-clause-covered c =

@@ -1,7 +1,7 @@
 -- All bytes so far are digits, or one is past them.
 use Rattle.std.proofs.Common.{◌≡◌, take, nat_eq}
 use Rattle.std.specs.List.{list_all}
-use Rattle.text_codec.specs.Digits.{is_hex_digit}
+use Rattle.hex.specs.Hex.{is_hex_digit}
 use Rattle.text_codec.proofs.hex_text.has_hex_digits.Given as goal
 
 abbrev pub invariant-loop-byte : goal.invariant-loop-byte

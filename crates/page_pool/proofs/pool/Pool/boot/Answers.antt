@@ -4,11 +4,11 @@ use Rattle.page_pool.specs.Pages.{free_count}
 use Rattle.page_pool.proofs.PoolLemmas.{fresh_pool, fresh_view, fresh_count}
 use Rattle.page_pool.proofs.pool.Pool.boot.Goals as goal
 
-pub invariant_of-result : goal.invariant_of-result
-invariant_of-result c = fresh_pool _ _ _ c.in_ok-bytes.ensures.none c.requires (sym c.in_ok-bytes.ensures.room)
+pub invariant_of-result-in-Some : goal.invariant_of-result-in-Some
+invariant_of-result-in-Some c = let made = c.in-Some.ensures in fresh_pool _ _ _ made.2 c.requires (sym made.0)
 
-pub returns-clause-fresh : goal.returns-clause-fresh
-returns-clause-fresh c = fresh_view _ c.args.pages c.in_ok-bytes.ensures.none
+pub returns-in-Some-clause-fresh : goal.returns-in-Some-clause-fresh
+returns-in-Some-clause-fresh c = let made = c.in-Some.ensures in fresh_view _ c.args.pages made.2
 
-pub returns-clause-count : goal.returns-clause-count
-returns-clause-count c = ap free_count (fresh_view _ c.args.pages c.in_ok-bytes.ensures.none) ∙ fresh_count c.args.pages
+pub returns-in-Some-clause-count : goal.returns-in-Some-clause-count
+returns-in-Some-clause-count c = let made = c.in-Some.ensures in ap free_count (fresh_view _ c.args.pages made.2) ∙ fresh_count c.args.pages

@@ -10,7 +10,8 @@ push_reserved-requires c =
     let long = length-rows c.self.inside.kept.items c.self.inside.places.items in
     let count : length c.self.inside.free.items ≡ vec_len c.self.inside.free = search rules in
     let counted = c.self.invariant.counted in
-    let roomy = c.self.invariant.roomy in
+    let within = c.self.invariant.within in
+    let roomy = c.self.invariant.free_roomy in
     omega arith
 
 pub returns-clause-items : goal.returns-clause-items

@@ -1,0 +1,96 @@
+//! Resolves the rules of a start list: for each service, the server that a rule leads to.
+ghost use Rattle.std.specs.Prelude.{◌≡◌, ◌++◌, IfOk, OnOk};
+ghost use Rattle.own_model.specs.Listed.{lead_of, lead_to, lead_without, own_rules, own_rules_asking, server_at, way_to};
+ghost use Rattle.start_lists.specs.View.{model_target};
+ghost use Rattle.init_core.specs.Rows.{model_lead};
+
+use crate::rule::{Lead, ResolvedRule, ServerAt, ServiceTest};
+use routes::target_child;
+use start_lists::{Entry, Rule, StartList, Target};
+use std::alloc::{AllocError, Global};
+use trade_base::SERVICES;
+
+/// Resolves rules of the list of an init, by its number.
+pub(crate) fn rules_of(
+    alloc: Global,
+    list: &StartList,
+    init: usize,
+    rules: &[Rule],
+) -> Result<Vec<ResolvedRule>, AllocError>
+    ensures { IfOk result
+        (λ resolved. resolved.items ≡ own_rules list.now.entries init rules.now) }
+{
+    let mut resolved = Vec::new(alloc);
+    for rule in rules {
+        add_rule(&mut resolved, alloc, list, init, rule)?;
+    }
+    Ok(resolved)
+}
+
+/// Adds what a rule comes to: one rule if it asks for a service, and else one for each service that there is and one for every other.
+fn add_rule(
+    resolved: &mut Vec<ResolvedRule>,
+    alloc: Global,
+    list: &StartList,
+    init: usize,
+    rule: &Rule,
+) -> Result<(), AllocError>
+    ensures { OnOk result
+        (resolved.new.items
+        ≡ resolved.old.items
+        ++ own_rules_asking list.now.entries init rule.now rule.now.service) }
+{
+    match rule.service() {
+        Some(service) => {
+            let to = lead_for(list, init, rule.target(), service.as_bytes());
+            resolved.push(ResolvedRule::new(alloc, rule, ServiceTest::of_name(service), to)?)?;
+        }
+        None => {
+            for service in SERVICES {
+                let to = lead_for(list, init, rule.target(), service.name().as_bytes());
+                resolved.push(ResolvedRule::new(alloc, rule, ServiceTest::Known(service), to)?)?;
+            }
+            let to = lead_without(rule.target());
+            resolved.push(ResolvedRule::new(alloc, rule, ServiceTest::Any, to)?)?;
+        }
+    }
+    Ok(())
+}
+
+/// Returns where a target in the list of an init leads for a service.
+fn lead_for(list: &StartList, init: usize, target: &Target, service: &[u8]) -> Lead
+    ensures { model_lead result
+        ≡ lead_of list.now.entries
+        (way_to list.now.entries init (model_target target.now) service.now) }
+{
+    match target {
+        Target::Parent => Lead::Outward,
+        Target::Child(_) | Target::AnyChild => match target_child(list, init, target, service) {
+            Some(place) => lead_to(list.entries(), place),
+            None => Lead::Nowhere,
+        },
+    }
+}
+
+/// Returns where a target leads for a service that no child provides.
+fn lead_without(target: &Target) -> Lead
+    ensures { model_lead result ≡ lead_without (model_target target.now) }
+{
+    match target {
+        Target::Parent => Lead::Outward,
+        Target::Child(_) | Target::AnyChild => Lead::Nowhere,
+    }
+}
+
+/// Returns the lead to the child at a place, if it is a server.
+fn lead_to(entries: &[Entry], place: usize) -> Lead
+    ensures { model_lead result ≡ lead_to (server_at entries.now place) }
+{
+    match entries.get(place) {
+        Some(entry) => match entry.binary().service() {
+            Some(kind) => Lead::To(ServerAt { kind, place }),
+            None => Lead::Nowhere,
+        },
+        None => Lead::Nowhere,
+    }
+}
