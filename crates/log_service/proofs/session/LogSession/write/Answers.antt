@@ -18,8 +18,17 @@ write_bytes-requires c =
     let total = hex_bytes c.args.hex.now in
     let is = subst (λ session. IsPartial session.partial) c.self.view_is c.self.invariant in
     let added = c.loop-done.invariant.written.added in
-    omega (arith, c.decode_hex_from.auto.bytes, c.min.ensures, length-take-le c.min.result c.loop-done.buffer, length-take-le c.loop-done.done total,
-    bytes_of_digits c.args.hex.now total c.requires.hex, c.requires.room, is, added)
+    omega (
+      arith,
+      c.decode_hex_from.auto.bytes,
+      c.min.ensures,
+      length-take-le c.min.result c.loop-done.buffer,
+      length-take-le c.loop-done.done total,
+      bytes_of_digits c.args.hex.now total c.requires.hex,
+      c.requires.room,
+      is,
+      added,
+    )
 
 pub loop-done-preserved : goal.loop-done-preserved
 loop-done-preserved c =
@@ -29,7 +38,7 @@ loop-done-preserved c =
       partial = partial_after _ l.partial c.write_bytes.ensures;
       within = omega (arith, c.decode_hex_from.auto.bytes, c.min.ensures, length-take-le c.min.result c.loop-done.buffer);
       written = rw (taken_next c.loop-done.done _ (hex_bytes c.args.hex.now) c.decode_hex_from.new.bytes
-      (c.decode_hex_from.ensures (hex_bytes c.args.hex.now) (decoded_bytes c.args.hex.now (hex_bytes c.args.hex.now) c.requires.hex)))
+          (c.decode_hex_from.ensures (hex_bytes c.args.hex.now) (decoded_bytes c.args.hex.now (hex_bytes c.args.hex.now) c.requires.hex)))
           (writes_then _ _ _ _ _ _ _ _ is l.written c.write_bytes.ensures);
     }
 
