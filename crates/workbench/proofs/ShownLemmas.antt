@@ -1,10 +1,13 @@
 -- The bytes that digits stand for, one after another.
-use Rattle.std.proofs.Common.{◌≡◌, ℕ, ◌+◌, ◌*◌, ◌/◌, ◌<◌, ◌&&◌, ◌||◌, Bool, true, false, cond, List, [], ◌∷◌, ◌++◌, length, take, drop, get_or, arith, refl, sym, ◌∙◌, ap, append-nil, suc, Option, Some, None}
+use Rattle.std.proofs.Common.{◌≡◌, ℕ, ◌+◌, ◌*◌, ◌/◌, ◌<◌, ◌&&◌, ◌||◌, Bool, true, false, cond, List, [], ◌∷◌, ◌++◌, length, take, drop, get_or, arith, refl, sym, ◌∙◌, ap, append-nil, suc, Option, Some, None, Ok}
 use Rattle.std.specs.Prelude.{IsSome, nat_lt}
 use Rattle.std.specs.List.{list_all}
 use Rattle.std.specs.Option.{unwrap_or}
 use Rattle.std.proofs.Math.Seq.{take-suc}
-use Rattle.std.proofs.lemmas.List.{at_drop_more, take-append-drop}
+use Rattle.std.proofs.lemmas.List.{at_drop_more, length-drop, length-take-le, take-append-drop}
+use Rattle.hex.specs.Hex.{decode_sized}
+use Rattle.hex.proofs.HexLemmas.{decode_sized-twice}
+use Rattle.text_codec.proofs.HexLemmas.{bytes_within, decoded_bytes}
 use Rattle.std.proofs.lemmas.List.Concat.{flat_map-append}
 use Rattle.std.proofs.lemmas.List.Folds.{list_any-append}
 use Rattle.csv.specs.Writing.{default_writer, needs_byte, needs_quotes}
@@ -24,6 +27,14 @@ bytes_counted hex formed = let twice = bytes_of_digits hex (hex_bytes hex) forme
 pub formed_of : (bytes : Option (List ℕ)) → IsSome bytes → bytes ≡ Some (unwrap_or bytes [])
 formed_of None some = absurd (cc)
 formed_of (Some bytes) some = refl
+
+-- two digits are decoded to the byte at their place
+pub pair_decoded : (digits : List ℕ) (place : ℕ) → bytes_of_hex digits ≡ Some (hex_bytes digits) → place < length digits / 2 →
+    decode_sized (take 2 (drop (2 * place) digits)) 1 ≡ Ok (take 1 (drop place (hex_bytes digits)))
+pair_decoded digits place formed within =
+    let two : length (take 2 (drop (2 * place) digits)) ≡ 2 * 1 = length-take-le 2 (drop (2 * place) digits) (omega (arith, length-drop (2 * place) digits)) in
+    decode_sized-twice (take 2 (drop (2 * place) digits)) 1 two
+    ∙ bytes_within place 1 digits (hex_bytes digits) (decoded_bytes digits (hex_bytes digits) formed)
 
 -- what a test lets through
 let_through : (t : Bool) (o : Option (List ℕ)) (bytes : List ℕ) → Some bytes ≡ cond t o None → o ≡ Some bytes

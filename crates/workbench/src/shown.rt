@@ -10,7 +10,7 @@ ghost use Rattle.workbench.specs.Tracing.{cell_text};
 
 use crate::row::needs_byte;
 use scenario_lines::{DeviceFault, Gather, Sink};
-use text_codec::{decode_hex_from, read_hex};
+use text_codec::read_hex;
 
 /// Digits of one or more bytes that can all be shown.
 #[derive(Clone, Copy)]
@@ -86,13 +86,13 @@ fn last_word(text: &[u8]) -> &[u8] {
 }
 
 // The byte at a place of those that digits stand for.
-fn byte_at(hex: &[u8], place: usize) -> u8
-    requires formed { bytes_of_hex hex.now ≡ Some (hex_bytes hex.now) }
-    requires within { place < length hex.now / 2 }
-    ensures { result ≡ get_or (hex_bytes hex.now) place 0 }
+fn byte_at(digits: &[u8], place: usize) -> u8
+    requires formed { bytes_of_hex digits.now ≡ Some (hex_bytes digits.now) }
+    requires within { place < length digits.now / 2 }
+    ensures { result ≡ get_or (hex_bytes digits.now) place 0 }
 {
     let mut byte = [0];
-    decode_hex_from(hex, place, &mut byte);
+    let _ = hex::decode_to_slice(&digits[2 * place..2 * place + 2], &mut byte);
     byte[0]
 }
 
