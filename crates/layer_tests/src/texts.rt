@@ -147,6 +147,7 @@ fn bytes_are_found_and_parted(rt: HostRuntime) {
 }
 
 #[test]
+#[tactic(auto, unfolding(hex::proofs::OnLiterals::hex_on_literals))]
 fn bytes_are_decoded_and_encoded(rt: HostRuntime) {
     let mut bytes = [0; 11];
     decode_hex(b"00fF0aA96f9B7e80c35D1b", &mut bytes);
