@@ -7,12 +7,9 @@ TOP = os.path.dirname(os.path.dirname(os.path.realpath(__file__)))
 
 
 def program(name):
-    """Returns the path of a built program, and builds it where that is to be done; ends where it can't be had."""
-    given = os.environ.get("PROGRAMS")
-    if given and os.access(f"{given}/{name}", os.X_OK):
-        return os.path.abspath(f"{given}/{name}")
+    """Returns the path of a program that is there, proved or not; begins no proof, and ends the tool if there is none."""
     ran = subprocess.run(
-        ["bash", "-c", 'top=$1; . "$top/tools/programs"; build "$2" && program "$2"', "programs", TOP, name],
+        ["bash", "-c", 'top=$1; . "$top/tools/programs"; ready "$2"', os.path.basename(sys.argv[0]), TOP, name],
         stdout=subprocess.PIPE,
         text=True,
     )
