@@ -1,8 +1,8 @@
 //! Each worked row run whole, and once for each script by that script's lines alone: both print the same replies to the script.
 
 use crate::engine::rows::{PLAIN, Row, all_rows};
+use init_core::{Binary, StartList};
 use scenario::{Task, run_bytes};
-use start_lists::{Binary, StartList};
 use std::alloc::{AllocError, Global};
 use std::process::Abort;
 use std::test::Fail;
