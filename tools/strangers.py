@@ -1,6 +1,9 @@
 """Asks a desk what it has to refuse, and what it has to answer: strangers.py URL SCENARIO, for tools/trials."""
 import http.client
 import json
+import os
+import socket
+import struct
 import sys
 import threading
 import time
@@ -99,3 +102,19 @@ with open(sys.argv[2], encoding="utf-8") as it:
 if saved != text + "# saved\n":
     print("the scenario isn't saved")
     sys.exit(1)
+# A file keeps its mode, many saves at once all succeed, and none leaves a file or a line on standard error.
+os.chmod(sys.argv[2], 0o640)
+answers = []
+savers = [threading.Thread(target=lambda: answers.append(ask("POST", "/save", {"list": "{}", "scenario": text})[0])) for _ in range(40)]
+for it in savers:
+    it.start()
+for it in savers:
+    it.join()
+left = [it for it in os.listdir(os.path.dirname(sys.argv[2])) if "crawler.scenario" in it]
+if set(answers) != {200} or left != ["crawler.scenario"] or os.stat(sys.argv[2]).st_mode & 0o777 != 0o640:
+    print(f"saves at once: {answers}, {left}")
+    sys.exit(1)
+# A client that leaves early.
+with socket.create_connection((urlsplit(sys.argv[1]).hostname, urlsplit(sys.argv[1]).port)) as it:
+    it.sendall(b"GET / HTTP/1.1\r\n")
+    it.setsockopt(socket.SOL_SOCKET, socket.SO_LINGER, struct.pack("ii", 1, 0))

@@ -3,7 +3,9 @@ import base64
 import hashlib
 import json
 import os
+import stat
 import sys
+import tempfile
 
 HERE = os.path.dirname(os.path.realpath(__file__))
 D3 = "/usr/share/nodejs/d3/dist/d3.min.js"
@@ -20,6 +22,43 @@ def text_at(path, package):
             return it.read()
     except FileNotFoundError as fault:
         raise Missing(package) from fault
+
+
+def write_whole(path, data):
+    """Writes a file whole or not at all, with the mode that it had: a new file in its folder takes its name. A device is written to."""
+    path = os.path.realpath(path)
+    if os.path.exists(path) and not os.path.isfile(path):
+        with open(path, "wb") as it:
+            it.write(data)
+        return
+    folder = os.path.dirname(path)
+    # (exclusive, with a name that nobody knows, and readable by its owner alone)
+    number, new = tempfile.mkstemp(prefix=f".{os.path.basename(path)[:200]}.", dir=folder)
+    try:
+        with open(number, "wb") as it:
+            it.write(data)
+            it.flush()
+            os.fchmod(it.fileno(), mode_of(path))
+            os.fsync(it.fileno())
+        os.replace(new, path)
+    except BaseException:
+        os.unlink(new)
+        raise
+    place = os.open(folder, os.O_RDONLY)
+    try:
+        os.fsync(place)
+    finally:
+        os.close(place)
+
+
+def mode_of(path):
+    """Returns the mode of a file, or the one that a new file gets."""
+    try:
+        return stat.S_IMODE(os.stat(path).st_mode)
+    except FileNotFoundError:
+        mask = os.umask(0o077)
+        os.umask(mask)
+        return 0o666 & ~mask
 
 
 def own(name):

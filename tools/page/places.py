@@ -73,7 +73,7 @@ def rules_in(text, found):
     """Returns where each rule stands, by the path of its client or init, the member that has it, and its number."""
     try:
         value = json.loads(text)
-    except ValueError:
+    except (ValueError, RecursionError):
         return {}
     rules = {}
     for at, name in entries(value):
