@@ -93,19 +93,56 @@ for pause in (0.3, 0.6, 0.9, 1.2, 1.5):
 else:
     expect(200, "ram 0/65536", later)
     expect(409, "a later edit", told[0])
-# Files are saved on request.
+
+
+def written(text):
+    with open(sys.argv[2], "w", encoding="utf-8", newline="") as it:
+        it.write(text)
+
+
+def holds(text, what):
+    with open(sys.argv[2], encoding="utf-8", newline="") as it:
+        found = it.read()
+    if found != text:
+        print(f"{what}: {found[:200]!r}")
+        sys.exit(1)
+
+
+def asked(path, body):
+    return json.loads(ask("POST", path, body)[1])
+
+
+# Files are saved on request, each over what was read: one that somebody else has changed stays, until the user decides otherwise.
 with open(sys.argv[2], encoding="utf-8") as it:
     text = it.read()
-expect(200, "saved", ask("POST", "/save", {"list": "{}", "scenario": text + "# saved\n"}))
-with open(sys.argv[2], encoding="utf-8") as it:
-    saved = it.read()
-if saved != text + "# saved\n":
-    print("the scenario isn't saved")
+sums = asked("/read", {})["sums"]
+expect(400, "no request", ask("POST", "/save", {"list": "{}", "scenario": text, "sums": {"scenario": 1}}))
+expect(400, "no request", ask("POST", "/save", {"list": "{}", "scenario": text, "sums": {"../x": ""}}))
+expect(200, "saved", ask("POST", "/save", {"list": "{}", "scenario": text + "# saved\n", "sums": sums}))
+holds(text + "# saved\n", "the scenario isn't saved")
+expect(409, "changed on disk", ask("POST", "/save", {"list": "[]", "scenario": "# late\n", "sums": sums}))
+holds(text + "# saved\n", "a late save is no conflict")
+sums = asked("/read", {})["sums"]
+written("# theirs\n")
+expect(409, "changed on disk", ask("POST", "/save", {"list": "{}", "scenario": "# mine\n", "sums": sums}))
+holds("# theirs\n", "a change is lost")
+now = asked("/save", {"list": "{}", "scenario": "# mine\n", "sums": sums})["sums"]
+expect(200, "saved", ask("POST", "/save", {"list": "{}", "scenario": "# mine\n", "sums": now}))
+holds("# mine\n", "what was decided isn't saved")
+if asked("/read", {})["texts"]["scenario"] != "# mine\n":
+    print("the file isn't read again")
     sys.exit(1)
+# Line ends are kept: those of a file with one kind, and in another those of lines that aren't edited.
+for before, after in (("a\r\nb\r\n", "a\r\nc\r\nb\r\n"), ("a\r\nb\n", "a\r\nc\r\nb\n"), ("a\nb", "a\nc\nb")):
+    written(before)
+    expect(200, "saved", ask("POST", "/save", {"list": "{}", "scenario": after.replace("\r\n", "\n"), "sums": asked("/read", {})["sums"]}))
+    holds(after, f"line ends of {before!r}")
 # A file keeps its mode, many saves at once all succeed, and none leaves a file or a line on standard error.
 os.chmod(sys.argv[2], 0o640)
-answers = []
-savers = [threading.Thread(target=lambda: answers.append(ask("POST", "/save", {"list": "{}", "scenario": text})[0])) for _ in range(40)]
+answers, sums = [], asked("/read", {})["sums"]
+savers = [
+    threading.Thread(target=lambda: answers.append(ask("POST", "/save", {"list": "{}", "scenario": text, "sums": sums})[0])) for _ in range(40)
+]
 for it in savers:
     it.start()
 for it in savers:
@@ -115,6 +152,43 @@ if set(answers) != {200} or left != ["crawler.scenario"] or os.stat(sys.argv[2])
     print(f"saves at once: {answers}, {left}")
     sys.exit(1)
 # A client that leaves early.
-with socket.create_connection((urlsplit(sys.argv[1]).hostname, urlsplit(sys.argv[1]).port)) as it:
+with socket.create_connection((at.hostname, at.port)) as it:
     it.sendall(b"GET / HTTP/1.1\r\n")
     it.setsockopt(socket.SOL_SOCKET, socket.SO_LINGER, struct.pack("ii", 1, 0))
+
+
+def is_closed(link):
+    """Returns whether the desk has closed a connection within ten seconds, in which it gets a byte of a header each half."""
+    for _ in range(20):
+        try:
+            link.sendall(b"x")
+            link.settimeout(0.5)
+            if not link.recv(1):
+                return True
+        except TimeoutError:
+            pass
+        except OSError:
+            return True
+    return False
+
+
+# Slow clients with more connections than the desk has descriptors don't keep a page waiting, and are closed.
+slow = []
+for _ in range(400):
+    slow.append(socket.create_connection((at.hostname, at.port), timeout=5))
+    slow[-1].sendall(b"GET / HTTP/1.1\r\nHost: x\r\nX-Slow: ")
+began = time.monotonic()
+expect(200, "<!doctype html>", ask("GET", PAGE, Origin=None))
+if time.monotonic() - began > 3:
+    print(f"slow clients keep a page waiting: {time.monotonic() - began:.1f} s")
+    sys.exit(1)
+if not is_closed(slow[-1]):
+    print("a slow client isn't closed")
+    sys.exit(1)
+# A header that is too long, and a body of a stranger that never comes, are answered at once.
+expect(431, "", ask("GET", PAGE, Origin=None, X_Long="x" * 20000))
+with socket.create_connection((at.hostname, at.port), timeout=3) as it:
+    it.sendall(f"POST /save HTTP/1.1\r\nHost: {HOST}\r\nOrigin: http://{HOST}\r\nX-Token: x\r\nContent-Length: 9000000\r\n\r\n".encode())
+    if b" 403 " not in it.recv(100):
+        print("a stranger's body is waited for")
+        sys.exit(1)

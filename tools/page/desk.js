@@ -11,7 +11,8 @@
   const menu = el("select", { id: "examples", "aria-label": "examples" }, el("option", { value: "" }, "examples"),
     ...start.examples.map((name) => el("option", { value: name }, name)));
   const since = el("section", { id: "since", "aria-live": "polite" });
-  desk.append(el("div", { id: "bar" }, menu, button("pin", "pin as A", () => pin()), button("save", "save", () => save()), said));
+  const choice = el("div", { id: "choice", role: "alert" });
+  desk.append(el("div", { id: "bar" }, menu, button("pin", "pin as A", () => pin()), button("save", "save", () => save()), said), choice);
 
   // --- the editors
 
@@ -56,7 +57,7 @@
   const ask = async (what, body) => {
     const answer = await fetch(`/${what}`, { method: "POST", headers: { "Content-Type": "application/json", "X-Token": token }, body: JSON.stringify(body) });
     const told = await answer.json();
-    if (!answer.ok) throw new Error(told.why);
+    if (!answer.ok) throw Object.assign(new Error(told.why), { told });
     return told;
   };
   const tell = (text, bad) => {
@@ -256,15 +257,45 @@
       whole();
     }
   };
-  const save = async () => {
+
+  // --- files: each is saved over what was read of it, or by the user's own choice
+
+  const edited_files = Object.entries({ list, policy, scenario }).filter(([name]) => name in start.files).map((it) => it[1]);
+  let sums = start.sums, saved = edited_files.map((it) => it.changeGeneration(true));
+  const is_saved = () => edited_files.every((it, i) => it.isClean(saved[i]));
+  const tell_saved = () => { document.getElementById("save").textContent = is_saved() ? "save" : "save •"; };
+  const keep = (now, generations) => {
+    sums = now;
+    saved = generations;
+    choice.replaceChildren();
+    tell_saved();
+  };
+  const choose = (why, now) => choice.replaceChildren(el("p", { class: "bad" }, why),
+    button("reload", "reload, without these edits", () => reload()), button("over", "save over it", () => save(now)));
+  const save = async (over) => {
+    const generations = edited_files.map((it) => it.changeGeneration(true));
     try {
-      tell((await ask("save", texts())).told);
+      const told = await ask("save", { ...texts(), sums: over || sums });
+      keep(told.sums, generations);
+      tell(told.told);
+    } catch (fault) {
+      tell(fault.message, true);
+      if (fault.told && fault.told.sums) choose(fault.message, fault.told.sums);
+    }
+  };
+  const reload = async () => {
+    try {
+      const told = await ask("read", {});
+      fill({ ...texts(), ...told.texts });
+      keep(told.sums, edited_files.map((it) => it.changeGeneration(true)));
     } catch (fault) {
       tell(fault.message, true);
     }
   };
+  window.addEventListener("beforeunload", (event) => { if (!is_saved()) event.preventDefault(); });
   let waits = null;
   const edited = () => {
+    tell_saved();
     clearTimeout(waits);
     waits = setTimeout(run, 20);
   };
@@ -284,8 +315,9 @@
     }
   });
   folded.open = start.policy !== "";
-  document.getElementById("save").disabled = !start.files.length;
-  document.getElementById("save").title = start.files.length ? `to ${start.files.join(" and ")}` : "no file was given";
+  const paths = Object.values(start.files);
+  document.getElementById("save").disabled = !paths.length;
+  document.getElementById("save").title = paths.length ? `to ${paths.join(" and ")}` : "no file was given";
   // (for trials)
   window.desk = { list, policy, scenario };
   run();
