@@ -22,7 +22,6 @@ const Page = (() => {
   const el = (name, attributes, ...children) => fill(document.createElement(name), attributes, children);
   const svg = (name, attributes, ...children) => fill(document.createElementNS(SVG, name), attributes, children);
   const note = (text) => el("p", { class: "note" }, text);
-  const section = (id, title) => el("section", { id }, el("h2", {}, title));
   const amount = (bytes) => (bytes && bytes % 1024 === 0 ? `${bytes / 1024}K` : `${bytes}`);
   const refuses = (reply) => /^(ERR |[A-Z][a-z])/.test(reply);
   const fold = (name, attributes, summary, make) => {
@@ -38,12 +37,9 @@ const Page = (() => {
 
   // Patterns, so that a bar can be read without colours.
   const patterns = () => {
-    const hatch = (id, ground, ink, d) =>
-      svg("pattern", { id, width: 6, height: 6, patternUnits: "userSpaceOnUse" },
-        svg("rect", { width: 6, height: 6, fill: ground }), svg("path", { d, stroke: ink, "stroke-width": 1.4, fill: "none" }));
-    return svg("svg", { width: 0, height: 0, "aria-hidden": "true", style: "position:absolute" }, svg("defs", {},
-      hatch("given", "#f3c98a", "#9a5a00", "M0 6L6 0"), hatch("kept", "#d9ccec", "#5b3d8a", "M0 3H6"),
-      hatch("wants", "#f6c8c4", "#a3261c", "M0 0L6 6M0 6L6 0"), hatch("some", "#c4e6c9", "#1f7a3a", "M1 3H3")));
+    const hatch = (id, d) => svg("pattern", { id, width: 6, height: 6, patternUnits: "userSpaceOnUse" }, svg("rect", { width: 6, height: 6 }), svg("path", { d }));
+    return svg("svg", { class: "patterns", width: 0, height: 0, "aria-hidden": "true" }, svg("defs", {},
+      hatch("given", "M0 6L6 0"), hatch("kept", "M0 3H6"), hatch("wants", "M0 0L6 6M0 6L6 0"), hatch("some", "M1 3H3")));
   };
 
   // take DATA: what is told becomes what is drawn.
@@ -55,17 +51,21 @@ const Page = (() => {
   };
   const draw = (data) => {
     take(data);
-    page.replaceChildren(patterns(), ...parts.map((it) => it()));
+    page.replaceChildren(patterns(), ...parts.flatMap((it) => it()));
   };
   // redraw ID: a part whose data came later is drawn anew.
   const redraw = (id) => {
     const old = document.getElementById(id);
-    for (const it of parts) if (it.id === id) old.replaceWith(it());
+    for (const it of parts) if (it.id === id) old.replaceWith(...it());
   };
-  const add = (id, make) => parts.push(Object.assign(make, { id }));
+  // add ID TITLE MAKE: a part of the page, which MAKE fills; it is left out where MAKE returns false.
+  const add = (id, title, make) => parts.push(Object.assign(() => {
+    const part = el("section", { id }, el("h2", {}, title));
+    return make(part) === false ? [] : [part];
+  }, { id, title }));
 
   document.addEventListener("DOMContentLoaded", () => {
     if (document.body.className === "report") draw(JSON.parse(document.getElementById("data").textContent));
   });
-  return { state, hooks, page, add, take, draw, redraw, el, svg, note, section, amount, refuses, fold };
+  return { state, hooks, page, parts, add, take, draw, redraw, el, svg, note, amount, refuses, fold };
 })();

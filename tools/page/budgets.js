@@ -1,7 +1,7 @@
 "use strict";
 // Budgets: of each account what it uses, donated, has left and in reserve; and every budget that serves, with the least.
 (() => {
-  const { state, el, svg, note, section, amount } = Page;
+  const { state, el, svg, note, amount } = Page;
   const WIDE = 300;
   const KINDS = [
     { key: "ram", what: "RAM", shown: amount, from: 0 },
@@ -13,7 +13,7 @@
     let x = 0;
     for (const [name, value] of parts) {
       const width = (WIDE * value) / most;
-      if (value > 0) it.append(svg("rect", { class: name, x, y: 1, width, height: 12, stroke: "#5b6675", "stroke-width": 0.4 }));
+      if (value > 0) it.append(svg("rect", { class: name, x, y: 1, width, height: 12 }));
       x += width;
     }
     const at = (WIDE * peak) / most;
@@ -104,24 +104,21 @@
 
   const legend = () => {
     const sample = (group, name, text) => el("span", {}, svg("svg", { class: group, viewBox: "0 0 26 12" },
-      svg("rect", { class: name, width: 26, height: 12, stroke: "#5b6675" })), text);
+      svg("rect", { class: name, width: 26, height: 12 })), text);
     return el("div", { class: "legend" }, sample("bar", "used", "used at the end"), sample("bar", "given", "donated to sessions that are open"),
       sample("bar", "free", "slack"), sample("bar", "kept", "reserve"), el("span", {}, "▏ most ever used"),
       sample("strip", "serves", "serves"), sample("strip", "some", "serves with some RAM alone"), sample("strip", "wants", "some call is in want"),
       el("span", {}, "▲ the least that serves"), el("span", {}, "△ given"));
   };
-  Page.add("budgets", () => {
-    const part = section("budgets", "Budgets"), { data } = state;
-    if (!data.accounts.length) {
-      part.append(note("No account is told."));
-      return part;
-    }
+  Page.add("budgets", "Budgets", (part) => {
+    const { data } = state;
+    if (!data.accounts.length) return part.append(note("No account is told."));
     const told = data.least === null || data.least.stale ? `Which budgets serve is being asked ..${data.least ? " The strips are those of the text before." : ""}` : data.least.why ? `Which budgets serve isn't told: ${data.least.why}`
       : `The strip below a bar is on the bar's scale: plain green where a budget serves, hatched red where some call is in want. More can serve less.${data.least.left ? ` The budgets of ${data.least.left} sessions are left out.` : ""}`;
     if (data.least && data.least.stale) part.className = "stale";
     part.append(legend(), note(told));
     for (const row of rows()) part.append(drawn(row));
     if (data.left.accounts) part.append(note(`Left out: ${data.left.accounts} sessions that are open at the end, the last of the account list.`));
-    return part;
+    return true;
   });
 })();

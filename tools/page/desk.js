@@ -12,7 +12,7 @@
     ...start.examples.map((name) => el("option", { value: name }, name)));
   const since = el("section", { id: "since", "aria-live": "polite" });
   const choice = el("div", { id: "choice", role: "alert" });
-  desk.append(el("div", { id: "bar" }, menu, button("pin", "pin as A", () => pin()), button("save", "save", () => save()), said), choice);
+  desk.append(el("div", { id: "bar", role: "toolbar", "aria-label": "examples, versions and files" }, menu, button("pin", "pin as A", () => pin()), button("save", "save", () => save()), said), choice);
 
   // --- the editors
 
@@ -238,6 +238,7 @@
       if (mine !== edit) return undefined;
       now[what] = told;
       Page.redraw(part);
+      Page.redraw("verdict");
     }
     const took = Math.round(performance.now() - began);
     tell(`${said.textContent}, with all budgets in ${took} ms`);

@@ -4,7 +4,7 @@ import hashlib
 
 from places import places, rules_in
 from thin import ACCOUNTS, COMPLAINTS, TICKS, lines_of, shown_accounts, some, some_timelines, timelines_of
-from told import accounts_of, alone_of, complaints_of, findings_of, least_of, policy_of, replies_of, route_of, rows_of, ways_of
+from told import accounts_of, alone_of, complaints_of, findings_of, least_of, listed, policy_of, replies_of, route_of, rows_of, ways_of
 
 
 def sum_of(text):
@@ -52,13 +52,13 @@ class Gathered:
         if self.policy and data["boots"]:
             data["policy"] = policy_of(self.policy, status, broken, self.rules)
         if data["boots"]:
-            data["ways"] = ways_of(self.run(["tree", "list.json"])[1], self.rules)
-            data["reach"] = rows_of(self.run(["reach", "--csv", "list.json"])[1])
+            data["ways"] = ways_of(listed(self.run(["tree", "--json", "list.json"])[1]), self.rules)
+            data["reach"] = listed(self.run(["reach", "--json", "list.json"])[1])
         return data["boots"]
 
     def of_scenario(self, data):
         machine = machine_words(self.list)
-        data["status"], out, err = self.run(["trace", *machine, "scenario"])
+        data["status"], out, err = self.run(["trace", "--json", *machine, "scenario"])
         rows = rows_of(out)
         complaints, data["faults"] = complaints_of(err, "scenario")
         replies = replies_of(rows, self.run(["run", *machine, "scenario"])[1])
@@ -68,7 +68,7 @@ class Gathered:
         data["complaints"] = [it for it in complaints if it[0] in shown or it[0] > data["count"]][:COMPLAINTS]
         data["left"]["complaints"] = len(complaints) - len(data["complaints"])
         data["timelines"], data["left"]["timelines"], data["left"]["points"] = some_timelines(timelines_of(rows))
-        accounts = accounts_of(self.run(["accounts", *machine, "scenario"])[1])
+        accounts = accounts_of(listed(self.run(["accounts", "--json", *machine, "scenario"])[1]))
         data["given"] = {}
         for it in accounts:
             if it["session"]:
@@ -89,10 +89,10 @@ class Gathered:
     def least(self):
         """Returns which budgets serve each account."""
         words = [*machine_words(self.list), "scenario"]
-        status, values, err = self.run(["least", "--csv", *words])
+        status, values, err = self.run(["least", "--json", *words])
         if status not in (0, 3):
             return {"accounts": [], "left": 0, "why": err}
-        accounts = least_of(values, self.run(["least", *words])[1])
+        accounts = least_of(listed(values), self.run(["least", *words])[1])
         shown = shown_accounts(accounts)
         return {"accounts": shown, "left": len(accounts) - len(shown), "why": ""}
 

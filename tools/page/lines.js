@@ -1,9 +1,9 @@
 "use strict";
 // What happens line by line: timelines, each script alone, and the scenario with its replies; one cursor stands in all.
 (() => {
-  const { state, hooks, page, el, svg, note, section, amount, refuses, fold } = Page;
+  const { state, hooks, page, el, svg, note, amount, refuses, fold } = Page;
   const FEW = 500;
-  let go = () => {};
+  let go = () => {}, values = [];
 
   // --- the cursor
 
@@ -20,6 +20,7 @@
     }
     const told = state.told.get(line), now = document.getElementById("now");
     if (now) now.textContent = told ? `${line}: ${told[1]}` + (told.length > 2 ? `   (${told[2]}: ${told[3]})` : "") : `${line}: left out of this page`;
+    for (const it of values) it(line);
     light(line);
     if (hooks.select) hooks.select(line);
   };
@@ -56,18 +57,30 @@
       svg("path", { class: "area", d: area(points) }), svg("path", { class: "limit", d: line(points) }));
     if (series.refused.length) it.append(svg("path", { class: "refused", d: series.refused.map((at) => `M${place(at)} 33V40`).join("") }));
     it.append(svg("line", { class: "cursor", x1: -9, x2: -9, y1: 0, y2: 40 }));
-    return it;
+    // (what was used after the cursor's line, and its limit)
+    const value = el("span", { class: "value" });
+    values.push((at) => {
+      const now = series.points[d3.bisector((one) => one[0]).right(series.points, at) - 1];
+      value.textContent = now && !(series.ends && at >= series.ends) ? `${shown(now[n])} of ${shown(now[n + 1])}` : "";
+    });
+    return el("div", { class: "chart" }, it, el("span", { class: "high" }, shown(high)), value);
+  };
+  const axis = () => {
+    const { count } = state.data, ends = () => el("div", { class: "ends" }, el("span", {}, "line 1"), el("span", {}, `line ${count}`));
+    return el("div", { class: "timeline axis", "aria-hidden": "true" }, el("b", {}), ends(), ends());
   };
   const charts = () => {
     const box = el("div", { tabindex: 0, role: "application", "aria-label": "timelines; arrow keys move the cursor, Enter goes to the line", id: "charts" });
+    values = [];
     for (const series of state.data.timelines) {
       const most = (n) => d3.max(series.points, (it) => Math.max(it[n], it[n + 1]));
       const refused = series.refusals ? `, ${series.refusals} refused` : "";
       box.append(el("div", { class: series.session ? "timeline session" : "timeline" },
         el("b", {}, series.name, el("div", { class: "words" }, `to ${amount(most(1))}, ${most(3)} caps${refused}`)), chart(series, 1, amount), chart(series, 3, String)));
     }
+    box.append(axis());
     const line = (event) => {
-      const it = event.target.closest("svg");
+      const it = event.target.closest(".chart");
       if (!it) return null;
       const at = it.getBoundingClientRect();
       return 1 + Math.round(((event.clientX - at.left) / at.width) * (state.data.count - 1));
@@ -77,17 +90,13 @@
     box.addEventListener("keydown", keys({ ArrowRight: 1, ArrowLeft: -1 }, show));
     return box;
   };
-  Page.add("timelines", () => {
-    const part = section("timelines", "Timelines"), { data } = state;
-    if (!data.timelines.length) {
-      part.append(note("No account was called."));
-      return part;
-    }
-    part.append(note(`RAM on the left, capabilities on the right, over the scenario's ${data.count} lines: the area is what is in use, dashed is the limit, a red tick at the foot is a refusal.`));
+  Page.add("timelines", "Timelines", (part) => {
+    const { data } = state;
+    if (!data.timelines.length) return part.append(note("No account was called."));
+    part.append(note(`RAM on the left, capabilities on the right, over the scenario's ${data.count} lines: the area is what is in use, dashed is the limit, a red tick at the foot is a refusal. The number on the left is the top of the scale, the one on the right is what the cursor's line leaves.`));
     if (data.left.points) part.append(note("Long timelines are thinned: of each stretch the first point, the last, the least and the greatest are kept, and of refusals some."));
     if (data.left.timelines) part.append(note(`Left out: the timelines of ${data.left.timelines} sessions.`));
-    part.append(el("div", { class: "now text", id: "now", role: "status" }, "Arrow keys or the mouse move the cursor; Enter or a click goes to the line."), charts());
-    return part;
+    return part.append(el("div", { class: "now text", id: "now", role: "status" }, "Arrow keys or the mouse move the cursor; Enter or a click goes to the line."), charts());
   });
 
   // --- each alone
@@ -126,23 +135,18 @@
     if (mine.length > FEW) rows.append(el("tr", { class: "fold" }, el("td", {}), el("td", { colspan: 3 }, `⋯ the first ${FEW} of ${mine.length} are shown`)));
     return el("div", { class: "wide" }, rows);
   };
-  Page.add("alone", () => {
-    const part = section("alone", "Alone"), { alone } = state.data;
-    if (alone === null || alone.why) {
-      part.append(note(alone === null ? (state.data.boots ? "What each is told alone is being asked .." : "Nobody was called.") : `What each is told alone isn't told: ${alone.why}`));
-      return part;
-    }
-    if (!alone.scripts.length) {
-      part.append(note("Nobody was called."));
-      return part;
-    }
+  Page.add("alone", "Alone", (part) => {
+    const { alone } = state.data;
+    if (alone === null) return part.append(note(state.data.boots ? "What each is told alone is being asked .." : "Nobody was called."));
+    if (alone.why) return part.append(note(`What each is told alone isn't told: ${alone.why}`));
+    if (!alone.scripts.length) return part.append(note("Nobody was called."));
     part.append(note("What each is told in the whole run, above, and in a run of its own lines alone, below: a tall tick is a reply, a short red one a refusal. By proof they are the same."));
     if (alone.thinned) part.append(note("Strips of many lines are thinned: some of the ticks are drawn, evenly."));
     for (const it of alone.scripts) {
       const head = [el("b", { class: it.differ.length ? "bad" : "" }, it.differ.length ? "≠ " : "= "), it.told, ticks(it)];
       part.append(fold(`alone ${it.name}`, {}, head, () => table(it)));
     }
-    return part;
+    return true;
   });
 
   // --- the scenario
@@ -181,12 +185,6 @@
     if (kind === "call") row.addEventListener("click", () => show(line));
     return row;
   };
-  const verdict = () => {
-    const { data } = state;
-    if (!data.boots) return el("p", { class: "bad", id: "verdict" }, "✗ The machine doesn't boot, so no line was answered.");
-    return el("p", { class: data.wrong ? "bad" : "good", id: "verdict" }, data.wrong ? `✗ ${data.wrong === 1 ? "A line isn't answered as it expects, or is no call" : `${data.wrong} lines aren't answered as they expect, or are no calls`}`
-      : "✓ Each line is a call, and answered as it expects");
-  };
   const left = () => {
     const { data } = state;
     const told = [];
@@ -194,16 +192,16 @@
     if (data.left.complaints) told.push(note(`Left out: ${data.left.complaints} complaints.`));
     return told;
   };
-  Page.add("scenario", () => {
-    const part = section("scenario", hooks.select ? "The scenario" : "The scenario with its replies"), { data } = state;
-    part.append(verdict(), ...data.faults.slice(0, 50).map((it) => el("p", { class: "bad" }, it)), ...left());
+  Page.add("scenario", "Scenario", (part) => {
+    const said = [...state.data.faults.slice(0, 50).map((it) => el("p", { class: "bad" }, it)), ...left()];
+    part.append(...said);
     go = (line) => show(line);
-    if (hooks.select) return part;
+    if (hooks.select) return said.length > 0;
     const box = el("div", { class: "lines", id: "lines", tabindex: 0, role: "region", "aria-label": "the scenario with its replies; arrow keys move the cursor" });
     const all = rows();
     for (let i = 0; i < all.length; i += 200) {
       const some = all.slice(i, i + 200);
-      box.append(el("div", { class: "some", style: `contain-intrinsic-size: auto ${some.length * 18}px` }, ...some.map(drawn)));
+      box.append(el("div", { class: "some", style: `contain-intrinsic-size: auto ${some.length * 21}px` }, ...some.map(drawn)));
     }
     const reach = (line) => {
       show(line);
@@ -215,8 +213,7 @@
       box.scrollIntoView({ block: "nearest" });
     };
     box.addEventListener("keydown", keys({ ArrowDown: 1, ArrowUp: -1 }, reach));
-    part.append(box);
-    return part;
+    return part.append(box);
   });
   // The line itself, or the last before it that is shown.
   const nearest = (line) => {

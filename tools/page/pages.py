@@ -9,7 +9,7 @@ import tempfile
 
 HERE = os.path.dirname(os.path.realpath(__file__))
 D3 = "/usr/share/nodejs/d3/dist/d3.min.js"
-VIEWS = ("base.js", "wishes.js", "budgets.js", "lines.js")
+VIEWS = ("base.js", "verdict.js", "wishes.js", "budgets.js", "lines.js")
 
 
 class Missing(Exception):

@@ -79,16 +79,16 @@ def timelines_of(rows):
         return series.setdefault((component, session), {"name": name, "session": session, "points": [], "refused": [], "ends": None})
 
     for row in rows:
-        line, component = int(row["line"]), row["component"]
-        if row["ram_used"]:
+        line, component = row["line"], row["component"]
+        if row["ram_used"] is not None:
             own = of(component, "")
-            own["points"].append([line, *(int(row[it]) for it in ("ram_used", "ram_limit", "caps_used", "caps_limit"))])
+            own["points"].append([line, *(row[it] for it in ("ram_used", "ram_limit", "caps_used", "caps_limit"))])
             if is_refusal(row["reply"]):
                 own["refused"].append(line)
-        if row["session"]:
+        if row["session_ram_used"] is not None:
             names = ("session_ram_used", "session_ram_limit", "session_caps_used", "session_caps_limit")
-            at = of(component, row["session"])
-            at["points"].append([line, *(int(row[it]) for it in names)])
+            at = of(component, str(row["session"]))
+            at["points"].append([line, *(row[it] for it in names)])
             at["ends"] = None
         closed = re.match(r"close (\d+)$", row["call"])
         if closed and (component, closed[1]) in series:

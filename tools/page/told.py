@@ -1,5 +1,5 @@
 """Reads what the commands of the proved program write, for the report and the desk. Nothing is computed again here."""
-import csv
+import json
 import re
 
 from places import part_of, rules_of
@@ -11,9 +11,14 @@ def bytes_of(amount):
     return int(amount.rstrip("KMG")) * SCALES[amount.lstrip("0123456789")]
 
 
+def listed(told):
+    """Reads a list of objects; of a command that failed there is none."""
+    return json.loads(told) if told else []
+
+
 def rows_of(told):
-    """Reads comma-separated values. A field in quotes may have any sign in it, so lines aren't cut before."""
-    return list(csv.DictReader(told.split("\n")))
+    """Reads an object a line."""
+    return [json.loads(it) for it in told.split("\n") if it]
 
 
 def is_refusal(reply):
@@ -22,22 +27,15 @@ def is_refusal(reply):
 
 # --- of a start list
 
-def ways_of(told, rules):
-    """Reads what `tree` tells of the scripts: each with the ways of its wishes."""
-    scripts, heads = [], []
-    for line in told.splitlines():
-        depth = (len(line) - len(line.lstrip(" "))) // 2
-        entry = re.match(r" *(\S+) \(\w+\): ", line)
-        way = re.match(r" *(\S+) -> (\S+) by (.*)$", line)
-        if way and scripts:
-            client = scripts[-1]["name"]
-            home = client.rpartition("/")[0]
-            to = way[2] if way[2] == "denied" or "then by" in way[3] or not home else f"{home}/{way[2]}"
-            scripts[-1]["ways"].append({"service": way[1], "to": to, "by": way[3], "rules": rules_of(way[3], client, rules)})
-        elif entry:
-            heads[depth:] = [entry[1]]
-            scripts.append({"name": "/".join(heads), "ways": []})
-    return [it for it in scripts if it["ways"]]
+def ways_of(tree, rules):
+    """Returns the scripts of a tree, each with the ways of its wishes."""
+    scripts = {}
+    for it in tree:
+        if it["kind"] == "wish":
+            label = f', with label "{it["label"]}"' if it["label"] is not None else ""
+            way = {"service": it["service"], "to": it["to"] or "denied", "by": it["by"] + label, "rules": rules_of(it["by"], it["name"], rules)}
+            scripts.setdefault(it["name"], []).append(way)
+    return [{"name": name, "ways": ways} for name, ways in scripts.items()]
 
 
 def route_of(told, client, rules):
@@ -80,28 +78,16 @@ def policy_of(text, status, broken, rules):
 
 # --- of a scenario
 
-def accounts_of(told):
-    """Reads the account list with needs and peaks; the reserve of a script stands with its account."""
+def accounts_of(documents):
+    """Returns the accounts that are open at the end, with their peaks; the reserve of a script is in its account."""
     accounts = []
-    for line in told.splitlines():
-        found = re.match(
-            r"(account|session) (\S+)(?: (\d+))? ram (\d+)/(\d+) caps (\d+)/(\d+)(?: gone)? need ram \d+ caps \d+ peak ram (\d+) caps (\d+)(?: server (\S+) label (.*))?",
-            line,
-        )
-        reserve = re.match(r"reserve (\S+) ram (\d+) caps (\d+)", line)
-        if found:
-            accounts.append(
-                {
-                    "name": found[2],
-                    "session": found[3],
-                    "ram": [int(found[4]), int(found[5]), int(found[8])],
-                    "caps": [int(found[6]), int(found[7]), int(found[9])],
-                    "server": found[10],
-                    "label": found[11],
-                }
-            )
-        elif reserve and accounts:
-            accounts[-1]["reserve"] = [int(reserve[2]), int(reserve[3])]
+    for it in documents:
+        if it["kind"] == "reserve":
+            accounts[-1]["reserve"] = [it["ram"], it["caps"]]
+        elif "ram_used" in it:
+            session = {"session": str(it["session"]), "server": it["server"], "label": it["label"]} if it["kind"] == "session" else {"session": None}
+            sums = {kind: [it[f"{kind}_{of}"] for of in ("used", "limit", "peak")] for kind in ("ram", "caps")}
+            accounts.append({"name": it["name"], **session, **sums})
     return accounts
 
 
@@ -165,20 +151,19 @@ def alone_of(told):
     return scripts
 
 
-def least_of(values, told):
-    """Reads what `least` tells: of each account the rows of the budgets that serve, from the values, what the text says of it, and the
-    budget that it was given."""
+def least_of(documents, told):
+    """Reads what `least` tells: of each account the rows of the budgets that serve, what the text says of it, and the budget that it
+    was given."""
     rows = {}
-    for row in rows_of(values):
-        key = row["component"], row["session"], row["line"]
-        rows.setdefault(key, []).append([int(row["ram_from"]), int(row["ram_below"]) if row["ram_below"] else None, int(row["caps_from"])])
+    for it in documents:
+        rows.setdefault((it["component"], it["session"], it["line"]), []).append([it["ram_from"], it["ram_below"], it["caps_from"]])
     accounts = []
     for line in told.splitlines():
         head = re.match(r"(\S+?)(?: session (\d+) \(line (\d+)\))?: (.*)$", line)
         given = re.match(r" +given (\w+) and (\d+): ", line)
         if head and not line.startswith(" "):
-            key = head[1], head[2] or "", head[3] or ""
-            accounts.append({"name": head[1], "session": head[2], "line": head[3] and int(head[3]), "rows": rows.get(key, []), "told": [head[4]]})
+            session, at = head[2] and int(head[2]), head[3] and int(head[3])
+            accounts.append({"name": head[1], "session": head[2], "line": at, "rows": rows.get((head[1], session, at), []), "told": [head[4]]})
         elif accounts and line.strip():
             accounts[-1]["told"].append(line.strip())
             if given:

@@ -1,7 +1,7 @@
 "use strict";
 // Who reaches whom, the start list with the rules that decide marked, its findings, and the policy.
 (() => {
-  const { state, hooks, el, note, section, fold } = Page;
+  const { state, hooks, el, note, fold } = Page;
 
   // --- the start list
 
@@ -102,20 +102,16 @@
       el("div", { class: "text policy" }, ...policy.lines.map(demand))];
   };
 
-  Page.add("reach", () => {
-    const part = section("reach", "Who reaches whom"), { data } = state;
+  Page.add("reach", "Who reaches whom", (part) => {
+    const { data } = state;
     ranges = [];
-    if (data.list === null) {
-      part.append(note("The built-in machine: a log server log, a file server files, and the scripts alice and bob, which reach both with every label."));
-      return part;
-    }
+    if (data.list === null) return part.append(note("The built-in machine: a log server log, a file server files, and the scripts alice and bob, which reach both with every label."));
     const left = el("div", {}, ...findings());
     if (data.reach) {
       left.append(matrix(), el("div", { id: "decided", role: "status" }, note("A click on a cell marks the rules that decide.")));
       if (data.ways.length) left.append(fold("ways", {}, ["All ways of wishes, by the rules in turn"], ways));
     }
     left.append(...policy());
-    part.append(hooks.mark ? left : el("div", { class: "sides" }, left, listing()));
-    return part;
+    return part.append(hooks.mark ? left : el("div", { class: "sides" }, left, listing()));
   });
 })();
