@@ -151,10 +151,11 @@ left = [it for it in os.listdir(os.path.dirname(sys.argv[2])) if "crawler.scenar
 if set(answers) != {200} or left != ["crawler.scenario"] or os.stat(sys.argv[2]).st_mode & 0o777 != 0o640:
     print(f"saves at once: {answers}, {left}")
     sys.exit(1)
-# A client that leaves early.
-with socket.create_connection((at.hostname, at.port)) as it:
-    it.sendall(b"GET / HTTP/1.1\r\n")
-    it.setsockopt(socket.SOL_SOCKET, socket.SO_LINGER, struct.pack("ii", 1, 0))
+# Clients that leave early, with and without a header that can be read.
+for header in (b"GET / HTTP/1.1\r\n", b"GET / HTTP/1.1\r\n\r\n", b"GET [ HTTP/1.1\r\nx\r\n\r\n") * 50:
+    with socket.create_connection((at.hostname, at.port)) as it:
+        it.sendall(header)
+        it.setsockopt(socket.SOL_SOCKET, socket.SO_LINGER, struct.pack("ii", 1, 0))
 
 
 def is_closed(link):

@@ -42,6 +42,9 @@ class Answer:
 class Request(HTTPRequestParser):
     """A request of a connection; if its header is refused, it is complete without its body."""
 
+    # (waitress asks for it even if the header can't be read)
+    path = ""
+
     def __init__(self, adj, channel):
         super().__init__(adj)
         self.channel = channel
