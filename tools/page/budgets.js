@@ -24,7 +24,7 @@
   // The stretches of a strip, from and below in one kind: of RAM those of the rows, of capabilities what serves with some RAM and with
   // each that serves.
   const stretches = (rows, kind) => {
-    if (!kind.from) return rows.map(([from, below]) => ["serves", from, below]);
+    if (!kind.from || !rows.length) return rows.map(([from, below]) => ["serves", from, below]);
     const needs = rows.map((it) => it[2]);
     const least = Math.min(...needs), all = Math.max(...needs);
     return [...(least < all ? [["some", least, all]] : []), ["serves", all, null]];

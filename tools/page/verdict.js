@@ -5,7 +5,7 @@
   const SIGNS = { good: "✓", bad: "✗", finding: "⚠", note: "…" };
   // (a desk has the scenario in an editor)
   const at = (id) => (id === "scenario" && hooks.select ? "#of-scenario" : `#${id}`);
-  const line = (kind, text, part) => el("li", { class: kind }, SIGNS[kind], el("a", { href: at(part) }, text));
+  const line = (kind, text, part) => el("li", { class: kind }, `${SIGNS[kind]} `, el("a", { href: at(part) }, text));
   const many = (count, one, more) => (count === 1 ? one : `${count} ${more}`);
 
   const of_lines = ({ wrong }) => (wrong
@@ -25,11 +25,11 @@
     if (alone === null || alone.why || !alone.scripts.length) return [];
     const differ = alone.scripts.filter((it) => it.differ.length).map((it) => it.name);
     return [differ.length ? line("bad", `replies depend on others: ${differ.join(", ")}`, "alone")
-      : line("good", `each of ${many(alone.scripts.length, "1 script", "scripts")} has the same replies alone`, "alone")];
+      : line("good", `${many(alone.scripts.length, "the script has", "scripts have")} the same replies alone as in the whole run`, "alone")];
   };
 
-  // Accounts whose budget or donation, as it was given, is in none of the rows that the program printed.
-  const is_short = ({ given, rows }) => given && !rows.some(([from, below, caps]) => given[0] >= from && (below === null || given[0] < below) && given[1] >= caps);
+  // An account is short if no budget serves, or if the one that it was given is in none of the rows that the program printed.
+  const is_short = ({ given, rows }) => !rows.length || given && !rows.some(([from, below, caps]) => given[0] >= from && (below === null || given[0] < below) && given[1] >= caps);
   const of_budgets = ({ least }) => {
     if (least === null || least.stale) return [line("note", "which budgets suffice is being computed", "budgets")];
     if (least.why) return [line("note", "which budgets suffice isn't known", "budgets")];
