@@ -3,6 +3,7 @@
 
 mod account;
 mod alike;
+mod documents;
 mod donation;
 mod draft;
 mod opened;

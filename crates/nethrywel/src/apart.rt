@@ -1,26 +1,18 @@
 //! What each script is told in a scenario, among the others and alone, one script after the other.
-use crate::ends::{Played, REFUSED, status_of};
+use crate::ends::{Played, REFUSED, no_memory, status_of};
 use crate::files::STANDARD_INPUT;
 use crate::given::Given;
 use crate::machines::{Machine, MachineText, tell_unbooted};
-use crate::streams::{Origin, Place, plain_writer};
+use crate::streams::{Origin, Place, Writer, plain_writer, text_of};
 use crate::unfolding::unfolded;
-use crate::views::{Kept, Viewing, view_text};
 use init_core::{Binary, StartList};
 use scenario::Input;
-use scenario_names::Known;
 use std::io::{Read, Write};
 use std::{fs, io};
-use workbench::{Ending, Play};
+use workbench::{Comparison, Play, alone};
 
 /// The exit status where something isn't as expected, or a script is told something else alone.
 const DIFFERENT: u8 = 3;
-
-/// What the last line of what is told of a script ends with, where it is told the same.
-const SAME: &[u8] = b": the same alone as in the whole run\n";
-
-/// What it ends with of a script that has no line, which is no fault where all scripts are looked at.
-const UNUSED: &[u8] = b": no line of the scenario\n";
 
 /// What is asked of all scripts.
 #[derive(Clone, Copy)]
@@ -125,83 +117,75 @@ struct One<'a> {
 }
 
 impl<'a> One<'a> {
-    // Plays it, and answers the exit status.
+    // Plays it, prints what is told of it, and returns the exit status.
     fn tell(self, rt: &HostRuntime, all: All<'a>) -> u8 {
         let given = match all.given.known_or_told(rt) {
             Ok(given) => given,
             Err(status) => return status,
         };
-        let kept = self.play(rt, all.scenario, given);
-        match &kept.ended {
-            Ok(ending) => tell_ending(rt, all, *ending, kept.text.as_slice()),
+        let play = Play {
+            machine: self.text,
+            scenario: all.scenario.as_bytes(),
+            given,
+        };
+        let mut reader = Input::new(Origin::Held(self.scenario));
+        let mut writer = plain_writer(rt, if all.summary {
+            Place::Dropped
+        } else {
+            Place::text(rt)
+        });
+        let mut complaints = plain_writer(rt, if self.silent {
+            Place::Dropped
+        } else {
+            Place::Complained(rt.stderr())
+        });
+        let compared = alone(
+            rt.alloc(),
+            play,
+            self.name,
+            &mut reader,
+            &mut writer,
+            &mut complaints,
+        );
+        match compared {
+            Ok(compared) => self.tell_compared(rt, all, compared, writer),
             Err(fault) => {
                 if !self.silent {
-                    tell_unbooted(rt, all.machine_of(self.text), fault);
+                    tell_unbooted(rt, all.machine_of(self.text), &fault);
                 }
                 REFUSED
             }
         }
     }
 
-    // Plays it, and keeps what is told of it.
-    fn play(self, rt: &HostRuntime, scenario: &'a str, given: Known) -> Kept {
-        let play = Play {
-            machine: self.text,
-            scenario: scenario.as_bytes(),
-            given,
-        };
-        let place = if self.silent {
-            Place::Dropped
+    // Prints what was written of a comparison, or its sum alone, and returns the exit status.
+    fn tell_compared(
+        self,
+        rt: &HostRuntime,
+        all: All<'a>,
+        compared: Comparison,
+        written: Writer<'_>,
+    ) -> u8 {
+        let told = if all.summary {
+            let mut writer = plain_writer(rt, Place::text(rt));
+            if compared.ending.fault.is_none() && compared.write_sum(self.name, &mut writer).is_err() {
+                return no_memory(rt);
+            }
+            text_of(rt, writer)
         } else {
-            Place::Complained(rt.stderr())
+            text_of(rt, written)
         };
-        let mut reader = Input::new(Origin::Held(self.scenario));
-        let mut complaints = plain_writer(rt, place);
-        view_text(
-            rt,
-            play,
-            Viewing::Alone(self.name),
-            &mut reader,
-            &mut complaints,
-        )
-    }
-}
-
-// Prints what was told of a script's play, and answers the exit status.
-fn tell_ending(rt: &HostRuntime, all: All<'_>, ending: Ending, told: &[u8]) -> u8 {
-    let shown = if all.summary { last_line(told) } else { told };
-    let printed = status_of(rt, io::writer(rt).write_all(shown));
-    if printed != 0 {
-        return printed;
-    }
-    let unused = told.ends_with(UNUSED);
-    let played = Played {
-        ended: Ok(without_none(ending, unused)),
-        unread: false,
-    };
-    match played.tell(rt, all.scenario) {
-        0 if !unused && !told.ends_with(SAME) => DIFFERENT,
-        status => status,
-    }
-}
-
-// How a play ended, without the complaint that there was no line.
-fn without_none(ending: Ending, unused: bool) -> Ending {
-    if !unused {
-        return ending;
-    }
-    Ending {
-        lines: ending.lines,
-        complaints: ending.complaints.saturating_sub(1),
-        fault: ending.fault,
-    }
-}
-
-// The last of these lines, with its newline.
-fn last_line(lines: &[u8]) -> &[u8] {
-    let whole = &lines[..lines.len().saturating_sub(1)];
-    match whole.iter().rposition(|byte| *byte == b'\n') {
-        Some(end) => &lines[end.saturating_add(1)..],
-        None => lines,
+        let printed = status_of(rt, io::writer(rt).write_all(told.as_slice()));
+        if printed != 0 {
+            return printed;
+        }
+        let played = Played {
+            ended: Ok(compared.ending),
+            unread: false,
+        };
+        match played.tell(rt, all.scenario) {
+            0 if compared.difference.is_some() => DIFFERENT,
+            status => status,
+        }
     }
 }

@@ -5,7 +5,7 @@ use crate::given::Given;
 use crate::lists::{chosen, review};
 use crate::policies::{BROKEN, Noted, Standing, hold_against};
 use init_core::StartList;
-use json_documents::{Field, Listing, tree_documents};
+use json_documents::{Field, Listing};
 use reach::{Chosen, Reach, Table};
 use start_review::{Fault, Finding, Part, Review, Whereabouts};
 use std::alloc::{AllocError, Global};
@@ -28,16 +28,12 @@ pub(crate) fn check_documents(rt: &HostRuntime, check: &Check<'_>, given: Given<
 /// Tells a tree, a document a line of it, and answers the exit status.
 pub(crate) fn tree_document(rt: &HostRuntime, path: &str, given: Given<'_>) -> u8 {
     match review(rt, path, given) {
-        Some(review) => print_documents(rt, tree_text(rt.alloc(), &review)),
+        Some(review) => match review.tree(rt.alloc()) {
+            Ok(tree) => print_documents(rt, tree.documents(rt.alloc())),
+            Err(AllocError) => no_memory(rt),
+        },
         None => REFUSED,
     }
-}
-
-// The documents of a tree.
-fn tree_text(alloc: Global, review: &Review) -> Result<Vec<u8>, AllocError> {
-    let tree = review.tree(alloc)?.to_string(alloc)?;
-    let graph = review.graph(alloc)?.to_string(alloc)?;
-    tree_documents(alloc, tree.as_str(), graph.as_str())
 }
 
 /// Tells which scripts reach which servers, a document a cell of the table, and answers the exit status.

@@ -7,7 +7,6 @@ use crate::machines::{Machine, MachineText, tell_unbooted};
 use crate::streams::{Origin, Reader};
 use crate::unfolding::unfolded;
 use init_core::BootFault;
-use json_documents::{Column, row_documents};
 use least::{Question, Report};
 use scenario::{ConfigFault, Input, Source};
 use std::alloc::{AllocError, Global};
@@ -20,16 +19,6 @@ const BLOCK: usize = 4096;
 
 /// The exit status of a scenario with lines that are no calls.
 const MISREAD: u8 = 3;
-
-/// The columns of its values.
-static ROWS: [Column; 6] = [
-    Column::Text("component"),
-    Column::Number("session"),
-    Column::Number("line"),
-    Column::Number("ram_from"),
-    Column::Number("ram_below"),
-    Column::Number("caps_from"),
-];
 
 // In which form it is told.
 #[derive(Clone, Copy)]
@@ -163,7 +152,7 @@ fn tell(rt: &HostRuntime, machine: &[u8], scenario: &[u8], telling: Telling, rep
             let values = report.into_csv();
             status_of(rt, print!(rt; "{values}"))
         }
-        Telling::Documents => print_documents(rt, documents(rt.alloc(), report)),
+        Telling::Documents => print_documents(rt, report.documents(rt.alloc())),
         Telling::List => match report.start_list(rt.alloc(), machine) {
             Ok(text) => status_of(rt, println!(rt; "{text}")),
             Err(fault) => tell_fault_of_run(rt, &fault),
@@ -173,12 +162,6 @@ fn tell(rt: &HostRuntime, machine: &[u8], scenario: &[u8], telling: Telling, rep
             Err(fault) => tell_fault_of_run(rt, &fault),
         },
     }
-}
-
-// The rows of a report as documents.
-fn documents(alloc: Global, report: Report) -> Result<Vec<u8>, AllocError> {
-    let values = report.into_csv().to_string(alloc)?;
-    row_documents(alloc, &ROWS, values.as_bytes())
 }
 
 // Tells a fault of the run.

@@ -4,7 +4,7 @@ ghost use Rattle.start_review.specs.Spare.{spare_in, spare_of};
 
 use crate::outer::is_server;
 use crate::quoted::show_within;
-use crate::tree::Amount;
+use crate::node::Amount;
 use start_lists::{Entry, Path, StartList};
 use std::alloc::{AllocError, Global};
 use std::fmt;

@@ -1,5 +1,5 @@
 -- What each command writes, from what its play promises.
-use Rattle.std.proofs.Common.{◌≡◌, ℕ, ◌≤◌, List, [], ◌∷◌, ◌++◌, Bool, true, false, length, Option, Some, None, IfNone, Result, Ok, Err, arith, refl, ◌∙◌, ap, subst, length-append}
+use Rattle.std.proofs.Common.{◌≡◌, ℕ, ◌≤◌, List, [], ◌∷◌, ◌++◌, Bool, true, false, length, Option, Some, None, IfNone, Result, Ok, Err, arith, refl, sym, ◌∙◌, ap, subst, length-append}
 use Rattle.std.proofs.lemmas.Bool.Decides.{nat_tests}
 use Rattle.std.specs.List.{filter}
 use Rattle.own_model.specs.SaidBy.{is_said_by, said_by}
@@ -103,6 +103,15 @@ pub alone_same : (fault : Option PlayFault) (name : List ℕ) (start core : Worl
     IfNone fault (SeesAlone name core count difference start lines) → IfNone fault (difference ≡ None)
 alone_same None name start core count difference lines sees = sees.alike
 alone_same (Some fault) name start core count difference lines sees = tt
+
+-- where the sum is written too, the play came to its end
+pub same_behind : (played ended : Ending) (difference : Option ℕ) (w w' : Option (List ℕ)) {text : List ℕ} → Closes played ended w w' text → IfNone played.fault (difference ≡ None) → IfNone ended.fault (difference ≡ None)
+same_behind played ended difference w w' {text = text} closes same = behind played.fault ended.fault closes.writes same
+  where
+    behind : (f f' : Option PlayFault) → WritesAfter f f' w w' text → IfNone f (difference ≡ None) → IfNone f' (difference ≡ None)
+    behind None None after same = same
+    behind None (Some fault) after same = tt
+    behind (Some fault) f' after same = subst (λ t. IfNone t (difference ≡ None)) (sym after.1) tt
 
 -- ---- the account list with needs and peaks
 
