@@ -1,13 +1,10 @@
 -- What the trace of a scenario shows of a machine: which of its rows are met.
-use Rattle.std.specs.Prelude.{◌≡◌, ℕ, ◌+◌, ◌&&◌, ◌||◌, zero, suc, Bool, false, List, [], ◌∷◌, ◌++◌, map, drop, length, Option, Some, None}
+use Rattle.std.specs.Prelude.{ℕ, ◌+◌, ◌&&◌, ◌||◌, zero, suc, Bool, false, List, [], ◌∷◌, ◌++◌, map, length, Option, Some, None}
 use Rattle.std.specs.List.{flat_map, list_any}
-use Rattle.std.specs.Option.{unwrap_or}
 use Rattle.std.specs.Str.{bytes_eq}
-use Rattle.csv.specs.Reading.{AreRecords, default_config, strip_bom}
-use Rattle.csv.specs.Records.{field_at}
-use Rattle.csv.specs.declared.parser.State.TheVariants as state
 use Rattle.trade_base.specs.Refusal.{refusal_name}
 use Rattle.own_model.specs.Listed.{Listed, ListedEntry, ListedRule}
+use Rattle.workbench.specs.Exchange.{Exchange}
 use Rattle.coverage.specs.Forms.{forms, is_form_of, refusals_of}
 use Rattle.coverage.specs.Requests.{errors_of, is_asked, is_error, requests}
 use Rattle.coverage.specs.Rules.{decided_by, is_rule}
@@ -20,24 +17,15 @@ use Rattle.coverage.specs.declared.event.RuleAt.{RuleAt}
 use Rattle.coverage.specs.declared.form.Form.{Form}
 use Rattle.coverage.specs.declared.row.Row.{Row}
 
--- ---- the answers of a trace
+-- ---- answers
 
 -- a call, as the engine's line, and what it was answered
 pub record Answer : Type 0 where
   pub line : List ℕ
   pub reply : List ℕ
 
--- the cell of a row at a place, or nothing
-abbrev pub cell : List (List ℕ) → ℕ → List ℕ
-cell row place = unwrap_or (field_at row place) []
-
--- a row of a trace tells who called, what, and the reply
-abbrev pub answer_of : List (List ℕ) → Answer
-answer_of row = record { line = cell row 1 ++ 32 ∷ cell row 2; reply = cell row 3 }
-
--- those of a trace, whose first row has the names of the columns
-abbrev pub answers_told : List (List (List ℕ)) → List Answer
-answers_told rows = map answer_of (drop 1 rows)
+abbrev pub answer_of : Exchange → Answer
+answer_of exchange = record { line = exchange.name ++ 32 ∷ exchange.call; reply = exchange.reply }
 
 -- ---- what an answer shows
 
@@ -102,24 +90,8 @@ abbrev pub rows_of : Listed → List Row
 rows_of list =
     calls_rows ++ requests_rows ++ route_rows Machine (length list.default_route) ++ rows_of_entries 0 list.entries
 
--- ---- a trace
-
--- rows of a trace, one after the other, are all that its text has
-abbrev pub AreTold : List ℕ → List (List (List ℕ)) → Type 0
-AreTold trace told = AreRecords default_config state.StartRecord (strip_bom trace) told
-
--- rows have become these once all answers of a trace were noted in them
-pub record NotesTrace (list : Listed) (trace : List ℕ) (old new : List Row) : Type 0 where
-  pub told : List (List (List ℕ))
-  pub are : AreTold trace told
-  pub notes : new ≡ rows_after list (answers_told told) old
+-- ---- all answers
 
 -- a row is met also where some answer shows its event
 abbrev pub row_by : Listed → List Answer → Row → Row
 row_by list answers row = record { event = row.event; met = row.met || list_any (is_shown list row.event) answers }
-
--- on the machine of a list a scenario with this trace shows this: a row is met exactly where some answer shows that
-pub record IsCovered (list : Listed) (trace : List ℕ) (rows : List Row) : Type 0 where
-  pub told : List (List (List ℕ))
-  pub are : AreTold trace told
-  pub is : rows ≡ map (row_by list (answers_told told)) (rows_of list)

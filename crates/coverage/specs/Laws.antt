@@ -1,10 +1,8 @@
--- What is so of the table of calls, and of traces.
-use Rattle.std.specs.Prelude.{◌≡◌, ℕ, Bool, true, ⊤, List, [], ◌∷◌, ◌++◌, map, Option, Some, None}
+-- What is so of the table of calls.
+use Rattle.std.specs.Prelude.{◌≡◌, ℕ, Bool, true, ⊤, List, [], ◌∷◌, Option, Some, None}
 use Rattle.std.specs.List.{list_any}
 use Rattle.std.specs.Option.{option_map_or}
 use Rattle.std.specs.Str.{bytes_eq}
-use Rattle.csv.specs.Reading.{strip_bom}
-use Rattle.csv.specs.Writing.{default_writer, read_back, row_text}
 use Rattle.trade_base.specs.Refusal.{refusal_name}
 use Rattle.trade_base.specs.declared.refusal.Refusal.{Refusal}
 use Rattle.own_model.specs.Call.{Call}
@@ -12,7 +10,6 @@ use Rattle.own_model.specs.Call.Call.{Alloc, Free, Attach, AttachAt, Detach, Pee
 use Rattle.own_model.specs.OwnState.{OwnState}
 use Rattle.own_model.specs.StartList.{Entry}
 use Rattle.own_model.specs.Table.{Test, line_of}
-use Rattle.coverage.specs.Covered.{AreTold}
 use Rattle.coverage.specs.Forms.{refusals_of}
 use Rattle.coverage.specs.declared.form.Form.{Form}
 use Rattle.coverage.specs.declared.form.Form.TheVariants as form
@@ -58,14 +55,3 @@ AreOn refusals (test ∷ tests) = (is_on refusals test.refusal ≡ true) × AreO
 abbrev pub CallsAreOnTheTable : Type 0
 CallsAreOnTheTable =
     (entry : Entry) (call : Call) (s : OwnState) → AreOn (on_table call) (line_of entry call s)
-
--- rows one after the other, as a trace has them
-abbrev pub written : List (List (List ℕ)) → List ℕ
-written [] = []
-written (row ∷ rows) = row_text default_writer row ++ written rows
-
--- the rows of a text are those that were written, whatever their cells have
-abbrev pub RowsAreReadBack : Type 0
-RowsAreReadBack =
-    (rows told : List (List (List ℕ))) → strip_bom (written rows) ≡ written rows → AreTold (written rows) told →
-    told ≡ map read_back rows

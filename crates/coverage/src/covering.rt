@@ -1,14 +1,13 @@
-//! What the trace of a scenario shows.
-ghost use Rattle.std.specs.Prelude.{◌≡◌, ◌∷◌, ◌++◌, [], IfOk, OnOk};
-ghost use Rattle.csv.specs.Records.{fields_of};
-ghost use Rattle.coverage.specs.Covered.{IsCovered, NotesTrace, answer_of, cell, rows_after};
+//! What the calls of a scenario show.
+ghost use Rattle.std.specs.Prelude.{◌≡◌, ◌∷◌, ◌++◌, [], IfOk, OnOk, map};
+ghost use Rattle.coverage.specs.Covered.{answer_of, row_by, rows_after, rows_of};
 
 use crate::row::{Answered, Row};
 use crate::table::rows_of;
 use crate::wish::decided_by;
-use csv::{ByteRecord, ReaderBuilder};
 use start_lists::StartList;
 use std::alloc::{AllocError, Global};
+use workbench::Exchange;
 
 /// What a scenario shows of a machine.
 #[derive(Drop)]
@@ -17,54 +16,48 @@ pub struct Coverage {
     pub rows: Vec<Row>,
 }
 
-/// What a scenario shows of the machine of a start list, by its trace: of each row of both tables and of each rule whether some
-/// answered call of the trace shows that. An error is want of memory.
-pub fn cover(alloc: Global, list: &StartList, trace: &[u8]) -> Result<Coverage, AllocError>
-    ensures { IfOk result (λ coverage. IsCovered list.now trace.now coverage.rows.items) }
+/// What a scenario shows of the machine of a start list, by its calls with their replies: of each row of both tables and of each
+/// rule whether some call shows that. An error is out of memory.
+pub fn cover(
+    alloc: Global,
+    list: &StartList,
+    exchanges: &[Exchange],
+) -> Result<Coverage, AllocError>
+    ensures { IfOk result (λ coverage. coverage.rows.items
+        ≡ map (row_by list.now (map answer_of exchanges.now)) (rows_of list.now)) }
 {
     let mut rows = rows_of(alloc, list)?;
-    note_all(alloc, list, trace, rows.as_mut_slice())?;
+    note_all(alloc, list, exchanges, rows.as_mut_slice())?;
     Ok(Coverage { rows })
 }
 
-// Notes in rows what the answered calls of a trace show: all of its rows but the first, which has the names of its columns.
+// Notes in rows what calls show.
 fn note_all(
     alloc: Global,
     list: &StartList,
-    trace: &[u8],
+    exchanges: &[Exchange],
     rows: &mut [Row],
 ) -> Result<(), AllocError>
-    ensures { OnOk result (NotesTrace list.now trace.now rows.old rows.new) }
+    ensures { OnOk result (rows.new ≡ rows_after list.now (map answer_of exchanges.now) rows.old) }
 {
-    let reader = ReaderBuilder::new()
-        .has_headers(false)
-        .flexible(true)
-        .from_reader(alloc, trace);
-    let mut named = false;
-    for row in reader.into_byte_records() {
-        let Ok(row) = row else {
-            return Err(AllocError);
-        };
-        if named {
-            note_row(alloc, list, &row, rows)?;
-        }
-        named = true;
+    for exchange in exchanges {
+        note(alloc, list, exchange, rows)?;
     }
     Ok(())
 }
 
-// Notes in rows what a row of a trace shows.
-fn note_row(
+// Notes in rows what a call shows.
+fn note(
     alloc: Global,
     list: &StartList,
-    row: &ByteRecord,
+    exchange: &Exchange,
     rows: &mut [Row],
 ) -> Result<(), AllocError>
     ensures { OnOk result (rows.new
-        ≡ rows_after list.now (answer_of (fields_of row.now) ∷ []) rows.old) }
+        ≡ rows_after list.now (answer_of exchange.now ∷ []) rows.old) }
 {
-    let line = line_of(alloc, cell(row, 1), cell(row, 2))?;
-    let reply = cell(row, 3);
+    let line = line_of(alloc, exchange.name.as_slice(), exchange.call.as_slice())?;
+    let reply = exchange.reply.as_slice();
     let rules = decided_by(alloc, list, line.as_slice(), reply)?;
     let answered = Answered {
         line: line.as_slice(),
@@ -73,13 +66,6 @@ fn note_row(
     };
     answered.note(rows);
     Ok(())
-}
-
-// The cell at a place, or nothing.
-fn cell(row: &ByteRecord, place: usize) -> &[u8]
-    ensures { result.now ≡ cell (fields_of row.now) place }
-{
-    row.get(place).unwrap_or(b"")
 }
 
 // A line by the name and the call.

@@ -11,5 +11,5 @@ mod texts;
 pub use fates::{Change, changes};
 pub use needs::{Lack, Means, Need, lacks};
 pub use reaches::{Lead, Side, leads};
-pub use replies::{Changed, changed_replies};
+pub use replies::{ReplyChange, changed_replies};
 pub use texts::Differences;

@@ -5,12 +5,11 @@ use crate::given::Given;
 use crate::lists::tell_fault;
 use crate::streams::{Origin, Place, plain_writer};
 use crate::unfolding::unfolded;
-use crate::views::{Viewing, view_text};
 use init_core::{BootFault, Entry, StartList};
 use json_documents::Listing;
 use least::{Account, Budget, Question, Report};
 use list_diff::{
-    Changed, Differences, Lack, Means, Need, Side, changed_replies, changes, lacks, leads,
+    Differences, Lack, Means, Need, ReplyChange, Side, changed_replies, changes, lacks, leads,
 };
 use reach::Table;
 use scenario::Input;
@@ -19,7 +18,7 @@ use start_review::Review;
 use std::alloc::{AllocError, Global};
 use std::io::Write;
 use std::{fs, io};
-use workbench::{Ending, Play};
+use workbench::{Ending, Exchange, Play, answers};
 use workbench_options::Diff;
 
 /// The exit status where something is changed.
@@ -106,7 +105,8 @@ impl Text {
 // What a scenario shows of both lists.
 #[derive(Drop)]
 struct Played<'a> {
-    replies: Vec<Changed>,
+    before: Vec<Exchange>,
+    after: Vec<Exchange>,
     lacks: Vec<Lack<'a>>,
 }
 
@@ -114,7 +114,8 @@ impl<'a> Played<'a> {
     // Nothing, where none is played.
     fn nothing(alloc: Global) -> Played<'a> {
         Played {
-            replies: Vec::new(alloc),
+            before: Vec::new(alloc),
+            after: Vec::new(alloc),
             lacks: Vec::new(alloc),
         }
     }
@@ -179,30 +180,37 @@ fn compare<'a>(
 ) -> Result<Text, AllocError> {
     let changes = changes(alloc, was.list, now.list)?;
     let leads = leads(alloc, was, now)?;
+    let replies = changed_replies(alloc, played.before.as_slice(), played.after.as_slice())?;
     let told = Differences {
         before: was.list,
         after: now.list,
         changes: changes.as_slice(),
         leads: leads.as_slice(),
     };
+    let lacks = played.lacks.as_slice();
     Ok(Text {
         text: if json {
-            documents(alloc, told, played)?
+            documents(alloc, told, lacks, replies.as_slice())?
         } else {
-            lines(alloc, told, played)?
+            lines(alloc, told, lacks, replies.as_slice())?
         },
-        is_changed: !(told.is_empty() && played.lacks.is_empty() && played.replies.is_empty()),
+        is_changed: !(told.is_empty() && lacks.is_empty() && replies.is_empty()),
     })
 }
 
 // A line for each difference.
-fn lines(alloc: Global, told: Differences<'_>, played: &Played<'_>) -> Result<Vec<u8>, AllocError> {
+fn lines(
+    alloc: Global,
+    told: Differences<'_>,
+    lacks: &[Lack<'_>],
+    replies: &[ReplyChange<'_>],
+) -> Result<Vec<u8>, AllocError> {
     let mut text = told.to_string(alloc)?.into_bytes();
-    for lack in &played.lacks {
+    for lack in lacks {
         text.extend_from_slice(lack.to_string(alloc)?.as_bytes())?;
     }
-    for reply in &played.replies {
-        reply.add_line(&mut text)?;
+    for reply in replies {
+        reply.add_line(alloc, &mut text)?;
     }
     Ok(text)
 }
@@ -211,14 +219,15 @@ fn lines(alloc: Global, told: Differences<'_>, played: &Played<'_>) -> Result<Ve
 fn documents(
     alloc: Global,
     told: Differences<'_>,
-    played: &Played<'_>,
+    lacks: &[Lack<'_>],
+    replies: &[ReplyChange<'_>],
 ) -> Result<Vec<u8>, AllocError> {
     let mut listing = Listing::new(alloc);
     told.list(alloc, &mut listing)?;
-    for lack in &played.lacks {
+    for lack in lacks {
         lack.list(&mut listing)?;
     }
-    for reply in &played.replies {
+    for reply in replies {
         reply.list(&mut listing)?;
     }
     listing.into_text()
@@ -237,25 +246,10 @@ fn play_both<'a>(
     };
     let lines = unfolded(rt, path, &scenario, Given::nothing())?;
     Ok(Played {
-        replies: replies_of(rt, path, lines.bytes(), before, after)?,
+        before: answers_on(rt, path, lines.bytes(), before)?,
+        after: answers_on(rt, path, lines.bytes(), after)?,
         lacks: lacks_of(rt, lines.bytes(), before, after)?,
     })
-}
-
-// The replies that aren't the same on both lists.
-fn replies_of(
-    rt: &HostRuntime,
-    path: &str,
-    scenario: &[u8],
-    before: &Policy<'_>,
-    after: &Policy<'_>,
-) -> Result<Vec<Changed>, u8> {
-    let was = traced(rt, path, scenario, before)?;
-    let now = traced(rt, path, scenario, after)?;
-    made_or_told(
-        rt,
-        changed_replies(rt.alloc(), was.as_slice(), now.as_slice()),
-    )
 }
 
 // What components lack of either list.
@@ -329,29 +323,28 @@ fn means_of(budget: Budget) -> Means {
     }
 }
 
-// The trace of a scenario, or the exit status of one that can't be played to its end. What it expects isn't looked at.
-fn traced<'a>(
+// The calls of a scenario with their replies, or the exit status of one that can't be played to its end. What it expects isn't
+// looked at.
+fn answers_on(
     rt: &HostRuntime,
-    path: &'a str,
+    path: &str,
     scenario: &[u8],
-    policy: &'a Policy<'_>,
-) -> Result<Vec<u8>, u8> {
+    policy: &Policy<'_>,
+) -> Result<Vec<Exchange>, u8> {
     let play = Play {
         machine: &policy.text,
         scenario: path.as_bytes(),
         given: Known::new(rt.alloc()),
     };
     let mut reader = Input::new(Origin::Held(scenario));
+    let mut nowhere = plain_writer(rt, Place::Dropped);
     let mut complaints = plain_writer(rt, Place::Dropped);
-    let viewing = Viewing::Trace { json: false };
-    let kept = view_text(rt, play, viewing, &mut reader, &mut complaints);
-    let status = match &kept.ended {
-        Ok(ending) => tell_ending(rt, path, *ending),
-        Err(fault) => return Err(tell_unplayed(rt, policy.path, fault)),
-    };
-    match status {
-        0 | 3 => Ok(kept.text),
-        status => Err(status),
+    match answers(rt.alloc(), play, &mut reader, &mut nowhere, &mut complaints) {
+        Ok(answered) => match tell_ending(rt, path, answered.ending) {
+            0 | 3 => Ok(answered.exchanges),
+            status => Err(status),
+        },
+        Err(fault) => Err(tell_unplayed(rt, policy.path, &fault)),
     }
 }
 

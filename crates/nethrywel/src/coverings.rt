@@ -5,6 +5,7 @@ use init_core::StartList;
 use std::alloc::AllocError;
 use std::io;
 use std::io::Write;
+use workbench::Exchange;
 
 /// How the machine is told beside which no start list stands.
 const BUILT_IN: &str = "built-in machine";
@@ -38,14 +39,14 @@ impl Coverings {
         self.json && self.report.is_some()
     }
 
-    /// Adds what a scenario shows of the machine of a text, by its trace. One whose machine doesn't boot shows nothing: it fails as a
+    /// Adds what a scenario shows of the machine of a text, by its calls with their replies. One whose machine doesn't boot shows nothing: it fails as a
     /// test.
     pub(crate) fn add(
         &mut self,
         rt: &HostRuntime,
         machine: Machine<'_>,
         scenario: &str,
-        trace: &[u8],
+        exchanges: &[Exchange],
     ) -> Result<(), AllocError> {
         let Some(report) = &mut self.report else {
             return Ok(());
@@ -53,7 +54,7 @@ impl Coverings {
         let Ok(list) = StartList::read(rt.alloc(), machine.text) else {
             return Ok(());
         };
-        let coverage = cover(rt.alloc(), &list, trace)?;
+        let coverage = cover(rt.alloc(), &list, exchanges)?;
         report.add(&list, machine.path.unwrap_or(BUILT_IN), scenario, coverage)
     }
 

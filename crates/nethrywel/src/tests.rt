@@ -9,7 +9,7 @@ use crate::machines::{Machine, MachineText};
 use crate::policies::{Noted, Standing, hold_against};
 use crate::scenarios::scenarios_at;
 use crate::streams::{Origin, Place, plain_writer, text_of};
-use crate::views::{Kept, Viewing, view, view_text};
+use crate::views::{Viewing, view};
 use colors::{Lines, paint};
 use init_core::{BootFault, StartList};
 use rounds::{Unfit, unfold};
@@ -22,7 +22,7 @@ use std::{fs, io};
 use test_report::{
     Trial, failures, junit_document, machine_beside, policy_beside, tap_plan, tap_point,
 };
-use workbench::{Ending, Play, Showing, exit_status};
+use workbench::{Ending, Play, Showing, answers, exit_status};
 use workbench_options::Test;
 
 /// What is asked of a test: its replies.
@@ -338,7 +338,16 @@ fn run_from(
     })
 }
 
-// Plays the lines of an origin, and keeps its complaints. What they show is read from their trace.
+// A run whose complaints are kept.
+#[derive(Drop)]
+struct Kept {
+    // How it ended.
+    ended: Result<Ending, BootFault>,
+    // Its complaints.
+    text: Vec<u8>,
+}
+
+// Plays the lines of an origin, and keeps its complaints. What they show is added where that is wanted.
 fn played(
     rt: &HostRuntime,
     case: Case<'_>,
@@ -352,13 +361,17 @@ fn played(
     };
     let mut reader = Input::new(origin);
     let mut complaints = plain_writer(rt, Place::text(rt));
+    let mut nowhere = plain_writer(rt, Place::Dropped);
     let ended = if coverings.are_wanted() {
-        let viewing = Viewing::Trace { json: false };
-        let shown = view_text(rt, play, viewing, &mut reader, &mut complaints);
-        coverings.add(rt, case.machine, case.scenario, shown.text.as_slice())?;
-        shown.ended
+        match answers(rt.alloc(), play, &mut reader, &mut nowhere, &mut complaints) {
+            Ok(answered) => {
+                let exchanges = answered.exchanges.as_slice();
+                coverings.add(rt, case.machine, case.scenario, exchanges)?;
+                Ok(answered.ending)
+            }
+            Err(fault) => Err(fault),
+        }
     } else {
-        let mut nowhere = plain_writer(rt, Place::Dropped);
         view(
             rt,
             play,

@@ -1,6 +1,6 @@
 //! What is told of a scenario.
 use crate::coloring::Coloring;
-use crate::streams::{Place, Reader, Writer, plain_writer, text_of};
+use crate::streams::{Reader, Writer};
 use init_core::BootFault;
 use workbench::{Ending, Play, Showing, accounts, alone, run, trace};
 
@@ -57,30 +57,5 @@ pub(crate) fn view(
                 compared.ending
             })
         }
-    }
-}
-
-/// A play of which what is told is kept.
-#[derive(Drop)]
-pub(crate) struct Kept {
-    /// How it ended.
-    pub(crate) ended: Result<Ending, BootFault>,
-    /// What is told of it.
-    pub(crate) text: Vec<u8>,
-}
-
-/// Plays a scenario, and keeps what is to be told of it.
-pub(crate) fn view_text(
-    rt: &HostRuntime,
-    play: Play<'_>,
-    viewing: Viewing<'_>,
-    reader: &mut Reader<'_>,
-    complaints: &mut Writer<'_>,
-) -> Kept {
-    let mut writer = plain_writer(rt, Place::text(rt));
-    let ended = view(rt, play, viewing, reader, &mut writer, complaints);
-    Kept {
-        ended,
-        text: text_of(rt, writer),
     }
 }

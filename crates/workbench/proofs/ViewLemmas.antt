@@ -120,7 +120,7 @@ silent_calls : (earlier : List (List ℕ)) (number : ℕ) (calls : List (List �
 silent_calls earlier number [] = refl
 silent_calls earlier number (call ∷ calls) = silent_calls (earlier ++ call ∷ []) number calls
 
-silent_turns : (only : Option (List ℕ)) (earlier : List (List ℕ)) (turns : List Turn) → told_of_turns (λ _ _ _. []) only earlier turns ≡ []
+pub silent_turns : (only : Option (List ℕ)) (earlier : List (List ℕ)) (turns : List Turn) → told_of_turns (λ _ _ _. []) only earlier turns ≡ []
 silent_turns only earlier [] = refl
 silent_turns only earlier (turn ∷ turns) =
     ap (λ text. text ++ told_of_turns (λ _ _ _. []) only (earlier ++ said_by only (calls_in turn.deed)) turns) (silent_calls earlier turn.number (said_by only (calls_in turn.deed)))

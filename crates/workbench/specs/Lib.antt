@@ -18,3 +18,5 @@ pub mod PeakList
 pub mod Needs
 pub mod Meters
 pub mod Accounting
+pub mod Exchange
+pub mod Answers

@@ -1,4 +1,4 @@
--- All of the trace is noted in the rows of the machine.
+-- Each answer is noted in the rows of the machine.
 use Rattle.std.proofs.Common.{arith}
 use Rattle.coverage.proofs.CoverLemmas.{covered_whole}
 use Rattle.coverage.proofs.covering.cover.Goals as goal
