@@ -129,16 +129,22 @@ impl<'a> One<'a> {
             given,
         };
         let mut reader = Input::new(Origin::Held(self.scenario));
-        let mut writer = plain_writer(rt, if all.summary {
-            Place::Dropped
-        } else {
-            Place::text(rt)
-        });
-        let mut complaints = plain_writer(rt, if self.silent {
-            Place::Dropped
-        } else {
-            Place::Complained(rt.stderr())
-        });
+        let mut writer = plain_writer(
+            rt,
+            if all.summary {
+                Place::Dropped
+            } else {
+                Place::text(rt)
+            },
+        );
+        let mut complaints = plain_writer(
+            rt,
+            if self.silent {
+                Place::Dropped
+            } else {
+                Place::Complained(rt.stderr())
+            },
+        );
         let compared = alone(
             rt.alloc(),
             play,
@@ -168,7 +174,9 @@ impl<'a> One<'a> {
     ) -> u8 {
         let told = if all.summary {
             let mut writer = plain_writer(rt, Place::text(rt));
-            if compared.ending.fault.is_none() && compared.write_sum(self.name, &mut writer).is_err() {
+            if compared.ending.fault.is_none()
+                && compared.write_sum(self.name, &mut writer).is_err()
+            {
                 return no_memory(rt);
             }
             text_of(rt, writer)

@@ -32,7 +32,10 @@ enum Row {
         measure: Measure,
     },
     // The reserve of a component.
-    Reserve { name: Vec<u8>, reserve: Reserve },
+    Reserve {
+        name: Vec<u8>,
+        reserve: Reserve,
+    },
     // The session of a component.
     Session(SessionRow),
     // The sums of all limits.

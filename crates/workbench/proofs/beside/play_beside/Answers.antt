@@ -17,9 +17,9 @@ returns-clause-summed g c = λ works.
     let name = c.args.named.now.name.now in
     let start = c.args.machines.whole in
     let plays = rw c.play-ending.ensures.held at (rw c.requires.all at (c.play-ending.ensures.plays works)) in
-    rw c.close.ensures.lines in
-    played_from c.play-ending.result c.close.result.ending plays refl
-    (c.close.ensures.closes (alone_same c.play-ending.result.fault name start _ _ _ _ plays.sees))
+    rw c.close.ensures.lines
+    (played_from c.play-ending.result c.close.result.ending plays refl
+    (c.close.ensures.closes (alone_same c.play-ending.result.fault name start _ _ _ _ plays.sees)))
 
 pub returns-clause-same : goal.returns-clause-same
 returns-clause-same g c = λ works.
@@ -27,8 +27,7 @@ returns-clause-same g c = λ works.
     let start = c.args.machines.whole in
     let plays = rw c.play-ending.ensures.held at (rw c.requires.all at (c.play-ending.ensures.plays works)) in
     let same = alone_same c.play-ending.result.fault name start _ _ _ _ plays.sees in
-    rw c.close.ensures.difference in
-    same_behind c.play-ending.result c.close.result.ending _ _ _ (c.close.ensures.closes same) same
+    rw c.close.ensures.difference (same_behind c.play-ending.result c.close.result.ending _ _ _ (c.close.ensures.closes same) same)
 
 pub play-ending-requires-clause-sees : goal.play-ending-requires-clause-sees
 play-ending-requires-clause-sees g c = record { leads = c.requires.same; counted = λ _. refl; alike = refl }
