@@ -2,9 +2,9 @@
 ghost use Rattle.std.specs.Prelude.{◌≡◌, ◌++◌, IfOk, OnOk};
 ghost use Rattle.start_review.specs.Spare.{spare_in, spare_of};
 
+use crate::node::Amount;
 use crate::outer::is_server;
 use crate::quoted::show_within;
-use crate::node::Amount;
 use start_lists::{Entry, Path, StartList};
 use std::alloc::{AllocError, Global};
 use std::fmt;

@@ -121,10 +121,7 @@ fn show_node<W: fmt::Write>(f: &mut fmt::Formatter<W>, node: &Node<'_>) -> fmt::
 }
 
 // Where requests are routed, by which rules, and with which label, if others are routed elsewhere.
-fn show_decision<W: fmt::Write>(
-    f: &mut fmt::Formatter<W>,
-    decision: &Decision<'_>,
-) -> fmt::Result {
+fn show_decision<W: fmt::Write>(f: &mut fmt::Formatter<W>, decision: &Decision<'_>) -> fmt::Result {
     show_indent(f, decision.client)?;
     write!(f, "  {} -> ", decision.service)?;
     match decision.server() {
@@ -188,6 +185,15 @@ fn add_decision(
     decision: &Decision<'_>,
 ) -> Result<(), AllocError> {
     let by = decision.rules(false).to_string(alloc)?;
+    add_request(listing, *decision, by.as_str())
+}
+
+// Adds a decision by these rules.
+fn add_request<'a>(
+    listing: &mut Listing,
+    decision: Decision<'a>,
+    by: &'a str,
+) -> Result<(), AllocError> {
     let to = match decision.server() {
         Some(server) => Field::Text(server.path()),
         None => Field::Nothing,
