@@ -30,6 +30,7 @@ use scenario_lines::{Gather, MAX_LINES, NamedCall, PlayFault, Run, Sink, Source}
 use start_lists::{BootFault, StartList};
 use std::alloc::{AllocError, Global};
 use std::marker::Model;
+use std::mem;
 
 /// A call that was answered.
 #[derive(Drop)]
@@ -231,8 +232,6 @@ fn answers_on<R: Router + Drop, S: Source, K: Sink, E: Sink>(
         complained: 0,
     };
     let ending = play_lines(&mut bench, &mut core, b"", reader, writer);
-    AnswerList {
-        ending,
-        exchanges: keeper.kept,
-    }
+    let exchanges = mem::replace(&mut bench.watch.kept, Vec::new(alloc));
+    AnswerList { ending, exchanges }
 }
