@@ -145,11 +145,21 @@ fn play_accounting<R: Router + Drop, S: Source, K: Sink, E: Sink>(
         complained: 0,
     };
     let ending = play_lines(&mut bench, &mut core, b"", reader, writer);
-    let rows = AccountRows::of(alloc, &core, run.list, bench.watch);
-    AccountList {
-        ending: close_accounting(ending, &core, run.list, &bench, writer),
-        rows,
-    }
+    let rows = rows_after(alloc, &core, run.list, &bench);
+    let ending = close_accounting(ending, &core, run.list, &bench, writer);
+    AccountList { ending, rows }
+}
+
+// The rows after a play.
+fn rows_after<R: Router + Drop, E: Sink>(
+    alloc: Global,
+    core: &Core<R>,
+    list: &StartList,
+    bench: &Bench<'_, '_, '_, '_, '_, '_, '_, Accounting, E>,
+) -> Result<AccountRows, AllocError>
+    requires listed { core.now.entries ≡ entries_of (start_list_of list.now) }
+{
+    AccountRows::of(alloc, core, list, bench.watch)
 }
 
 // Writes the list behind a play that came to its end.

@@ -211,69 +211,82 @@ fn row_of(
 
 // Adds the document of a row.
 fn add_row(alloc: Global, listing: &mut Listing, row: &Row) -> Result<(), AllocError> {
-    let mut members = Vec::new(alloc);
+    let members = members_of(alloc, row)?;
+    listing.add(members.as_slice())
+}
+
+// The members of a row's document.
+fn members_of<'a>(
+    alloc: Global,
+    row: &'a Row,
+) -> Result<Vec<(&'static str, Field<'a>)>, AllocError> {
     match row {
         Row::Account {
             name,
             account,
             measure,
         } => {
-            members.push(("kind", Field::Word("account")))?;
-            members.push(("name", Field::Text(name.as_slice())))?;
-            add_quotas(&mut members, *account)?;
-            add_measure(&mut members, *measure)?;
+            let members = vec![in alloc;
+                ("kind", Field::Word("account")),
+                ("name", Field::Text(name.as_slice())),
+            ]?;
+            with_measure(with_quotas(members, *account)?, *measure)
         }
-        Row::Reserve { name, reserve } => {
-            members.push(("kind", Field::Word("reserve")))?;
-            members.push(("name", Field::Text(name.as_slice())))?;
-            members.push(("ram", Field::Number(reserve.ram.0)))?;
-            members.push(("caps", Field::Number(u64::from(reserve.caps.0))))?;
-        }
-        Row::Session(session) => add_session(&mut members, session)?,
-        Row::Total(sums) => {
-            members.push(("kind", Field::Word("total")))?;
-            members.push(("ram", sum_of(sums.ram)))?;
-            members.push(("caps", sum_of(sums.caps)))?;
-        }
+        Row::Reserve { name, reserve } => Ok(vec![in alloc;
+            ("kind", Field::Word("reserve")),
+            ("name", Field::Text(name.as_slice())),
+            ("ram", Field::Number(reserve.ram.0)),
+            ("caps", Field::Number(u64::from(reserve.caps.0))),
+        ]?),
+        Row::Session(session) => session_members(alloc, session),
+        Row::Total(sums) => Ok(vec![in alloc;
+            ("kind", Field::Word("total")),
+            ("ram", sum_of(sums.ram)),
+            ("caps", sum_of(sums.caps)),
+        ]?),
     }
-    listing.add(members.as_slice())
 }
 
-// Adds the members of a session.
-fn add_session<'a>(
-    members: &mut Vec<(&'static str, Field<'a>)>,
+// The members of a session's document.
+fn session_members<'a>(
+    alloc: Global,
     session: &'a SessionRow,
-) -> Result<(), AllocError> {
-    members.push(("kind", Field::Word("session")))?;
-    members.push(("name", Field::Text(session.name.as_slice())))?;
-    members.push(("session", Field::Number(session.selector)))?;
-    match session.account {
-        Some(account) => add_quotas(members, account)?,
-        None => members.push(("state", Field::Word("closed")))?,
-    }
-    add_measure(members, session.measure)?;
+) -> Result<Vec<(&'static str, Field<'a>)>, AllocError> {
+    let mut members = vec![in alloc;
+        ("kind", Field::Word("session")),
+        ("name", Field::Text(session.name.as_slice())),
+        ("session", Field::Number(session.selector)),
+    ]?;
+    members = match session.account {
+        Some(account) => with_quotas(members, account)?,
+        None => {
+            members.push(("state", Field::Word("closed")))?;
+            members
+        }
+    };
+    members = with_measure(members, session.measure)?;
     members.push(("server", Field::Text(session.server.as_slice())))?;
     members.push(("label", Field::Text(session.label.as_slice())))?;
-    Ok(())
+    Ok(members)
 }
 
-// Adds use and limits.
-fn add_quotas(
-    members: &mut Vec<(&'static str, Field<'_>)>,
+// Members with use and limits.
+fn with_quotas<'a>(
+    mut members: Vec<(&'static str, Field<'a>)>,
     account: Quotas,
-) -> Result<(), AllocError> {
+) -> Result<Vec<(&'static str, Field<'a>)>, AllocError> {
     members.push(("ram_used", Field::Number(account.ram_used.0)))?;
     members.push(("ram_limit", Field::Number(account.ram_limit.0)))?;
     members.push(("caps_used", Field::Number(u64::from(account.caps_used.0))))?;
     members.push(("caps_limit", Field::Number(u64::from(account.caps_limit.0))))?;
-    Ok(())
+    Ok(members)
 }
 
-// Adds that the component has exited, if it has, need and peak.
-fn add_measure(
-    members: &mut Vec<(&'static str, Field<'_>)>,
+// Members with need and peak, before them that the component has exited, if it has.
+fn with_measure<'a>(
+    mut members: Vec<(&'static str, Field<'a>)>,
     measure: Measure,
-) -> Result<(), AllocError> {
+) -> Result<Vec<(&'static str, Field<'a>)>, AllocError> {
     let Measure { figure, peak } = measure;
     if figure.is_gone {
         members.push(("state", Field::Word("gone")))?;
@@ -282,11 +295,11 @@ fn add_measure(
     members.push(("caps_need", Field::Number(figure.need.caps)))?;
     members.push(("ram_peak", Field::Number(peak.ram.0)))?;
     members.push(("caps_peak", Field::Number(u64::from(peak.caps.0))))?;
-    Ok(())
+    Ok(members)
 }
 
 // A sum as a field, or nothing if it is wider than 64 bits.
-fn sum_of(sum: u128) -> Field<'static> {
+fn sum_of<'a>(sum: u128) -> Field<'a> {
     match u64::try_from(sum) {
         Ok(sum) => Field::Number(sum),
         Err(_) => Field::Nothing,

@@ -1,5 +1,5 @@
 //! The calls of a scenario with their replies, as values.
-ghost use Rattle.std.specs.Prelude.{◌≡◌, ◌≢◌, ◌≤◌, ◌∷◌, ◌++◌, ◌||◌, [], false, IfOk, IfErr, IfNone, IfSome, OnErr, OnOk, None, Some, drop, length};
+ghost use Rattle.std.specs.Prelude.{◌≡◌, ◌≢◌, ◌≤◌, ◌∷◌, ◌++◌, ◌||◌, [], false, true, IfOk, IfErr, IfNone, IfSome, OnErr, OnOk, None, Some, drop, length};
 ghost use Rattle.own_model.specs.Listed.{start_list_of};
 ghost use Rattle.own_model.specs.StartList.{entries_of};
 ghost use Rattle.start_lists.specs.declared.fault.BootFault.TheVariants.{NoMemory};
@@ -46,9 +46,9 @@ pub struct Exchange {
 }
 
 impl Model for Exchange {
-    ghost use Rattle.workbench.specs.Exchange.{Exchange as Value};
+    ghost use Rattle.workbench.specs.Exchange.{Exchange as AnsweredCall};
 
-    ghost Value = { Value };
+    ghost Value = { AnsweredCall };
 
     ghost view = { λ exchange. record {
       name = exchange.name.items;
@@ -232,6 +232,16 @@ fn answers_on<R: Router + Drop, S: Source, K: Sink, E: Sink>(
         complained: 0,
     };
     let ending = play_lines(&mut bench, &mut core, b"", reader, writer);
-    let exchanges = mem::replace(&mut bench.watch.kept, Vec::new(alloc));
+    let exchanges = taken(alloc, &mut bench);
     AnswerList { ending, exchanges }
+}
+
+// Takes the calls out of a run.
+fn taken<E: Sink>(
+    alloc: Global,
+    bench: &mut Bench<'_, '_, '_, '_, '_, '_, '_, Keeper, E>,
+) -> Vec<Exchange>
+    ensures { result.items ≡ bench.old.watch.now.kept.items }
+{
+    mem::replace(&mut bench.watch.kept, Vec::new(alloc))
 }
