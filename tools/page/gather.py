@@ -4,7 +4,7 @@ import hashlib
 
 from places import places, rules_in
 from thin import ACCOUNTS, COMPLAINTS, TICKS, lines_of, shown_accounts, some, some_timelines, timelines_of
-from told import accounts_of, alone_of, complaints_of, findings_of, least_of, listed, policy_of, replies_of, route_of, rows_of, ways_of
+from told import accounts_of, alone_of, complaints_of, diagnostics_of, findings_of, least_of, listed, policy_of, replies_of, route_of, rows_of, ways_of
 
 
 def sum_of(text):
@@ -45,8 +45,8 @@ class Gathered:
     def of_list(self, data):
         found = places(self.list)
         self.rules = rules_in(self.list, found)
-        status, _, told = self.run(["check", *(["--policy", "policy"] if self.policy else []), "list.json"])
-        data["findings"], broken = findings_of(told, self.list, found)
+        status, out, err = self.run(["check", "--json", *(["--policy", "policy"] if self.policy else []), "list.json"])
+        data["findings"], broken = findings_of([*listed(out), *diagnostics_of(err)], self.list, found)
         # (a policy with a fault, or that is broken, is no fault of the list)
         data["boots"] = status == 0 or bool(broken)
         if self.policy and data["boots"]:
@@ -60,7 +60,7 @@ class Gathered:
         machine = machine_words(self.list)
         data["status"], out, err = self.run(["trace", "--json", *machine, "scenario"])
         rows = rows_of(out)
-        complaints, data["faults"] = complaints_of(err, "scenario")
+        complaints, data["faults"] = complaints_of(diagnostics_of(err), "scenario")
         replies = replies_of(rows, self.run(["run", *machine, "scenario"])[1])
         data["wrong"] = len({it[0] for it in complaints})
         data["lines"], data["left"]["lines"] = lines_of(texts_of(self.scenario), replies, complaints)

@@ -59,7 +59,7 @@ def part_of(told, found):
     path, best = (), None
     for step in told.removeprefix("start list: ").split(": "):
         at = re.match(r'([a-z-]+)(?: and [a-z-]+)?(?:\[([0-9]+)\])?(?: "[^"]*")?$', step)
-        named = re.match(r'"((?:[^"\\])+)"$', step)
+        named = re.match(r"unknown member `([^`]+)`", step)
         if not at and not named:
             break
         path += (named[1],) if named else (at[1],) if at[2] is None else (at[1], int(at[2]))

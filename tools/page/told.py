@@ -21,6 +21,11 @@ def rows_of(told):
     return [json.loads(it) for it in told.split("\n") if it]
 
 
+def diagnostics_of(told):
+    """Reads the diagnostics that a command with --json prints, an object a line; three kinds of failure are text in any case."""
+    return [json.loads(it) if it.startswith("{") else {"text": it} for it in told.split("\n") if it]
+
+
 def is_refusal(reply):
     return reply.startswith("ERR ") or re.match(r"[A-Z][a-z]", reply) is not None
 
@@ -43,23 +48,21 @@ def route_of(told, client, rules):
     return {"told": told.splitlines(), "rules": rules_of(told, client, rules)}
 
 
-def findings_of(told, text, found):
-    """Reads the faults, findings and advice of a start list, each with its place, and of a policy the lines that are broken."""
+def findings_of(documents, text, found):
+    """Returns the faults, findings and advice of a start list, each with its place, and of a policy the lines that are broken."""
     findings, broken = [], []
-    for line in told.splitlines():
-        at = re.match(r"list\.json:(\d+):(\d+): (.*)", line)
-        policy = re.match(r"policy:(?:(\d+):)? (.*)", line)
-        if policy:
-            broken.append((int(policy[1] or 0), policy[2]))
-        elif at:
-            before = text.split("\n")[: int(at[1]) - 1]
-            where = sum(len(it) + 1 for it in before) + max(int(at[2]) - 1, 0)
+    for it in documents:
+        line, column, part = it.get("line"), it.get("column"), it.get("part")
+        if it.get("file") == "policy":
+            broken.append((line or 0, it["text"]))
+        elif line:
+            before = text.split("\n")[: line - 1]
+            where = sum(len(it) + 1 for it in before) + max(column - 1, 0)
             where = min(where, max(len(text) - 1, 0))
-            findings.append({"told": line.removeprefix("list.json:"), "range": [where, where + 1]})
+            findings.append({"told": f"{line}:{column}: {it['text']}", "range": [where, where + 1]})
         else:
-            told = line.removeprefix("list.json:").strip()
-            advice = told.startswith("servers' accounts stay as they began: ")
-            findings.append({"told": told, "range": part_of(re.sub(r"^[A-Z]\w+(?: \S+)?: ", "", told), found), "advice": advice})
+            placed = f"{part}: {it['text']}" if part and it["kind"] == "finding" else it["text"]
+            findings.append({"told": placed, "range": part_of(placed if it.get("kind") == "finding" else part or "", found), "advice": it.get("kind") == "advice"})
     return findings, broken
 
 
@@ -91,19 +94,10 @@ def accounts_of(documents):
     return accounts
 
 
-def complaints_of(told, name):
-    """Returns the complaints of a scenario, each with its line and column, and what else stands on standard error."""
-    complaints, rest = [], []
-    for line in told.split("\n"):
-        found = re.match(re.escape(name) + r":(\d+):(\d+): (.*)", line)
-        if found:
-            complaints.append([int(found[1]), int(found[2]), found[3]])
-        elif complaints and line.startswith("["):
-            # (the second log line of a complaint)
-            complaints[-1][2] += f"\n{line}"
-        elif line:
-            rest.append(line)
-    return complaints, rest
+def complaints_of(documents, name):
+    """Returns the errors of a scenario's lines, each with its line and column, and the texts of other errors."""
+    complaints = [[it["line"], it["column"], it["text"]] for it in documents if it.get("file") == name and it["column"]]
+    return complaints, [it["text"] for it in documents if it.get("file") != name or not it["column"]]
 
 
 def replies_of(rows, transcript):

@@ -3,6 +3,7 @@ use Rattle.std.proofs.lemmas.Bool.Decides.{nat_tests}
 use Rattle.std.proofs.Common.{arith, true≢false, ◌≡◌, ◌<◌, ◌≤◌, ◌⊎◌, inl, inr, Bool, true, false, cond, List, [], ◌∷◌, ◌++◌, suc, nat_lt, refl, sym, ap, ◌∙◌, ◌||◌}
 use Rattle.std.specs.List.{AllByRecursion}
 use Rattle.std.specs.Prelude.{ℕ, Option, Some, None, is_some}
+use Rattle.std.proofs.Math.Bool.{or-false}
 use Rattle.trade_base.specs.declared.refusal.Refusal.TheVariants.{InsufficientRamQuota, InsufficientCapQuota}
 use Rattle.own_model.specs.Amounts.{Amounts}
 use Rattle.own_model.specs.Session.{Session, session_ram, session_caps}
@@ -16,10 +17,6 @@ use Rattle.budget_laws.specs.Request.{donating}
 use Rattle.budget_laws.specs.RequestLaws.{Reaches, session_after, needs_of_one, session_needs, OneAlike, one_in_want, session_in_want}
 use Rattle.budget_meter.specs.Reached.{Sent, reaches, buffer_after, reaching_to_want, run_needs, run_in_want, opens_none, opening_need, opened_needs, opened_in_want, SessionRunsAreExact}
 use Rattle.budget_meter.specs.Reached.Sent.{Asks, Raises}
-
-or_none : (a : Bool) → (a || false) ≡ a
-or_none true = refl
-or_none false = refl
 
 module _ (one other : Amounts) where
   -- one request or donation, and what it leaves
@@ -40,7 +37,7 @@ module _ (one other : Amounts) where
       record {
         buffers = same_buffer buffer sent s t alike.told.0;
         next = session_moved one other (x ∷ []) s t before alone;
-        want = sym (or_none (one_in_want x t)) ∙ alike.want ∙ or_none (one_in_want x s);
+        want = sym (or-false (one_in_want x t)) ∙ alike.want ∙ or-false (one_in_want x s);
       }
 
   -- tests that come out alike bring the same
@@ -76,7 +73,7 @@ module _ (one other : Amounts) where
       let later : Bool → Bool = λ w. session_in_want (there w) (session_after x t) in
       let led = of_first (Leads one other) first (session_needs one (more (one_in_want x s)) (session_after x s)) each in
       elim (session_decides one other (x ∷ []) s t before (of_both (Leads one other) first [] led tt)) [
-        | inr short ↦ inr (or_left (one_in_want x t) (later (one_in_want x t)) (sym (or_none (one_in_want x t)) ∙ short))
+        | inr short ↦ inr (or_left (one_in_want x t) (later (one_in_want x t)) (sym (or-false (one_in_want x t)) ∙ short))
         | inl alone ↦
             let alike = of_first (ComesOutAlike one other) first [] alone in
             let here = once buffer sent s t before alike in

@@ -41,37 +41,74 @@ pub enum Reason {
 }
 
 impl Reason {
-    // What is told of it, up to the form that it names.
-    fn text(self) -> &'static str {
+    /// Returns the message about this text of the line, which begins at the fault's column and may be empty.
+    pub fn about(self, text: &str) -> Message<'_> {
+        Message { reason: self, text }
+    }
+
+    // The first words of the message.
+    fn first_words(self) -> &'static str {
         match self {
-            Reason::OpenQuote => "a quote that isn't closed",
-            Reason::BadEscape => "no escape: there are \\n, \\t, \\\", \\\\ and \\xNN",
-            Reason::NoCall => "no call",
-            Reason::NoName => "no name of a component",
-            Reason::NoForm => "no call behind the name",
-            Reason::UnknownCall => "no call of this name",
-            Reason::Misspelt(_) => "no call of this name; did you mean ",
-            Reason::Missing(_) => "a word is missing: ",
-            Reason::TooMany(_) => "a word too many: ",
-            Reason::SmallUnit => "units are K, M and G",
-            Reason::NoNumber => "no number",
-            Reason::NoSize => "no size",
-            Reason::LongAddress => "an address has at most 16 digits",
-            Reason::NoAddress => "no address: 0x and hexadecimal digits",
-            Reason::NoHex => "no bytes: two hexadecimal digits each, or text in quotes",
-            Reason::NoService => "no name of a service",
+            Reason::OpenQuote => "unclosed quote",
+            Reason::BadEscape => "unknown escape; expected \\n, \\t, \\\", \\\\ or \\xNN",
+            Reason::NoCall => "line of more than 8192 bytes",
+            Reason::NoName => "expected a component, found",
+            Reason::NoForm => "expected a call after the component",
+            Reason::UnknownCall | Reason::Misspelt(_) => "unknown call",
+            Reason::Missing(_) => "missing argument",
+            Reason::TooMany(_) => "unexpected argument",
+            Reason::SmallUnit => "expected unit K, M or G, found",
+            Reason::NoNumber => "expected a number, found",
+            Reason::NoSize => "expected a size, found",
+            Reason::LongAddress => "expected an address of at most 16 digits, found",
+            Reason::NoAddress => "expected an address of 0x and hexadecimal digits, found",
+            Reason::NoHex => {
+                "expected bytes as two hexadecimal digits each or as text in quotes, found"
+            }
+            Reason::NoService => "expected a service, found",
+        }
+    }
+
+    // Whether the text of the line follows the first words.
+    fn shows_text(self) -> bool {
+        match self {
+            Reason::OpenQuote
+            | Reason::BadEscape
+            | Reason::NoCall
+            | Reason::NoForm
+            | Reason::Missing(_) => false,
+            _ => true,
         }
     }
 }
 
-impl fmt::Display for Reason {
+/// What is wrong with a line, as people read it.
+#[derive(Clone, Copy)]
+pub struct Message<'a> {
+    reason: Reason,
+    text: &'a str,
+}
+
+impl fmt::Display for Message<'_> {
     fn fmt<W: fmt::Write>(&self, f: &mut fmt::Formatter<W>) -> fmt::Result {
-        let (form, end) = match self {
-            Reason::Misspelt(form) => (form, "`?"),
-            Reason::Missing(form) | Reason::TooMany(form) => (form, "`"),
-            _ => return f.write_str(self.text()),
-        };
-        write!(f, "{}`{form}{end}", self.text())
+        f.write_str(self.reason.first_words())?;
+        if self.reason.shows_text() {
+            show_text(f, self.text)?;
+        }
+        match self.reason {
+            Reason::Misspelt(form) => write!(f, "; did you mean `{form}`?"),
+            Reason::Missing(form) | Reason::TooMany(form) => write!(f, "; expected `{form}`"),
+            _ => Ok(()),
+        }
+    }
+}
+
+// A text of the line in backquotes, or that there is none.
+fn show_text<W: fmt::Write>(f: &mut fmt::Formatter<W>, text: &str) -> fmt::Result {
+    if text.is_empty() {
+        f.write_str(" nothing")
+    } else {
+        write!(f, " `{text}`")
     }
 }
 
@@ -83,10 +120,4 @@ pub struct Fault {
     /// The byte of the line at which it is, from 1 on: the quote, the backslash, or the word of a
     /// call that is wrong.
     pub column: usize,
-}
-
-impl fmt::Display for Fault {
-    fn fmt<W: fmt::Write>(&self, f: &mut fmt::Formatter<W>) -> fmt::Result {
-        write!(f, "{}: {}", self.column, self.reason)
-    }
 }

@@ -17,7 +17,7 @@ mod words;
 
 pub use call_lines::Form;
 pub use expected::{meets, stands_for};
-pub use fault::{Fault, Reason};
+pub use fault::{Fault, Message, Reason};
 pub use forms::is_one_edit;
 pub use laws::calls_are_calls;
 pub use line::Line;

@@ -1,38 +1,48 @@
-//! Documents that are told one after the other.
+//! Lists of documents.
 use crate::document::Document;
 use crate::field::Field;
-use crate::rows::{add_line, listed};
 use std::alloc::{AllocError, Global};
 
-/// Documents, in the order in which they were added.
+/// Documents as a list of JSON, in the order in which they were added.
 #[derive(Drop)]
 pub struct Listing {
     alloc: Global,
-    // The text of each with the end of a line behind it.
-    lines: Vec<u8>,
+    // The text of the documents, with a comma and a new line between two of them.
+    text: Vec<u8>,
 }
 
 impl Listing {
-    /// None.
+    /// Returns a list without documents.
     pub fn new(alloc: Global) -> Listing {
         Listing {
             alloc,
-            lines: Vec::new(alloc),
+            text: Vec::new(alloc),
         }
     }
 
-    /// Adds a document with these members. Where an error comes, which is want of memory, it is of no further use.
+    /// Adds a document with these members. After an error, which is out of memory, the list is of no further use.
     pub fn add(&mut self, members: &[(&'static str, Field<'_>)]) -> Result<(), AllocError> {
         let mut document = Document::new(self.alloc);
         for (name, field) in members {
             document.add_field(self.alloc, *name, *field)?;
         }
-        let text = document.into_text(self.alloc)?;
-        add_line(&mut self.lines, text.as_slice())
+        self.push(document)
     }
 
-    /// The text of a list of them.
+    /// Adds a document. An error is the same as in `add`.
+    pub(crate) fn push(&mut self, document: Document) -> Result<(), AllocError> {
+        let text = document.into_text(self.alloc)?;
+        if !self.text.is_empty() {
+            self.text.extend_from_slice(b",\n")?;
+        }
+        self.text.extend_from_slice(text.as_slice())
+    }
+
+    /// Returns the list as text.
     pub fn into_text(self) -> Result<Vec<u8>, AllocError> {
-        listed(self.alloc, self.lines.as_slice())
+        let mut list = Vec::from_slice(self.alloc, b"[")?;
+        list.extend_from_slice(self.text.as_slice())?;
+        list.extend_from_slice(b"]\n")?;
+        Ok(list)
     }
 }

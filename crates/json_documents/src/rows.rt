@@ -56,44 +56,6 @@ impl<W: Write + Drop> Write for Rows<W> {
     }
 }
 
-/// A list of the documents of a table's rows, behind the row of its names.
-pub fn row_documents(
-    alloc: Global,
-    columns: &[Column],
-    table: &[u8],
-) -> Result<Vec<u8>, AllocError> {
-    let lines = document_lines(alloc, columns, table, true)?;
-    listed(alloc, lines.as_slice())
-}
-
-/// Documents of a line each as a list.
-pub(crate) fn listed(alloc: Global, lines: &[u8]) -> Result<Vec<u8>, AllocError> {
-    let mut list = Vec::new(alloc);
-    add_list(&mut list, lines)?;
-    Ok(list)
-}
-
-// Adds documents of a line each as a list.
-fn add_list(list: &mut Vec<u8>, lines: &[u8]) -> Result<(), AllocError> {
-    list.push(b'[')?;
-    for (place, line) in lines.split(|byte| *byte == b'\n').enumerate() {
-        if !line.is_empty() {
-            if place > 0 {
-                list.extend_from_slice(b",\n")?;
-            }
-            list.extend_from_slice(line)?;
-        }
-    }
-    list.extend_from_slice(b"]\n")
-}
-
-/// Adds a line with this text.
-pub(crate) fn add_line(lines: &mut Vec<u8>, text: &[u8]) -> Result<(), AllocError> {
-    lines.extend_from_slice(text)?;
-    lines.push(b'\n')?;
-    Ok(())
-}
-
 // A line with its document for each row, but the first where that has the names.
 fn document_lines(
     alloc: Global,
@@ -127,7 +89,8 @@ fn add_row(
     match has_row {
         Ok(true) => {
             let text = document_of(alloc, columns, row)?;
-            add_line(lines, text.as_slice())?;
+            lines.extend_from_slice(text.as_slice())?;
+            lines.push(b'\n')?;
             Ok(true)
         }
         Ok(false) => Ok(false),

@@ -3,6 +3,7 @@
 
 mod account;
 mod alike;
+mod documents;
 mod donation;
 mod draft;
 mod opened;
@@ -22,6 +23,6 @@ pub use account::{Account, Given, Session};
 pub use budget_meter::Budget;
 pub use report::{Question, Report};
 pub use rows::{Hole, Likeness, Row};
-pub use scene::{Misread, Why};
+pub use scene::{Message, Misread, Why};
 pub use shown::Csv;
 pub use trial::{LeftOut, Refused, Shortage};

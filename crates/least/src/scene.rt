@@ -83,7 +83,7 @@ fn opening_with<'a>(call: Call<'a>, args: &'a [u8]) -> Call<'a>
     }
 }
 
-/// Why a line isn't read, behind its column.
+/// Why a line isn't read.
 #[derive(Clone, Copy, PartialEq, Eq)]
 pub enum Why {
     /// It has a fault.
@@ -92,11 +92,33 @@ pub enum Why {
     Name(NameFault),
 }
 
-impl fmt::Display for Why {
-    fn fmt<W: fmt::Write>(&self, f: &mut fmt::Formatter<W>) -> fmt::Result {
+impl Why {
+    /// Returns the column of the fault in its line, from 1 on.
+    pub fn column(self) -> usize {
         match self {
-            Why::Line(fault) => write!(f, "{fault}"),
-            Why::Name(fault) => write!(f, "{fault}"),
+            Why::Line(fault) => fault.column,
+            Why::Name(fault) => fault.column,
+        }
+    }
+
+    /// Returns the message about this text of the line, which begins at the column.
+    pub fn about(self, text: &str) -> Message<'_> {
+        Message { why: self, text }
+    }
+}
+
+/// Why a line isn't read, as people read it.
+#[derive(Clone, Copy)]
+pub struct Message<'a> {
+    why: Why,
+    text: &'a str,
+}
+
+impl fmt::Display for Message<'_> {
+    fn fmt<W: fmt::Write>(&self, f: &mut fmt::Formatter<W>) -> fmt::Result {
+        match self.why {
+            Why::Line(fault) => write!(f, "{}", fault.reason.about(self.text)),
+            Why::Name(fault) => write!(f, "{}", fault.reason.about(self.text)),
         }
     }
 }

@@ -7,21 +7,14 @@ ghost use Rattle.list_names.specs.Views.{FailsAs};
 use crate::names::name_at;
 use scenario_names::Known;
 use std::alloc::{AllocError, AllocFailed, Global};
-use std::fmt;
 
-/// A name in a start list that nothing is given for, and its place, from 1 on.
+/// A name in a start list that has no value, and its place, from 1 on.
 #[derive(Clone, Copy, PartialEq, Eq)]
 pub struct UnknownName {
     /// The number of the line.
     pub line: usize,
     /// The number of the byte in it at which the `$` stands.
     pub column: usize,
-}
-
-impl fmt::Display for UnknownName {
-    fn fmt<W: fmt::Write>(&self, f: &mut fmt::Formatter<W>) -> fmt::Result {
-        write!(f, "{}:{}: nothing has this name", self.line, self.column)
-    }
 }
 
 /// Why a start list isn't filled.

@@ -1,8 +1,9 @@
 //! What a change of a start list changes.
 use crate::ends::{Played as Ended, REFUSED, made_or_told, status_of};
-use crate::files::read_list;
-use crate::given::Given;
+use crate::files::{Unread, read_list};
 use crate::lists::tell_fault;
+use crate::reports::{Spot, report_error};
+use crate::settings::Settings;
 use crate::streams::{Origin, Place, plain_writer};
 use crate::unfolding::unfolded;
 use crate::views::{Viewing, view_text};
@@ -19,6 +20,7 @@ use start_review::Review;
 use std::alloc::{AllocError, Global};
 use std::io::Write;
 use std::{fs, io};
+use view_diagnostics::Form;
 use workbench::{Ending, Play};
 use workbench_options::Diff;
 
@@ -27,17 +29,11 @@ const CHANGED: u8 = 4;
 
 /// Tells what the second of two start lists has otherwise, and with a scenario which replies are other ones, a line each or as
 /// documents of JSON. Answers the exit status.
-pub(crate) fn diff(rt: &HostRuntime, asked: &Diff<'_>) -> u8 {
-    let before = Policy::at(rt, asked.before);
-    let after = Policy::at(rt, asked.after);
+pub(crate) fn diff(rt: &HostRuntime, asked: &Diff<'_>, form: Form) -> u8 {
+    let before = Policy::at(rt, form, asked.before);
+    let after = Policy::at(rt, form, asked.after);
     match (&before, &after) {
-        (Some(before), Some(after)) => compare_policies(
-            rt,
-            before,
-            after,
-            asked.scenario,
-            asked.json,
-        ),
+        (Some(before), Some(after)) => compare_policies(rt, before, after, asked.scenario, form),
         _ => REFUSED,
     }
 }
@@ -48,11 +44,11 @@ fn compare_policies(
     before: &Policy<'_>,
     after: &Policy<'_>,
     scenario: Option<&str>,
-    json: bool,
+    form: Form,
 ) -> u8 {
     match scenario {
-        Some(path) => tell_played(rt, path, before, after, json),
-        None => tell(rt, before, after, &Played::nothing(rt.alloc()), json),
+        Some(path) => tell_played(rt, path, before, after, form),
+        None => tell(rt, before, after, &Played::nothing(rt.alloc()), form),
     }
 }
 
@@ -62,10 +58,10 @@ fn tell_played(
     path: &str,
     before: &Policy<'_>,
     after: &Policy<'_>,
-    json: bool,
+    form: Form,
 ) -> u8 {
-    match play_both(rt, path, before, after) {
-        Ok(played) => tell(rt, before, after, &played, json),
+    match play_both(rt, form, path, before, after) {
+        Ok(played) => tell(rt, before, after, &played, form),
         Err(status) => status,
     }
 }
@@ -76,9 +72,9 @@ fn tell(
     before: &Policy<'_>,
     after: &Policy<'_>,
     played: &Played<'_>,
-    json: bool,
+    form: Form,
 ) -> u8 {
-    match made_or_told(rt, differences(rt.alloc(), before, after, played, json)) {
+    match made_or_told(rt, differences(rt.alloc(), before, after, played, form)) {
         Ok(told) => told.print(rt),
         Err(status) => status,
     }
@@ -130,17 +126,17 @@ struct Policy<'a> {
 
 impl<'a> Policy<'a> {
     // That of a path, or none where that is told on standard error.
-    fn at(rt: &HostRuntime, path: &'a str) -> Option<Policy<'a>> {
+    fn at(rt: &HostRuntime, form: Form, path: &'a str) -> Option<Policy<'a>> {
         match read_list(rt, path) {
             Ok(text) => match Review::read(rt.alloc(), &text) {
                 Ok(review) => Some(Policy { path, text, review }),
                 Err(fault) => {
-                    tell_fault(rt, path, &fault);
+                    tell_fault(rt, form, path, &fault);
                     None
                 }
             },
-            Err(fault) => {
-                let _ = eprintln!(rt; "{path}: {fault}");
+            Err(why) => {
+                report_error(rt, form, Spot::nowhere(), &why.about(path));
                 None
             }
         }
@@ -153,7 +149,7 @@ fn differences(
     before: &Policy<'_>,
     after: &Policy<'_>,
     played: &Played<'_>,
-    json: bool,
+    form: Form,
 ) -> Result<Text, AllocError> {
     let (before, after) = (before.review.list(), after.review.list());
     let olds = Table::of(alloc, before)?;
@@ -166,7 +162,7 @@ fn differences(
         list: after,
         cells: news.cells(),
     };
-    compare(alloc, was, now, played, json)
+    compare(alloc, was, now, played, form)
 }
 
 // The same, by the cells of both tables.
@@ -175,7 +171,7 @@ fn compare<'a>(
     was: Side<'a>,
     now: Side<'a>,
     played: &'a Played<'a>,
-    json: bool,
+    form: Form,
 ) -> Result<Text, AllocError> {
     let changes = changes(alloc, was.list, now.list)?;
     let leads = leads(alloc, was, now)?;
@@ -186,7 +182,7 @@ fn compare<'a>(
         leads: leads.as_slice(),
     };
     Ok(Text {
-        text: if json {
+        text: if form == Form::Json {
             documents(alloc, told, played)?
         } else {
             lines(alloc, told, played)?
@@ -227,31 +223,38 @@ fn documents(
 // What a scenario shows of both lists, or the exit status of one that can't be played to its end.
 fn play_both<'a>(
     rt: &HostRuntime,
+    form: Form,
     path: &str,
     before: &'a Policy<'_>,
     after: &'a Policy<'_>,
 ) -> Result<Played<'a>, u8> {
-    let Ok(scenario) = fs::read(rt, path) else {
-        let _ = eprintln!(rt; "{path}: Unreadable_scenario");
-        return Err(REFUSED);
+    let settings = Settings::without_values(form);
+    let scenario = match fs::read(rt, path) {
+        Ok(scenario) => scenario,
+        Err(error) => {
+            let unread = Unread::Closed(error);
+            report_error(rt, form, Spot::nowhere(), &unread.about(path));
+            return Err(REFUSED);
+        }
     };
-    let lines = unfolded(rt, path, &scenario, Given::nothing())?;
+    let lines = unfolded(rt, path, &scenario, settings)?;
     Ok(Played {
-        replies: replies_of(rt, path, lines.bytes(), before, after)?,
-        lacks: lacks_of(rt, lines.bytes(), before, after)?,
+        replies: replies_of(rt, form, path, lines.bytes(), before, after)?,
+        lacks: lacks_of(rt, form, lines.bytes(), before, after)?,
     })
 }
 
 // The replies that aren't the same on both lists.
 fn replies_of(
     rt: &HostRuntime,
+    form: Form,
     path: &str,
     scenario: &[u8],
     before: &Policy<'_>,
     after: &Policy<'_>,
 ) -> Result<Vec<Changed>, u8> {
-    let was = traced(rt, path, scenario, before)?;
-    let now = traced(rt, path, scenario, after)?;
+    let was = traced(rt, form, path, scenario, before)?;
+    let now = traced(rt, form, path, scenario, after)?;
     made_or_told(
         rt,
         changed_replies(rt.alloc(), was.as_slice(), now.as_slice()),
@@ -261,12 +264,13 @@ fn replies_of(
 // What components lack of either list.
 fn lacks_of<'a>(
     rt: &HostRuntime,
+    form: Form,
     scenario: &[u8],
     before: &'a Policy<'_>,
     after: &'a Policy<'_>,
 ) -> Result<Vec<Lack<'a>>, u8> {
-    let had = needs(rt, scenario, before)?;
-    let has = needs(rt, scenario, after)?;
+    let had = needs(rt, form, scenario, before)?;
+    let has = needs(rt, form, scenario, after)?;
     made_or_told(rt, lacks(rt.alloc(), had.as_slice(), has.as_slice()))
 }
 
@@ -274,6 +278,7 @@ fn lacks_of<'a>(
 // looked at: what they are given the scenario says.
 fn needs<'a>(
     rt: &HostRuntime,
+    form: Form,
     scenario: &[u8],
     policy: &'a Policy<'_>,
 ) -> Result<Vec<Need<'a>>, u8> {
@@ -285,13 +290,13 @@ fn needs<'a>(
     };
     match Report::of(alloc, question, Known::new(alloc)) {
         Ok(report) => made_or_told(rt, needs_told(alloc, &report, policy.review.list())),
-        Err(fault) => Err(tell_unplayed(rt, policy.path, &fault)),
+        Err(fault) => Err(tell_unplayed(rt, form, policy.path, &fault)),
     }
 }
 
 // Tells why nothing is played on a list, and answers the exit status.
-fn tell_unplayed(rt: &HostRuntime, path: &str, fault: &BootFault) -> u8 {
-    let _ = eprintln!(rt; "{path}: {fault}");
+fn tell_unplayed(rt: &HostRuntime, form: Form, path: &str, fault: &BootFault) -> u8 {
+    report_error(rt, form, Spot::file(path), fault);
     REFUSED
 }
 
@@ -332,13 +337,14 @@ fn means_of(budget: Budget) -> Means {
 // The trace of a scenario, or the exit status of one that can't be played to its end. What it expects isn't looked at.
 fn traced<'a>(
     rt: &HostRuntime,
+    form: Form,
     path: &'a str,
     scenario: &[u8],
     policy: &'a Policy<'_>,
 ) -> Result<Vec<u8>, u8> {
     let play = Play {
         machine: &policy.text,
-        scenario: path.as_bytes(),
+        scenario: Settings::without_values(form).subject(path),
         given: Known::new(rt.alloc()),
     };
     let mut reader = Input::new(Origin::Held(scenario));
@@ -346,8 +352,8 @@ fn traced<'a>(
     let viewing = Viewing::Trace { json: false };
     let kept = view_text(rt, play, viewing, &mut reader, &mut complaints);
     let status = match &kept.ended {
-        Ok(ending) => tell_ending(rt, path, *ending),
-        Err(fault) => return Err(tell_unplayed(rt, policy.path, fault)),
+        Ok(ending) => tell_ending(rt, form, path, *ending),
+        Err(fault) => return Err(tell_unplayed(rt, form, policy.path, fault)),
     };
     match status {
         0 | 3 => Ok(kept.text),
@@ -356,10 +362,10 @@ fn traced<'a>(
 }
 
 // Tells a fault with which a play ended, and answers the exit status.
-fn tell_ending(rt: &HostRuntime, path: &str, ending: Ending) -> u8 {
+fn tell_ending(rt: &HostRuntime, form: Form, path: &str, ending: Ending) -> u8 {
     let ended = Ended {
         ended: Ok(ending),
         unread: false,
     };
-    ended.tell(rt, path)
+    ended.tell_fault(rt, form, path)
 }

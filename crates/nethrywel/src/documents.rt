@@ -1,12 +1,11 @@
 //! What is told of a scenario, as documents of JSON.
 use crate::ends::Played;
-use crate::streams::{Reader, Writer};
-use crate::views::{Viewing, view_text};
-use init_core::BootFault;
-use json_documents::{Column, Rows, account_documents};
+use crate::streams::{Place, Reader, Writer, plain_writer};
+use json_documents::{Column, Rows};
+use std::alloc::AllocError;
 use std::io;
 use std::io::{ErrorKind, Printer, Write};
-use workbench::{Ending, Play, PlayFault};
+use workbench::{AccountList, AccountRows, Play, PlayFault, accounts};
 
 /// The columns of a trace.
 static TRACE: [Column; 14] = [
@@ -31,53 +30,41 @@ pub(crate) fn trace_rows(rt: &HostRuntime) -> Rows<Printer<'_, HostRuntime>> {
     Rows::new(rt.alloc(), &TRACE, io::writer(rt))
 }
 
-/// Plays a scenario, and tells a list with a document for each line of its account list.
+/// Plays a scenario, and prints its account list as a list of JSON, if it was played to its end.
 pub(crate) fn accounts_document(
     rt: &HostRuntime,
     play: Play<'_>,
     reader: &mut Reader<'_>,
     complaints: &mut Writer<'_>,
 ) -> Played {
-    let kept = view_text(
-        rt,
-        play,
-        Viewing::Accounts { json: true },
-        reader,
-        complaints,
-    );
-    match print_documents(rt, kept.text.as_slice()) {
-        Ok(()) => Played {
-            ended: kept.ended,
-            unread: false,
-        },
-        Err(error) => unprinted(kept.ended, &error),
-    }
-}
-
-// Prints a list with a document for each of these lines.
-fn print_documents(rt: &HostRuntime, lines: &[u8]) -> io::Result<()> {
-    if lines.is_empty() {
-        return Ok(());
-    }
-    let documents = account_documents(rt.alloc(), lines)?;
-    io::writer(rt).write_all(documents.as_slice())
-}
-
-// How a play ended whose result couldn't be printed.
-fn unprinted(ended: Result<Ending, BootFault>, error: &io::Error) -> Played {
-    let unread = error.kind() == ErrorKind::BrokenPipe;
-    match ended {
-        Ok(ending) => Played {
-            ended: Ok(Ending {
-                lines: ending.lines,
-                complaints: ending.complaints,
-                fault: Some(PlayFault::WriteFault),
-            }),
-            unread,
-        },
+    let mut nowhere = plain_writer(rt, Place::Dropped);
+    match accounts(rt.alloc(), play, reader, &mut nowhere, complaints) {
+        Ok(list) => print_list(rt, list),
         Err(fault) => Played {
             ended: Err(fault),
-            unread,
+            unread: false,
         },
     }
+}
+
+// Prints an account list.
+fn print_list(rt: &HostRuntime, list: AccountList) -> Played {
+    let AccountList { mut ending, rows } = list;
+    let mut unread = false;
+    if ending.fault.is_none() {
+        if let Err(error) = print_rows(rt, rows) {
+            unread = error.kind() == ErrorKind::BrokenPipe;
+            ending.fault = Some(PlayFault::WriteFault);
+        }
+    }
+    Played {
+        ended: Ok(ending),
+        unread,
+    }
+}
+
+// Prints rows of an account list.
+fn print_rows(rt: &HostRuntime, rows: Result<AccountRows, AllocError>) -> io::Result<()> {
+    let documents = rows?.documents(rt.alloc())?;
+    io::writer(rt).write_all(documents.as_slice())
 }

@@ -1,11 +1,11 @@
 //! What is told of a start list, as documents of JSON.
 use crate::ends::{REFUSED, no_memory, status_of};
 use crate::files::start_list;
-use crate::given::Given;
 use crate::lists::{chosen, review};
 use crate::policies::{BROKEN, Noted, Standing, hold_against};
+use crate::settings::Settings;
 use init_core::StartList;
-use json_documents::{Field, Listing, tree_documents};
+use json_documents::{Field, Listing};
 use reach::{Chosen, Reach, Table};
 use start_review::{Fault, Finding, Part, Review, Whereabouts};
 use std::alloc::{AllocError, Global};
@@ -14,9 +14,9 @@ use std::io::Write;
 use workbench_options::{Check, Reach as AskedReach};
 
 /// Tells what a check tells, a document each of a list, and answers the exit status.
-pub(crate) fn check_documents(rt: &HostRuntime, check: &Check<'_>, given: Given<'_>) -> u8 {
+pub(crate) fn check_documents(rt: &HostRuntime, check: &Check<'_>, settings: Settings<'_>) -> u8 {
     let mut listing = Listing::new(rt.alloc());
-    match start_list(rt, check.list, given) {
+    match start_list(rt, check.list, settings) {
         Some(text) => {
             let added = add_all(rt, check, &text, &mut listing);
             printed(rt, added, listing)
@@ -26,27 +26,27 @@ pub(crate) fn check_documents(rt: &HostRuntime, check: &Check<'_>, given: Given<
 }
 
 /// Tells a tree, a document a line of it, and answers the exit status.
-pub(crate) fn tree_document(rt: &HostRuntime, path: &str, given: Given<'_>) -> u8 {
-    match review(rt, path, given) {
-        Some(review) => print_documents(rt, tree_text(rt.alloc(), &review)),
+pub(crate) fn tree_document(rt: &HostRuntime, path: &str, settings: Settings<'_>) -> u8 {
+    match review(rt, path, settings) {
+        Some(review) => match review.tree(rt.alloc()) {
+            Ok(tree) => print_documents(rt, tree.documents(rt.alloc())),
+            Err(AllocError) => no_memory(rt),
+        },
         None => REFUSED,
     }
 }
 
-// The documents of a tree.
-fn tree_text(alloc: Global, review: &Review) -> Result<Vec<u8>, AllocError> {
-    let tree = review.tree(alloc)?.to_string(alloc)?;
-    let graph = review.graph(alloc)?.to_string(alloc)?;
-    tree_documents(alloc, tree.as_str(), graph.as_str())
-}
-
 /// Tells which scripts reach which servers, a document a cell of the table, and answers the exit status.
-pub(crate) fn reach_documents(rt: &HostRuntime, asked: &AskedReach<'_>, given: Given<'_>) -> u8 {
-    let Some(review) = review(rt, asked.list, given) else {
+pub(crate) fn reach_documents(
+    rt: &HostRuntime,
+    asked: &AskedReach<'_>,
+    settings: Settings<'_>,
+) -> u8 {
+    let Some(review) = review(rt, asked.list, settings) else {
         return REFUSED;
     };
     let list = review.list();
-    match chosen(rt, list, asked) {
+    match chosen(rt, settings.form, list, asked) {
         Some(chosen) => print_documents(rt, reach_text(rt.alloc(), list, &chosen)),
         None => REFUSED,
     }
@@ -180,13 +180,27 @@ fn add_fault(
         return add_told(listing, "fault", path, place, text.as_str());
     }
     let text = fault.to_string(alloc)?;
-    add_told(
-        listing,
-        "fault",
-        path,
-        (Field::Nothing, Field::Nothing),
-        text.as_str(),
-    )
+    let part = part_at(alloc, &fault.place)?;
+    listing.add(&[
+        ("kind", Field::Word("fault")),
+        ("file", text_of(path)),
+        ("line", Field::Nothing),
+        ("column", Field::Nothing),
+        ("part", text_of(part.as_str())),
+        ("text", text_of(text.as_str())),
+    ])
+}
+
+// The part of a list at a place, with the member that is meant, as a finding has it; empty if the place is none in a list.
+fn part_at(alloc: Global, place: &Whereabouts) -> Result<String, AllocError> {
+    match place {
+        Whereabouts::List(flaw) => match flaw.member {
+            Some(member) => format!(in alloc; "{}: {member}", flaw.part),
+            None => flaw.part.to_string(alloc),
+        },
+        Whereabouts::Budget(lack) => lack.steps.to_string(alloc),
+        _ => Ok(String::new(alloc)),
+    }
 }
 
 // Adds what is told of a fault, or of a finding, by a place in the text.

@@ -1,10 +1,12 @@
 //! Machines: those of start lists, and the built-in one.
-use crate::ends::{REFUSED, UNWRITTEN};
+use crate::ends::REFUSED;
 use crate::files::start_list;
-use crate::given::Given;
 use crate::lists::tell_fault;
+use crate::reports::{Spot, report_error};
+use crate::settings::Settings;
 use init_core::{BootFault, MACHINE_A};
 use start_review::Review;
+use view_diagnostics::Form;
 
 /// A machine, by its text.
 #[derive(Clone, Copy)]
@@ -29,12 +31,12 @@ impl MachineText {
     pub(crate) fn read(
         rt: &HostRuntime,
         path: Option<&str>,
-        given: Given<'_>,
+        settings: Settings<'_>,
     ) -> Result<MachineText, u8> {
         let Some(path) = path else {
             return Ok(MachineText::BuiltIn);
         };
-        match start_list(rt, path, given) {
+        match start_list(rt, path, settings) {
             Some(text) => Ok(MachineText::Read(text)),
             None => Err(REFUSED),
         }
@@ -50,17 +52,18 @@ impl MachineText {
 }
 
 /// Tells why no machine was booted, with the place in its start list where that is a file's, and answers the exit status.
-pub(crate) fn tell_unbooted(rt: &HostRuntime, machine: Machine<'_>, fault: &BootFault) -> u8 {
+pub(crate) fn tell_unbooted(
+    rt: &HostRuntime,
+    form: Form,
+    machine: Machine<'_>,
+    fault: &BootFault,
+) -> u8 {
     if let Some(path) = machine.path {
         if let Err(placed) = Review::read(rt.alloc(), machine.text) {
-            tell_fault(rt, path, &placed);
+            tell_fault(rt, form, path, &placed);
             return REFUSED;
         }
     }
-    let _ = eprintln!(rt; "boot: {fault}");
-    if matches!(fault, BootFault::NoMemory) {
-        UNWRITTEN
-    } else {
-        REFUSED
-    }
+    report_error(rt, form, Spot::nowhere(), &format_args!("boot: {fault}"));
+    REFUSED
 }

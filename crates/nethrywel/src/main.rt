@@ -8,7 +8,7 @@ mod coverings;
 mod documents;
 mod ends;
 mod files;
-mod given;
+mod lines;
 mod listings;
 mod lists;
 mod machines;
@@ -16,7 +16,10 @@ mod needs;
 mod plays;
 mod policies;
 mod recordings;
+mod replacing;
+mod reports;
 mod scenarios;
+mod settings;
 mod streams;
 mod tests;
 mod unfolding;
@@ -27,15 +30,16 @@ use changes::diff;
 use clap::Error;
 use coloring::Coloring;
 use ends::{REFUSED, status_of};
-use given::Given;
 use listings::{check_documents, reach_documents, tree_document};
 use lists::{check, reach, route, tree};
 use needs::least;
 use plays::{Scene, play, play_transcript};
 use policies::hold;
 use recordings::record_scenario;
+use settings::Settings;
 use std::process::ExitCode;
 use tests::{Wanted, test};
+use view_diagnostics::Form;
 use views::Viewing;
 use workbench_options::{
     Alone, CALLS, Check, Command, Reach, Request, Run, Test, Tree, alone_takes_a_name_or_all,
@@ -76,35 +80,40 @@ fn refuse_words(rt: &HostRuntime, told: Result<Error, Error>) -> u8 {
     }
 }
 
-// Does what is asked for with what names stand for, and answers the exit status.
+// Does what is asked for with the settings of the command line, and returns the exit status.
 fn answer_request(rt: &HostRuntime, request: &Request<'_>) -> u8 {
-    match Given::read(rt, request.given.as_slice()) {
-        Ok(given) => answer(rt, &request.command, given),
+    let form = if request.command.is_json() {
+        Form::Json
+    } else {
+        Form::Text
+    };
+    match Settings::read(rt, request.given.as_slice(), form) {
+        Ok(settings) => answer(rt, &request.command, settings),
         Err(status) => status,
     }
 }
 
 // Does what is asked for, and answers the exit status.
-fn answer<'a>(rt: &HostRuntime, command: &'a Command<'a>, given: Given<'a>) -> u8 {
+fn answer<'a>(rt: &HostRuntime, command: &'a Command<'a>, settings: Settings<'a>) -> u8 {
     match command {
-        Command::Run(asked) => answer_run(rt, asked, given),
-        Command::Record(asked) => record_scenario(rt, asked, given),
-        Command::Check(asked) => answer_check(rt, asked, given),
-        Command::Tree(asked) => answer_tree(rt, asked, given),
-        Command::Reach(asked) => answer_reach(rt, asked, given),
-        Command::Route(asked) => route(rt, asked, given),
+        Command::Run(asked) => answer_run(rt, asked, settings),
+        Command::Record(asked) => record_scenario(rt, asked, settings),
+        Command::Check(asked) => answer_check(rt, asked, settings),
+        Command::Tree(asked) => answer_tree(rt, asked, settings),
+        Command::Reach(asked) => answer_reach(rt, asked, settings),
+        Command::Route(asked) => route(rt, asked, settings),
         Command::Trace(asked) => {
             let viewing = Viewing::Trace { json: asked.json };
-            play(rt, asked.machine, Scene::whole(asked, given, viewing))
+            play(rt, asked.machine, Scene::whole(asked, settings, viewing))
         }
         Command::Accounts(asked) => {
             let viewing = Viewing::Accounts { json: asked.json };
-            play(rt, asked.machine, Scene::whole(asked, given, viewing))
+            play(rt, asked.machine, Scene::whole(asked, settings, viewing))
         }
-        Command::Least(asked) => least(rt, asked, given),
-        Command::Alone(asked) => answer_alone(rt, asked, given),
-        Command::Diff(asked) => diff(rt, asked),
-        Command::Test(asked) => answer_test(rt, asked, given),
+        Command::Least(asked) => least(rt, asked, settings),
+        Command::Alone(asked) => answer_alone(rt, asked, settings),
+        Command::Diff(asked) => diff(rt, asked, settings.form),
+        Command::Test(asked) => answer_test(rt, asked, settings),
         Command::Help(topic) => print_help(rt, *topic),
     }
 }
@@ -127,51 +136,52 @@ fn print_help_of(rt: &HostRuntime, arguments: &[&str]) -> u8 {
 }
 
 // Answers a scenario, and answers the exit status.
-fn answer_run<'a>(rt: &HostRuntime, asked: &'a Run<'a>, given: Given<'a>) -> u8 {
+fn answer_run<'a>(rt: &HostRuntime, asked: &'a Run<'a>, settings: Settings<'a>) -> u8 {
     match Coloring::asked(rt, asked.color) {
-        Some(coloring) => play_transcript(rt, asked, given, coloring),
+        Some(coloring) => play_transcript(rt, asked, settings, coloring),
         None => refuse_words(rt, color_is_one_of_three(rt.alloc())),
     }
 }
 
 // Tells what is wrong with a start list, and answers the exit status.
-fn answer_check(rt: &HostRuntime, asked: &Check<'_>, given: Given<'_>) -> u8 {
+fn answer_check(rt: &HostRuntime, asked: &Check<'_>, settings: Settings<'_>) -> u8 {
     if asked.json {
-        return check_documents(rt, asked, given);
+        return check_documents(rt, asked, settings);
     }
     match asked.policy {
-        Some(policy) => hold(rt, asked, given, policy),
-        None => check(rt, asked.list, given, asked.strict),
+        Some(policy) => hold(rt, asked, settings, policy),
+        None => check(rt, asked.list, settings, asked.strict),
     }
 }
 
 // Shows the components of a start list, and answers the exit status.
-fn answer_tree(rt: &HostRuntime, asked: &Tree<'_>, given: Given<'_>) -> u8 {
+fn answer_tree(rt: &HostRuntime, asked: &Tree<'_>, settings: Settings<'_>) -> u8 {
     if asked.json {
-        tree_document(rt, asked.list, given)
+        tree_document(rt, asked.list, settings)
     } else {
-        tree(rt, asked.list, given, asked.dot)
+        tree(rt, asked.list, settings, asked.dot)
     }
 }
 
 // Tells which scripts reach which servers, and answers the exit status.
-fn answer_reach(rt: &HostRuntime, asked: &Reach<'_>, given: Given<'_>) -> u8 {
+fn answer_reach(rt: &HostRuntime, asked: &Reach<'_>, settings: Settings<'_>) -> u8 {
     if asked.json {
-        reach_documents(rt, asked, given)
+        reach_documents(rt, asked, settings)
     } else {
-        reach(rt, asked, given)
+        reach(rt, asked, settings)
     }
 }
 
 // Shows what a component, or each, is told alone, and answers the exit status.
-fn answer_alone<'a>(rt: &HostRuntime, asked: &'a Alone<'a>, given: Given<'a>) -> u8 {
+fn answer_alone<'a>(rt: &HostRuntime, asked: &'a Alone<'a>, settings: Settings<'a>) -> u8 {
     match (asked.all, asked.scenario) {
         (false, Some(scenario)) if !asked.summary => {
             let scene = Scene {
                 scenario,
-                given,
+                settings,
                 viewing: Viewing::Alone(asked.name.as_bytes()),
                 name: Some(asked.name),
+                errors: 0,
             };
             play(rt, asked.machine, scene)
         }
@@ -180,7 +190,7 @@ fn answer_alone<'a>(rt: &HostRuntime, asked: &'a Alone<'a>, given: Given<'a>) ->
                 machine: asked.machine,
                 scenario: asked.name,
                 summary: asked.summary,
-                given,
+                settings,
             };
             all_alone(rt, all)
         }
@@ -189,12 +199,12 @@ fn answer_alone<'a>(rt: &HostRuntime, asked: &'a Alone<'a>, given: Given<'a>) ->
 }
 
 // Runs scenarios as tests, and answers the exit status.
-fn answer_test<'a>(rt: &HostRuntime, asked: &'a Test<'a>, given: Given<'a>) -> u8 {
+fn answer_test<'a>(rt: &HostRuntime, asked: &'a Test<'a>, settings: Settings<'a>) -> u8 {
     match Coloring::asked(rt, asked.color) {
         Some(coloring) => {
             let wanted = Wanted {
                 asked,
-                given,
+                settings,
                 colored: coloring.out,
             };
             test(rt, wanted)

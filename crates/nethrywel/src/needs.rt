@@ -1,35 +1,23 @@
 //! What the accounts of a scenario need.
-use crate::ends::{REFUSED, UNWRITTEN, no_memory, status_of};
-use crate::files::STANDARD_INPUT;
-use crate::given::Given;
+use crate::ends::{UNWRITTEN, made_or_told, status_of};
+use crate::files::scenario_text;
+use crate::lines::LineStarts;
 use crate::listings::print_documents;
 use crate::machines::{Machine, MachineText, tell_unbooted};
-use crate::streams::{Origin, Reader};
+use crate::reports::{Spot, report_error, summarize_errors};
+use crate::settings::Settings;
 use crate::unfolding::unfolded;
 use init_core::BootFault;
-use json_documents::{Column, row_documents};
 use least::{Question, Report};
-use scenario::{ConfigFault, Input, Source};
+use scenario_names::token_at;
 use std::alloc::{AllocError, Global};
+use std::io;
 use std::io::Write;
-use std::{fs, io};
+use view_diagnostics::Form;
 use workbench_options::Least;
-
-/// How many bytes of a scenario are asked for at once.
-const BLOCK: usize = 4096;
 
 /// The exit status of a scenario with lines that are no calls.
 const MISREAD: u8 = 3;
-
-/// The columns of its values.
-static ROWS: [Column; 6] = [
-    Column::Text("component"),
-    Column::Number("session"),
-    Column::Number("line"),
-    Column::Number("ram_from"),
-    Column::Number("ram_below"),
-    Column::Number("caps_from"),
-];
 
 // In which form it is told.
 #[derive(Clone, Copy)]
@@ -64,8 +52,8 @@ impl Telling {
 }
 
 /// Tells what the accounts of a scenario need on the machine of a start list, or on the built-in machine. Answers the exit status.
-pub(crate) fn least(rt: &HostRuntime, asked: &Least<'_>, given: Given<'_>) -> u8 {
-    let text = match MachineText::read(rt, asked.machine, given) {
+pub(crate) fn least(rt: &HostRuntime, asked: &Least<'_>, settings: Settings<'_>) -> u8 {
+    let text = match MachineText::read(rt, asked.machine, settings) {
         Ok(text) => text,
         Err(status) => return status,
     };
@@ -73,8 +61,8 @@ pub(crate) fn least(rt: &HostRuntime, asked: &Least<'_>, given: Given<'_>) -> u8
         path: asked.machine,
         text: text.bytes(),
     };
-    match read_scenario(rt, asked.scenario) {
-        Ok(scenario) => least_on(rt, machine, scenario.as_slice(), asked, given),
+    match scenario_text(rt, settings.form, asked.scenario) {
+        Ok(scenario) => least_on(rt, machine, scenario.as_slice(), asked, settings),
         Err(status) => status,
     }
 }
@@ -85,13 +73,13 @@ fn least_on(
     machine: Machine<'_>,
     text: &[u8],
     asked: &Least<'_>,
-    given: Given<'_>,
+    settings: Settings<'_>,
 ) -> u8 {
-    let lines = match unfolded(rt, asked.scenario, text, given) {
+    let lines = match unfolded(rt, asked.scenario, text, settings) {
         Ok(lines) => lines,
         Err(status) => return status,
     };
-    let known = match given.known_or_told(rt) {
+    let known = match settings.known_or_told(rt) {
         Ok(known) => known,
         Err(status) => return status,
     };
@@ -101,8 +89,8 @@ fn least_on(
         as_donated: asked.as_donated,
     };
     match Report::of(rt.alloc(), question, known) {
-        Ok(report) => tell_report(rt, machine.text, text, asked, report),
-        Err(fault) => tell_unbooted(rt, machine, &fault),
+        Ok(report) => tell_report(rt, machine.text, text, asked, settings.form, report),
+        Err(fault) => tell_unbooted(rt, settings.form, machine, &fault),
     }
 }
 
@@ -112,47 +100,39 @@ fn tell_report(
     machine: &[u8],
     text: &[u8],
     asked: &Least<'_>,
+    form: Form,
     report: Report,
 ) -> u8 {
-    let status = tell_misread(rt, asked.scenario, &report);
+    let misread = tell_misread(rt, form, asked.scenario, text, &report);
+    let status = match made_or_told(rt, misread) {
+        Ok(status) | Err(status) => status,
+    };
     let told = tell(rt, machine, text, Telling::asked(asked), report);
     if told == 0 { status } else { told }
 }
 
-/// The text of a scenario, or the exit status where it can't be read, which is told.
-pub(crate) fn read_scenario(rt: &HostRuntime, scenario: &str) -> Result<Vec<u8>, u8> {
-    let origin = if scenario == STANDARD_INPUT {
-        Origin::Typed(rt.reader())
-    } else {
-        match fs::open(rt, scenario) {
-            Ok(file) => Origin::File(file),
-            Err(_) => {
-                let _ = eprintln!(rt; "{scenario}: Unreadable_scenario");
-                return Err(REFUSED);
-            }
-        }
-    };
-    match read_all(rt.alloc(), &mut Input::new(origin)) {
-        Ok(text) => Ok(text),
-        Err(ConfigFault::Unreadable) => {
-            let _ = eprintln!(rt; "{scenario}: Read_fault");
-            Err(UNWRITTEN)
-        }
-        Err(ConfigFault::NoMemory) => Err(no_memory(rt)),
+// Prints the lines of a scenario's text that are no calls, and returns the exit status.
+fn tell_misread(
+    rt: &HostRuntime,
+    form: Form,
+    scenario: &str,
+    text: &[u8],
+    report: &Report,
+) -> Result<u8, AllocError> {
+    let all = report.misread();
+    if all.is_empty() {
+        return Ok(0);
     }
-}
-
-// Tells the lines that are no calls, and answers the exit status.
-fn tell_misread(rt: &HostRuntime, scenario: &str, report: &Report) -> u8 {
-    for misread in report.misread() {
-        let (number, why) = (misread.number, misread.why);
-        let _ = eprintln!(rt; "{scenario}:{number}:{why}");
+    let lines = LineStarts::of(rt, text)?;
+    for misread in all {
+        let column = misread.why.column();
+        let token = token_at(lines.line(misread.number), column);
+        let token = String::from_utf8_lossy(rt.alloc(), token)?;
+        let spot = Spot::byte(scenario, misread.number, column);
+        report_error(rt, form, spot, &misread.why.about(token.as_str()));
     }
-    if report.misread().is_empty() {
-        0
-    } else {
-        MISREAD
-    }
+    summarize_errors(rt, form, all.len() as u64);
+    Ok(MISREAD)
 }
 
 // Tells a report in a form, and answers the exit status.
@@ -163,7 +143,7 @@ fn tell(rt: &HostRuntime, machine: &[u8], scenario: &[u8], telling: Telling, rep
             let values = report.into_csv();
             status_of(rt, print!(rt; "{values}"))
         }
-        Telling::Documents => print_documents(rt, documents(rt.alloc(), report)),
+        Telling::Documents => print_documents(rt, report.documents(rt.alloc())),
         Telling::List => match report.start_list(rt.alloc(), machine) {
             Ok(text) => status_of(rt, println!(rt; "{text}")),
             Err(fault) => tell_fault_of_run(rt, &fault),
@@ -175,40 +155,13 @@ fn tell(rt: &HostRuntime, machine: &[u8], scenario: &[u8], telling: Telling, rep
     }
 }
 
-// The rows of a report as documents.
-fn documents(alloc: Global, report: Report) -> Result<Vec<u8>, AllocError> {
-    let values = report.into_csv().to_string(alloc)?;
-    row_documents(alloc, &ROWS, values.as_bytes())
-}
-
 // Tells a fault of the run.
 fn tell_fault_of_run(rt: &HostRuntime, fault: &BootFault) -> u8 {
-    let _ = eprintln!(rt; "run: {fault}");
+    report_error(
+        rt,
+        Form::Text,
+        Spot::nowhere(),
+        &format_args!("run: {fault}"),
+    );
     UNWRITTEN
-}
-
-// Reads a scenario to its end. A reader that has failed isn't read again.
-fn read_all(alloc: Global, reader: &mut Reader<'_>) -> Result<Vec<u8>, ConfigFault> {
-    let mut text = Vec::new(alloc);
-    let mut block = [0; BLOCK];
-    for _ in 0..u64::MAX {
-        if !read_block(reader, &mut block, &mut text)? {
-            break;
-        }
-    }
-    Ok(text)
-}
-
-// Adds a block, and answers whether there was one.
-fn read_block(
-    reader: &mut Reader<'_>,
-    block: &mut [u8; BLOCK],
-    text: &mut Vec<u8>,
-) -> Result<bool, ConfigFault> {
-    if reader.failed() {
-        return Err(ConfigFault::Unreadable);
-    }
-    let count = reader.read(block)?;
-    text.extend_from_slice(&block[..count])?;
-    Ok(count > 0)
 }

@@ -2,10 +2,11 @@
 use crate::coloring::Coloring;
 use crate::documents::{accounts_document, trace_rows};
 use crate::ends::{Played as Ended, REFUSED};
-use crate::files::{STANDARD_INPUT, read_whole};
-use crate::given::Given;
+use crate::files::{STANDARD_INPUT, Unread, read_whole};
 use crate::lists::tell_fault;
 use crate::machines::{Machine, MachineText, tell_unbooted};
+use crate::reports::{Spot, report_error};
+use crate::settings::Settings;
 use crate::streams::{Origin, Place, writer};
 use crate::unfolding::unfolded;
 use crate::views::{Viewing, view};
@@ -14,6 +15,7 @@ use init_core::StartList;
 use scenario::Input;
 use start_review::Review;
 use std::{fs, io};
+use view_diagnostics::Form;
 use workbench::{Play, Showing, near_component};
 use workbench_options::{Played, Run};
 
@@ -25,22 +27,29 @@ const NOBODY: u8 = 3;
 pub(crate) struct Scene<'a> {
     /// The path of the scenario.
     pub(crate) scenario: &'a str,
-    /// What names stand for.
-    pub(crate) given: Given<'a>,
+    /// The settings of the command line.
+    pub(crate) settings: Settings<'a>,
     /// What is told of it.
     pub(crate) viewing: Viewing<'a>,
     /// The component that is asked for, if one is.
     pub(crate) name: Option<&'a str>,
+    /// How many errors were printed before the run.
+    pub(crate) errors: u64,
 }
 
 impl<'a> Scene<'a> {
     /// A scenario of which all is told.
-    pub(crate) fn whole(asked: &Played<'a>, given: Given<'a>, viewing: Viewing<'a>) -> Scene<'a> {
+    pub(crate) fn whole(
+        asked: &Played<'a>,
+        settings: Settings<'a>,
+        viewing: Viewing<'a>,
+    ) -> Scene<'a> {
         Scene {
             scenario: asked.scenario,
-            given,
+            settings,
             viewing,
             name: None,
+            errors: 0,
         }
     }
 }
@@ -49,7 +58,7 @@ impl<'a> Scene<'a> {
 pub(crate) fn play_transcript<'a>(
     rt: &HostRuntime,
     asked: &'a Run<'a>,
-    given: Given<'a>,
+    settings: Settings<'a>,
     coloring: Coloring,
 ) -> u8 {
     let showing = Showing {
@@ -59,9 +68,10 @@ pub(crate) fn play_transcript<'a>(
     };
     let scene = Scene {
         scenario: asked.scenario,
-        given,
+        settings,
         viewing: Viewing::Run(showing, coloring),
         name: asked.only,
+        errors: 0,
     };
     play(rt, asked.machine, scene)
 }
@@ -76,7 +86,7 @@ fn bytes_of(name: Option<&str>) -> Option<&[u8]> {
 
 /// Plays a scenario on the machine of a start list, or on the built-in machine. Answers the exit status.
 pub(crate) fn play(rt: &HostRuntime, machine: Option<&str>, scene: Scene<'_>) -> u8 {
-    match MachineText::read(rt, machine, scene.given) {
+    match MachineText::read(rt, machine, scene.settings) {
         Ok(text) => {
             let machine = Machine {
                 path: machine,
@@ -91,15 +101,18 @@ pub(crate) fn play(rt: &HostRuntime, machine: Option<&str>, scene: Scene<'_>) ->
 // Plays a scenario on a machine, once a name that no component has is told.
 fn play_named(rt: &HostRuntime, machine: Machine<'_>, scene: Scene<'_>) -> u8 {
     let is_known = match scene.name {
-        Some(name) => is_component(rt, machine, name),
+        Some(name) => is_component(rt, scene.settings.form, machine, name),
         None => Ok(true),
     };
     match is_known {
         Ok(true) => play_on(rt, machine, scene),
-        Ok(false) => match play_on(rt, machine, scene) {
-            0 => NOBODY,
-            status => status,
-        },
+        Ok(false) => {
+            let scene = Scene { errors: 1, ..scene };
+            match play_on(rt, machine, scene) {
+                0 => NOBODY,
+                status => status,
+            }
+        }
         Err(status) => status,
     }
 }
@@ -114,8 +127,14 @@ fn play_on(rt: &HostRuntime, machine: Machine<'_>, scene: Scene<'_>) -> u8 {
     }
     match fs::open(rt, scene.scenario) {
         Ok(file) => play_from(rt, machine, scene, Origin::File(file)),
-        Err(_) => {
-            let _ = eprintln!(rt; "{}: Unreadable_scenario", scene.scenario);
+        Err(error) => {
+            let unread = Unread::Closed(error);
+            report_error(
+                rt,
+                scene.settings.form,
+                Spot::nowhere(),
+                &unread.about(scene.scenario),
+            );
             REFUSED
         }
     }
@@ -123,7 +142,7 @@ fn play_on(rt: &HostRuntime, machine: Machine<'_>, scene: Scene<'_>) -> u8 {
 
 // Plays a scenario of a text, with its rounds unfolded.
 fn play_whole(rt: &HostRuntime, machine: Machine<'_>, scene: Scene<'_>, text: &[u8]) -> u8 {
-    match unfolded(rt, scene.scenario, text, scene.given) {
+    match unfolded(rt, scene.scenario, text, scene.settings) {
         Ok(lines) => play_from(rt, machine, scene, Origin::Held(lines.bytes())),
         Err(status) => status,
     }
@@ -131,20 +150,24 @@ fn play_whole(rt: &HostRuntime, machine: Machine<'_>, scene: Scene<'_>, text: &[
 
 // Plays the lines of an origin, and tells why they aren't played to their end.
 fn play_from(rt: &HostRuntime, machine: Machine<'_>, scene: Scene<'_>, origin: Origin<'_>) -> u8 {
-    let known = match scene.given.known_or_told(rt) {
+    let known = match scene.settings.known_or_told(rt) {
         Ok(known) => known,
         Err(status) => return status,
     };
     let play = Play {
         machine: machine.text,
-        scenario: scene.scenario.as_bytes(),
+        scenario: scene.settings.subject(scene.scenario),
         given: known,
     };
     let played = played(rt, play, scene.viewing, origin);
     if let Err(fault) = &played.ended {
-        tell_unbooted(rt, machine, fault);
+        tell_unbooted(rt, scene.settings.form, machine, fault);
     }
-    played.tell(rt, scene.scenario)
+    let form = scene.settings.form;
+    match scene.viewing {
+        Viewing::Alone(_) => played.tell_fault(rt, form, scene.scenario),
+        _ => played.tell(rt, form, scene.scenario, scene.errors),
+    }
 }
 
 // Plays the lines of an origin over the standard streams.
@@ -177,12 +200,17 @@ fn played(rt: &HostRuntime, play: Play<'_>, viewing: Viewing<'_>, origin: Origin
 
 // Whether a component has a name; one that none has is told. Where the list of a file is none that is told, and the exit status
 // is answered.
-fn is_component(rt: &HostRuntime, machine: Machine<'_>, name: &str) -> Result<bool, u8> {
+fn is_component(
+    rt: &HostRuntime,
+    form: Form,
+    machine: Machine<'_>,
+    name: &str,
+) -> Result<bool, u8> {
     match Review::read(rt.alloc(), machine.text) {
-        Ok(review) => Ok(is_listed(rt, review.list(), name)),
+        Ok(review) => Ok(is_listed(rt, form, review.list(), name)),
         Err(fault) => match machine.path {
             Some(path) => {
-                tell_fault(rt, path, &fault);
+                tell_fault(rt, form, path, &fault);
                 Err(REFUSED)
             }
             None => Ok(true),
@@ -191,7 +219,7 @@ fn is_component(rt: &HostRuntime, machine: Machine<'_>, name: &str) -> Result<bo
 }
 
 // Whether a component of a list has a name; one that none has is told, and the one that may be meant.
-fn is_listed(rt: &HostRuntime, list: &StartList, name: &str) -> bool {
+fn is_listed(rt: &HostRuntime, form: Form, list: &StartList, name: &str) -> bool {
     if list.find(name.as_bytes()).is_some() {
         return true;
     }
@@ -199,9 +227,19 @@ fn is_listed(rt: &HostRuntime, list: &StartList, name: &str) -> bool {
         Some(near) => str::from_utf8(near).ok(),
         None => None,
     };
-    let _ = match near {
-        Some(near) => eprintln!(rt; "{name}: no component; did you mean {near}?"),
-        None => eprintln!(rt; "{name}: no component"),
-    };
+    match near {
+        Some(near) => report_error(
+            rt,
+            form,
+            Spot::nowhere(),
+            &format_args!("unknown component `{name}`; did you mean `{near}`?"),
+        ),
+        None => report_error(
+            rt,
+            form,
+            Spot::nowhere(),
+            &format_args!("unknown component `{name}`"),
+        ),
+    }
     false
 }

@@ -1,13 +1,14 @@
 //! A policy that is held against a start list: each line of it that the list breaks is told with its place.
-use crate::ends::{REFUSED, UNWRITTEN, status_of};
+use crate::ends::{REFUSED, no_memory, status_of};
 use crate::files::read_list;
-use crate::given::Given;
-use crate::lists::checked;
+use crate::lists::{checked, counts_of};
+use crate::reports::{Spot, report_error, summarize};
+use crate::settings::Settings;
 use init_core::StartList;
 use policy::{Breach, Policy, PolicyFault, Told};
-use reach::NoCourse;
 use std::alloc::{AllocError, Global};
 use std::str;
+use view_diagnostics::Form;
 use workbench_options::Check;
 
 /// The exit status where a line of a policy is broken.
@@ -38,47 +39,63 @@ pub(crate) enum Standing {
 
 /// Tells what is wrong with a start list, as a check does, and then which lines of a policy it breaks, a line each on standard
 /// error, and `ok` where it breaks none. Answers the exit status.
-pub(crate) fn hold(rt: &HostRuntime, asked: &Check<'_>, given: Given<'_>, path: &str) -> u8 {
-    let Some(review) = checked(rt, asked.list, given, asked.strict) else {
-        return REFUSED;
+pub(crate) fn hold(rt: &HostRuntime, asked: &Check<'_>, settings: Settings<'_>, path: &str) -> u8 {
+    let review = match checked(rt, asked.list, settings, asked.strict) {
+        Ok(review) => review,
+        Err(counts) => {
+            summarize(rt, settings.form, counts);
+            return REFUSED;
+        }
     };
     match hold_against(rt, review.list(), path) {
-        Ok(standing) => tell_standing(rt, path, &standing),
-        Err(_) => {
-            let _ = eprintln!(rt; "{path}: {}", NoCourse::NoMemory);
-            UNWRITTEN
+        Ok(standing) => {
+            let errors = tell_errors(rt, settings.form, path, &standing);
+            summarize(rt, settings.form, counts_of(&review, errors));
+            status(rt, &standing)
         }
+        Err(_) => no_memory(rt),
     }
 }
 
-// Tells how a start list stands to the policy of a path, and answers the exit status.
-fn tell_standing(rt: &HostRuntime, path: &str, standing: &Standing) -> u8 {
+// Prints what is wrong with a policy, or which lines of it are broken. Returns the number of errors.
+fn tell_errors(rt: &HostRuntime, form: Form, path: &str, standing: &Standing) -> usize {
     match standing {
         Standing::Held(broken) => {
             for noted in broken.as_slice() {
-                tell_noted(rt, path, noted);
+                tell_noted(rt, form, path, noted);
             }
-            if broken.is_empty() {
-                status_of(rt, println!(rt; "ok"))
-            } else {
-                BROKEN
-            }
+            broken.len()
         }
         Standing::Faulty(noted) => {
-            tell_noted(rt, path, noted);
-            REFUSED
+            tell_noted(rt, form, path, noted);
+            1
         }
         Standing::Unread(why) => {
-            let _ = eprintln!(rt; "{path}: {why}");
-            REFUSED
+            report_error(rt, form, Spot::nowhere(), why);
+            1
         }
     }
 }
 
-// Tells a line of a policy.
-fn tell_noted(rt: &HostRuntime, path: &str, noted: &Noted) {
-    let (line, text) = (noted.line, noted.text.as_str());
-    let _ = eprintln!(rt; "{path}:{line}: {text}");
+// Prints `ok` if a policy is kept, and returns the exit status.
+fn status(rt: &HostRuntime, standing: &Standing) -> u8 {
+    match standing {
+        Standing::Held(broken) if broken.is_empty() => status_of(rt, println!(rt; "ok")),
+        Standing::Held(_) => BROKEN,
+        Standing::Faulty(_) | Standing::Unread(_) => REFUSED,
+    }
+}
+
+// Prints a line of a policy.
+fn tell_noted(rt: &HostRuntime, form: Form, path: &str, noted: &Noted) {
+    report_error(rt, form, noted.spot(path), &noted.text);
+}
+
+impl Noted {
+    /// Returns where the line is in the policy of a path.
+    pub(crate) fn spot<'a>(&self, path: &'a str) -> Spot<'a> {
+        Spot::line(path, self.line as u64)
+    }
 }
 
 /// How a start list stands to the policy of a path. An error is want of memory.
@@ -89,25 +106,30 @@ pub(crate) fn hold_against(
 ) -> Result<Standing, AllocError> {
     let alloc = rt.alloc();
     match read_list(rt, path) {
-        Ok(bytes) => standing_by(alloc, list, &bytes),
-        Err(fault) => Ok(Standing::Unread(format!(in alloc; "{fault}")?)),
+        Ok(bytes) => standing_by(alloc, list, path, &bytes),
+        Err(why) => {
+            let why = why.about(path);
+            Ok(Standing::Unread(format!(in alloc; "{why}")?))
+        }
     }
 }
 
 // How a start list stands to a policy of these bytes.
-fn standing_by(alloc: Global, list: &StartList, bytes: &[u8]) -> Result<Standing, AllocError> {
+fn standing_by(
+    alloc: Global,
+    list: &StartList,
+    path: &str,
+    bytes: &[u8],
+) -> Result<Standing, AllocError> {
     if LONGEST_POLICY < bytes.len() {
-        return unread(alloc, "it is too long");
+        return Ok(Standing::Unread(format!(in alloc;
+            "{path} has more than {LONGEST_POLICY} bytes"
+        )?));
     }
     match str::from_utf8(bytes) {
         Ok(text) => standing_to(alloc, list, text),
-        Err(_) => unread(alloc, "it isn't UTF-8"),
+        Err(_) => Ok(Standing::Unread(format!(in alloc; "{path} is not UTF-8")?)),
     }
-}
-
-// That a policy isn't read.
-fn unread(alloc: Global, why: &str) -> Result<Standing, AllocError> {
-    Ok(Standing::Unread(String::from_str(alloc, why)?))
 }
 
 // How a start list stands to a policy's text.

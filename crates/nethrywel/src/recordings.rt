@@ -1,26 +1,35 @@
 //! A scenario that is recorded: on standard output, or in its place.
-use crate::ends::{REFUSED, UNWRITTEN, status_of};
-use crate::files::STANDARD_INPUT;
-use crate::given::Given;
+use crate::ends::{REFUSED, UNWRITTEN, made_or_told, status_of};
+use crate::files::{STANDARD_INPUT, scenario_text};
+use crate::lines::LineStarts;
 use crate::machines::{Machine, MachineText, tell_unbooted};
-use crate::needs::read_scenario;
+use crate::replacing::replace_file;
+use crate::reports::{Spot, report_error, report_write_failure, summarize_errors};
+use crate::settings::Settings;
 use crate::unfolding::unfolded;
 use recording::{Recording, Scenario, record};
-use std::fs::File;
+use scenario_names::token_at;
+use std::alloc::AllocError;
+use std::io;
 use std::io::Write;
-use std::{fs, io};
+use view_diagnostics::Form;
 use workbench_options::Record;
 
 /// The exit status of a scenario with lines that aren't read.
 const UNREAD_LINES: u8 = 3;
 
 /// Records a scenario on the machine of a start list, or on the built-in machine. Answers the exit status.
-pub(crate) fn record_scenario(rt: &HostRuntime, wanted: &Record<'_>, given: Given<'_>) -> u8 {
+pub(crate) fn record_scenario(rt: &HostRuntime, wanted: &Record<'_>, settings: Settings<'_>) -> u8 {
     if wanted.write && wanted.scenario == STANDARD_INPUT {
-        let _ = eprintln!(rt; "-: --write takes the path of a file");
+        report_error(
+            rt,
+            settings.form,
+            Spot::nowhere(),
+            &"--write: expected the path of a file, found `-`",
+        );
         return REFUSED;
     }
-    let text = match MachineText::read(rt, wanted.machine, given) {
+    let text = match MachineText::read(rt, wanted.machine, settings) {
         Ok(text) => text,
         Err(status) => return status,
     };
@@ -28,8 +37,8 @@ pub(crate) fn record_scenario(rt: &HostRuntime, wanted: &Record<'_>, given: Give
         path: wanted.machine,
         text: text.bytes(),
     };
-    match read_scenario(rt, wanted.scenario) {
-        Ok(scenario) => record_on(rt, machine, scenario.as_slice(), wanted, given),
+    match scenario_text(rt, settings.form, wanted.scenario) {
+        Ok(scenario) => record_on(rt, machine, scenario.as_slice(), wanted, settings),
         Err(status) => status,
     }
 }
@@ -40,13 +49,13 @@ fn record_on(
     machine: Machine<'_>,
     text: &[u8],
     wanted: &Record<'_>,
-    given: Given<'_>,
+    settings: Settings<'_>,
 ) -> u8 {
-    let lines = match unfolded(rt, wanted.scenario, text, given) {
+    let lines = match unfolded(rt, wanted.scenario, text, settings) {
         Ok(lines) => lines,
         Err(status) => return status,
     };
-    let known = match given.known_or_told(rt) {
+    let known = match settings.known_or_told(rt) {
         Ok(known) => known,
         Err(status) => return status,
     };
@@ -55,68 +64,64 @@ fn record_on(
         unfolded: lines.bytes(),
     };
     match record(rt.alloc(), machine.text, scenario, known, wanted.all) {
-        Ok(recording) => tell_recording(rt, wanted, text, &recording),
-        Err(fault) => tell_unbooted(rt, machine, &fault),
+        Ok(recording) => tell_recording(rt, settings.form, wanted, text, &recording),
+        Err(fault) => tell_unbooted(rt, settings.form, machine, &fault),
     }
 }
 
 // Tells a recording of a scenario's text, and before it the lines that aren't read.
-fn tell_recording(rt: &HostRuntime, wanted: &Record<'_>, text: &[u8], recording: &Recording) -> u8 {
-    let status = tell_unread(rt, wanted.scenario, recording);
-    let told = tell(rt, wanted, text, recording.text.as_slice());
+fn tell_recording(
+    rt: &HostRuntime,
+    form: Form,
+    wanted: &Record<'_>,
+    text: &[u8],
+    recording: &Recording,
+) -> u8 {
+    let unread = tell_unread(rt, form, wanted.scenario, text, recording);
+    let status = match made_or_told(rt, unread) {
+        Ok(status) | Err(status) => status,
+    };
+    let told = tell(rt, form, wanted, text, recording.text.as_slice());
     if told == 0 { status } else { told }
 }
 
-// Tells the lines that aren't read, and answers the exit status.
-fn tell_unread(rt: &HostRuntime, scenario: &str, recording: &Recording) -> u8 {
-    for unread in recording.unread.as_slice() {
-        let (number, why) = (unread.number, unread.why);
-        let _ = eprintln!(rt; "{scenario}:{number}:{why}");
+// Prints the lines of a scenario's text that aren't read, and returns the exit status.
+fn tell_unread(
+    rt: &HostRuntime,
+    form: Form,
+    scenario: &str,
+    text: &[u8],
+    recording: &Recording,
+) -> Result<u8, AllocError> {
+    let all = recording.unread.as_slice();
+    if all.is_empty() {
+        return Ok(0);
     }
-    if recording.unread.is_empty() {
-        0
-    } else {
-        UNREAD_LINES
+    let lines = LineStarts::of(rt, text)?;
+    for unread in all {
+        let column = unread.why.column();
+        let token = token_at(lines.line(unread.number), column);
+        let token = String::from_utf8_lossy(rt.alloc(), token)?;
+        let spot = Spot::byte(scenario, unread.number, column);
+        report_error(rt, form, spot, &unread.why.about(token.as_str()));
     }
+    summarize_errors(rt, form, all.len() as u64);
+    Ok(UNREAD_LINES)
 }
 
 // Writes a recording where it is asked for, and answers the exit status. A scenario that is recorded already stays untouched.
-fn tell(rt: &HostRuntime, wanted: &Record<'_>, old: &[u8], new: &[u8]) -> u8 {
+fn tell(rt: &HostRuntime, form: Form, wanted: &Record<'_>, old: &[u8], new: &[u8]) -> u8 {
     if !wanted.write {
         return status_of(rt, io::writer(rt).write_all(new));
     }
-    if old == new || write_in_place(rt, wanted.scenario, new).is_ok() {
+    if old == new {
         return 0;
     }
-    let scenario = wanted.scenario;
-    let _ = eprintln!(rt; "{scenario}: Write_fault");
-    UNWRITTEN
-}
-
-// Writes a text in place of a file: into a new file beside it, which then takes its name. Until then the file is as it was, and
-// where a write fails the new one goes.
-fn write_in_place(rt: &HostRuntime, path: &str, text: &[u8]) -> io::Result<()> {
-    let path = fs::canonicalize(rt, path)?;
-    let beside = format!(in rt.alloc(); "{}.new", path.as_str())?;
-    let mut file = File::create_new(rt, beside.as_str())?;
-    let written = write_whole(rt, &mut file, path.as_str(), beside.as_str(), text);
-    if written.is_err() {
-        let _ = fs::remove_file(rt, beside.as_str());
+    match replace_file(rt, wanted.scenario, new) {
+        Ok(()) => 0,
+        Err(error) => {
+            report_write_failure(rt, form, wanted.scenario, &error);
+            UNWRITTEN
+        }
     }
-    written
-}
-
-// Writes a text into a new file with the rights of another, whose name it then takes.
-fn write_whole(
-    rt: &HostRuntime,
-    file: &mut File,
-    path: &str,
-    beside: &str,
-    text: &[u8],
-) -> io::Result<()> {
-    file.write_all(text)?;
-    file.sync_all()?;
-    let rights = fs::metadata(rt, path)?.permissions();
-    fs::set_permissions(rt, beside, rights)?;
-    fs::rename(rt, beside, path)
 }

@@ -1,10 +1,13 @@
 //! Which files are the scenarios of paths: a file itself, and of a folder those in it and in the folders below.
 use crate::ends::{REFUSED, no_memory};
+use crate::files::Unread;
+use crate::reports::{Spot, report_error};
 use std::alloc::{AllocError, AllocFailed};
 use std::fs::DirEntry;
 use std::io::ErrorKind;
 use std::{fs, io};
 use test_report::is_scenario;
+use view_diagnostics::Form;
 
 /// How many folders are looked through at most for one path.
 const MOST_FOLDERS: usize = 100_000;
@@ -12,9 +15,9 @@ const MOST_FOLDERS: usize = 100_000;
 /// Why the scenarios of paths aren't known.
 #[derive(Clone, Copy)]
 pub(crate) enum Unfound<'a> {
-    /// Nothing stands at this path, or it can't be read.
-    Unreadable(&'a str),
-    /// No scenario stands in this folder, nor below.
+    /// The file or folder of this path can't be read.
+    Unreadable(&'a str, io::Error),
+    /// Neither this folder nor a folder below it has a scenario.
     Nothing(&'a str),
     /// The host has no memory.
     NoMemory,
@@ -33,15 +36,17 @@ impl<'a, T: Drop> From<AllocFailed<T>> for Unfound<'a> {
 }
 
 impl Unfound<'_> {
-    /// Tells it, and answers the exit status.
-    pub(crate) fn tell(self, rt: &HostRuntime) -> u8 {
+    /// Prints it, and returns the exit status.
+    pub(crate) fn tell(self, rt: &HostRuntime, form: Form) -> u8 {
         match self {
-            Unfound::Unreadable(path) => {
-                let _ = eprintln!(rt; "{path}: Unreadable_path");
+            Unfound::Unreadable(path, error) => {
+                let unread = Unread::Closed(error);
+                report_error(rt, form, Spot::nowhere(), &unread.about(path));
                 REFUSED
             }
             Unfound::Nothing(path) => {
-                let _ = eprintln!(rt; "{path}: no file here ends with .scenario");
+                let message = "no file in this folder ends with .scenario";
+                report_error(rt, form, Spot::file(path), &message);
                 REFUSED
             }
             Unfound::NoMemory => no_memory(rt),
@@ -80,7 +85,7 @@ fn at<'a>(rt: &HostRuntime, path: &'a str) -> Result<Vec<String>, Unfound<'a>> {
     match fs::metadata(rt, path) {
         Ok(of) if of.is_dir() => in_folder(rt, path),
         Ok(_) => Ok(vec![in rt.alloc(); String::from_str(rt.alloc(), path)?]?),
-        Err(_) => Err(Unfound::Unreadable(path)),
+        Err(error) => Err(Unfound::Unreadable(path, error)),
     }
 }
 
@@ -89,7 +94,7 @@ fn in_folder<'a>(rt: &HostRuntime, path: &'a str) -> Result<Vec<String>, Unfound
     match below(rt, path) {
         Ok(found) if found.is_empty() => Err(Unfound::Nothing(path)),
         Ok(found) => Ok(found),
-        Err(_) => Err(Unfound::Unreadable(path)),
+        Err(error) => Err(Unfound::Unreadable(path, error)),
     }
 }
 

@@ -1,27 +1,31 @@
 //! Scenarios that are run as tests, and what is told of them.
 use crate::coloring::Coloring;
 use crate::coverings::Coverings;
-use crate::ends::{Stopped, UNWRITTEN, status_of};
-use crate::files::{read_start_list, read_whole};
-use crate::given::Given;
-use crate::lists::Told;
+use crate::ends::{Stopped, UNWRITTEN, spot_of, status_of};
+use crate::files::{Unread, read_start_list, read_whole};
+use crate::lists::{Placed, fault_spot};
 use crate::machines::{Machine, MachineText};
 use crate::policies::{Noted, Standing, hold_against};
+use crate::replacing::write_file;
+use crate::reports::{Spot, error_line, report_write_failure};
 use crate::scenarios::scenarios_at;
+use crate::settings::Settings;
 use crate::streams::{Origin, Place, plain_writer, text_of};
+use crate::unfolding::{rounds_spot, rounds_token};
 use crate::views::{Kept, Viewing, view, view_text};
 use colors::{Lines, paint};
 use init_core::{BootFault, StartList};
 use rounds::{Unfit, unfold};
 use scenario::Input;
 use start_review::Review;
-use std::alloc::{AllocError, Global};
+use std::alloc::AllocError;
 use std::fmt::Display;
 use std::io::{IsTerminal, Write};
 use std::{fs, io};
 use test_report::{
     Trial, failures, junit_document, machine_beside, policy_beside, tap_plan, tap_point,
 };
+use view_diagnostics::Form;
 use workbench::{Ending, Play, Showing, exit_status};
 use workbench_options::Test;
 
@@ -43,8 +47,8 @@ const FAILED: u8 = 3;
 pub(crate) struct Wanted<'a> {
     /// Which scenarios are run, and what is told of them.
     pub(crate) asked: &'a Test<'a>,
-    /// What names stand for.
-    pub(crate) given: Given<'a>,
+    /// The settings of the command line.
+    pub(crate) settings: Settings<'a>,
     /// Whether lines are coloured.
     pub(crate) colored: bool,
 }
@@ -54,18 +58,23 @@ pub(crate) struct Wanted<'a> {
 pub(crate) fn test(rt: &HostRuntime, wanted: Wanted<'_>) -> u8 {
     match scenarios_at(rt, wanted.asked.paths.as_slice()) {
         Ok(scenarios) => match run_all(rt, scenarios.as_slice(), wanted) {
-            Ok(trials) => end(rt, trials.as_slice(), wanted.asked.junit),
+            Ok(trials) => end(
+                rt,
+                wanted.settings.form,
+                trials.as_slice(),
+                wanted.asked.junit,
+            ),
             Err(error) => status_of(rt, Err(error)),
         },
-        Err(unfound) => unfound.tell(rt),
+        Err(unfound) => unfound.tell(rt, wanted.settings.form),
     }
 }
 
 // Writes the document where one is asked for, and answers the exit status.
-fn end(rt: &HostRuntime, trials: &[Trial], junit: Option<&str>) -> u8 {
+fn end(rt: &HostRuntime, form: Form, trials: &[Trial], junit: Option<&str>) -> u8 {
     if let Some(path) = junit {
-        if write_document(rt, path, trials).is_err() {
-            let _ = eprintln!(rt; "{path}: Write_fault");
+        if let Err(error) = write_document(rt, path, trials) {
+            report_write_failure(rt, form, path, &error);
             return UNWRITTEN;
         }
     }
@@ -75,7 +84,7 @@ fn end(rt: &HostRuntime, trials: &[Trial], junit: Option<&str>) -> u8 {
 // Writes the document of these results.
 fn write_document(rt: &HostRuntime, path: &str, trials: &[Trial]) -> io::Result<()> {
     let document = junit_document(rt.alloc(), trials)?;
-    fs::write(rt, path, document)
+    write_file(rt, path, document.as_slice())
 }
 
 // Runs all, and tells a line each, and behind them what they show, where that is asked for.
@@ -176,7 +185,7 @@ impl Teller {
 struct Case<'a> {
     scenario: &'a str,
     machine: Machine<'a>,
-    given: Given<'a>,
+    settings: Settings<'a>,
 }
 
 // Runs a scenario on its machine, and adds what it shows of that where this is asked for.
@@ -191,7 +200,7 @@ fn run_one(
         Ok(false) => wanted.asked.machine,
         _ => Some(beside.as_str()),
     };
-    run_listed(rt, scenario, list, wanted.given, coverings)
+    run_listed(rt, scenario, list, wanted.settings, coverings)
 }
 
 // Runs a scenario on the machine of a start list, or on the built-in machine.
@@ -199,13 +208,13 @@ fn run_listed(
     rt: &HostRuntime,
     scenario: &str,
     path: Option<&str>,
-    given: Given<'_>,
+    settings: Settings<'_>,
     coverings: &mut Coverings,
 ) -> Result<Trial, AllocError> {
     let text = match path {
-        Some(list) => match read_start_list(rt, list, given) {
+        Some(list) => match read_start_list(rt, list, settings) {
             Ok(text) => MachineText::Read(text),
-            Err(fault) => return failed(rt, scenario, format!(in rt.alloc(); "{fault}\n")?),
+            Err(fault) => return failed(rt, scenario, error_line(rt, fault.spot(), &fault)?),
         },
         None => MachineText::BuiltIn,
     };
@@ -215,7 +224,7 @@ fn run_listed(
             path,
             text: text.bytes(),
         },
-        given,
+        settings,
     };
     run_whole(rt, case, coverings)
 }
@@ -241,7 +250,7 @@ fn hold_beside(rt: &HostRuntime, case: Case<'_>, trial: &mut Trial) -> Result<()
     match StartList::read(alloc, case.machine.text) {
         Ok(list) => {
             let standing = hold_against(rt, &list, policy.as_str())?;
-            note_standing(alloc, policy.as_str(), &standing, trial)
+            note_standing(rt, policy.as_str(), &standing, trial)
         }
         Err(_) => Ok(()),
     }
@@ -249,7 +258,7 @@ fn hold_beside(rt: &HostRuntime, case: Case<'_>, trial: &mut Trial) -> Result<()
 
 // Tells how a machine stands to the policy of a path.
 fn note_standing(
-    alloc: Global,
+    rt: &HostRuntime,
     policy: &str,
     standing: &Standing,
     trial: &mut Trial,
@@ -257,32 +266,37 @@ fn note_standing(
     match standing {
         Standing::Held(broken) => {
             for noted in broken.as_slice() {
-                note(alloc, policy, noted, trial)?;
+                note(rt, policy, noted, trial)?;
             }
             Ok(())
         }
-        Standing::Faulty(noted) => note(alloc, policy, noted, trial),
+        Standing::Faulty(noted) => note(rt, policy, noted, trial),
         Standing::Unread(why) => {
             trial.passed = false;
-            add_line(alloc, &mut trial.told, &format_args!("{policy}: {why}"))
+            add_error(rt, &mut trial.told, Spot::nowhere(), why)
         }
     }
 }
 
 // Tells a line of a policy, by which a trial failed.
-fn note(alloc: Global, policy: &str, noted: &Noted, trial: &mut Trial) -> Result<(), AllocError> {
-    let (line, text) = (noted.line, noted.text.as_str());
+fn note(
+    rt: &HostRuntime,
+    policy: &str,
+    noted: &Noted,
+    trial: &mut Trial,
+) -> Result<(), AllocError> {
     trial.passed = false;
-    add_line(
-        alloc,
-        &mut trial.told,
-        &format_args!("{policy}:{line}: {text}"),
-    )
+    add_error(rt, &mut trial.told, noted.spot(policy), &noted.text)
 }
 
-// Adds a line to what is told of a trial.
-fn add_line<D: Display>(alloc: Global, told: &mut Vec<u8>, line: &D) -> Result<(), AllocError> {
-    told.extend_from_slice(format!(in alloc; "{line}\n")?.as_bytes())
+// Adds an error to what is told of a trial.
+fn add_error<D: Display>(
+    rt: &HostRuntime,
+    told: &mut Vec<u8>,
+    spot: Spot<'_>,
+    message: &D,
+) -> Result<(), AllocError> {
+    told.extend_from_slice(error_line(rt, spot, message)?.as_slice())
 }
 
 // Runs a scenario.
@@ -297,8 +311,9 @@ fn run_on(
     }
     match fs::open(rt, scenario) {
         Ok(file) => run_from(rt, case, Origin::File(file), coverings),
-        Err(_) => {
-            let told = format!(in rt.alloc(); "{scenario}: Unreadable_scenario\n")?;
+        Err(error) => {
+            let unread = Unread::Closed(error);
+            let told = error_line(rt, Spot::nowhere(), &unread.about(scenario))?;
             failed(rt, scenario, told)
         }
     }
@@ -312,10 +327,12 @@ fn run_text(
     coverings: &mut Coverings,
 ) -> Result<Trial, AllocError> {
     let scenario = case.scenario;
-    match unfold(rt.alloc(), text, case.given.known(rt.alloc())?) {
+    match unfold(rt.alloc(), text, case.settings.known(rt.alloc())?) {
         Ok(lines) => run_from(rt, case, Origin::Held(lines.bytes()), coverings),
         Err(Unfit::Fault(fault)) => {
-            let told = format!(in rt.alloc(); "{scenario}:{fault}\n")?;
+            let token = rounds_token(rt, text, fault)?;
+            let message = fault.reason.about(token.as_str());
+            let told = error_line(rt, rounds_spot(scenario, fault), &message)?;
             failed(rt, scenario, told)
         }
         Err(Unfit::NoMemory) => Err(AllocError),
@@ -330,7 +347,7 @@ fn run_from(
     coverings: &mut Coverings,
 ) -> Result<Trial, AllocError> {
     let mut kept = played(rt, case, origin, coverings)?;
-    add_end(rt.alloc(), case, &kept.ended, &mut kept.text)?;
+    add_end(rt, case, &kept.ended, &mut kept.text)?;
     Ok(Trial {
         path: String::from_str(rt.alloc(), case.scenario)?,
         passed: exit_status(&kept.ended) == 0,
@@ -347,8 +364,8 @@ fn played(
 ) -> Result<Kept, AllocError> {
     let play = Play {
         machine: case.machine.text,
-        scenario: case.scenario.as_bytes(),
-        given: case.given.known(rt.alloc())?,
+        scenario: Settings::without_values(Form::Text).subject(case.scenario),
+        given: case.settings.known(rt.alloc())?,
     };
     let mut reader = Input::new(origin);
     let mut complaints = plain_writer(rt, Place::text(rt));
@@ -376,7 +393,7 @@ fn played(
 
 // Adds what is told of a play that didn't begin or didn't come to its end.
 fn add_end(
-    alloc: Global,
+    rt: &HostRuntime,
     case: Case<'_>,
     ended: &Result<Ending, BootFault>,
     told: &mut Vec<u8>,
@@ -384,43 +401,35 @@ fn add_end(
     match ended {
         Ok(ending) => match ending.fault {
             Some(fault) => {
-                let stopped = Stopped {
-                    scenario: case.scenario,
-                    lines: ending.lines,
-                    fault,
-                };
-                add_line(alloc, told, &stopped)
+                let spot = spot_of(case.scenario, ending.lines, fault);
+                add_error(rt, told, spot, &Stopped(fault))
             }
             None => Ok(()),
         },
-        Err(fault) => add_unbooted(alloc, case.machine, fault, told),
+        Err(fault) => add_unbooted(rt, case.machine, fault, told),
     }
 }
 
 // Adds why no machine was booted, with the place in its start list where that is a file's.
 fn add_unbooted(
-    alloc: Global,
+    rt: &HostRuntime,
     machine: Machine<'_>,
     fault: &BootFault,
     told: &mut Vec<u8>,
 ) -> Result<(), AllocError> {
     if let Some(path) = machine.path {
-        if let Err(fault) = Review::read(alloc, machine.text) {
-            let placed = Told {
-                path,
-                fault: &fault,
-            };
-            return add_line(alloc, told, &placed);
+        if let Err(fault) = Review::read(rt.alloc(), machine.text) {
+            return add_error(rt, told, fault_spot(path, &fault), &Placed(&fault));
         }
     }
-    add_line(alloc, told, &format_args!("boot: {fault}"))
+    add_error(rt, told, Spot::nowhere(), &format_args!("boot: {fault}"))
 }
 
 // A scenario that failed before its first line.
-fn failed(rt: &HostRuntime, scenario: &str, told: String) -> Result<Trial, AllocError> {
+fn failed(rt: &HostRuntime, scenario: &str, told: Vec<u8>) -> Result<Trial, AllocError> {
     Ok(Trial {
         path: String::from_str(rt.alloc(), scenario)?,
         passed: false,
-        told: told.into_bytes(),
+        told,
     })
 }

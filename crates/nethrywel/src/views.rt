@@ -46,8 +46,17 @@ pub(crate) fn view(
     match viewing {
         Viewing::Run(showing, _) => run(alloc, play, showing, reader, writer, complaints),
         Viewing::Trace { .. } => trace(alloc, play, reader, writer, complaints),
-        Viewing::Accounts { .. } => accounts(alloc, play, reader, writer, complaints),
-        Viewing::Alone(name) => alone(alloc, play, name, reader, writer, complaints),
+        Viewing::Accounts { .. } => {
+            Ok(accounts(alloc, play, reader, writer, complaints)?.ending)
+        }
+        Viewing::Alone(name) => {
+            let compared = alone(alloc, play, name, reader, writer, complaints)?;
+            Ok(if compared.lines == 0 {
+                compared.ending.complained()
+            } else {
+                compared.ending
+            })
+        }
     }
 }
 

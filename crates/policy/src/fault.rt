@@ -9,7 +9,7 @@ pub enum Flaw<'a> {
     NoDemand,
     /// It has no `->`.
     NoArrow,
-    /// Something stands behind the paths that doesn't belong there.
+    /// Something follows the paths that doesn't belong there.
     TooMuch,
     /// The label can't be given, or isn't between quotes.
     BadLabel,
@@ -22,14 +22,14 @@ pub enum Flaw<'a> {
 impl fmt::Display for Flaw<'_> {
     fn fmt<W: fmt::Write>(&self, f: &mut fmt::Formatter<W>) -> fmt::Result {
         match self {
-            Flaw::NoDemand => f.write_str("a line begins with deny, allow or only"),
-            Flaw::NoArrow => f.write_str("there is no ->"),
+            Flaw::NoDemand => f.write_str("expected `deny`, `allow` or `only` and a component"),
+            Flaw::NoArrow => f.write_str("expected `->` after the clients"),
             Flaw::TooMuch => f.write_str(
-                "behind the path may only stand, of allow, with label \"..\"",
+                "unexpected text after the servers; only `allow` takes `with label \"..\"`",
             ),
-            Flaw::BadLabel => f.write_str("this label can't be given"),
+            Flaw::BadLabel => f.write_str("expected a label in quotes that a client can give"),
             Flaw::Unnamed(fault) => write!(f, "{fault}"),
-            Flaw::NoMemory => f.write_str("no memory"),
+            Flaw::NoMemory => f.write_str("out of memory"),
         }
     }
 }

@@ -139,16 +139,6 @@ pub enum NoCourse {
     NoMemory,
 }
 
-impl fmt::Display for NoCourse {
-    fn fmt<W: fmt::Write>(&self, f: &mut fmt::Formatter<W>) -> fmt::Result {
-        f.write_str(match self {
-            NoCourse::Nobody => "no script is called so",
-            NoCourse::BadArgs => "Bad_args",
-            NoCourse::NoMemory => "no memory",
-        })
-    }
-}
-
 // The label of a session's arguments; of no arguments the empty one.
 fn label_in(args: &[u8]) -> Result<&[u8], NoCourse>
     ensures { IfOk result (λ label. length label.now ≤ 64) }

@@ -32,12 +32,17 @@ impl fmt::Display for Unnamed<'_> {
         match self {
             Unnamed::Nobody(path, Some(near)) => write!(
                 f,
-                "nobody is called {path}: did you mean {near}?"
+                "unknown component `{path}`; did you mean `{near}`?"
             ),
-            Unnamed::Nobody(path, None) => write!(f, "nobody is called {path}"),
-            Unnamed::NoScript(path) => write!(f, "{path} is no script"),
-            Unnamed::NoServer(path) => write!(f, "{path} provides no service"),
-            Unnamed::NoMemory => f.write_str("no memory"),
+            Unnamed::Nobody(path, None) => write!(f, "unknown component `{path}`"),
+            Unnamed::NoScript(path) => write!(f, "expected a script, found `{path}`"),
+            Unnamed::NoServer(path) => {
+                write!(
+                    f,
+                    "expected a server that provides its service, found `{path}`"
+                )
+            }
+            Unnamed::NoMemory => f.write_str("out of memory"),
         }
     }
 }

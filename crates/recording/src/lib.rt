@@ -14,4 +14,4 @@ mod writing;
 
 pub use pieces::first_piece;
 pub use recording::{Recording, Scenario, record};
-pub use unread::{Unread, Why};
+pub use unread::{Message, Unread, Why};

@@ -4,7 +4,7 @@ use friendly_lines::{Fault, signs_of};
 use scenario_names::{Misplaced, NameFault};
 use std::fmt;
 
-/// Why a line isn't read, behind its column.
+/// Why a line isn't read.
 #[derive(Clone, Copy, PartialEq, Eq)]
 pub enum Why {
     /// It is too long.
@@ -18,13 +18,37 @@ pub enum Why {
     Misplaced(usize, Misplaced),
 }
 
-impl fmt::Display for Why {
-    fn fmt<W: fmt::Write>(&self, f: &mut fmt::Formatter<W>) -> fmt::Result {
+impl Why {
+    /// Returns the column of the fault in its line, from 1 on.
+    pub fn column(self) -> usize {
         match self {
-            Why::TooLong => f.write_str("1: a line of more than 8192 bytes"),
-            Why::Fault(fault) => write!(f, "{fault}"),
-            Why::Name(fault) => write!(f, "{fault}"),
-            Why::Misplaced(column, why) => write!(f, "{column}: {why}"),
+            Why::TooLong => 1,
+            Why::Fault(fault) => fault.column,
+            Why::Name(fault) => fault.column,
+            Why::Misplaced(column, _) => column,
+        }
+    }
+
+    /// Returns the message about this text of the line, which begins at the column.
+    pub fn about(self, text: &str) -> Message<'_> {
+        Message { why: self, text }
+    }
+}
+
+/// Why a line isn't read, as people read it.
+#[derive(Clone, Copy)]
+pub struct Message<'a> {
+    why: Why,
+    text: &'a str,
+}
+
+impl fmt::Display for Message<'_> {
+    fn fmt<W: fmt::Write>(&self, f: &mut fmt::Formatter<W>) -> fmt::Result {
+        match self.why {
+            Why::TooLong => f.write_str("line of more than 8192 bytes"),
+            Why::Fault(fault) => write!(f, "{}", fault.reason.about(self.text)),
+            Why::Name(fault) => write!(f, "{}", fault.reason.about(self.text)),
+            Why::Misplaced(_, why) => write!(f, "{why}"),
         }
     }
 }

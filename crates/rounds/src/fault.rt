@@ -26,16 +26,30 @@ pub enum Reason {
     Name(NameReason),
 }
 
-impl fmt::Display for Reason {
+impl Reason {
+    /// Returns the message about this text of the line, which begins at the fault's column.
+    pub fn about(self, text: &str) -> Message<'_> {
+        Message { reason: self, text }
+    }
+}
+
+/// What is wrong with the rounds of a scenario, as people read it.
+#[derive(Clone, Copy)]
+pub struct Message<'a> {
+    reason: Reason,
+    text: &'a str,
+}
+
+impl fmt::Display for Message<'_> {
     fn fmt<W: fmt::Write>(&self, f: &mut fmt::Formatter<W>) -> fmt::Result {
-        f.write_str(match self {
-            Reason::EndAlone => "@end without @repeat",
-            Reason::EndTakesNothing => "nothing stands behind @end",
-            Reason::NoEnd => "@repeat without @end",
-            Reason::TooDeep => "rounds stand at most four deep",
-            Reason::NoCount => "@repeat takes a count, and then at will: as NAME",
-            Reason::TooMany => "more than 1000000 lines in all",
-            Reason::Name(reason) => return write!(f, "{reason}"),
+        f.write_str(match self.reason {
+            Reason::EndAlone => "`@end` without `@repeat`",
+            Reason::EndTakesNothing => "unexpected argument; expected `@end`",
+            Reason::NoEnd => "`@repeat` without `@end`",
+            Reason::TooDeep => "rounds nest more than 4 deep",
+            Reason::NoCount => "expected `@repeat N [as NAME]`",
+            Reason::TooMany => "more than 1000000 lines with all rounds",
+            Reason::Name(reason) => return write!(f, "{}", reason.about(self.text)),
         })
     }
 }
@@ -56,12 +70,6 @@ pub struct RoundsFault {
     pub at: Place,
     /// What.
     pub reason: Reason,
-}
-
-impl fmt::Display for RoundsFault {
-    fn fmt<W: fmt::Write>(&self, f: &mut fmt::Formatter<W>) -> fmt::Result {
-        write!(f, "{}:{}: {}", self.at.line, self.at.column, self.reason)
-    }
 }
 
 /// Why a scenario isn't unfolded.

@@ -9,6 +9,6 @@ mod structure;
 mod unfolding;
 mod whole;
 
-pub use fault::{Place, Reason, RoundsFault, Unfit};
+pub use fault::{Message, Place, Reason, RoundsFault, Unfit};
 pub use laws::plain_texts_stay;
 pub use whole::{Unfolded, unfold};

@@ -8,3 +8,4 @@ pub mod Directives
 pub mod Views
 pub mod Laws
 pub mod Misplaced
+pub mod Tokens

@@ -23,18 +23,37 @@ pub enum NameReason {
     TooMany,
 }
 
-impl fmt::Display for NameReason {
+impl NameReason {
+    /// Returns the message about this text of the line, which begins with the name's `$`.
+    pub fn about(self, text: &str) -> NameMessage<'_> {
+        NameMessage { reason: self, text }
+    }
+
+    // What comes before the text.
+    fn first_words(self) -> &'static str {
+        match self {
+            NameReason::UnknownName => "unknown name",
+            NameReason::OpenBrace => "expected a name in braces, found",
+            NameReason::NoNumber => "expected a number as the value of",
+            NameReason::NoSum => "expected a number after the + of",
+            NameReason::SumTooLarge => "sum of more than 64 bits at",
+            NameReason::TooLong => "line of more than 8192 bytes with the value of",
+            NameReason::Twice => "this expectation binds the name twice:",
+            NameReason::TooMany => "this expectation binds more than 16 names; the next is",
+        }
+    }
+}
+
+/// What is wrong with a name in a line, as people read it.
+#[derive(Clone, Copy)]
+pub struct NameMessage<'a> {
+    reason: NameReason,
+    text: &'a str,
+}
+
+impl fmt::Display for NameMessage<'_> {
     fn fmt<W: fmt::Write>(&self, f: &mut fmt::Formatter<W>) -> fmt::Result {
-        f.write_str(match self {
-            NameReason::UnknownName => "nothing has this name",
-            NameReason::OpenBrace => "no name in braces: a letter or _, then letters, digits and _",
-            NameReason::NoNumber => "this stands for no number",
-            NameReason::NoSum => "no number behind the +",
-            NameReason::SumTooLarge => "a sum past 64 bits",
-            NameReason::TooLong => "with this the line has more than 8192 bytes",
-            NameReason::Twice => "this name is to be bound already",
-            NameReason::TooMany => "a reply binds at most 16 names",
-        })
+        write!(f, "{} `{}`", self.reason.first_words(), self.text)
     }
 }
 
@@ -45,10 +64,4 @@ pub struct NameFault {
     pub reason: NameReason,
     /// The byte of the line at which the name begins, with its `$`, from 1 on.
     pub column: usize,
-}
-
-impl fmt::Display for NameFault {
-    fn fmt<W: fmt::Write>(&self, f: &mut fmt::Formatter<W>) -> fmt::Result {
-        write!(f, "{}: {}", self.column, self.reason)
-    }
 }

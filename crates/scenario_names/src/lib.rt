@@ -15,9 +15,10 @@ mod names;
 mod pieces;
 mod sums;
 mod texts;
+mod tokens;
 
 pub use directives::{Counter, Directive, directive_of};
-pub use fault::{NameFault, NameReason};
+pub use fault::{NameFault, NameMessage, NameReason};
 pub use filling::{Filled, fill, source_column};
 pub use holes::Hole;
 pub use known::Known;
@@ -26,3 +27,4 @@ pub use laws::{
 };
 pub use misplaced::Misplaced;
 pub use names::is_name;
+pub use tokens::token_at;

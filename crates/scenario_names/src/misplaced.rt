@@ -18,12 +18,13 @@ pub enum Misplaced {
 }
 
 impl Misplaced {
-    /// The words by which it is told.
+    /// Returns the message.
     pub fn words(self) -> &'static str {
         match self {
-            Misplaced::Repeat => "@repeat stands in a scenario of a file alone",
-            Misplaced::End => "@end stands in a scenario of a file alone",
-            Misplaced::Unknown => "none of @set NAME VALUE, @repeat N [as NAME] and @end",
+            Misplaced::Repeat => "`@repeat` needs a scenario that is a file",
+            Misplaced::End => "`@end` needs a scenario that is a file",
+            Misplaced::Unknown =>
+                "unknown directive; expected `@set NAME VALUE`, `@repeat N [as NAME]` or `@end`",
         }
     }
 }

@@ -85,7 +85,9 @@ impl fmt::Display for Fault {
             }
             Whereabouts::List(flaw) => show_within(f, ": ", flaw, ""),
             Whereabouts::Budget(lack) => show_within(f, ": ", lack, ""),
-            Whereabouts::Size(size) => show_within(f, ": ", size, " bytes, expected at most 65536"),
+            Whereabouts::Size(size) => {
+                show_within(f, ": expected at most 65536 bytes, found ", size, "")
+            }
             Whereabouts::Nowhere => Ok(()),
         }
     }

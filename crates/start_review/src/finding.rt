@@ -3,7 +3,7 @@ ghost use Rattle.std.specs.Prelude.{◌≡◌, IfOk};
 
 use crate::asked::Asked;
 use crate::part::Part;
-use crate::quoted::{show_quoted, show_within};
+use crate::quoted::{show_escaped, show_quoted, show_within};
 use start_lists::Name;
 use std::alloc::{AllocError, Global};
 use std::fmt;
@@ -124,36 +124,38 @@ impl fmt::Display for Remark {
     fn fmt<W: fmt::Write>(&self, f: &mut fmt::Formatter<W>) -> fmt::Result {
         f.write_str(self.before())?;
         self.show_value(f)?;
-        f.write_str(self.behind())?;
+        f.write_str(self.after())?;
         show_near(f, self.near())
     }
 }
 
 impl Remark {
-    // What stands before the value that is told.
+    // What comes before the value.
     fn before(&self) -> &'static str {
         match self {
-            Remark::GivenTwice(_) | Remark::Unread(_, _) => "",
-            Remark::NoChild(_, _) => "child: no entry has the name \"",
-            Remark::NotProvided(_, _) => "child: \"",
-            Remark::NoProvider(_) => "any-child: no entry provides ",
-            Remark::SeveralProviders(_) => "any-child: several entries provide ",
-            Remark::Hidden(_) => "hidden: rule [",
-            Remark::OtherCase(_, _) => "service: no server has ",
-            Remark::Idle => "decides nothing: no script's wish comes to this rule, with any label",
-            Remark::NoLabel(_) => "decides nothing: ",
+            Remark::GivenTwice(_) => "duplicate member `",
+            Remark::Unread(_, _) => "unknown member `",
+            Remark::NoChild(_, _) => "child: unknown component `",
+            Remark::NotProvided(_, _) => "child: `",
+            Remark::NoProvider(_) => "any-child: no component provides `",
+            Remark::SeveralProviders(_) => "any-child: several components provide `",
+            Remark::Hidden(_) => "unreachable rule: rule [",
+            Remark::OtherCase(_, _) => "service: unknown service `",
+            Remark::Idle =>
+                "unused rule: it decides no session request of a script, with any label",
+            Remark::NoLabel(_) => "unreachable rule: ",
             Remark::Arrow => {
-                "decides nothing: label: who gives no label is seen by the names alone, without the arrow"
+                "unreachable rule: label: without a label this list sees the names alone, without the arrow"
             }
             Remark::LetsIn(_, _) => "label_prefix: ",
             Remark::ChosenEnd => {
-                "label_suffix: a client chooses it with any label that isn't empty, and it may reach into the names"
+                "label_suffix: a client with a label chooses its end, and the suffix may reach into the names"
             }
-            Remark::NotProviding(_) => "provides: it could provide ",
-            Remark::Unreached => "no script's route leads to this server",
+            Remark::NotProviding(_) => "provides: missing `",
+            Remark::Unreached => "unused server: no script's session request is routed to it",
             Remark::LowRam(_, _) | Remark::LowCaps(_, _) => "",
-            Remark::PartPages(_) => "quantum: ",
-            Remark::PartReserve(_) => "reserve: ",
+            Remark::PartPages(_) => "quantum: expected whole pages of 4096 bytes, found ",
+            Remark::PartReserve(_) => "reserve: expected whole pages of 4096 bytes, found ",
         }
     }
 
@@ -161,14 +163,14 @@ impl Remark {
     fn show_value<W: fmt::Write>(&self, f: &mut fmt::Formatter<W>) -> fmt::Result {
         match self {
             Remark::GivenTwice(member) | Remark::Unread(member, _) => {
-                show_quoted(f, member.as_str())
+                show_escaped(f, member.as_str())
             }
             Remark::NoChild(name, _)
             | Remark::NoProvider(name)
             | Remark::SeveralProviders(name)
             | Remark::OtherCase(name, _) => f.write_str(name.as_str()),
             Remark::NotProvided(child, service) => {
-                write!(f, "{child}\" doesn't provide {service}")
+                write!(f, "{child}` doesn't provide `{service}")
             }
             Remark::LetsIn(front, name) => show_let_in(f, front, name),
             Remark::NoLabel(known) | Remark::NotProviding(known) => f.write_str(known.as_str()),
@@ -180,21 +182,24 @@ impl Remark {
         }
     }
 
-    // What stands behind it.
-    fn behind(&self) -> &'static str {
+    // What comes after it.
+    fn after(&self) -> &'static str {
         match self {
-            Remark::GivenTwice(_) => ": given twice; the last one counts",
-            Remark::Unread(_, _) => ": nothing reads this member",
-            Remark::NoChild(_, _) => "\"",
-            Remark::SeveralProviders(_) => ", so it is denied",
-            Remark::Hidden(_) => "] of the same list matches whatever this one does",
-            Remark::NoLabel(_) => ": no label can have this text",
-            Remark::NotProviding(_) => ", and doesn't say so",
-            Remark::LowRam(_, _) => " bytes pay for no session, which takes at least 4096",
-            Remark::LowCaps(_, _) => " capabilities pay for no session, which takes at least 2",
-            Remark::PartPages(_) | Remark::PartReserve(_) => {
-                " bytes aren't whole pages of 4096 bytes"
+            Remark::GivenTwice(_) => "`; the last one counts",
+            Remark::Unread(_, _)
+            | Remark::NoChild(_, _)
+            | Remark::NotProvided(_, _)
+            | Remark::NoProvider(_)
+            | Remark::OtherCase(_, _) => "`",
+            Remark::SeveralProviders(_) => "`, so the request is denied",
+            Remark::Hidden(_) => "] of this list decides each of its requests first",
+            Remark::NoLabel(_) => ": no label has this text",
+            Remark::NotProviding(_) => "`, which this binary can provide",
+            Remark::LowRam(_, _) => " bytes are insufficient for a session; expected at least 4096",
+            Remark::LowCaps(_, _) => {
+                " capabilities are insufficient for a session; expected at least 2"
             }
+            Remark::PartPages(_) | Remark::PartReserve(_) => " bytes",
             _ => "",
         }
     }
@@ -209,20 +214,20 @@ impl Remark {
     }
 }
 
-// Whom a front lets in, too.
+// Which component's labels begin with a prefix too.
 fn show_let_in<W: fmt::Write>(
     f: &mut fmt::Formatter<W>,
     front: &Written,
     name: &Name,
 ) -> fmt::Result {
     show_quoted(f, front.as_str())?;
-    write!(f, " lets \"{name}\" in too")
+    write!(f, " is a prefix of `{name}` too")
 }
 
 // What may have been meant, if something may.
 fn show_near<W: fmt::Write>(f: &mut fmt::Formatter<W>, near: Option<&str>) -> fmt::Result {
     match near {
-        Some(near) => write!(f, "; did you mean \"{near}\"?"),
+        Some(near) => write!(f, "; did you mean `{near}`?"),
         None => Ok(()),
     }
 }

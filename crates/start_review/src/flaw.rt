@@ -143,13 +143,13 @@ impl fmt::Display for Expected {
             Expected::Rules => "a list of at most 32 rules",
             Expected::Entries => "a list of at most 32 entries",
             Expected::InnerEntries => "a list of entries, at most 32 with those of all other lists",
-            Expected::NoInit => "none, since inits nest at most 3 deep",
+            Expected::NoInit => "no init, since inits nest at most 3 deep",
             Expected::Name => "a name as text: 1 to 32 letters, digits, `_`, `-` and `.`",
             Expected::NewName => "a name that no earlier entry has",
             Expected::Binary => "`script`, `log`, `files` or `init`",
             Expected::Amount => "an amount as text",
             Expected::Caps => "a whole number from 0 to 4294967295",
-            Expected::NoReserve => "none, since only a script has a reserve",
+            Expected::NoReserve => "no reserve, since only a script has one",
             Expected::Provides => {
                 "a list of at most the binary's service: `LOG` of `log`, `File_system` of `files`"
             }
@@ -181,10 +181,14 @@ impl fmt::Display for Flaw {
             show_within(f, "", &member, ": ")?;
         }
         match (self.sort, self.expected) {
-            (Sort::Text(_), Expected::Amount) => {
-                show_within(f, "", &self.sort, " is no amount: a suffix is K, M or G")
-            }
-            _ => write!(f, "{}, expected {}", self.sort, self.expected),
+            (Sort::Text(_), Expected::Amount) => show_within(
+                f,
+                "expected an amount with K, M, G or no suffix, found ",
+                &self.sort,
+                "",
+            ),
+            (Sort::Missing, _) => write!(f, "missing; expected {}", self.expected),
+            _ => write!(f, "expected {}, found {}", self.expected, self.sort),
         }
     }
 }

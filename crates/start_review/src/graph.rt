@@ -1,68 +1,67 @@
-//! The components of a start list, and where their wishes for sessions lead, as a graph.
-use crate::leads::{Decided, all_decided, show_denied};
-use crate::left::{Inits, kept, left_of};
-use crate::tree::show_budget;
+//! The components of a start list, and where their requests for sessions are routed, as a graph.
+use crate::decisions::Decision;
+use crate::left::left_of;
+use crate::node::Node;
+use crate::quoted::show_within;
+use crate::tree::Tree;
+use crate::wishes::init_entry;
 use start_lists::{Binary, Entry, StartList};
 use std::alloc::{AllocError, Global};
 use std::fmt;
 
-/// The tree as a graph in DOT: an init is a box around what it starts, each other component a node, by its path, and an edge stands
-/// for the rules that decide some of a script's wishes for a service. What is denied of a list's scripts leads to one grey node.
+/// The tree as a graph in DOT: an init is a box around what it starts, each other component a node, by its path, and an edge denotes
+/// the rules that decide some of a script's requests for a service. What is denied of a list's scripts has one grey node.
 #[derive(Drop)]
 pub struct Graph<'a> {
-    list: &'a StartList,
-    decided: Vec<Decided>,
+    tree: Tree<'a>,
 }
 
 impl<'a> Graph<'a> {
-    /// The graph of a list. An error is want of memory.
+    /// The graph of a list. An error is out of memory.
     pub(crate) fn of(alloc: Global, list: &'a StartList) -> Result<Graph<'a>, AllocError> {
         Ok(Graph {
-            list,
-            decided: all_decided(alloc, list)?,
+            tree: Tree::of(alloc, list)?,
         })
     }
 }
 
 impl fmt::Display for Graph<'_> {
     fn fmt<W: fmt::Write>(&self, f: &mut fmt::Formatter<W>) -> fmt::Result {
-        self.show_with(f, &kept(self.list))
-    }
-}
-
-impl Graph<'_> {
-    // The graph of a machine of whose RAM and capabilities inits keep these.
-    fn show_with<W: fmt::Write>(&self, f: &mut fmt::Formatter<W>, inits: &Inits) -> fmt::Result {
-        let list = self.list;
-        let left = left_of(inits, 0);
+        let list = self.tree.list;
+        let left = left_of(&self.tree.inits, 0);
         write!(
             f,
             "digraph machine {{\n  rankdir=LR;\n  label=\"{} pages, {} caps; init keeps {left}\";\n",
             list.pages(),
             list.caps()
         )?;
-        self.show_nodes(f, inits)?;
-        for one in self.decided.as_slice() {
-            one.show(f, list, true)?;
+        self.show_nodes(f)?;
+        for one in self.tree.decisions.as_slice() {
+            for trail in one.trails() {
+                show_edge(f, &one.decision(trail))?;
+            }
         }
         f.write_str("}\n")
     }
+}
 
+impl Graph<'_> {
     // The nodes, each within the boxes of the inits above it.
-    fn show_nodes<W: fmt::Write>(&self, f: &mut fmt::Formatter<W>, inits: &Inits) -> fmt::Result {
+    fn show_nodes<W: fmt::Write>(&self, f: &mut fmt::Formatter<W>) -> fmt::Result {
         self.show_denied(f, 0, 0)?;
         let mut open = 0;
-        for (number, entry) in self.list.entries().iter().enumerate() {
+        for (number, entry) in self.tree.list.entries().iter().enumerate() {
+            let node = Node::of(&self.tree.inits, number, entry);
             let depth = depth_of(entry);
             show_ends(f, depth, open)?;
             open = depth;
             show_margin(f, depth)?;
             if entry.is_init() {
                 open = depth.saturating_add(1);
-                show_box(f, inits, number, entry, open)?;
+                show_box(f, &node, open)?;
                 self.show_denied(f, number.saturating_add(1), open)?;
             } else {
-                show_node(f, inits, number, entry)?;
+                show_node(f, &node)?;
             }
         }
         show_ends(f, 0, open)
@@ -75,19 +74,43 @@ impl Graph<'_> {
         init: usize,
         depth: usize,
     ) -> fmt::Result {
-        let entries = self.list.entries();
-        let denies = self.decided.as_slice().iter().any(|one| {
-            match entries.get(one.client) {
-                Some(client) => client.home() == init && one.denies(),
-                None => false,
-            }
-        });
-        if !denies {
+        let mut decisions = self.tree.decisions.as_slice().iter();
+        if !decisions.any(|one| one.entry.home() == init && one.denies()) {
             return Ok(());
         }
         show_margin(f, depth)?;
-        show_denied(f, self.list, init)?;
+        show_denied(f, self.tree.list, init)?;
         f.write_str(" [shape=plaintext, fontcolor=gray, label=\"denied\"];\n")
+    }
+}
+
+// The edge of a decision, from the client to a server, or to the node of what its list has denied.
+fn show_edge<W: fmt::Write>(f: &mut fmt::Formatter<W>, decision: &Decision<'_>) -> fmt::Result {
+    let service = decision.service;
+    write!(f, "  \"{}\" -> ", decision.client.to_path())?;
+    match decision.server() {
+        Some(server) => write!(f, "\"{}\" [label=\"{service}", server.to_path())?,
+        None => {
+            show_denied(f, decision.list, decision.client.home())?;
+            write!(f, " [color=gray, fontcolor=gray, label=\"{service}")?;
+        }
+    }
+    write!(f, "{}", decision.rules(true))?;
+    if let Some(label) = decision.label {
+        show_within(f, "\\nwith label \\\"", label, "\\\"")?;
+    }
+    f.write_str("\"];\n")
+}
+
+// The node of what the list of an init has denied.
+fn show_denied<W: fmt::Write>(
+    f: &mut fmt::Formatter<W>,
+    list: &StartList,
+    init: usize,
+) -> fmt::Result {
+    match init_entry(list, init) {
+        Some(init) => write!(f, "\"{}/(denied)\"", init.to_path()),
+        None => f.write_str("\"(denied)\""),
     }
 }
 
@@ -117,44 +140,34 @@ fn show_margin<W: fmt::Write>(f: &mut fmt::Formatter<W>, depth: usize) -> fmt::R
 // The begin of the box of an init, and its text, below so many inits and itself.
 fn show_box<W: fmt::Write>(
     f: &mut fmt::Formatter<W>,
-    inits: &Inits,
-    number: usize,
-    entry: &Entry,
+    node: &Node<'_>,
     depth: usize,
 ) -> fmt::Result {
-    write!(f, "subgraph \"cluster_{}\" {{\n", entry.to_path())?;
+    write!(f, "subgraph \"cluster_{}\" {{\n", node.entry.to_path())?;
     show_margin(f, depth)?;
     f.write_str("label=\"")?;
-    show_text(f, inits, number, entry)?;
+    show_text(f, node)?;
     f.write_str("\";\n")
 }
 
 // The node of a component. Paths have no sign that is to be escaped.
-fn show_node<W: fmt::Write>(
-    f: &mut fmt::Formatter<W>,
-    inits: &Inits,
-    number: usize,
-    entry: &Entry,
-) -> fmt::Result {
+fn show_node<W: fmt::Write>(f: &mut fmt::Formatter<W>, node: &Node<'_>) -> fmt::Result {
+    let entry = node.entry;
     let shape = match entry.binary() {
         Binary::Server(_) => "box",
         Binary::Script | Binary::Init => "ellipse",
     };
     write!(f, "\"{}\" [shape={shape}, label=\"", entry.to_path())?;
-    show_text(f, inits, number, entry)?;
+    show_text(f, node)?;
     f.write_str("\"];\n")
 }
 
 // What is told of a component: its path, what it has, and what it provides.
-fn show_text<W: fmt::Write>(
-    f: &mut fmt::Formatter<W>,
-    inits: &Inits,
-    number: usize,
-    entry: &Entry,
-) -> fmt::Result {
+fn show_text<W: fmt::Write>(f: &mut fmt::Formatter<W>, node: &Node<'_>) -> fmt::Result {
+    let entry = node.entry;
     let binary = entry.binary();
     write!(f, "{} ({})\\n", entry.to_path(), binary.as_str())?;
-    show_budget(f, inits, number, entry, "\\n")?;
+    node.show_budget(f, "\\n")?;
     match binary.service() {
         Some(service) if entry.provides() => write!(f, "\\nprovides {}", service.name()),
         _ => Ok(()),

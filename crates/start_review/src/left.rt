@@ -160,19 +160,16 @@ pub struct Lack {
 
 impl fmt::Display for Lack {
     fn fmt<W: fmt::Write>(&self, f: &mut fmt::Formatter<W>) -> fmt::Result {
-        let (asked, unit, left) = if covers_both(self.ram_left, self.ram, self.reserve_ram) {
+        let (asked, left, unit) = if covers_both(self.ram_left, self.ram, self.reserve_ram) {
             let asked = Asked::caps(self.caps, self.reserve_caps);
-            (asked, "", u64::from(self.caps_left))
+            (asked, u64::from(self.caps_left), "capabilities")
         } else {
-            (
-                Asked::ram(self.ram, self.reserve_ram),
-                " bytes",
-                self.ram_left,
-            )
+            let asked = Asked::ram(self.ram, self.reserve_ram);
+            (asked, self.ram_left, "bytes")
         };
         write!(
             f,
-            "{}: {asked}{unit}, and init still had {left}",
+            "{}: {asked} {unit} are more than the {left} that init has left",
             self.steps
         )
     }

@@ -4,6 +4,7 @@
 
 mod asked;
 mod bad_rule;
+mod decisions;
 mod fault;
 mod finding;
 mod findings;
@@ -11,10 +12,10 @@ mod flaw;
 mod graph;
 mod hiding;
 mod idle;
-mod leads;
 mod left;
 mod members;
 mod near;
+mod node;
 mod outer;
 mod part;
 mod quoted;

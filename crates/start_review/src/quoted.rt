@@ -14,14 +14,20 @@ pub(crate) struct Quoted<'a> {
 impl fmt::Display for Quoted<'_> {
     fn fmt<W: fmt::Write>(&self, f: &mut fmt::Formatter<W>) -> fmt::Result {
         f.write_str(self.quote())?;
-        for sign in self.text.chars() {
-            self.show_sign(f, sign)?;
-        }
+        self.show_signs(f)?;
         f.write_str(self.quote())
     }
 }
 
 impl Quoted<'_> {
+    // The signs of the text.
+    fn show_signs<W: fmt::Write>(&self, f: &mut fmt::Formatter<W>) -> fmt::Result {
+        for sign in self.text.chars() {
+            self.show_sign(f, sign)?;
+        }
+        Ok(())
+    }
+
     // A quote, as it is written.
     fn quote(&self) -> &'static str {
         if self.in_graph { "\\\"" } else { "\"" }
@@ -62,6 +68,15 @@ pub(crate) fn show_quoted<W: fmt::Write>(f: &mut fmt::Formatter<W>, text: &str) 
         in_graph: false,
     };
     write!(f, "{quoted}")
+}
+
+/// A text without quotes around it, with the same escapes.
+pub(crate) fn show_escaped<W: fmt::Write>(f: &mut fmt::Formatter<W>, text: &str) -> fmt::Result {
+    let quoted = Quoted {
+        text,
+        in_graph: false,
+    };
+    quoted.show_signs(f)
 }
 
 /// A value, and the texts before and behind it.

@@ -2,9 +2,9 @@
 ghost use Rattle.std.specs.Prelude.{◌≡◌, ◌++◌, IfOk, OnOk};
 ghost use Rattle.start_review.specs.Spare.{spare_in, spare_of};
 
+use crate::node::Amount;
 use crate::outer::is_server;
 use crate::quoted::show_within;
-use crate::tree::Amount;
 use start_lists::{Entry, Path, StartList};
 use std::alloc::{AllocError, Global};
 use std::fmt;
@@ -40,12 +40,12 @@ pub struct Advice<'a> {
 
 impl fmt::Display for Advice<'_> {
     fn fmt<W: fmt::Write>(&self, f: &mut fmt::Formatter<W>) -> fmt::Result {
-        f.write_str("servers' accounts stay as they began: ")?;
+        f.write_str("servers use no budget of their own: ")?;
         for (place, spare) in self.servers.iter().enumerate() {
             let before = if place > 0 { ", " } else { "" };
             show_within(f, before, spare, "")?;
         }
-        f.write_str(" that nothing uses")
+        Ok(())
     }
 }
 

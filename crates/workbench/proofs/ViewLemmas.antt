@@ -1,5 +1,5 @@
 -- What each command writes, from what its play promises.
-use Rattle.std.proofs.Common.{◌≡◌, ℕ, ◌≤◌, List, [], ◌∷◌, ◌++◌, Bool, true, false, length, Option, Some, None, IfNone, Result, Ok, Err, arith, refl, ◌∙◌, ap, subst, length-append}
+use Rattle.std.proofs.Common.{◌≡◌, ℕ, ◌≤◌, List, [], ◌∷◌, ◌++◌, Bool, true, false, length, Option, Some, None, IfNone, Result, Ok, Err, arith, refl, sym, ◌∙◌, ap, subst, length-append}
 use Rattle.std.proofs.lemmas.Bool.Decides.{nat_tests}
 use Rattle.std.specs.List.{filter}
 use Rattle.own_model.specs.SaidBy.{is_said_by, said_by}
@@ -104,6 +104,15 @@ pub alone_same : (fault : Option PlayFault) (name : List ℕ) (start core : Worl
 alone_same None name start core count difference lines sees = sees.alike
 alone_same (Some fault) name start core count difference lines sees = tt
 
+-- where the sum is written too, the play came to its end
+pub same_behind : (played ended : Ending) (difference : Option ℕ) (w w' : Option (List ℕ)) {text : List ℕ} → Closes played ended w w' text → IfNone played.fault (difference ≡ None) → IfNone ended.fault (difference ≡ None)
+same_behind played ended difference w w' {text = text} closes same = behind played.fault ended.fault closes.writes same
+  where
+    behind : (f f' : Option PlayFault) → WritesAfter f f' w w' text → IfNone f (difference ≡ None) → IfNone f' (difference ≡ None)
+    behind None None after same = same
+    behind None (Some fault) after same = tt
+    behind (Some fault) f' after same = subst (λ t. IfNone t (difference ≡ None)) (sym after.0) tt
+
 -- ---- the account list with needs and peaks
 
 -- nothing is told of lines
@@ -111,7 +120,7 @@ silent_calls : (earlier : List (List ℕ)) (number : ℕ) (calls : List (List �
 silent_calls earlier number [] = refl
 silent_calls earlier number (call ∷ calls) = silent_calls (earlier ++ call ∷ []) number calls
 
-silent_turns : (only : Option (List ℕ)) (earlier : List (List ℕ)) (turns : List Turn) → told_of_turns (λ _ _ _. []) only earlier turns ≡ []
+pub silent_turns : (only : Option (List ℕ)) (earlier : List (List ℕ)) (turns : List Turn) → told_of_turns (λ _ _ _. []) only earlier turns ≡ []
 silent_turns only earlier [] = refl
 silent_turns only earlier (turn ∷ turns) =
     ap (λ text. text ++ told_of_turns (λ _ _ _. []) only (earlier ++ said_by only (calls_in turn.deed)) turns) (silent_calls earlier turn.number (said_by only (calls_in turn.deed)))

@@ -15,6 +15,7 @@ ghost use Rattle.workbench.specs.Turns.{first_with, turns_of};
 ghost use Rattle.workbench.specs.Writes.{Closes, IsPlayed, IsPlayedFrom, IsUnplayed, nothing_told, turns_on};
 ghost use Rattle.scenario_lines.specs.declared.play_fault.PlayFault.TheVariants.{NoMemory as NoRoom};
 
+use crate::account_rows::AccountRows;
 use crate::accounting::Accounting;
 use crate::bench::Bench;
 use crate::closed_lines::write_closed;
@@ -28,7 +29,16 @@ use init_core::boot;
 use pd_core::{Core, Router};
 use scenario_lines::{MAX_LINES, PlayFault, Run, RunFault, Sink, Source, write_columns};
 use start_lists::{BootFault, StartList};
-use std::alloc::Global;
+use std::alloc::{AllocError, Global};
+
+/// The account list of a scenario.
+#[derive(Drop)]
+pub struct AccountList {
+    /// How the run ended.
+    pub ending: Ending,
+    /// The rows after the last line that was run. An error is out of memory.
+    pub rows: Result<AccountRows, AllocError>,
+}
 
 /// Plays a scenario, and then writes the account list: the account of the machine's init, those of the components with their
 /// reserves, and those of the open sessions, each account with its need and its peak, a session also with its server and its
@@ -45,24 +55,24 @@ pub fn accounts<S: Source, K: Sink, E: Sink>(
     reader: &mut S,
     writer: &mut K,
     complaints: &mut E,
-) -> Result<Ending, BootFault>
-    ensures played { IfOk result (λ ending. fault_before (S.has_failed reader.old)
+) -> Result<AccountList, BootFault>
+    ensures played { IfOk result (λ accounts. fault_before (S.has_failed reader.old)
         (K.has_failed writer.old || E.has_failed complaints.old) ≡ None →
         (sessions : OfSessions) × IsPlayed play.entry.machine.now
-        (turns_on None (first_with play.entry.given)) nothing_told (accounts_behind sessions) true ending
+        (turns_on None (first_with play.entry.given)) nothing_told (accounts_behind sessions) true accounts.ending
         (S.remaining reader.old) (S.remaining reader.new)
         (S.has_failed reader.new) (K.contents writer.old) (K.contents writer.new)) }
-    ensures few { IfOk result (λ ending. ending.lines ≤ MAX_LINES) }
-    ensures writing { IfOk result (λ ending. (K.has_failed writer.new
-        || E.has_failed complaints.new) ≡ is_write_fault ending.fault) }
-    ensures reading { IfOk result (λ ending.
-        IfNone ending.fault (S.has_failed reader.new ≡ false)) }
-    ensures ok { IfOk result (λ ending. IfSome ending.fault (λ fault. fault ≢ NoRoom →
+    ensures few { IfOk result (λ accounts. accounts.ending.lines ≤ MAX_LINES) }
+    ensures writing { IfOk result (λ accounts. (K.has_failed writer.new
+        || E.has_failed complaints.new) ≡ is_write_fault accounts.ending.fault) }
+    ensures reading { IfOk result (λ accounts.
+        IfNone accounts.ending.fault (S.has_failed reader.new ≡ false)) }
+    ensures ok { IfOk result (λ accounts. IfSome accounts.ending.fault (λ fault. fault ≢ NoRoom →
         IfSome (S.remaining reader.old) (λ input. HasCause input MAX_LINES
         (S.has_failed reader.new) (K.has_failed writer.new || E.has_failed complaints.new)))) }
-    ensures before { IfOk result (λ ending. IfSome (fault_before (S.has_failed reader.old)
+    ensures before { IfOk result (λ accounts. IfSome (fault_before (S.has_failed reader.old)
         (K.has_failed writer.old || E.has_failed complaints.old)) (λ fault.
-        IsUnplayed play.entry.machine.now ending fault
+        IsUnplayed play.entry.machine.now accounts.ending fault
         × (reader.new ≡ reader.old) × (writer.new ≡ writer.old)
         × (complaints.new ≡ complaints.old))) }
     ensures unbooted { IfErr result (λ fault. fault ≢ NoMemory →
@@ -86,17 +96,18 @@ pub fn accounts<S: Source, K: Sink, E: Sink>(
         notes,
         rooms,
     };
-    Ok(play_accounting(stage, &mut watch, reader, writer, complaints))
+    Ok(play_accounting(alloc, stage, &mut watch, reader, writer, complaints))
 }
 
 // The same on a machine that has booted, with the peaks and needs of its accounts.
 fn play_accounting<R: Router + Drop, S: Source, K: Sink, E: Sink>(
+    alloc: Global,
     stage: Stage<'_, '_, R>,
     watch: &mut Accounting,
     reader: &mut S,
     writer: &mut K,
     complaints: &mut E,
-) -> Ending
+) -> AccountList
     requires listed { stage.core.entries ≡ entries_of (start_list_of stage.run.list.now) }
     requires all { stage.run.only ≡ None }
     requires first { stage.notes.stand.number ≡ 1 }
@@ -107,15 +118,15 @@ fn play_accounting<R: Router + Drop, S: Source, K: Sink, E: Sink>(
         × IsPlayedFrom (turns_of None stage.entry.core stage.entry.notes.stand) (λ _. [])
         (λ turns. accounts_text sessions stage.entry.run.list.now stage.entry.core
         (calls_answered None turns))
-        true result (S.remaining reader.old) (S.remaining reader.new)
+        true result.ending (S.remaining reader.old) (S.remaining reader.new)
         (S.has_failed reader.new) (K.contents writer.old) (K.contents writer.new) }
-    ensures few { result.lines ≤ MAX_LINES }
+    ensures few { result.ending.lines ≤ MAX_LINES }
     ensures writing { (K.has_failed writer.new || E.has_failed complaints.new)
-        ≡ is_write_fault result.fault }
-    ensures reading { IfNone result.fault (S.has_failed reader.new ≡ false) }
+        ≡ is_write_fault result.ending.fault }
+    ensures reading { IfNone result.ending.fault (S.has_failed reader.new ≡ false) }
     ensures before { IfSome (fault_before (S.has_failed reader.old)
         (K.has_failed writer.old || E.has_failed complaints.old))
-        (λ fault. (result ≡ unplayed fault)
+        (λ fault. (result.ending ≡ unplayed fault)
         × (reader.new ≡ reader.old) × (writer.new ≡ writer.old)
         × (complaints.new ≡ complaints.old)) }
 {
@@ -134,7 +145,21 @@ fn play_accounting<R: Router + Drop, S: Source, K: Sink, E: Sink>(
         complained: 0,
     };
     let ending = play_lines(&mut bench, &mut core, b"", reader, writer);
-    close_accounting(ending, &core, run.list, &bench, writer)
+    let rows = rows_after(alloc, &core, run.list, &bench);
+    let ending = close_accounting(ending, &core, run.list, &bench, writer);
+    AccountList { ending, rows }
+}
+
+// The rows after a play.
+fn rows_after<R: Router + Drop, E: Sink>(
+    alloc: Global,
+    core: &Core<R>,
+    list: &StartList,
+    bench: &Bench<'_, '_, '_, '_, '_, '_, '_, Accounting, E>,
+) -> Result<AccountRows, AllocError>
+    requires listed { core.now.entries ≡ entries_of (start_list_of list.now) }
+{
+    AccountRows::of(alloc, core, list, bench.watch)
 }
 
 // Writes the list behind a play that came to its end.

@@ -53,6 +53,66 @@ pub(crate) struct SecondMachine<'a, Q: Router + Drop> {
     ghost listed: { core.entries ≡ entries_of (start_list_of list.now) },
 }
 
+/// How the answers to a component in the whole run compare with those in a run of its own lines alone.
+#[derive(Clone, Copy, PartialEq, Eq)]
+pub struct Comparison {
+    /// How the whole run ended.
+    pub ending: Ending,
+    /// The number of the component's lines.
+    pub lines: u64,
+    /// The number of the first line that was answered otherwise alone, if there is one.
+    pub difference: Option<u64>,
+}
+
+impl Comparison {
+    ghost use Rattle.std.specs.Prelude.{◌≡◌, None};
+    ghost use Rattle.std.specs.Result.{result_err};
+    ghost use Rattle.scenario_lines.specs.Faults.{is_write_fault};
+    ghost use Rattle.workbench.specs.Alone.{alone_sum};
+    ghost use Rattle.workbench.specs.Writes.{IsWrittenBy};
+
+    /// Writes how many lines a component of this name has, and whether their answers are the same. An error is a failed write.
+    #[tactic(auto, using(scenario_lines::proofs::GatheredLemmas::told_in_part))]
+    pub fn write_sum<K: Sink>(self, name: &[u8], writer: &mut K) -> Result<(), PlayFault>
+        ensures written { self.difference ≡ None →
+            IsWrittenBy result (K.contents writer.old) (K.contents writer.new)
+            (alone_sum name.now self.lines) }
+        ensures failing { K.has_failed writer.new ≡ is_write_fault (result_err result) }
+    {
+        if writer.failed() {
+            return Err(PlayFault::WriteFault);
+        }
+        let mut gathered = Gather::new();
+        put_sum(name, self.lines, self.difference, &mut gathered, writer)?;
+        gathered.flush(writer)?;
+        Ok(())
+    }
+
+    // Writes this behind a run that came to its end.
+    fn close<K: Sink>(self, name: &[u8], writer: &mut K) -> Comparison
+        ensures closes { IfNone self.ending.fault (self.difference ≡ None) →
+            Closes self.ending result.ending (K.contents writer.old) (K.contents writer.new)
+            (alone_sum name.now self.lines) }
+        ensures lines { result.lines ≡ self.lines }
+        ensures difference { result.difference ≡ self.difference }
+        ensures failing { IfNone self.ending.fault
+            (K.has_failed writer.new ≡ is_write_fault result.ending.fault) }
+        ensures stopped { IfSome self.ending.fault
+            (λ _. (result ≡ self) × (writer.new ≡ writer.old)) }
+    {
+        if self.ending.fault.is_some() {
+            return self;
+        }
+        match self.write_sum(name, writer) {
+            Ok(()) => self,
+            Err(fault) => Comparison {
+                ending: self.ending.stopped_by(fault),
+                ..self
+            },
+        }
+    }
+}
+
 /// Two machines that have booted, one for all lines and one for those of a name alone, and room for lines and replies.
 #[derive(Drop)]
 struct Machines<R: Router + Drop, Q: Router + Drop> {
@@ -209,8 +269,8 @@ fn put_side<K: Sink>(
 
 /// Plays a scenario on a machine, and the lines of one name alone on a second machine beside it. It writes of each of those
 /// lines its number, the line with the text of the bytes that it tells, and its answer in the whole run and the one alone; and
-/// last how many these are, and that they are the same; or that there are none, which counts as a complaint. They always are the
-/// same: each component's answers are those of its own run. Complaints are written as they come.
+/// last how many these are, and that they are the same; or that there are none. They always are the same: each component's answers
+/// are those of its own run. Complaints are written as they come.
 ///
 /// At a fault what was told by then is written, or where a write failed or the host has no room a part of it, from the front. It
 /// stops as `run` does.
@@ -222,25 +282,34 @@ pub fn alone<S: Source, K: Sink, E: Sink>(
     reader: &mut S,
     writer: &mut K,
     complaints: &mut E,
-) -> Result<Ending, BootFault>
-    ensures played { IfOk result (λ ending. fault_before (S.has_failed reader.old)
+) -> Result<Comparison, BootFault>
+    ensures played { IfOk result (λ compared. fault_before (S.has_failed reader.old)
         (K.has_failed writer.old || E.has_failed complaints.old) ≡ None →
         IsPlayed play.entry.machine.now (turns_on None (first_with play.entry.given))
-        (alone_told name.now) (alone_behind name.now) false ending
+        (alone_told name.now) (alone_behind name.now) false compared.ending
         (S.remaining reader.old) (S.remaining reader.new)
         (S.has_failed reader.new) (K.contents writer.old) (K.contents writer.new)) }
+    ensures summed { IfOk result (λ compared. fault_before (S.has_failed reader.old)
+        (K.has_failed writer.old || E.has_failed complaints.old) ≡ None →
+        IsPlayed play.entry.machine.now (turns_on None (first_with play.entry.given))
+        (alone_told name.now) (λ _ _. alone_sum name.now compared.lines) false compared.ending
+        (S.remaining reader.old) (S.remaining reader.new)
+        (S.has_failed reader.new) (K.contents writer.old) (K.contents writer.new)) }
+    ensures same { IfOk result (λ compared. fault_before (S.has_failed reader.old)
+        (K.has_failed writer.old || E.has_failed complaints.old) ≡ None →
+        IfNone compared.ending.fault (compared.difference ≡ None)) }
     ensures alike { AreAlike name.now }
-    ensures few { IfOk result (λ ending. ending.lines ≤ MAX_LINES) }
-    ensures writing { IfOk result (λ ending. (K.has_failed writer.new
-        || E.has_failed complaints.new) ≡ is_write_fault ending.fault) }
-    ensures reading { IfOk result (λ ending.
-        IfNone ending.fault (S.has_failed reader.new ≡ false)) }
-    ensures ok { IfOk result (λ ending. IfSome ending.fault (λ fault. fault ≢ NoRoom →
+    ensures few { IfOk result (λ compared. compared.ending.lines ≤ MAX_LINES) }
+    ensures writing { IfOk result (λ compared. (K.has_failed writer.new
+        || E.has_failed complaints.new) ≡ is_write_fault compared.ending.fault) }
+    ensures reading { IfOk result (λ compared.
+        IfNone compared.ending.fault (S.has_failed reader.new ≡ false)) }
+    ensures ok { IfOk result (λ compared. IfSome compared.ending.fault (λ fault. fault ≢ NoRoom →
         IfSome (S.remaining reader.old) (λ input. HasCause input MAX_LINES
         (S.has_failed reader.new) (K.has_failed writer.new || E.has_failed complaints.new)))) }
-    ensures before { IfOk result (λ ending. IfSome (fault_before (S.has_failed reader.old)
+    ensures before { IfOk result (λ compared. IfSome (fault_before (S.has_failed reader.old)
         (K.has_failed writer.old || E.has_failed complaints.old)) (λ fault.
-        IsUnplayed play.entry.machine.now ending fault
+        IsUnplayed play.entry.machine.now compared.ending fault
         × (reader.new ≡ reader.old) × (writer.new ≡ writer.old)
         × (complaints.new ≡ complaints.old))) }
     ensures unbooted { IfErr result (λ fault. fault ≢ NoMemory →
@@ -273,7 +342,7 @@ fn play_beside<'a, R: Router + Drop, Q: Router + Drop, S: Source, K: Sink, E: Si
     reader: &mut S,
     writer: &mut K,
     complaints: &mut E,
-) -> Ending
+) -> Comparison
     requires listed { machines.whole.entries ≡ entries_of (start_list_of named.now.run.list.now) }
     requires all { named.now.run.only ≡ None }
     requires first { notes.old.stand.number ≡ 1 }
@@ -284,15 +353,25 @@ fn play_beside<'a, R: Router + Drop, Q: Router + Drop, S: Source, K: Sink, E: Si
         (λ turns. told_of_turns (alone_tells named.now.name.now machines.whole) None [] turns)
         (λ turns. alone_sum named.now.name.now
         (length (calls_answered (Some named.now.name.now) turns)))
-        false result (S.remaining reader.old) (S.remaining reader.new)
+        false result.ending (S.remaining reader.old) (S.remaining reader.new)
         (S.has_failed reader.new) (K.contents writer.old) (K.contents writer.new) }
-    ensures few { result.lines ≤ MAX_LINES }
+    ensures summed { fault_before (S.has_failed reader.old)
+        (K.has_failed writer.old || E.has_failed complaints.old) ≡ None →
+        IsPlayedFrom (turns_of None machines.whole notes.old.stand)
+        (λ turns. told_of_turns (alone_tells named.now.name.now machines.whole) None [] turns)
+        (λ _. alone_sum named.now.name.now result.lines)
+        false result.ending (S.remaining reader.old) (S.remaining reader.new)
+        (S.has_failed reader.new) (K.contents writer.old) (K.contents writer.new) }
+    ensures same { fault_before (S.has_failed reader.old)
+        (K.has_failed writer.old || E.has_failed complaints.old) ≡ None →
+        IfNone result.ending.fault (result.difference ≡ None) }
+    ensures few { result.ending.lines ≤ MAX_LINES }
     ensures writing { (K.has_failed writer.new || E.has_failed complaints.new)
-        ≡ is_write_fault result.fault }
-    ensures reading { IfNone result.fault (S.has_failed reader.new ≡ false) }
+        ≡ is_write_fault result.ending.fault }
+    ensures reading { IfNone result.ending.fault (S.has_failed reader.new ≡ false) }
     ensures before { IfSome (fault_before (S.has_failed reader.old)
         (K.has_failed writer.old || E.has_failed complaints.old))
-        (λ fault. (result ≡ unplayed fault)
+        (λ fault. (result.ending ≡ unplayed fault)
         × (reader.new ≡ reader.old) × (writer.new ≡ writer.old)
         × (complaints.new ≡ complaints.old)) }
 {
@@ -320,70 +399,12 @@ fn play_beside<'a, R: Router + Drop, Q: Router + Drop, S: Source, K: Sink, E: Si
         complained: 0,
     };
     let ending = play_lines(&mut bench, &mut whole, b"", reader, writer);
-    close_with_sum(
+    let compared = Comparison {
         ending,
-        name,
-        bench.watch.lines,
-        bench.watch.difference,
-        writer,
-    )
-}
-
-// Writes behind a play that came to its end how many lines there were, and whether the answers are the same.
-fn close_with_sum<K: Sink>(
-    ending: Ending,
-    name: &[u8],
-    lines: u64,
-    difference: Option<u64>,
-    writer: &mut K,
-) -> Ending
-    ensures closes { IfNone ending.fault (difference ≡ None) →
-        Closes ending result (K.contents writer.old) (K.contents writer.new)
-        (alone_sum name.now lines) }
-    ensures failing { IfNone ending.fault (K.has_failed writer.new ≡ is_write_fault result.fault) }
-    ensures stopped { IfSome ending.fault (λ _. (result ≡ ending) × (writer.new ≡ writer.old)) }
-{
-    if ending.fault.is_some() {
-        return ending;
-    }
-    match write_sum(name, lines, difference, writer) {
-        Ok(()) => with_none(ending, lines),
-        Err(fault) => ending.stopped_by(fault),
-    }
-}
-
-// A play, of which is complained once more where there was no line.
-fn with_none(ending: Ending, lines: u64) -> Ending
-    ensures lines { result.lines ≡ ending.lines }
-    ensures fault { result.fault ≡ ending.fault }
-{
-    if lines == 0 {
-        ending.complained()
-    } else {
-        ending
-    }
-}
-
-// Writes how many lines there were, and whether the answers are the same.
-#[tactic(auto, using(scenario_lines::proofs::GatheredLemmas::told_in_part))]
-fn write_sum<K: Sink>(
-    name: &[u8],
-    lines: u64,
-    difference: Option<u64>,
-    writer: &mut K,
-) -> Result<(), PlayFault>
-    ensures written { difference ≡ None →
-        IsWrittenBy result (K.contents writer.old) (K.contents writer.new)
-        (alone_sum name.now lines) }
-    ensures failing { K.has_failed writer.new ≡ is_write_fault (result_err result) }
-{
-    if writer.failed() {
-        return Err(PlayFault::WriteFault);
-    }
-    let mut gathered = Gather::new();
-    put_sum(name, lines, difference, &mut gathered, writer)?;
-    gathered.flush(writer)?;
-    Ok(())
+        lines: bench.watch.lines,
+        difference: bench.watch.difference,
+    };
+    compared.close(name, writer)
 }
 
 // Gathers how many lines there were, and whether the answers are the same.

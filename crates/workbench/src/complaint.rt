@@ -1,51 +1,40 @@
-//! Complaints of a scenario's lines.
+//! Errors of a scenario's lines, as diagnostics.
 ghost use Rattle.std.specs.Prelude.{◌≡◌, false, is_err};
 
 use crate::shown::Shown;
-use crate::text::put_number;
-use crate::texts::put_text_behind;
-use scenario_lines::{DeviceFault, Gather, Sink};
+use itoa::Buffer;
+use scenario_lines::{DeviceFault, Sink};
+use view_diagnostics::{Diagnostics, Place, Severity, Subject};
 
-/// Where in a scenario a complaint is about, both from 1 on.
-#[derive(Clone, Copy, PartialEq, Eq)]
-pub(crate) struct Place {
-    pub line: u64,
-    pub column: usize,
-}
-
-/// Tells complaints of a scenario.
+/// Writes the errors of a scenario's lines.
 #[derive(Drop)]
 pub(crate) struct Complaints<'a> {
-    scenario: &'a [u8],
-    gathered: Gather,
+    diagnostics: Diagnostics<'a>,
 }
 
 impl<'a> Complaints<'a> {
-    /// The complaints of a scenario by its name.
-    pub(crate) fn new(scenario: &'a [u8]) -> Complaints<'a> {
+    /// Returns a writer of errors of this scenario.
+    pub(crate) fn new(scenario: Subject<'a>) -> Complaints<'a> {
         Complaints {
-            scenario,
-            gathered: Gather::new(),
+            diagnostics: Diagnostics::new(scenario),
         }
     }
 
-    /// Writes `SCENARIO:LINE:COLUMN: ` and what is wrong.
+    /// Writes an error with this message.
     pub(crate) fn tell<E: Sink>(
         &mut self,
         sink: &mut E,
         place: Place,
-        words: &[u8],
+        message: &[u8],
     ) -> Result<(), DeviceFault>
         requires { E.has_failed sink.old ≡ false }
         ensures failing { E.has_failed sink.new ≡ is_err result }
     {
-        self.put_place(sink, place)?;
-        self.gathered.put(sink, words)?;
-        self.gathered.put(sink, b"\n")?;
-        self.gathered.flush(sink)
+        self.begin(sink, place, message)?;
+        self.diagnostics.end(sink)
     }
 
-    /// The same of a reply that is other than expected, with the bytes of both as text beside their digits, and where they part.
+    /// Writes that a reply is another one than expected: both, their bytes as text too, and where they differ.
     pub(crate) fn tell_reply<E: Sink>(
         &mut self,
         sink: &mut E,
@@ -56,17 +45,16 @@ impl<'a> Complaints<'a> {
         requires { E.has_failed sink.old ≡ false }
         ensures failing { E.has_failed sink.new ≡ is_err result }
     {
-        let is_text = stands_in(b'"', expected);
-        self.put_place(sink, place)?;
-        self.gathered.put(sink, b"the reply is `")?;
-        self.put_shown(sink, reply, is_text)?;
-        self.gathered.put(sink, b", expected `")?;
+        let is_text = has_byte(b'"', expected);
+        self.begin(sink, place, b"expected `")?;
         self.put_shown(sink, expected, false)?;
-        self.put_parting(sink, reply, expected)?;
-        self.gathered.flush(sink)
+        self.diagnostics.put(sink, b", found `")?;
+        self.put_shown(sink, reply, is_text)?;
+        self.put_difference(sink, reply, expected)?;
+        self.diagnostics.end(sink)
     }
 
-    // Gathers a text and the quote behind it, and its bytes as text.
+    // Writes a text with its closing quote, and its bytes as text.
     fn put_shown<E: Sink>(
         &mut self,
         sink: &mut E,
@@ -76,29 +64,35 @@ impl<'a> Complaints<'a> {
         requires { E.has_failed sink.old ≡ false }
         ensures failing { E.has_failed sink.new ≡ is_err result }
     {
-        self.gathered.put(sink, text)?;
-        self.gathered.put(sink, b"`")?;
-        put_text_behind(Shown::in_reply(text, is_text), &mut self.gathered, sink)
+        self.diagnostics.put(sink, text)?;
+        self.diagnostics.put(sink, b"`")?;
+        match Shown::in_reply(text, is_text) {
+            Some(shown) => shown.put_in_message(&mut self.diagnostics, sink),
+            None => Ok(()),
+        }
     }
 
-    // Gathers where two texts part, and the end of the line.
-    fn put_parting<E: Sink>(
+    // Writes at which byte a reply and its expectation differ.
+    fn put_difference<E: Sink>(
         &mut self,
         sink: &mut E,
-        found: &[u8],
+        reply: &[u8],
         expected: &[u8],
     ) -> Result<(), DeviceFault>
         requires { E.has_failed sink.old ≡ false }
         ensures failing { E.has_failed sink.new ≡ is_err result }
     {
-        if let Some(byte) = parting(found, expected) {
-            self.gathered.put(sink, b"; they part at byte ")?;
-            put_number(byte, &mut self.gathered, sink)?;
+        match difference(reply, expected) {
+            Some(byte) => {
+                let mut digits = Buffer::new();
+                self.diagnostics.put(sink, b"; they differ at byte ")?;
+                self.diagnostics.put(sink, digits.format(byte).as_bytes())
+            }
+            None => Ok(()),
         }
-        self.gathered.put(sink, b"\n")
     }
 
-    /// The same of log lines that are other than expected.
+    /// Writes that the log lines are others than expected.
     pub(crate) fn tell_lines<E: Sink>(
         &mut self,
         sink: &mut E,
@@ -109,16 +103,15 @@ impl<'a> Complaints<'a> {
         requires { E.has_failed sink.old ≡ false }
         ensures failing { E.has_failed sink.new ≡ is_err result }
     {
-        self.put_place(sink, place)?;
-        self.gathered.put(sink, b"the log lines are `")?;
-        self.gathered.put(sink, found)?;
-        self.gathered.put(sink, b"`, expected `")?;
-        self.gathered.put(sink, expected)?;
-        self.gathered.put(sink, b"`\n")?;
-        self.gathered.flush(sink)
+        self.begin(sink, place, b"expected the log lines `")?;
+        self.diagnostics.put(sink, expected)?;
+        self.diagnostics.put(sink, b"`, found `")?;
+        self.diagnostics.put(sink, found)?;
+        self.diagnostics.put(sink, b"`")?;
+        self.diagnostics.end(sink)
     }
 
-    /// The same of a name that nobody has, with the one that may be meant.
+    /// Writes that no component has a name, with the name that may be meant.
     pub(crate) fn tell_stranger<E: Sink>(
         &mut self,
         sink: &mut E,
@@ -129,47 +122,46 @@ impl<'a> Complaints<'a> {
         requires { E.has_failed sink.old ≡ false }
         ensures failing { E.has_failed sink.new ≡ is_err result }
     {
-        self.put_place(sink, place)?;
-        self.gathered.put(sink, name)?;
-        self.gathered.put(sink, b": no component")?;
+        self.begin(sink, place, b"unknown component `")?;
+        self.diagnostics.put(sink, name)?;
+        self.diagnostics.put(sink, b"`")?;
         if let Some(near) = near {
-            self.gathered.put(sink, b"; did you mean ")?;
-            self.gathered.put(sink, near)?;
-            self.gathered.put(sink, b"?")?;
+            self.diagnostics.put(sink, b"; did you mean `")?;
+            self.diagnostics.put(sink, near)?;
+            self.diagnostics.put(sink, b"`?")?;
         }
-        self.gathered.put(sink, b"\n")?;
-        self.gathered.flush(sink)
+        self.diagnostics.end(sink)
     }
 
-    // Gathers `SCENARIO:LINE:COLUMN: `.
-    fn put_place<E: Sink>(&mut self, sink: &mut E, place: Place) -> Result<(), DeviceFault>
+    // Begins an error whose message begins with these words.
+    fn begin<E: Sink>(
+        &mut self,
+        sink: &mut E,
+        place: Place,
+        words: &[u8],
+    ) -> Result<(), DeviceFault>
         requires { E.has_failed sink.old ≡ false }
         ensures failing { E.has_failed sink.new ≡ is_err result }
     {
-        self.gathered.put(sink, self.scenario)?;
-        self.gathered.put(sink, b":")?;
-        put_number(place.line, &mut self.gathered, sink)?;
-        self.gathered.put(sink, b":")?;
-        put_number(place.column, &mut self.gathered, sink)?;
-        self.gathered.put(sink, b": ")
+        self.diagnostics.begin(sink, place, Severity::Error)?;
+        self.diagnostics.put(sink, words)
     }
 }
 
-// At which byte, from 1 on, a reply and what is expected part that begin alike; none where of what is expected some bytes stand
-// for others.
-fn parting(reply: &[u8], expected: &[u8]) -> Option<usize> {
+// The byte, from 1 on, at which a reply and its expectation differ, if they begin alike and the expectation has no pattern or text.
+fn difference(reply: &[u8], expected: &[u8]) -> Option<usize> {
     let mut alike = 0;
     while alike < reply.len() && alike < expected.len() && reply[alike] == expected[alike] {
         alike += 1;
     }
-    if alike == 0 || stands_in(b'*', expected) || stands_in(b'"', expected) {
+    if alike == 0 || has_byte(b'*', expected) || has_byte(b'"', expected) {
         None
     } else {
         Some(alike.saturating_add(1))
     }
 }
 
-// Whether a byte stands in a text.
-fn stands_in(byte: u8, text: &[u8]) -> bool {
+// Whether a text has a byte.
+fn has_byte(byte: u8, text: &[u8]) -> bool {
     text.iter().any(|other| *other == byte)
 }

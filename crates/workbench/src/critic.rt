@@ -8,16 +8,17 @@ ghost use Rattle.scenario_lines.specs.Faults.{Fails};
 ghost use Rattle.workbench.specs.Judging.{awaited_more, is_other, is_strange, nothing_awaited};
 ghost use Rattle.scenario_lines.specs.declared.play_fault.PlayFault.TheVariants.{NoMemory as NoRoom};
 
-use crate::complaint::{Complaints, Place};
+use crate::complaint::Complaints;
 use crate::expected::Expected;
 use crate::given::{Asked, Given};
 use crate::near::near_component;
 use friendly_lines::{Fault, end_of, is_passed, meets};
 use scenario_lines::{LineAnswer, PlayFault, Sink};
-use scenario_names::{Known, Misplaced, NameFault};
+use scenario_names::{Known, Misplaced, NameFault, token_at};
 use start_lists::StartList;
 use std::alloc::Global;
 use trade_base::Refusal;
+use view_diagnostics::{Place, Subject};
 
 /// Holds answers against what is expected, and complains. Each of its calls tells whether there was a complaint.
 #[derive(Drop)]
@@ -29,7 +30,7 @@ pub(crate) struct Critic<'a> {
 
 impl<'a> Critic<'a> {
     /// The critic of a scenario by its name, who expects nothing yet.
-    pub(crate) fn new(alloc: Global, scenario: &'a [u8]) -> Critic<'a>
+    pub(crate) fn new(alloc: Global, scenario: Subject<'a>) -> Critic<'a>
         ensures { result.expected ≡ nothing_awaited }
     {
         Critic {
@@ -100,11 +101,8 @@ impl<'a> Critic<'a> {
         ensures failing { Fails result (E.has_failed sink.new) false }
     {
         if self.expected.first().is_some() {
-            let place = Place {
-                line: asked.given.number,
-                column: 1,
-            };
-            return self.complain(place, b"log lines are expected of it, and no reply", sink);
+            let place = Place::Byte(asked.given.number, 1);
+            return self.complain(place, b"log lines are expected, but no reply", sink);
         }
         if !is_strange(asked.line, answer) {
             return Ok(false);
@@ -161,15 +159,16 @@ impl<'a> Critic<'a> {
         ensures works { OnOk result (E.has_failed sink.new ≡ false) }
         ensures failing { Fails result (E.has_failed sink.new) true }
     {
-        let reason = fault.reason.to_string(self.alloc)?;
+        let token = String::from_utf8_lossy(self.alloc, given.token(known, fault.column))?;
+        let message = fault.reason.about(token.as_str()).to_string(self.alloc)?;
         let place = given.place(known, fault.column);
-        self.complain(place, reason.as_bytes(), sink)
+        self.complain(place, message.as_bytes(), sink)
     }
 
     /// Tells what is wrong with a name in a line.
     pub(crate) fn tell_unnamed<E: Sink>(
         &mut self,
-        number: u64,
+        given: Given<'_>,
         fault: NameFault,
         sink: &mut E,
     ) -> Result<bool, PlayFault>
@@ -179,12 +178,10 @@ impl<'a> Critic<'a> {
         ensures works { OnOk result (E.has_failed sink.new ≡ false) }
         ensures failing { Fails result (E.has_failed sink.new) true }
     {
-        let words = fault.reason.to_string(self.alloc)?;
-        let place = Place {
-            line: number,
-            column: fault.column,
-        };
-        self.complain(place, words.as_bytes(), sink)
+        let token = String::from_utf8_lossy(self.alloc, token_at(given.line, fault.column))?;
+        let message = fault.reason.about(token.as_str()).to_string(self.alloc)?;
+        let place = Place::Byte(given.number, fault.column as u64);
+        self.complain(place, message.as_bytes(), sink)
     }
 
     /// Tells why a directive can't be followed.
@@ -215,11 +212,11 @@ impl<'a> Critic<'a> {
         ensures works { OnOk result (E.has_failed sink.new ≡ false) }
         ensures failing { Fails result (E.has_failed sink.new) false }
     {
-        let place = Place {
-            line: number,
-            column: 1,
-        };
-        self.complain(place, b"a line of more than 8192 bytes", sink)
+        self.complain(
+            Place::Byte(number, 1),
+            b"line of more than 8192 bytes",
+            sink,
+        )
     }
 
     /// Tells an expected log line that no call follows, if there is one.
@@ -232,11 +229,7 @@ impl<'a> Critic<'a> {
     {
         match self.expected.first() {
             Some(line) => {
-                self.complain(
-                    Place { line, column: 1 },
-                    b"no call follows the log line",
-                    sink,
-                )
+                self.complain(Place::Byte(line, 1), b"no call follows this log line", sink)
             }
             None => Ok(false),
         }

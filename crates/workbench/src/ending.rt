@@ -31,8 +31,8 @@ impl Ending {
         }
     }
 
-    /// The same play, of which is complained once more.
-    pub(crate) fn complained(self) -> Ending
+    /// Returns the same play with a complaint more.
+    pub fn complained(self) -> Ending
         ensures lines { result.lines ≡ self.lines }
         ensures fault { result.fault ≡ self.fault }
     {

@@ -1,8 +1,8 @@
 //! A line as it stands in a scenario.
 
-use crate::complaint::Place;
 use friendly_lines::signs_of;
-use scenario_names::{Known, source_column};
+use scenario_names::{Known, source_column, token_at};
+use view_diagnostics::Place;
 
 /// A line as it stands in a scenario, before it is filled.
 #[derive(Clone, Copy)]
@@ -24,21 +24,25 @@ pub(crate) struct Asked<'a> {
     pub reply: Option<&'a [u8]>,
 }
 
-impl Given<'_> {
+impl<'a> Given<'a> {
     /// The place of its first sign.
     pub(crate) fn start(self) -> Place {
         let before = self.line.len().saturating_sub(signs_of(self.line).len());
-        Place {
-            line: self.number,
-            column: before.saturating_add(1),
-        }
+        Place::Byte(self.number, before.saturating_add(1) as u64)
     }
 
-    /// The place of what stands at a column of the filled line: with the same names known as it was filled with.
+    /// Returns the place of what is at a column of the filled line, with the same names known as it was filled with.
     pub(crate) fn place(self, known: &Known, column: usize) -> Place {
-        Place {
-            line: self.number,
-            column: source_column(self.line, known, column),
-        }
+        Place::Byte(self.number, self.column(known, column) as u64)
+    }
+
+    /// Returns the text at the same place.
+    pub(crate) fn token(self, known: &Known, column: usize) -> &'a [u8] {
+        token_at(self.line, self.column(known, column))
+    }
+
+    // Returns the column of what is at a column of the filled line.
+    fn column(self, known: &Known, column: usize) -> usize {
+        source_column(self.line, known, column)
     }
 }

@@ -3,6 +3,7 @@
 #![tactic(auto)]
 
 mod account_list;
+mod account_rows;
 mod accounting;
 mod bench;
 mod beside;
@@ -33,8 +34,9 @@ mod transcript;
 mod turn;
 mod watch;
 
-pub use account_list::accounts;
-pub use beside::alone;
+pub use account_list::{AccountList, accounts};
+pub use account_rows::AccountRows;
+pub use beside::{Comparison, alone};
 pub use ending::{Ending, exit_status};
 pub use laws::bare_lines_stand;
 pub use machine::Play;

@@ -21,6 +21,7 @@ use scenario_lines::{LineAnswer, PlayFault, Sink};
 use scenario_names::{Directive, Filled, Known};
 use start_lists::StartList;
 use std::alloc::Global;
+use view_diagnostics::Subject;
 
 /// What is kept from line to line, beside the machine.
 #[derive(Drop)]
@@ -33,7 +34,7 @@ pub(crate) struct Notes<'a> {
 
 impl<'a> Notes<'a> {
     /// What is kept before the first line of a scenario by its name, with what names stand for.
-    pub(crate) fn new(alloc: Global, scenario: &'a [u8], given: Known) -> Notes<'a>
+    pub(crate) fn new(alloc: Global, scenario: Subject<'a>, given: Known) -> Notes<'a>
         ensures { result.stand ≡ first_with given }
     {
         Notes {
@@ -66,7 +67,7 @@ impl<'a> Notes<'a> {
         let given = Given { number, line };
         match &turn.deed {
             Deed::TooLong => self.critic.tell_too_long(number, complaints),
-            Deed::Unnamed(fault) => self.critic.tell_unnamed(number, *fault, complaints),
+            Deed::Unnamed(fault) => self.critic.tell_unnamed(given, *fault, complaints),
             Deed::Follows(directive) => self.follow(given, *directive, complaints),
             Deed::Says { filled, said } => match said {
                 Ok(Saying::Nothing) => Ok(false),

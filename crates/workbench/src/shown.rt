@@ -11,6 +11,7 @@ ghost use Rattle.workbench.specs.Tracing.{cell_text};
 use crate::row::needs_byte;
 use scenario_lines::{DeviceFault, Gather, Sink};
 use text_codec::read_hex;
+use view_diagnostics::Diagnostics;
 
 /// Digits of one or more bytes that can all be shown.
 #[derive(Clone, Copy)]
@@ -56,6 +57,22 @@ impl<'a> Shown<'a> {
         gathered.put(sink, b"\")")
     }
 
+    /// Puts ` ("TEXT")` into a message, with the same escapes.
+    pub(crate) fn put_in_message<K: Sink>(
+        self,
+        diagnostics: &mut Diagnostics<'_>,
+        sink: &mut K,
+    ) -> Result<(), DeviceFault>
+        requires { K.has_failed sink.old ≡ false }
+        ensures failing { K.has_failed sink.new ≡ is_err result }
+    {
+        diagnostics.put(sink, b" (\"")?;
+        for place in 0..self.hex.len() / 2 {
+            put_message_sign(byte_at(self.hex, place), diagnostics, sink)?;
+        }
+        diagnostics.put(sink, b"\")")
+    }
+
     /// Gathers the text as a cell more, in quotes where it needs them.
     pub(crate) fn put_cell<K: Sink>(
         self,
@@ -74,6 +91,21 @@ impl<'a> Shown<'a> {
         } else {
             put_signs(self.hex, false, gathered, sink)
         }
+    }
+}
+
+// Puts the text of a byte into a message.
+fn put_message_sign<K: Sink>(
+    byte: u8,
+    diagnostics: &mut Diagnostics<'_>,
+    sink: &mut K,
+) -> Result<(), DeviceFault>
+    requires { K.has_failed sink.old ≡ false }
+    ensures failing { K.has_failed sink.new ≡ is_err result }
+{
+    match byte {
+        b'"' | b'\\' => diagnostics.put(sink, &[b'\\', byte]),
+        _ => diagnostics.put(sink, &[byte]),
     }
 }
 

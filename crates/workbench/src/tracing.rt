@@ -160,8 +160,8 @@ fn told_of<'a, R: Router + Drop>(
     }
 }
 
-// What stands in a line behind a name and a space.
-fn text_behind<'a>(name: &[u8], line: &'a [u8]) -> &'a [u8]
+/// What stands in a line behind a name and a space.
+pub(crate) fn text_behind<'a>(name: &[u8], line: &'a [u8]) -> &'a [u8]
     ensures { result.now ≡ drop (length name.now + 1) line.now }
 {
     &line[line.len().min(name.len().saturating_add(1))..]

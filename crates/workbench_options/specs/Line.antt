@@ -95,11 +95,13 @@ IsTold form made = (app_of made ≡ command_told form) × ((out-Command made).ha
 abbrev pub run : Shape
 run =
     of_scenario (codes "run")
-    (option_rule (codes "only") ∷ flag_rule (codes "accounts") ∷ flag_rule (codes "numbers") ∷ option_rule (codes "color") ∷ [])
+    (option_rule (codes "only") ∷ flag_rule (codes "accounts") ∷ flag_rule (codes "numbers") ∷ option_rule (codes "color")
+    ∷ flag_rule (codes "json") ∷ [])
 
 -- the command that records a scenario
 abbrev pub record_shape : Shape
-record_shape = of_scenario (codes "record") (flag_rule (codes "all") ∷ flag_rule (codes "write") ∷ [])
+record_shape =
+    of_scenario (codes "record") (flag_rule (codes "all") ∷ flag_rule (codes "write") ∷ flag_rule (codes "json") ∷ [])
 
 -- the command that tells what is wrong with a start list
 abbrev pub check : Shape
@@ -115,8 +117,8 @@ tree = of_list (codes "tree") (flag_rule (codes "dot") ∷ flag_rule (codes "jso
 abbrev pub alone : Shape
 alone =
     with_rules (codes "alone")
-    (option_rule (codes "machine") ∷ flag_rule (codes "all") ∷ flag_rule (codes "summary") ∷ set ∷ file_rule (codes "name")
-    ∷ word_rule (codes "scenario") ∷ [])
+    (option_rule (codes "machine") ∷ flag_rule (codes "all") ∷ flag_rule (codes "summary") ∷ flag_rule (codes "json") ∷ set
+    ∷ file_rule (codes "name") ∷ word_rule (codes "scenario") ∷ [])
 
 -- the command that tells which scripts reach which servers
 abbrev pub reach : Shape
@@ -128,7 +130,8 @@ reach =
 abbrev pub route : Shape
 route =
     with_rules (codes "route")
-    (set ∷ file_rule (codes "list") ∷ file_rule (codes "client") ∷ file_rule (codes "service") ∷ word_rule (codes "args") ∷ [])
+    (flag_rule (codes "json") ∷ set ∷ file_rule (codes "list") ∷ file_rule (codes "client") ∷ file_rule (codes "service")
+    ∷ word_rule (codes "args") ∷ [])
 
 -- the command that runs scenarios as tests
 abbrev pub test : Shape
@@ -192,11 +195,13 @@ Asks (command.Run asked) name rows = (name ≡ codes "run")
     × (asked.accounts ≡ is_set (codes "accounts") rows)
     × (asked.numbers ≡ is_set (codes "numbers") rows)
     × IsColor asked.color (first_or (codes "auto") (codes "color") rows)
+    × (asked.json ≡ is_set (codes "json") rows)
     × (asked.scenario.now ≡ first_or (codes "-") (codes "scenario") rows)
 Asks (command.Record asked) name rows = (name ≡ codes "record")
     × (option_map (λ t. t.now) asked.machine ≡ first_of (codes "machine") rows)
     × (asked.all ≡ is_set (codes "all") rows)
     × (asked.write ≡ is_set (codes "write") rows)
+    × (asked.json ≡ is_set (codes "json") rows)
     × (asked.scenario.now ≡ first_or (codes "-") (codes "scenario") rows)
 Asks (command.Check asked) name rows = (name ≡ codes "check")
     × (asked.strict ≡ is_set (codes "strict") rows)
@@ -214,6 +219,7 @@ Asks (command.Reach asked) name rows = (name ≡ codes "reach")
     × (map (λ t. t.now) asked.to.items ≡ unwrap_or (all_of (codes "to") rows) [])
     × (asked.list.now ≡ first_or (codes "-") (codes "list") rows)
 Asks (command.Route asked) name rows = (name ≡ codes "route")
+    × (asked.json ≡ is_set (codes "json") rows)
     × (asked.list.now ≡ first_or (codes "-") (codes "list") rows)
     × (asked.client.now ≡ first_or [] (codes "client") rows)
     × (asked.service.now ≡ first_or [] (codes "service") rows)
@@ -230,6 +236,7 @@ Asks (command.Alone asked) name rows = (name ≡ codes "alone")
     × (option_map (λ t. t.now) asked.machine ≡ first_of (codes "machine") rows)
     × (asked.all ≡ is_set (codes "all") rows)
     × (asked.summary ≡ is_set (codes "summary") rows)
+    × (asked.json ≡ is_set (codes "json") rows)
     × (asked.name.now ≡ first_or [] (codes "name") rows)
     × (option_map (λ t. t.now) asked.scenario ≡ first_of (codes "scenario") rows)
 Asks (command.Least asked) name rows = (name ≡ codes "least")

@@ -75,6 +75,8 @@ pub struct Run<'a> {
     pub numbers: bool,
     /// When lines are coloured.
     pub color: Color,
+    /// Whether diagnostics are documents of JSON.
+    pub json: bool,
     /// The path of the scenario.
     pub scenario: &'a str,
 }
@@ -88,6 +90,8 @@ pub struct Record<'a> {
     pub all: bool,
     /// Whether it is written in place of the scenario.
     pub write: bool,
+    /// Whether diagnostics are documents of JSON.
+    pub json: bool,
     /// The path of the scenario.
     pub scenario: &'a str,
 }
@@ -134,6 +138,8 @@ pub struct Reach<'a> {
 /// A wish for a session.
 #[derive(Drop)]
 pub struct Route<'a> {
+    /// Whether diagnostics are documents of JSON.
+    pub json: bool,
     /// The path of the start list.
     pub list: &'a str,
     /// The component that wishes.
@@ -183,6 +189,8 @@ pub struct Alone<'a> {
     pub all: bool,
     /// Whether the last line alone is told of each.
     pub summary: bool,
+    /// Whether diagnostics are documents of JSON.
+    pub json: bool,
     /// The component; of all scripts the path of the scenario.
     pub name: &'a str,
     /// The path of the scenario; of all scripts none.
@@ -264,6 +272,24 @@ impl<'a> Request<'a> {
 }
 
 impl<'a> Command<'a> {
+    /// Returns whether diagnostics are documents of JSON: whether the command has the flag `--json`.
+    pub fn is_json(&self) -> bool {
+        match self {
+            Command::Run(asked) => asked.json,
+            Command::Record(asked) => asked.json,
+            Command::Check(asked) => asked.json,
+            Command::Tree(asked) => asked.json,
+            Command::Reach(asked) => asked.json,
+            Command::Route(asked) => asked.json,
+            Command::Trace(asked) | Command::Accounts(asked) => asked.json,
+            Command::Least(asked) => asked.json,
+            Command::Alone(asked) => asked.json,
+            Command::Diff(asked) => asked.json,
+            Command::Test(asked) => asked.json,
+            Command::Help(_) => false,
+        }
+    }
+
     // The command of a name, by what was found behind it.
     fn asked(
         alloc: Global,
@@ -341,6 +367,7 @@ impl<'a> Command<'a> {
             accounts: is_set(found, "accounts"),
             numbers: is_set(found, "numbers"),
             color: colored(found),
+            json: is_set(found, "json"),
             scenario: path(found, "scenario"),
         })
     }
@@ -353,6 +380,7 @@ impl<'a> Command<'a> {
             machine: found.get_str("machine"),
             all: is_set(found, "all"),
             write: is_set(found, "write"),
+            json: is_set(found, "json"),
             scenario: path(found, "scenario"),
         })
     }
@@ -385,6 +413,7 @@ impl<'a> Command<'a> {
         ensures { Asks result (codes "route") (rows_of (found_of found.now)) }
     {
         Command::Route(Route {
+            json: is_set(found, "json"),
             list: path(found, "list"),
             client: word(found, "client"),
             service: word(found, "service"),
@@ -437,6 +466,7 @@ impl<'a> Command<'a> {
             machine: found.get_str("machine"),
             all: is_set(found, "all"),
             summary: is_set(found, "summary"),
+            json: is_set(found, "json"),
             name: word(found, "name"),
             scenario: found.get_str("scenario"),
         })

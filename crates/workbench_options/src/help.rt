@@ -188,7 +188,9 @@ pub(crate) const ALL: &str = "Compare each script of the machine in turn";
 
 pub(crate) const SUMMARY: &str = "With --all, print one line per script";
 
-pub(crate) const JSON: &str = "Write JSON for programs";
+pub(crate) const JSON: &str = "Write JSON for programs, and diagnostics as JSON";
+
+pub(crate) const JSON_ERRORS: &str = "Write diagnostics as JSON, one object per line";
 
 pub(crate) const BEFORE: &str = "The start list before the change, in JSON";
 

@@ -37,6 +37,8 @@ const CSV: Word<'static> = Word::Flag("csv", help::CSV);
 
 const JSON: Word<'static> = Word::Flag("json", help::JSON);
 
+const JSON_ERRORS: Word<'static> = Word::Flag("json", help::JSON_ERRORS);
+
 const COLOR: Word<'static> = Word::Value("color", "WHEN", help::COLOR);
 
 const LIST: Word<'static> = Word::Needed("list", "FILE", help::LIST);
@@ -54,6 +56,7 @@ pub(crate) const COMMANDS: &[Form<'static>] = &[
             Word::Flag("accounts", help::WITH_ACCOUNTS),
             Word::Flag("numbers", help::NUMBERS),
             COLOR,
+            JSON_ERRORS,
             SET,
             SCENARIO,
         ],
@@ -65,6 +68,7 @@ pub(crate) const COMMANDS: &[Form<'static>] = &[
             MACHINE,
             Word::Flag("all", help::ANEW),
             Word::Flag("write", help::IN_PLACE),
+            JSON_ERRORS,
             SET,
             SCENARIO,
         ],
@@ -101,6 +105,7 @@ pub(crate) const COMMANDS: &[Form<'static>] = &[
         name: "route",
         about: help::ROUTE,
         words: &[
+            JSON_ERRORS,
             SET,
             LIST,
             Word::Needed("client", "NAME", help::CLIENT),
@@ -125,6 +130,7 @@ pub(crate) const COMMANDS: &[Form<'static>] = &[
             MACHINE,
             Word::Flag("all", help::ALL),
             Word::Flag("summary", help::SUMMARY),
+            JSON_ERRORS,
             SET,
             Word::Needed("name", "NAME", help::NAME),
             Word::Optional("scenario", "SCENARIO", help::SCENARIO),

@@ -6,6 +6,7 @@ use scenario_names::Known;
 use std::alloc::Global;
 use std::io::ErrorKind;
 use std::process::Abort;
+use view_diagnostics::{Form, Subject};
 use workbench::{Ending, Play, PlayFault, Showing, accounts, alone, exit_status, run, trace};
 
 /// All lines, with the account list behind the transcript.
@@ -44,7 +45,10 @@ fn played(
 ) -> Result<Ending, BootFault> {
     let play = Play {
         machine: machine.as_bytes(),
-        scenario: b"it",
+        scenario: Subject {
+            file: b"it",
+            form: Form::Text,
+        },
         given: Known::new(alloc),
     };
     match kind {

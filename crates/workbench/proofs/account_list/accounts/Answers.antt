@@ -10,7 +10,7 @@ pub returns-clause-played : goal.returns-clause-played
 returns-clause-played g c = λ works.
     let played = c.play_accounting.ensures.played works in (
       played.0,
-      is_played None (first_with c.args.play.given) (λ _ _. []) (λ listed start turns. accounts_text played.0 listed start (calls_answered None turns)) c.play_accounting.result _ _ _ _ _
+      is_played None (first_with c.args.play.given) (λ _ _. []) (λ listed start turns. accounts_text played.0 listed start (calls_answered None turns)) c.play_accounting.result.ending _ _ _ _ _
           c.in_ok-list.ensures.ok c.in_ok-core.ensures.covered c.in_ok-core.ensures.started c.new-notes.ensures played.1,
     )
 
@@ -20,7 +20,7 @@ play_accounting-requires-clause-sees g c = c.in_ok-watch.ensures c.in_ok-list.li
 pub returns-clause-ok : goal.returns-clause-ok
 returns-clause-ok g c =
     ends_for_some_cause _ _ _ c.play_accounting.ensures.played
-    (unplayed_with c.play_accounting.result _ _ _ _ _ (ap g.S.Source.has_failed) c.play_accounting.ensures.before) c.play_accounting.ensures.writing
+    (unplayed_with c.play_accounting.result.ending _ _ _ _ _ (ap g.S.Source.has_failed) c.play_accounting.ensures.before) c.play_accounting.ensures.writing
 
 pub returns-clause-before : goal.returns-clause-before
-returns-clause-before g c = unplayed_on _ c.play_accounting.result _ _ _ _ c.in_ok-list.ensures.ok c.in_ok-core.ensures.covered c.play_accounting.ensures.before
+returns-clause-before g c = unplayed_on _ c.play_accounting.result.ending _ _ _ _ c.in_ok-list.ensures.ok c.in_ok-core.ensures.covered c.play_accounting.ensures.before

@@ -6,6 +6,6 @@ use Rattle.workbench.proofs.account_list.play_accounting.Goals as goal
 pub returns-clause-played : goal.returns-clause-played
 returns-clause-played g c = λ works. (
   sessions_kept c.play-ending.new.bench.watch.now,
-  accounts_played c.play-ending.new.bench.watch.now c.args.stage.run.list.now c.play-ending.result c.close_accounting.result c.requires.listed
-      (rw c.requires.all at (c.play-ending.ensures.plays works)) c.close_accounting.ensures.closes,
+  accounts_played c.play-ending.new.bench.watch.now c.args.stage.run.list.now c.play-ending.result c.close_accounting-ending.result c.requires.listed
+      (rw c.requires.all at (c.play-ending.ensures.plays works)) c.close_accounting-ending.ensures.closes,
 )

@@ -9,8 +9,13 @@ use Rattle.workbench.proofs.beside.alone.Goals as goal
 
 pub returns-clause-played : goal.returns-clause-played
 returns-clause-played g c = λ works.
-    is_played None (first_with c.args.play.given) (λ start turns. told_of_turns (alone_tells c.args.name.now start) None [] turns) (λ _ _ turns. alone_sum c.args.name.now (length (calls_answered (Some c.args.name.now) turns))) c.play_beside.result _ _ _ _ _
+    is_played None (first_with c.args.play.given) (λ start turns. told_of_turns (alone_tells c.args.name.now start) None [] turns) (λ _ _ turns. alone_sum c.args.name.now (length (calls_answered (Some c.args.name.now) turns))) c.play_beside.result.ending _ _ _ _ _
     c.in_ok-list.ensures.ok c.in_ok-whole.ensures.covered c.in_ok-whole.ensures.started c.new-notes.ensures (rw c.new-named.ensures.name at (c.play_beside.ensures.played works))
+
+pub returns-clause-summed : goal.returns-clause-summed
+returns-clause-summed g c = λ works.
+    is_played None (first_with c.args.play.given) (λ start turns. told_of_turns (alone_tells c.args.name.now start) None [] turns) (λ _ _ _. alone_sum c.args.name.now c.play_beside.result.lines) c.play_beside.result.ending _ _ _ _ _
+    c.in_ok-list.ensures.ok c.in_ok-whole.ensures.covered c.in_ok-whole.ensures.started c.new-notes.ensures (rw c.new-named.ensures.name at (c.play_beside.ensures.summed works))
 
 pub returns-clause-alike : goal.returns-clause-alike
 returns-clause-alike g c = are_alike c.args.name.now
@@ -32,7 +37,7 @@ returns-in_err-reply-clause-alike g c = are_alike c.args.name.now
 
 pub returns-clause-ok : goal.returns-clause-ok
 returns-clause-ok g c =
-    ends_for_cause _ _ _ c.play_beside.ensures.played (unplayed_with c.play_beside.result _ _ _ _ _ (ap g.S.Source.has_failed) c.play_beside.ensures.before) c.play_beside.ensures.writing
+    ends_for_cause _ _ _ c.play_beside.ensures.played (unplayed_with c.play_beside.result.ending _ _ _ _ _ (ap g.S.Source.has_failed) c.play_beside.ensures.before) c.play_beside.ensures.writing
 
 pub returns-clause-before : goal.returns-clause-before
-returns-clause-before g c = unplayed_on _ c.play_beside.result _ _ _ _ c.in_ok-list.ensures.ok c.in_ok-whole.ensures.covered c.play_beside.ensures.before
+returns-clause-before g c = unplayed_on _ c.play_beside.result.ending _ _ _ _ c.in_ok-list.ensures.ok c.in_ok-whole.ensures.covered c.play_beside.ensures.before

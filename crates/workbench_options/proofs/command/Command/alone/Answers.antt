@@ -10,6 +10,7 @@ returns c = (
   c.get_str.ensures ∙ first_value-rows (found_of c.args.found.now) (codes "machine"),
   c.is_set.ensures,
   c.is_set-2.ensures,
+  c.is_set-3.ensures,
   c.word.ensures,
   c.get_str-2.ensures ∙ first_value-rows (found_of c.args.found.now) (codes "scenario"),
 )

@@ -10,5 +10,6 @@ returns c = (
   c.get_str.ensures ∙ first_value-rows (found_of c.args.found.now) (codes "machine"),
   c.is_set.ensures,
   c.is_set-2.ensures,
+  c.is_set-3.ensures,
   c.path.ensures,
 )

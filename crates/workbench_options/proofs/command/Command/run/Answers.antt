@@ -12,5 +12,6 @@ returns c = (
   c.is_set.ensures,
   c.is_set-2.ensures,
   c.colored.ensures,
+  c.is_set-3.ensures,
   c.path.ensures,
 )

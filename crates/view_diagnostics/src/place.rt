@@ -1,0 +1,30 @@
+//! Places in a text.
+
+/// A place in a text. Lines, and bytes in a line, count from 1.
+#[derive(Clone, Copy, PartialEq, Eq)]
+pub enum Place {
+    /// The whole text.
+    Whole,
+    /// The line of a number.
+    Line(u64),
+    /// A byte of a line: the line's number, then the byte's.
+    Byte(u64, u64),
+}
+
+impl Place {
+    /// Returns the number of the line, if the place has one.
+    pub fn line(self) -> Option<u64> {
+        match self {
+            Place::Whole => None,
+            Place::Line(line) | Place::Byte(line, _) => Some(line),
+        }
+    }
+
+    /// Returns the number of the byte in its line, if the place has one.
+    pub fn column(self) -> Option<u64> {
+        match self {
+            Place::Whole | Place::Line(_) => None,
+            Place::Byte(_, column) => Some(column),
+        }
+    }
+}
