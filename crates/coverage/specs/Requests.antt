@@ -3,8 +3,8 @@ use Rattle.std.specs.Prelude.{ℕ, ◌&&◌, ◌||◌, Bool, true, false, List, 
 use Rattle.std.specs.Str.{bytes_eq}
 use Rattle.own_model.specs.FileText.{error_name}
 use Rattle.session_proto.specs.FileReply.{model_error}
-use Rattle.session_proto.specs.declared.file_reply.FileError.{FileError}
-use Rattle.session_proto.specs.declared.file_reply.FileError.TheVariants.{BadRequest, BadName, Exists, NotFound, Gap, TooLong, End, TooManyChunks, OutOfRam, OutOfCaps, InvalidSize, NoBuffer, BadRange}
+use Rattle.calls.specs.declared.file_error.FileError.{FileError}
+use Rattle.calls.specs.declared.file_error.FileError.TheVariants.{BadRequest, BadName, Exists, NotFound, Gap, TooLong, End, TooManyChunks, OutOfRam, OutOfCaps, InvalidSize, NoBuffer, BadRange}
 use Rattle.coverage.specs.Words.{form_in, request_in}
 use Rattle.coverage.specs.declared.asked.Asked.{Asked}
 use Rattle.coverage.specs.declared.asked.Asked.TheVariants.{AnyRequest, Create, Write, Read, Size, Clear, Drop, Name, Buffer, Unbuffer, Put, Get}

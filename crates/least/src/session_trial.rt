@@ -24,7 +24,7 @@ use crate::opened::Opened;
 use crate::scene::Step;
 use crate::trial::{Refused, Shortage, Trial, is_told_by_limits};
 use budget_meter::{Budget, Meter, SessionMeter, named_by};
-use calls::{Call, Quotas, Reply};
+use calls::{Call, FileError, Outcome, Quotas, Reply, ServiceOutcome};
 use pd_core::{Core, Router};
 use start_lists::{BootFault, Field};
 use std::alloc::Global;
@@ -353,8 +353,8 @@ impl<R: Router + Drop> Client<R> {
         let Some(after) = self.account() else {
             return Err(UNLIKE);
         };
-        if run.heard.follow(request, self.reply.text(), after)? {
-            run.trial.refused = Some(refused_at(step.number, self.reply.text()));
+        if run.heard.follow(request, self.reply.answer(), after)? {
+            run.trial.refused = Some(refused_at(step.number, self.reply.outcome()));
             return Ok(false);
         }
         run.trial
@@ -427,12 +427,11 @@ fn is_done(reply: &[u8]) -> bool
     reply == b"ok".as_slice()
 }
 
-// The refusal of a request in want, which is answered so.
-fn refused_at(line: u64, reply: &[u8]) -> Refused {
-    let shortage = if reply == Shortage::SessionRam.reply().as_bytes() {
-        Shortage::SessionRam
-    } else {
-        Shortage::SessionCaps
+// The refusal of a request for which the session's account is short of quota.
+fn refused_at(line: u64, outcome: Outcome) -> Refused {
+    let shortage = match outcome {
+        Outcome::Served(ServiceOutcome::Refused(FileError::OutOfRam)) => Shortage::SessionRam,
+        _ => Shortage::SessionCaps,
     };
     Refused { line, shortage }
 }

@@ -11,7 +11,7 @@ use Rattle.friendly_lines.proofs.PlainLemmas.{plain_lines_pass}
 use Rattle.friendly_lines.specs.declared.fault.Fault.{Fault}
 use Rattle.friendly_lines.specs.Words.{next_word}
 use Rattle.scenario_lines.specs.Answered.{after_all}
-use Rattle.scenario_lines.specs.declared.answering.LineAnswer.{LineAnswer}
+use Rattle.scenario_lines.specs.declared.line_answer.LineAnswer.{LineAnswer}
 use Rattle.scenario_lines.proofs.ToldLemmas.{left_none, said_none}
 use Rattle.scenario_names.specs.Directives.{Directive, directive_by, directive_of}
 use Rattle.scenario_names.specs.Directives.Directive.{Set, Enter, Again, Leave, Repeat, End, Unknown}

@@ -11,7 +11,7 @@ use Rattle.friendly_lines.specs.Laws.{IsBare}
 use Rattle.friendly_lines.specs.declared.fault.Fault.{Fault}
 use Rattle.scenario_lines.specs.Answer.{answered_reply}
 use Rattle.scenario_lines.specs.Answered.{after_all}
-use Rattle.scenario_lines.specs.declared.answering.LineAnswer.{LineAnswer}
+use Rattle.scenario_lines.specs.declared.line_answer.LineAnswer.{LineAnswer}
 use Rattle.scenario_names.specs.Directives.{Directive, directive_of, followed}
 use Rattle.scenario_names.specs.Directives.Directive.{Set, Enter, Again, Leave, Repeat, End, Unknown}
 use Rattle.scenario_names.specs.Filling.{Filled, filled, whole}

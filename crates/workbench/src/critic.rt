@@ -5,13 +5,14 @@ ghost use Rattle.std.specs.Str.{bytes_eq};
 ghost use Rattle.friendly_lines.specs.Expected.{meets};
 ghost use Rattle.friendly_lines.specs.Friendly.{is_passed};
 ghost use Rattle.scenario_lines.specs.Faults.{Fails};
-ghost use Rattle.workbench.specs.Judging.{awaited_more, is_other, is_strange, nothing_awaited};
+ghost use Rattle.workbench.specs.Judging.{awaited_more, is_other, is_strange, is_unknown, nothing_awaited};
 ghost use Rattle.scenario_lines.specs.declared.play_fault.PlayFault.TheVariants.{NoMemory as NoRoom};
 
 use crate::complaint::{Complaints, Place};
 use crate::expected::Expected;
 use crate::given::{Asked, Given};
 use crate::near::near_component;
+use calls::Outcome;
 use friendly_lines::{Fault, end_of, is_passed, meets};
 use scenario_lines::{LineAnswer, PlayFault, Sink};
 use scenario_names::{Known, Misplaced, NameFault};
@@ -264,7 +265,14 @@ impl<'a> Critic<'a> {
 fn is_strange(line: &[u8], answer: LineAnswer<'_>) -> bool
     ensures { result ≡ is_strange (is_passed line.now) answer.entry }
 {
-    answer.reply == Refusal::UnknownComponent.name().as_bytes() && !is_passed(line)
+    is_unknown(answer.outcome) && !is_passed(line)
+}
+
+// Whether no component has the name.
+fn is_unknown(outcome: Outcome) -> bool
+    ensures { result ≡ is_unknown outcome }
+{
+    matches!(outcome, Outcome::Refused(Refusal::UnknownComponent))
 }
 
 // A reply that is expected, and where it begins.

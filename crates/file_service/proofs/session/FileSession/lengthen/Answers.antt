@@ -11,7 +11,7 @@ use Rattle.own_model.specs.FileText.FileReply.{Refused}
 use Rattle.own_model.specs.FileText.FileRequest.{Write}
 use Rattle.own_model.specs.Sliced.{sliced_size}
 use Rattle.session_proto.specs.FileReply.{model_error}
-use Rattle.session_proto.specs.declared.file_reply.FileError.TheVariants.{OutOfRam}
+use Rattle.calls.specs.declared.file_error.FileError.TheVariants.{OutOfRam}
 use Rattle.file_service.specs.Calls.{content_taken, content_written, HasBytes}
 use Rattle.file_service.specs.Index.{IsIndexed, previous_at}
 use Rattle.file_service.specs.Furnished.{Stock}

@@ -1,4 +1,4 @@
--- Bytes and their hexadecimal digits.
+-- Bytes and their hexadecimal digits in what a service replies.
 use Rattle.std.proofs.Common.{◌≡◌, ℕ, ◌<◌, List, [], ◌∷◌, ◌++◌, length, codes, refl, arith}
 use Rattle.own_model.specs.Reply.{hex_text}
 use Rattle.own_model.specs.FileText.{bytes_reply}
