@@ -10,7 +10,7 @@ ghost use Rattle.reach.specs.Asked.{Adds, IsCut, AreJoined, AreOffered, IsFilled
 use crate::asked::{Asked, agrees, asked_of, text_behind};
 use crate::firsts::{firsts_of, lasts_of};
 use crate::held::Kept;
-use crate::key::{MOST_LISTS, client_entry, init_entry, rules_of};
+use crate::key::{MOST_LISTS, client_entry};
 use crate::label::{LONGEST_GIVEN, Label, behind};
 use crate::rules::{rules_for, same_child};
 use crate::wishes::Wishes;
@@ -138,8 +138,8 @@ fn offer_known_within(
     if lists == 0 {
         return Ok(());
     }
-    offer_known_by(alloc, kept, wishes, rules_of(wishes.list, entry), before)?;
-    match init_entry(wishes.list, entry.home()) {
+    offer_known_by(alloc, kept, wishes, wishes.list.rules_of(entry), before)?;
+    match wishes.list.init_entry(entry.home()) {
         Some(init) => {
             let outer = behind(entry.name(), before);
             offer_known_within(alloc, kept, wishes, lists - 1, init, outer.as_slice())
