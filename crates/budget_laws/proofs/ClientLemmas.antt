@@ -6,11 +6,13 @@ use Rattle.std.proofs.lemmas.Option.{none-some}
 use Rattle.std.specs.FinMap.{get, insert, remove}
 use Rattle.std.specs.List.{AllByRecursion}
 use Rattle.std.specs.Prelude.{Option, Some, None, is_none}
+use Rattle.std.proofs.lemmas.Bool.{or_left, or_right}
+use Rattle.std.proofs.Math.Bool.{or_assoc}
 use Rattle.trade_base.specs.declared.refusal.Refusal.{Refusal}
 use Rattle.trade_base.specs.declared.refusal.Refusal.TheVariants.{Gone, BadArgs}
 use Rattle.own_model.proofs.SessionAloneLemmas.{stand_alone}
 use Rattle.own_model.proofs.StepExitLemmas.{alike_on}
-use Rattle.own_model.proofs.ListLemmas.{all_then}
+use Rattle.own_model.proofs.ListLemmas.{all_then, all_append, all_left, all_right}
 use Rattle.own_model.proofs.NatMapLemmas.{natmaps, same, get-insert_same}
 use Rattle.own_model.proofs.StepLemmas.{covers}
 use Rattle.own_model.specs.Account.{Account, Fits, shortage, parted_with}
@@ -30,13 +32,13 @@ use Rattle.own_model.specs.StartList.{Entry, Kind}
 use Rattle.own_model.specs.StartList.Kind.{Script, Server, Init}
 use Rattle.budget_laws.proofs.CarryLemmas.{Carries, carried, tests_carried}
 use Rattle.budget_laws.proofs.CellLemmas.{Leads, in_cell_of}
-use Rattle.budget_laws.proofs.EachLemmas.{of_first, of_second, of_both, of_mapped}
+use Rattle.budget_laws.proofs.EachLemmas.{of_mapped}
 use Rattle.budget_laws.proofs.SelectorLemmas.{at_it, buffer_same, lent_beside, new_same}
 use Rattle.budget_laws.proofs.ServeLemmas.{ServesAlike, serves}
 use Rattle.budget_laws.proofs.SessionRunLemmas.{Donated, session_alike, session_decides, session_moved, first_donated}
 use Rattle.budget_laws.proofs.StepLemmas.{Agrees, limits_of, here_when, entry_agrees}
 use Rattle.budget_laws.proofs.TestLemmas.{IsAlike, short_alike, alike_of}
-use Rattle.budget_laws.proofs.WantLemmas.{or_left, or_right, within_by, below_by}
+use Rattle.budget_laws.proofs.WantLemmas.{within_by, below_by}
 use Rattle.budget_laws.specs.Need.{Need, ComesOutAlike, limited, budgeted, need_of}
 use Rattle.budget_laws.specs.Opened.{donated_to, selectors_but, but_limits_of, ends, raised_by, brought, reaching, CoversBoth, UnlessEnded, IsAmple, TellAlike, AllTellAlike, HadAsMuch, OpeningsDonate, SameAnswersOfClient, ClientWantInACell, ClientWantBelowACell}
 use Rattle.budget_laws.specs.Opened.TellAlike.{ButLimits, Texts}
@@ -86,11 +88,6 @@ removed_twice x q a = same _ _ (λ j. grind (arith, natmaps))
 -- what is inserted twice stands as the second
 inserted_twice : (x : NatMap Object) (q : ℕ) (a b : Object) → insert (insert x q a) q b ≡ insert x q b
 inserted_twice x q a b = same _ _ (λ j. grind (arith, natmaps))
-
--- one of three
-or_assoc : (a b c : Bool) → (a || (b || c)) ≡ ((a || b) || c)
-or_assoc true b c = refl
-or_assoc false b c = refl
 
 -- ---- one call
 
@@ -339,7 +336,7 @@ module _ (entry : Entry) (q : ℕ) (one other : Amounts) where
     asks k request true e each = record {
       brings = ap (λ b. Asked (bytes_of_buffer b) request ∷ []) (buffer_same q m session new there q);
       steps = λ alike. subst (λ j. Steps (answered request).session (entry_step entry (CallSession j request) s) (entry_step entry (CallSession j request) t)) (sym (eqb-true k q e))
-          (it_serves request (of_first (ComesOutAlike one other) (needs_of_one one (Asked (bytes_of_buffer (buffer_of q m)) request) session) [] alike));
+          (it_serves request (all_left (ComesOutAlike one other) (needs_of_one one (Asked (bytes_of_buffer (buffer_of q m)) request) session) [] alike));
     }
 
     raises : (k : ℕ) (text : List ℕ) (b : Bool) → (k == q) ≡ b → Covered (entry_tests entry (Upgrade k text) s) →
@@ -401,7 +398,7 @@ needs_over_append one (x ∷ xs) ys session =
 
 want_over_append : (xs ys : List Reaches) (session : Session) → session_in_want (xs ++ ys) session ≡ (session_in_want xs session || session_in_want ys (session_run xs session))
 want_over_append [] ys session = refl
-want_over_append (x ∷ xs) ys session = ap (λ rest. one_in_want x session || rest) (want_over_append xs ys (session_after x session)) ∙ or_assoc (one_in_want x session) (session_in_want xs (session_after x session)) (session_in_want ys (session_run xs (session_after x session)))
+want_over_append (x ∷ xs) ys session = ap (λ rest. one_in_want x session || rest) (want_over_append xs ys (session_after x session)) ∙ sym (or_assoc (one_in_want x session) (session_in_want xs (session_after x session)) (session_in_want ys (session_run xs (session_after x session))))
 
 module _ (entry : Entry) (q : ℕ) (one other : Amounts) where
   abbrev Each : List Need → Type 0
@@ -493,8 +490,8 @@ module _ (entry : Entry) (q : ℕ) (one other : Amounts) where
             let rest = session_needs one (reaching entry q calls o.next) (session_run (brought q call s) session) in
             let both = subst Each (needs_over_append one (brought q call s) (reaching entry q calls o.next) session) others in
             let at = call_of_it session s t apart call e enough.0 in
-            let steps = at.1 (of_first (ComesOutAlike one other) first rest both) in
-            let later = client_alike calls (session_run (brought q call s) session) o.next p.next steps.next enough.1 (of_second (ComesOutAlike one other) first rest both) in
+            let steps = at.1 (all_left (ComesOutAlike one other) first rest both) in
+            let later = client_alike calls (session_run (brought q call s) session) o.next p.next steps.next enough.1 (all_right (ComesOutAlike one other) first rest both) in
             ((steps.reply, steps.lines, later.told), (λ i. at.0 i ++ later.brings i), later.left)
       ] refl ample each in
       record { told = all.0; brings = all.1; left = all.2 }
@@ -521,15 +518,15 @@ module _ (entry : Entry) (q : ℕ) (one other : Amounts) where
             let both = subst (AllByRecursion (Leads one other)) (needs_over_append one now after session) others in
             let at = call_of_it session s t apart call e enough.0 in
             let parted = ap (λ x. session_in_want (x ++ then_after) new) at.0 ∙ want_over_append now then_after new in
-            elim (session_decides one other now session new (donated_it session s t apart) (of_first (Leads one other) first rest both)) [
+            elim (session_decides one other now session new (donated_it session s t apart) (all_left (Leads one other) first rest both)) [
               | inr short ↦ inr (parted ∙ or_left (session_in_want now new) (session_in_want then_after (session_run now new)) short)
               | inl alike ↦
                   let steps = at.1 alike in
-                  elim (client_decides calls (session_run now session) o.next p.next steps.next enough.1 (of_second (Leads one other) first rest both)) [
+                  elim (client_decides calls (session_run now session) o.next p.next steps.next enough.1 (all_right (Leads one other) first rest both)) [
                     | inr short ↦ inr (
                         parted ∙ or_right (session_in_want now new) (session_in_want then_after (session_run now new))
                         (ap (session_in_want then_after) (run_apart session s t apart now steps.next.donation steps.next.ram steps.next.caps alike) ∙ short))
-                    | inl more ↦ inl (subst Each (sym (needs_over_append one now after session)) (of_both (ComesOutAlike one other) first rest alike more))
+                    | inl more ↦ inl (subst Each (sym (needs_over_append one now after session)) (all_append (ComesOutAlike one other) first rest alike more))
                   ]
             ]
       ] refl ample each

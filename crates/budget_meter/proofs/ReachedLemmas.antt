@@ -3,23 +3,21 @@ use Rattle.std.proofs.lemmas.Bool.Decides.{nat_tests}
 use Rattle.std.proofs.Common.{arith, true≢false, ◌≡◌, ◌<◌, ◌≤◌, ◌⊎◌, inl, inr, Bool, true, false, cond, List, [], ◌∷◌, ◌++◌, suc, nat_lt, refl, sym, ap, ◌∙◌, ◌||◌}
 use Rattle.std.specs.List.{AllByRecursion}
 use Rattle.std.specs.Prelude.{ℕ, Option, Some, None, is_some}
+use Rattle.std.proofs.Math.Bool.{or-false}
+use Rattle.std.proofs.lemmas.Bool.{or_left, or_right}
+use Rattle.own_model.proofs.ListLemmas.{all_append, all_left, all_right}
 use Rattle.trade_base.specs.declared.refusal.Refusal.TheVariants.{InsufficientRamQuota, InsufficientCapQuota}
 use Rattle.own_model.specs.Amounts.{Amounts}
 use Rattle.own_model.specs.Session.{Session, session_ram, session_caps}
 use Rattle.budget_laws.proofs.CellLemmas.{Leads}
-use Rattle.budget_laws.proofs.EachLemmas.{of_first, of_second, of_both}
 use Rattle.budget_laws.proofs.SessionRunLemmas.{Donated, EachAlike, session_alike, session_moved, session_decides, first_donated}
 use Rattle.budget_laws.proofs.StretchLemmas.{exact}
-use Rattle.budget_laws.proofs.WantLemmas.{or_left, or_right, within_by, below_by}
+use Rattle.budget_laws.proofs.WantLemmas.{within_by, below_by}
 use Rattle.budget_laws.specs.Need.{Need, HasRam, IsBelow, ComesOutAlike, cell_by, greatest_choice}
 use Rattle.budget_laws.specs.Request.{donating}
 use Rattle.budget_laws.specs.RequestLaws.{Reaches, session_after, needs_of_one, session_needs, OneAlike, one_in_want, session_in_want}
 use Rattle.budget_meter.specs.Reached.{Sent, reaches, buffer_after, reaching_to_want, run_needs, run_in_want, opens_none, opening_need, opened_needs, opened_in_want, SessionRunsAreExact}
 use Rattle.budget_meter.specs.Reached.Sent.{Asks, Raises}
-
-or_none : (a : Bool) → (a || false) ≡ a
-or_none true = refl
-or_none false = refl
 
 module _ (one other : Amounts) where
   -- one request or donation, and what it leaves
@@ -35,12 +33,12 @@ module _ (one other : Amounts) where
   once : (buffer : Option (List ℕ)) (sent : Sent) (s t : Session) → Donated one other s t → EachAlike one other (needs_of_one one (reaches buffer sent) s) → Once buffer sent s t
   once buffer sent s t before each =
       let x = reaches buffer sent in
-      let alone = of_both (ComesOutAlike one other) (needs_of_one one x s) [] each tt in
+      let alone = all_append (ComesOutAlike one other) (needs_of_one one x s) [] each tt in
       let alike = session_alike one other (x ∷ []) s t before alone in
       record {
         buffers = same_buffer buffer sent s t alike.told.0;
         next = session_moved one other (x ∷ []) s t before alone;
-        want = sym (or_none (one_in_want x t)) ∙ alike.want ∙ or_none (one_in_want x s);
+        want = sym (or-false (one_in_want x t)) ∙ alike.want ∙ or-false (one_in_want x s);
       }
 
   -- tests that come out alike bring the same
@@ -51,7 +49,7 @@ module _ (one other : Amounts) where
       let x = reaches buffer sent in
       let first = needs_of_one one x s in
       let more : Bool → List Reaches = λ w. cond w [] (reaching_to_want rest (buffer_after buffer sent s) (session_after x s)) in
-      let here = once buffer sent s t before (of_first (ComesOutAlike one other) first (session_needs one (more (one_in_want x s)) (session_after x s)) each) in
+      let here = once buffer sent s t before (all_left (ComesOutAlike one other) first (session_needs one (more (one_in_want x s)) (session_after x s)) each) in
       ap (λ w. x ∷ cond w [] (reaching_to_want rest (buffer_after buffer sent t) (session_after x t))) here.want
       ∙ elim (one_in_want x s) as
       (λ w. EachAlike one other (first ++ session_needs one (more w) (session_after x s)) →
@@ -60,7 +58,7 @@ module _ (one other : Amounts) where
         | false ↦ λ all.
             ap (λ b. x ∷ reaching_to_want rest b (session_after x t)) here.buffers
             ∙ ap (λ ys. x ∷ ys) (reaching_same rest (buffer_after buffer sent s) (session_after x s) (session_after x t) here.next
-            (of_second (ComesOutAlike one other) first (session_needs one (more false) (session_after x s)) all))
+            (all_right (ComesOutAlike one other) first (session_needs one (more false) (session_after x s)) all))
       ] each
 
   -- tests that lead come out alike, or the other is in want
@@ -74,11 +72,11 @@ module _ (one other : Amounts) where
       let more : Bool → List Reaches = λ w. cond w [] (reaching_to_want rest (buffer_after buffer sent s) (session_after x s)) in
       let there : Bool → List Reaches = λ w. cond w [] (reaching_to_want rest (buffer_after buffer sent t) (session_after x t)) in
       let later : Bool → Bool = λ w. session_in_want (there w) (session_after x t) in
-      let led = of_first (Leads one other) first (session_needs one (more (one_in_want x s)) (session_after x s)) each in
-      elim (session_decides one other (x ∷ []) s t before (of_both (Leads one other) first [] led tt)) [
-        | inr short ↦ inr (or_left (one_in_want x t) (later (one_in_want x t)) (sym (or_none (one_in_want x t)) ∙ short))
+      let led = all_left (Leads one other) first (session_needs one (more (one_in_want x s)) (session_after x s)) each in
+      elim (session_decides one other (x ∷ []) s t before (all_append (Leads one other) first [] led tt)) [
+        | inr short ↦ inr (or_left (one_in_want x t) (later (one_in_want x t)) (sym (or-false (one_in_want x t)) ∙ short))
         | inl alone ↦
-            let alike = of_first (ComesOutAlike one other) first [] alone in
+            let alike = all_left (ComesOutAlike one other) first [] alone in
             let here = once buffer sent s t before alike in
             elim (one_in_want x s) as
             (λ w. one_in_want x t ≡ w → AllByRecursion (Leads one other) (first ++ session_needs one (more w) (session_after x s)) →
@@ -86,10 +84,10 @@ module _ (one other : Amounts) where
               | true ↦ λ is all. inl alone
               | false ↦ λ is all.
                   elim (reaching_decides rest (buffer_after buffer sent s) (session_after x s) (session_after x t) here.next
-                  (of_second (Leads one other) first (session_needs one (more false) (session_after x s)) all)) [
+                  (all_right (Leads one other) first (session_needs one (more false) (session_after x s)) all)) [
                     | inr short ↦ inr (or_right (one_in_want x t) (later (one_in_want x t))
                         (ap later is ∙ ap (λ b. session_in_want (reaching_to_want rest b (session_after x t)) (session_after x t)) here.buffers ∙ short))
-                    | inl same ↦ inl (of_both (ComesOutAlike one other) first (session_needs one (more false) (session_after x s)) alike same)
+                    | inl same ↦ inl (all_append (ComesOutAlike one other) first (session_needs one (more false) (session_after x s)) alike same)
                   ]
             ] here.want each
       ]

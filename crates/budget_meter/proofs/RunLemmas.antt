@@ -1,5 +1,6 @@
 -- Runs call by call, up to the first in want.
 use Rattle.std.proofs.Common.{◌≡◌, Bool, true, false, cond, List, [], ◌∷◌, ◌++◌, refl, sym, ap, ◌∙◌, ◌||◌, append_assoc}
+use Rattle.std.proofs.lemmas.List.{append-nil}
 use Rattle.own_model.specs.Amounts.{Amounts}
 use Rattle.own_model.specs.Call.{Call}
 use Rattle.own_model.specs.OwnState.{OwnState}
@@ -14,10 +15,6 @@ use Rattle.budget_meter.specs.Run.{IsLeft, Shows}
 use Rattle.budget_meter.specs.declared.account.AccountMeter.{AccountMeter}
 use Rattle.budget_meter.proofs.ShownLemmas.{run-more}
 
-append_none : (xs : List Call) → xs ++ [] ≡ xs
-append_none [] = refl
-append_none (x ∷ xs) = ap (λ ys. x ∷ ys) (append_none xs)
-
 module _ (entry : Entry) (calls : List Call) (budget : Amounts) (s : OwnState) (meter : AccountMeter) where
   -- before the first
   pub all_left : HasHeard entry [] budget s meter → IsLeft entry calls calls budget s (budgeted budget s) meter
@@ -27,7 +24,7 @@ module _ (entry : Entry) (calls : List Call) (budget : Amounts) (s : OwnState) (
   pub none_left : (now : OwnState) → IsLeft entry calls [] budget s now meter → Shows entry calls s budget false meter.meter
   none_left now left = record {
     start = left.has.start;
-    shown = left.has.shown ∙ ap (λ each. shown_by budget (needs entry budget each (budgeted budget s))) (sym (append_none left.heard) ∙ sym left.part);
+    shown = left.has.shown ∙ ap (λ each. shown_by budget (needs entry budget each (budgeted budget s))) (sym (append-nil left.heard) ∙ sym left.part);
     want = sym left.want;
   }
 

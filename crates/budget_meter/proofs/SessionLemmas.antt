@@ -1,6 +1,7 @@
 -- What a meter of a session knows after a request or a donation, and how a run of a session goes on.
 use Rattle.std.proofs.Common.{◌≡◌, ℕ, ◌<◌, ◌^◌, ◌||◌, Bool, true, false, cond, List, [], ◌∷◌, ◌++◌, refl, sym, ap, ◌∙◌, subst, append_assoc}
 use Rattle.std.specs.Prelude.{Option, None}
+use Rattle.std.proofs.lemmas.List.{append-nil}
 use Rattle.own_model.specs.Account.{Account}
 use Rattle.own_model.specs.Amounts.{Amounts}
 use Rattle.own_model.specs.BufferService.{SessionRequest, session_request}
@@ -21,10 +22,6 @@ use Rattle.budget_meter.specs.declared.session.SessionMeter.{SessionMeter}
 use Rattle.budget_meter.proofs.ShownLemmas.{shown-append, together_nothing}
 use Rattle.budget_meter.proofs.ToldLemmas.{TellsSession, session_told}
 
-append_none : {X : Type 0} (xs : List X) → xs ++ [] ≡ xs
-append_none [] = refl
-append_none (x ∷ xs) = ap (λ ys. x ∷ ys) (append_none xs)
-
 -- ---- one more
 
 run_more : (all : List Reaches) (x : Reaches) (s : Session) → session_run (all ++ x ∷ []) s ≡ session_after x (session_run all s)
@@ -33,7 +30,7 @@ run_more (first ∷ all) x s = run_more all x (session_after first s)
 
 needs_more : (donation : Amounts) (all : List Reaches) (x : Reaches) (s : Session) →
     session_needs donation (all ++ x ∷ []) s ≡ session_needs donation all s ++ needs_of_one donation x (session_run all s)
-needs_more donation [] x s = append_none (needs_of_one donation x s)
+needs_more donation [] x s = append-nil (needs_of_one donation x s)
 needs_more donation (first ∷ all) x s =
     ap (λ rest. needs_of_one donation first s ++ rest) (needs_more donation all x (session_after first s))
     ∙ sym (append_assoc (needs_of_one donation first s) (session_needs donation all (session_after first s)) (needs_of_one donation x (session_run all (session_after first s))))
@@ -150,7 +147,7 @@ module _ (sent : List Sent) (donation : Amounts) (session : Session) (meter : Se
 
   -- after the last
   pub none_left : (buffer : Option (List ℕ)) (now : Session) → IsLeft sent [] donation session buffer now meter → Shows sent session donation false meter.meter
-  none_left buffer now left = shown_whole left.heard left.has (left.part ∙ append_none left.heard) false left.want
+  none_left buffer now left = shown_whole left.heard left.has (left.part ∙ append-nil left.heard) false left.want
 
   module _ (x : Sent) (rest : List Sent) (buffer : Option (List ℕ)) (now : Session) (old : SessionMeter) (before : IsLeft sent (x ∷ rest) donation session buffer now old)
       (hears : (heard : List Reaches) → HasReached heard donation session old → session_run heard start ≡ now → HasReached (heard ++ reaches buffer x ∷ []) donation session meter) where

@@ -1,6 +1,7 @@
 -- What two parts of a run show together.
 use Rattle.std.proofs.Common.{arith, ◌≡◌, ℕ, ◌&&◌, Bool, true, false, List, [], ◌∷◌, ◌++◌, map, max, refl, sym, ap, ◌∙◌, append_assoc}
 use Rattle.std.specs.Prelude.{if◌then◌else◌}
+use Rattle.std.proofs.lemmas.List.{append-nil}
 use Rattle.own_model.specs.Amounts.{Amounts}
 use Rattle.own_model.specs.Call.{Call}
 use Rattle.own_model.specs.OwnState.{OwnState}
@@ -50,14 +51,10 @@ pub run-more : (entry : Entry) (calls : List Call) (call : Call) (s : OwnState) 
 run-more entry [] call s = refl
 run-more entry (first ∷ calls) call s = run-more entry calls call (own_step entry first s).next
 
-append_none : (xs : List Need) → xs ++ [] ≡ xs
-append_none [] = refl
-append_none (x ∷ xs) = ap (λ ys. x ∷ ys) (append_none xs)
-
 needs-more : (entry : Entry) (budget : Amounts) (calls : List Call) (call : Call) (s : OwnState) →
     needs entry budget (calls ++ call ∷ []) s
     ≡ needs entry budget calls s ++ map (need_of budget (own_run entry calls s).account) (tests entry call (own_run entry calls s))
-needs-more entry budget [] call s = append_none (map (need_of budget s.account) (tests entry call s))
+needs-more entry budget [] call s = append-nil (map (need_of budget s.account) (tests entry call s))
 needs-more entry budget (first ∷ calls) call s =
     ap (λ rest. map (need_of budget s.account) (tests entry first s) ++ rest) (needs-more entry budget calls call (own_step entry first s).next)
     ∙ sym (append_assoc (map (need_of budget s.account) (tests entry first s)) (needs entry budget calls (own_step entry first s).next)

@@ -17,12 +17,12 @@ ghost use Rattle.budget_meter.specs.Metered.{HasHeard, IsToldBy, Stands, is_scri
 ghost use Rattle.budget_meter.specs.Needs.{amounts_of, shown_in, shown_of, together};
 ghost use Rattle.budget_meter.specs.Run.{IsLeft, Shows};
 
-use crate::asked::{LEAST_LARGE, asked_when_told, is_told};
+use crate::asked::{asked_when_told, is_told};
 use crate::budget::Budget;
 use crate::growth::{FIRST_PAGES, take_growth};
 use crate::meter::{Meter, limits_of};
 use pd_core::{Call, Quotas};
-use trade_base::Refusal;
+use trade_base::{LEAST_LARGE, Refusal};
 
 /// The least budget that passes all tests which a component's account passed so far.
 #[derive(Clone, Copy)]

@@ -18,22 +18,9 @@ ghost use Rattle.budget_meter.specs.Asked.{AsksAs, asked_tests, is_of_chunk};
 use crate::budget::Budget;
 use pd_core::Call;
 use session_proto::{FileRequest, SessionArgs};
-use trade_base::{PAGE, Refusal, page_round};
-
-/// The least size of a block that stands alone, in no chunk.
-pub(crate) const LEAST_LARGE: u64 = 65_536;
-
-/// The least block of a chunk.
-const LEAST_BLOCK: u64 = 48;
-
-/// What stands before the payload of a block.
-const HEADER: u64 = 16;
-
-/// What stands before a sliced block.
-const SLICED_HEADER: u64 = 32;
-
-/// A node of a file.
-pub(crate) const NODE: u64 = 96;
+use trade_base::{
+    BLOCK_HEADER, FILE_NODE, LEAST_BLOCK, LEAST_LARGE, PAGE, Refusal, SLICED_HEADER, page_round,
+};
 
 /// What a call asks of its caller's account, if it asks anything: of a heap the least chunk that it could take. For no bytes it asks
 /// nothing, since it is refused whatever the account has.
@@ -139,7 +126,7 @@ pub fn least_chunk(n: u64) -> Option<Budget>
     if n >= LEAST_LARGE {
         return whole_pages(n);
     }
-    whole_pages(LEAST_BLOCK.max(HEADER + (n + 15) / 16 * 16))
+    whole_pages(LEAST_BLOCK.max(BLOCK_HEADER + (n + 15) / 16 * 16))
 }
 
 /// The file whose content a request may make longer.
@@ -153,7 +140,7 @@ pub(crate) fn file_written<'a>(request: FileRequest<'a>) -> Option<&'a [u8]> {
 /// What a request asks of its session's account, where the file that it writes has so many bytes.
 pub(crate) fn asked_by_request(request: FileRequest<'_>, size: u64) -> Option<Budget> {
     match request {
-        FileRequest::Create(_) => least_chunk(NODE),
+        FileRequest::Create(_) => least_chunk(FILE_NODE),
         FileRequest::Write { offset, hex, .. } => {
             longer(size, offset.saturating_add(hex.len() as u64 / 2))
         }

@@ -19,7 +19,7 @@ ghost use Rattle.budget_meter.specs.Sessions.{HasReached, IsLeft, IsServedBy, Sh
 ghost use Rattle.budget_meter.specs.Sizes.{Keeps};
 ghost use Rattle.budget_meter.specs.Told.{told_growth, told_tests};
 
-use crate::asked::{NODE, asked_by_request, file_written, longer, whole_pages};
+use crate::asked::{asked_by_request, file_written, longer, whole_pages};
 use crate::budget::Budget;
 use crate::growth::{FIRST_PAGES, take_growth};
 use crate::meter::{Meter, limits_of};
@@ -28,6 +28,7 @@ use crate::told::{is_granted, is_short, tells_charge};
 use pd_core::Quotas;
 use session_proto::FileRequest;
 use std::alloc::{AllocError, Global};
+use trade_base::FILE_NODE;
 
 /// The least opening donation that passes all tests which a session's account passed so far, that of its opening among them.
 #[derive(Drop)]
@@ -159,7 +160,7 @@ impl SessionMeter {
         if is_create(request) {
             if tells_charge(reply, self.account, after) {
                 let before = self.account;
-                self.pages = take_growth(&mut self.meter, self.pages, NODE, before, after);
+                self.pages = take_growth(&mut self.meter, self.pages, FILE_NODE, before, after);
             }
         } else if let Some(asked) = self.asked_when_told(request, reply, after) {
             self.meter.take(self.account, asked, false);

@@ -1,8 +1,9 @@
 -- What rows are once answers are noted in them, one after another.
-use Rattle.std.proofs.Common.{◌≡◌, ◌||◌, ℕ, Bool, true, false, List, [], ◌∷◌, ◌++◌, drop, take, length, map, refl, ap, sym, ◌∙◌}
+use Rattle.std.proofs.Common.{◌≡◌, ℕ, Bool, true, false, List, [], ◌∷◌, ◌++◌, drop, take, length, map, refl, ap, sym, ◌∙◌}
 use Rattle.std.specs.List.{list_any}
 use Rattle.std.proofs.Math.Seq.{take-append_seam}
 use Rattle.std.proofs.lemmas.List.{length-map, map-append}
+use Rattle.std.proofs.Math.Bool.{or-false, or_assoc}
 use Rattle.own_model.specs.Listed.{Listed}
 use Rattle.coverage.specs.Covered.{Answer, IsCovered, NotesTrace, answer_of, answers_told, is_shown, row_by, row_with, rows_after, rows_of}
 use Rattle.coverage.specs.Rules.{decided_by}
@@ -48,18 +49,10 @@ noted_first list (first ∷ told) row old now begun now_is = cc begun
 
 -- ---- each row by all answers
 
-or_false : (b : Bool) → b ≡ (b || false)
-or_false true = refl
-or_false false = refl
-
-or_more : (a b c : Bool) → ((a || b) || c) ≡ (a || (b || c))
-or_more true b c = refl
-or_more false b c = refl
-
 by_none : (list : Listed) (rows : List Row) → rows ≡ map (row_by list []) rows
 by_none list [] = refl
 by_none list (row ∷ rows) =
-    ap (λ m. record { event = row.event; met = m } ∷ rows) (or_false row.met)
+    ap (λ m. record { event = row.event; met = m } ∷ rows) (sym (or-false row.met))
     ∙ ap (λ rs. row_by list [] row ∷ rs) (by_none list rows)
 
 by_more : (list : Listed) (answer : Answer) (answers : List Answer) (rows : List Row) →
@@ -69,7 +62,7 @@ by_more list answer answers [] = refl
 by_more list answer answers (row ∷ rows) =
     ap (λ m. record { event = row.event; met = m }
     ∷ map (row_by list answers) (map (row_with answer.line answer.reply (decided_by list answer.line answer.reply)) rows))
-    (or_more row.met (is_shown list row.event answer) (list_any (is_shown list row.event) answers))
+    (or_assoc row.met (is_shown list row.event answer) (list_any (is_shown list row.event) answers))
     ∙ ap (λ rs. row_by list (answer ∷ answers) row ∷ rs) (by_more list answer answers rows)
 
 by_all : (list : Listed) (answers : List Answer) (rows : List Row) → rows_after list answers rows ≡ map (row_by list answers) rows

@@ -3,7 +3,6 @@ ghost use Rattle.std.specs.Prelude.{◌≡◌, ◌∷◌, ◌++◌, ◌<◌, ◌
 ghost use Rattle.std.specs.List.{slice_get};
 ghost use Rattle.std.specs.Option.{option_and_then, option_map};
 ghost use Rattle.own_model.specs.Call.{spoken};
-ghost use Rattle.own_model.specs.Session.{given};
 ghost use Rattle.coverage.specs.Rules.{decided_by, default_of, init_of, init_place, is_turned_away, route_by, route_for, rule_in, rules_from, rules_of_wish, wish_in};
 
 use crate::event::{Route, RuleAt};
@@ -57,7 +56,7 @@ fn rules_of_line(alloc: Global, list: &StartList, line: &[u8]) -> Result<Vec<Rul
         return Ok(Vec::new(alloc));
     };
     match list.find(name) {
-        Some(client) => rules_of(alloc, list, client, service, label_given(args)),
+        Some(client) => rules_of(alloc, list, client, service, SessionArgs::label_given(args)),
         None => Ok(Vec::new(alloc)),
     }
 }
@@ -155,15 +154,4 @@ fn init_place(init: usize) -> Option<usize>
     ensures { result ≡ init_place init }
 {
     if init == 0 { None } else { Some(init - 1) }
-}
-
-// The label of a session's arguments.
-fn label_given(args: &[u8]) -> &[u8]
-    ensures label { result.now ≡ (given args.now).label }
-    ensures short { length result.now ≤ 64 }
-{
-    match SessionArgs::read(args) {
-        Ok(args) => args.label(),
-        Err(_) => b"",
-    }
 }

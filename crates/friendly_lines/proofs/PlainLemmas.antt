@@ -9,6 +9,7 @@ use Rattle.std.specs.Str.Parse.{digits_value}
 use Rattle.std.proofs.lemmas.Bool.Decides.{nat_tests}
 use Rattle.std.proofs.lemmas.Option.{none-some}
 use Rattle.std.proofs.lemmas.Slice.Eq.{bytes_eq-Decides}
+use Rattle.std.proofs.lemmas.Bool.{and_parts, and_from, not-true, or_parts}
 use Rattle.trade_base.specs.Amount.{amount_of, number_of}
 use Rattle.own_model.specs.Call.{Call, Form, Spoken, call_in, form_of, forms, name_of, of_none, of_one, of_rest, of_text, of_two, some_bytes_of_hex, spoken}
 use Rattle.own_model.specs.Text.{FirstWord, address_of, bytes_of_hex, first_word, hex_digit_of, hex_number_after, is_name, is_name_byte, is_path}
@@ -39,29 +40,6 @@ behind_word (Some rest) = 32 ∷ rest
 
 -- ---- tests
 
-pub and_left : (a b : Bool) → (a && b) ≡ true → a ≡ true
-and_left true b both = refl
-and_left false b both = absurd (true≢false (sym both))
-
-pub and_right : (a b : Bool) → (a && b) ≡ true → b ≡ true
-and_right true b both = both
-and_right false b both = absurd (true≢false (sym both))
-
-pub and_both : (a b : Bool) → a ≡ true → b ≡ true → (a && b) ≡ true
-and_both a b first second = rw first second
-
-pub not_true : (a : Bool) → not a ≡ true → a ≡ false
-not_true true is = absurd (true≢false (sym is))
-not_true false is = refl
-
-or_left : (a b : Bool) → (a || b) ≡ false → a ≡ false
-or_left true b none = absurd (true≢false none)
-or_left false b none = refl
-
-or_right : (a b : Bool) → (a || b) ≡ false → b ≡ false
-or_right true b none = absurd (true≢false none)
-or_right false b none = none
-
 some_if : {X : Type 0} (test : Bool) (found : Option X) (x : X) → cond test found None ≡ Some x → test ≡ true
 some_if true found x is = refl
 some_if false found x is = absurd (none-some x is)
@@ -74,10 +52,10 @@ some_then false found x is = absurd (none-some x is)
 
 -- the first byte of an unbroken text is no blank, and neither is one behind it
 first_sign : (b : ℕ) (bs : List ℕ) → is_unbroken (b ∷ bs) ≡ true → is_blank b ≡ false
-first_sign b bs whole = not_true (is_blank b) (and_left (not (is_blank b)) (is_unbroken bs) whole)
+first_sign b bs whole = not-true (is_blank b) (and_parts (not (is_blank b)) (is_unbroken bs) whole).0
 
 more_signs : (b : ℕ) (bs : List ℕ) → is_unbroken (b ∷ bs) ≡ true → is_unbroken bs ≡ true
-more_signs b bs whole = and_right (not (is_blank b)) (is_unbroken bs) whole
+more_signs b bs whole = (and_parts (not (is_blank b)) (is_unbroken bs) whole).1
 
 -- a text is its first word, and what follows it
 pub word_and_behind : (text : List ℕ) → text ≡ (first_word text).word ++ behind_word (first_word text).rest
@@ -142,7 +120,7 @@ KeepsBlanksOut test = (b : ℕ) → test b ≡ true → not (is_blank b) ≡ tru
 all_unbroken : (test : ℕ → Bool) → KeepsBlanksOut test → (text : List ℕ) → list_all test text ≡ true → is_unbroken text ≡ true
 all_unbroken test keeps [] all = refl
 all_unbroken test keeps (b ∷ bs) all =
-    and_both (not (is_blank b)) (is_unbroken bs) (keeps b (and_left (test b) (list_all test bs) all)) (all_unbroken test keeps bs (and_right (test b) (list_all test bs) all))
+    and_from (not (is_blank b)) (is_unbroken bs) (keeps b (and_parts (test b) (list_all test bs) all).0) (all_unbroken test keeps bs (and_parts (test b) (list_all test bs) all).1)
 
 -- an unbroken text that isn't empty
 some_word : (text : List ℕ) → nat_lt 0 (length text) ≡ true → is_unbroken text ≡ true → is_word text ≡ true
@@ -155,7 +133,7 @@ digit_sign b digit = grind (arith, nat_tests)
 digits_unbroken : (ds : List ℕ) → all_ascii_digits ds ≡ true → is_unbroken ds ≡ true
 digits_unbroken [] all = refl
 digits_unbroken (d ∷ ds) all =
-    and_both (not (is_blank d)) (is_unbroken ds) (digit_sign d (and_left (is_ascii_digit d) (all_ascii_digits ds) all)) (digits_unbroken ds (and_right (is_ascii_digit d) (all_ascii_digits ds) all))
+    and_from (not (is_blank d)) (is_unbroken ds) (digit_sign d (and_parts (is_ascii_digit d) (all_ascii_digits ds) all).0) (digits_unbroken ds (and_parts (is_ascii_digit d) (all_ascii_digits ds) all).1)
 
 -- what is read of a text is read of words alone
 abbrev ReadsWords : {X : Type 0} → (List ℕ → Option X) → Type 0
@@ -164,9 +142,9 @@ ReadsWords {X = X} read = (text : List ℕ) (x : X) → read text ≡ Some x →
 number_is_word : ReadsWords number_of
 number_is_word text n is =
     let tests : ((nat_lt 0 (length text) && all_ascii_digits text) && nat_lt (digits_value 10 text) (2 ^ 64)) ≡ true = some_if _ (Some (digits_value 10 text)) n is in
-    let digits : (nat_lt 0 (length text) && all_ascii_digits text) ≡ true = and_left _ _ tests in
-    let more : nat_lt 0 (length text) ≡ true = and_left _ _ digits in
-    some_word text more (digits_unbroken text (and_right _ _ digits))
+    let digits : (nat_lt 0 (length text) && all_ascii_digits text) ≡ true = (and_parts _ _ tests).0 in
+    let more : nat_lt 0 (length text) ≡ true = (and_parts _ _ digits).0 in
+    some_word text more (digits_unbroken text (and_parts _ _ digits).1)
 
 hex_blank : (b : ℕ) → is_blank b ≡ true → hex_digit_of b ≡ None
 hex_blank b blank = grind (arith, nat_tests)
@@ -182,13 +160,13 @@ hex_unbroken n [] v is = refl
 hex_unbroken n (b ∷ bs) v is =
     elim (hex_digit_of b) as (λ found. hex_digit_of b ≡ found → option_and_then (λ digit. hex_number_after (n * 16 + digit) bs) found ≡ Some v → is_unbroken (b ∷ bs) ≡ true) [
       | None ↦ λ found none. absurd (none-some v none)
-      | Some digit ↦ λ found some. and_both (not (is_blank b)) (is_unbroken bs) (hex_sign b digit found) (hex_unbroken (n * 16 + digit) bs v some)
+      | Some digit ↦ λ found some. and_from (not (is_blank b)) (is_unbroken bs) (hex_sign b digit found) (hex_unbroken (n * 16 + digit) bs v some)
     ] refl is
 
 address_is_word : ReadsWords address_of
 address_is_word text a is =
     let tests : (bytes_eq (take 2 text) (codes "0x") && (nat_le 3 (length text) && nat_le (length text) 18)) ≡ true = some_if _ (hex_number_after 0 (drop 2 text)) a is in
-    let front : take 2 text ≡ codes "0x" = (bytes_eq-Decides (take 2 text) (codes "0x")).0 (and_left _ _ tests) in
+    let front : take 2 text ≡ codes "0x" = (bytes_eq-Decides (take 2 text) (codes "0x")).0 (and_parts _ _ tests).0 in
     address_word text a front (some_then _ (hex_number_after 0 (drop 2 text)) a is)
   where
     address_word : (text : List ℕ) (a : ℕ) → take 2 text ≡ codes "0x" → hex_number_after 0 (drop 2 text) ≡ Some a → is_word text ≡ true
@@ -214,7 +192,7 @@ bytes_unbroken (high ∷ low ∷ rest) bytes is =
                 elim (bytes_of_hex rest) as (λ left. bytes_of_hex rest ≡ left →
                 option_map (λ bytes. (h * 16 + l) ∷ bytes) left ≡ Some bytes → is_unbroken (high ∷ low ∷ rest) ≡ true) [
                   | None ↦ λ there none. absurd (none-some bytes none)
-                  | Some left ↦ λ there some. and_both (not (is_blank high)) (is_unbroken (low ∷ rest)) (hex_sign high h at) (and_both (not (is_blank low)) (is_unbroken rest) (hex_sign low l too) (bytes_unbroken rest left there))
+                  | Some left ↦ λ there some. and_from (not (is_blank high)) (is_unbroken (low ∷ rest)) (hex_sign high h at) (and_from (not (is_blank low)) (is_unbroken rest) (hex_sign low l too) (bytes_unbroken rest left there))
                 ] refl
           ] refl
     ] refl is
@@ -229,9 +207,9 @@ name_sign b byte = grind (arith, nat_tests)
 
 is_name_word : (text : List ℕ) → is_name text ≡ true → is_word text ≡ true
 is_name_word text is =
-    let some : nat_le 1 (length text) ≡ true = and_left _ _ (and_left _ _ is) in
+    let some : nat_le 1 (length text) ≡ true = (and_parts _ _ (and_parts _ _ is).0).0 in
     let more : nat_lt 0 (length text) ≡ true = grind (arith, nat_tests) in
-    some_word text more (all_unbroken is_name_byte name_sign text (and_right _ _ is))
+    some_word text more (all_unbroken is_name_byte name_sign text (and_parts _ _ is).1)
 
 -- a byte of a path
 abbrev is_path_byte : ℕ → Bool
@@ -244,23 +222,23 @@ path_sign b byte = grind (arith, nat_tests)
 bytes_of_names : (parts : List (List ℕ)) → list_all is_name parts ≡ true → list_all (list_all is_name_byte) parts ≡ true
 bytes_of_names [] all = refl
 bytes_of_names (part ∷ parts) all =
-    and_both (list_all is_name_byte part) (list_all (list_all is_name_byte) parts)
-    (and_right _ (list_all is_name_byte part) (and_left (is_name part) (list_all is_name parts) all)) (bytes_of_names parts (and_right (is_name part) (list_all is_name parts) all))
+    and_from (list_all is_name_byte part) (list_all (list_all is_name_byte) parts)
+    (and_parts _ (list_all is_name_byte part) (and_parts (is_name part) (list_all is_name parts) all).0).1 (bytes_of_names parts (and_parts (is_name part) (list_all is_name parts) all).1)
 
 -- parts of such bytes, parted by `/`, are a text of bytes of a path
 one_more_byte : (b : ℕ) (bs : List ℕ) (parts : List (List ℕ)) → (list_all (list_all is_name_byte) parts ≡ true → list_all is_path_byte bs ≡ true) → (slash : Bool) → nat_eq b 47 ≡ slash →
     length parts ≢ 0 → list_all (list_all is_name_byte) (cond slash ([] ∷ parts) (onto_first b parts)) ≡ true → list_all is_path_byte (b ∷ bs) ≡ true
 one_more_byte b bs parts rest true is some all =
     let here : is_path_byte b ≡ true = grind (arith, nat_tests) in
-    and_both (is_path_byte b) (list_all is_path_byte bs) here (rest all)
+    and_from (is_path_byte b) (list_all is_path_byte bs) here (rest all)
 one_more_byte b bs [] rest false is some all = absurd (some refl)
 one_more_byte b bs (part ∷ parts) rest false is some all =
-    let first : (is_name_byte b && list_all is_name_byte part) ≡ true = and_left (is_name_byte b && list_all is_name_byte part) (list_all (list_all is_name_byte) parts) all in
-    let byte : is_name_byte b ≡ true = and_left (is_name_byte b) (list_all is_name_byte part) first in
+    let first : (is_name_byte b && list_all is_name_byte part) ≡ true = (and_parts (is_name_byte b && list_all is_name_byte part) (list_all (list_all is_name_byte) parts) all).0 in
+    let byte : is_name_byte b ≡ true = (and_parts (is_name_byte b) (list_all is_name_byte part) first).0 in
     let here : is_path_byte b ≡ true = grind (arith, nat_tests) in
-    and_both (is_path_byte b) (list_all is_path_byte bs) here
-    (rest (and_both (list_all is_name_byte part) (list_all (list_all is_name_byte) parts) (and_right (is_name_byte b) (list_all is_name_byte part) first)
-    (and_right (is_name_byte b && list_all is_name_byte part) (list_all (list_all is_name_byte) parts) all)))
+    and_from (is_path_byte b) (list_all is_path_byte bs) here
+    (rest (and_from (list_all is_name_byte part) (list_all (list_all is_name_byte) parts) (and_parts (is_name_byte b) (list_all is_name_byte part) first).1
+    (and_parts (is_name_byte b && list_all is_name_byte part) (list_all (list_all is_name_byte) parts) all).1))
 
 bytes_of_parts : (bs : List ℕ) → list_all (list_all is_name_byte) (slice_split (λ b. nat_eq b 47) bs) ≡ true → list_all is_path_byte bs ≡ true
 bytes_of_parts [] all = refl
@@ -272,10 +250,10 @@ first_of_path : (b : ℕ) (parts : List (List ℕ)) → (slash : Bool) → lengt
 first_of_path b parts true some all = absurd (true≢false (sym all))
 first_of_path b [] false some all = absurd (some refl)
 first_of_path b (part ∷ parts) false some all =
-    and_left (is_name_byte b) (list_all is_name_byte part) (and_right _ (list_all is_name_byte (b ∷ part)) (and_left (is_name (b ∷ part)) (list_all is_name parts) all))
+    (and_parts (is_name_byte b) (list_all is_name_byte part) (and_parts _ (list_all is_name_byte (b ∷ part)) (and_parts (is_name (b ∷ part)) (list_all is_name parts) all).0).1).0
 
 parts_of_path : (bs : List ℕ) → is_path bs ≡ true → list_all is_name (slice_split (λ b. nat_eq b 47) bs) ≡ true
-parts_of_path bs is = and_right (nat_le (length (slice_split (λ b. nat_eq b 47) bs)) 4) (list_all is_name (slice_split (λ b. nat_eq b 47) bs)) is
+parts_of_path bs is = (and_parts (nat_le (length (slice_split (λ b. nat_eq b 47) bs)) 4) (list_all is_name (slice_split (λ b. nat_eq b 47) bs)) is).1
 
 path_begins : (b : ℕ) (bs : List ℕ) → is_path (b ∷ bs) ≡ true → is_name_byte b ≡ true
 path_begins b bs is =
@@ -471,8 +449,8 @@ sizes_pass [] (Some text) plain = refl
 sizes_pass (false ∷ more) (Some text) plain =
     ap (λ l. 32 ∷ ((first_word text).word ++ l)) (sizes_pass more (first_word text).rest plain) ∙ ap (λ l. 32 ∷ l) (sym (word_and_behind text))
 sizes_pass (true ∷ more) (Some text) plain =
-    let here : is_suffixed (first_word text).word ≡ false = or_left (is_suffixed (first_word text).word) _ plain in
-    let later : has_suffix more (first_word text).rest ≡ false = or_right (is_suffixed (first_word text).word) _ plain in
+    let here : is_suffixed (first_word text).word ≡ false = (or_parts (is_suffixed (first_word text).word) _ plain).0 in
+    let later : has_suffix more (first_word text).rest ≡ false = (or_parts (is_suffixed (first_word text).word) _ plain).1 in
     rw (plain_size (first_word text).word here)
     (ap (λ l. 32 ∷ ((first_word text).word ++ l)) (sizes_pass more (first_word text).rest later) ∙ ap (λ l. 32 ∷ l) (sym (word_and_behind text)))
 
@@ -632,7 +610,7 @@ begins (b ∷ bs) more is =
     let four : nat_eq b 64 ≡ false = grind (arith, nat_tests) in
     let three : nat_eq 61 b ≡ false = grind (arith, nat_tests) in
     let some : nat_eq (length ((b ∷ bs) ++ more)) 0 ≡ false = grind (arith, nat_tests) in
-    let blank : is_blank b ≡ false = not_true (is_blank b) (name_sign b sign) in
+    let blank : is_blank b ≡ false = not-true (is_blank b) (name_sign b sign) in
     record { unmarked = one; undirected = four; text = rw (some, two) refl; no_log = rw three refl; skipped = ap skip_blanks (no_mark b (bs ++ more) sign) ∙ rw blank refl }
 
 -- a call that isn't quoted has no escape

@@ -1,9 +1,10 @@
 -- A line in which no byte is a sign of the friendly form has none of its forms.
-use Rattle.std.proofs.Common.{◌≡◌, ℕ, ◌+◌, ◌-◌, ◌<◌, ◌&&◌, ◌==◌, Bool, true, false, true≢false, cond, not, nat_eq, nat_lt, is_some, List, [], ◌∷◌, length, get_or, position, codes, Option, Some, None, refl, sym, ap, ◌∙◌, arith}
+use Rattle.std.proofs.Common.{◌≡◌, ℕ, ◌+◌, ◌-◌, ◌<◌, ◌&&◌, ◌==◌, true, false, true≢false, cond, not, nat_eq, nat_lt, is_some, List, [], ◌∷◌, length, get_or, position, codes, Option, Some, None, refl, sym, ap, ◌∙◌, arith}
 use Rattle.std.specs.List.{list_all, position_or_len, starts_with}
 use Rattle.std.specs.Option.{option_map, option_or}
 use Rattle.std.proofs.lemmas.Bool.Decides.{nat_tests}
 use Rattle.std.proofs.lemmas.List.Folds.{list_all_at}
+use Rattle.std.proofs.lemmas.Bool.{and_parts, and_from, not-true, and_right}
 use Rattle.call_lines.specs.Read.{Reads}
 use Rattle.call_lines.specs.declared.line.NamedCall.{NamedCall}
 use Rattle.friendly_lines.specs.Friendly.{without_return}
@@ -13,15 +14,15 @@ use Rattle.friendly_lines.specs.Parts.{parts_of}
 use Rattle.friendly_lines.specs.Quotes.{after_byte, after_text, is_arrow, is_outside, last_outside}
 use Rattle.friendly_lines.specs.Words.{is_blank}
 use Rattle.friendly_lines.specs.declared.quotes.Quoting.TheVariants.{Outside}
-use Rattle.friendly_lines.proofs.PlainLemmas.{and_both, and_left, and_right, no_directive, not_true}
+use Rattle.friendly_lines.proofs.PlainLemmas.{no_directive}
 use Rattle.friendly_lines.proofs.QuoteLemmas.{is_free, no_first}
 
 -- the first byte is no sign, and none of the others is
 first_other : (b : ℕ) (bs : List ℕ) → has_no_sign (b ∷ bs) ≡ true → is_sign b ≡ false
-first_other b bs none = not_true (is_sign b) (and_left (not (is_sign b)) (has_no_sign bs) none)
+first_other b bs none = not-true (is_sign b) (and_parts (not (is_sign b)) (has_no_sign bs) none).0
 
 more_others : (b : ℕ) (bs : List ℕ) → has_no_sign (b ∷ bs) ≡ true → has_no_sign bs ≡ true
-more_others b bs none = and_right (not (is_sign b)) (has_no_sign bs) none
+more_others b bs none = (and_parts (not (is_sign b)) (has_no_sign bs) none).1
 
 no_quote : (b : ℕ) → is_sign b ≡ false → nat_eq b 34 ≡ false
 no_quote b other = grind (arith, nat_tests)
@@ -42,7 +43,7 @@ a_return b is = grind (arith, nat_tests)
 free_of : (line : List ℕ) → has_no_sign line ≡ true → is_free line ≡ true
 free_of [] none = refl
 free_of (b ∷ bs) none =
-    and_both (not (nat_eq b 35)) (is_free bs) (no_comment_sign b (first_other b bs none)) (free_of bs (more_others b bs none))
+    and_from (not (nat_eq b 35)) (is_free bs) (no_comment_sign b (first_other b bs none)) (free_of bs (more_others b bs none))
 
 -- no quote opens
 after_other : (b : ℕ) → is_sign b ≡ false → after_byte Outside b ≡ Outside
@@ -52,21 +53,16 @@ stays_outside : (line : List ℕ) → has_no_sign line ≡ true → after_text O
 stays_outside [] none = refl
 stays_outside (b ∷ bs) none = ap (λ at. after_text at bs) (after_other b (first_other b bs none)) ∙ stays_outside bs (more_others b bs none)
 
--- no arrow ends
-and_none : (a b : Bool) → b ≡ false → (a && b) ≡ false
-and_none true b none = none
-and_none false b none = refl
-
 no_arrow_end : (text : List ℕ) → has_no_sign text ≡ true → starts_with nat_eq text (codes "=> ") ≡ false
 no_arrow_end [] none = refl
-no_arrow_end (a ∷ []) none = and_none (nat_eq 61 a) false refl
+no_arrow_end (a ∷ []) none = and_right (nat_eq 61 a) false refl
 no_arrow_end (a ∷ b ∷ bs) none =
     let tip : (nat_eq 62 b && starts_with nat_eq bs (codes " ")) ≡ false =
     ap (λ t. t && starts_with nat_eq bs (codes " ")) (no_tip b (first_other b bs (more_others a (b ∷ bs) none))) in
-    and_none (nat_eq 61 a) (nat_eq 62 b && starts_with nat_eq bs (codes " ")) tip
+    and_right (nat_eq 61 a) (nat_eq 62 b && starts_with nat_eq bs (codes " ")) tip
 
 no_arrow_here : (b : ℕ) (bs : List ℕ) → has_no_sign (b ∷ bs) ≡ true → is_arrow (b ∷ bs) ≡ false
-no_arrow_here b bs none = and_none (is_blank b) (starts_with nat_eq bs (codes "=> ")) (no_arrow_end bs (more_others b bs none))
+no_arrow_here b bs none = and_right (is_blank b) (starts_with nat_eq bs (codes "=> ")) (no_arrow_end bs (more_others b bs none))
 
 no_arrow : (line : List ℕ) → has_no_sign line ≡ true → last_outside is_arrow Outside line ≡ None
 no_arrow [] none = refl

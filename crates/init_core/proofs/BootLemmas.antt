@@ -1,5 +1,5 @@
 -- How far a boot is, one entry after another.
-use Rattle.std.proofs.Common.{◌≡◌, ◌≢◌, ℕ, zero, suc, ◌+◌, ◌<◌, ◌≤◌, ◌&&◌, Bool, true, false, inl, inr, Option, IsSome, List, [], ◌∷◌, ◌++◌, length, get_or, map, take, drop, Some, None, subst, refl, sym, ap, ◌∙◌, arith}
+use Rattle.std.proofs.Common.{◌≡◌, ◌≢◌, ℕ, zero, suc, ◌+◌, ◌<◌, ◌≤◌, ◌&&◌, true, false, inl, inr, Option, IsSome, List, [], ◌∷◌, ◌++◌, length, get_or, map, take, drop, Some, None, subst, refl, sym, ap, ◌∙◌, arith}
 use Rattle.std.specs.Prelude.{IfSome, is_none}
 use Rattle.std.specs.List.{slice_get}
 use Rattle.std.proofs.lemmas.Bool.{false≢true}
@@ -7,6 +7,7 @@ use Rattle.std.specs.Option.{option_map, unwrap_or}
 use Rattle.std.proofs.lemmas.List.{map_push, map_more, drop-map, drop_more, get_or-map, get_or-take, length-map, length-take-le, take-map}
 use Rattle.std.proofs.lemmas.List.Elements.{All-push, All-weaker}
 use Rattle.std.proofs.lemmas.Option.{slice_get_read, slice_get-map, unwrap_or-slice_get}
+use Rattle.std.proofs.Math.Bool.{and-false}
 use Rattle.trade_base.specs.declared.refusal.Refusal.{Refusal}
 use Rattle.trade_base.specs.declared.id.AccountId.{AccountId}
 use Rattle.own_model.specs.Account.{Account, Fits, opened, parted_with, shortage}
@@ -40,10 +41,6 @@ none_by (Some x) is = absurd (false≢true is)
 is_some_by : {X : Type 0} (o : Option X) → is_none o ≡ false → IsSome o
 is_some_by None is = absurd (false≢true (sym is))
 is_some_by (Some x) is = refl
-
-and_false : (b : Bool) → (b && false) ≡ false
-and_false true = refl
-and_false false = refl
 
 -- the next entry is the first one to come
 to_come_more : (list : Listed) (count : ℕ) (entry : ListedEntry) → count < length list.entries → entry ≡ get_or list.entries count entry →
@@ -186,7 +183,7 @@ module _ {list : Listed} {store : Store} {components : List Component} {keys : L
       let parted : account_in store' init ≡ parted_with left entry.ram entry.caps = init_after (opens_beside opens) ∙ (λ j. parted_with left (ram_is j) (caps_is j)) in
       let there : is_none (shortage (parted_with left entry.ram entry.caps) kept.ram kept.caps) ≡ false =
       (λ j. is_none (shortage (sym parted j) (sym more_ram_is j) (sym more_caps_is j))) ∙ lacks in
-      fault_next (lacks_both left entry.ram entry.caps kept.ram kept.caps (ap (λ b. is_none (shortage left entry.ram entry.caps) && b) there ∙ and_false (is_none (shortage left entry.ram entry.caps))))
+      fault_next (lacks_both left entry.ram entry.caps kept.ram kept.caps (ap (λ b. is_none (shortage left entry.ram entry.caps) && b) there ∙ and-false (is_none (shortage left entry.ram entry.caps))))
 
   -- its init's account is open, still after the first account
   pub init_still_open : {store' : Store} {account ram caps : ℕ} → Opens store init account ram caps store' → IsOpenIn store' init

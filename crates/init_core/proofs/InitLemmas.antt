@@ -2,7 +2,7 @@
 use Rattle.std.proofs.Common.{◌≡◌, ◌≢◌, ◌⊎◌, ℕ, zero, suc, ◌+◌, ◌<◌, ◌≤◌, ◌||◌, ◌==◌, Bool, true, false, inl, inr, List, [], ◌∷◌, ◌++◌, length, get_or, map, set, Some, subst, refl, sym, ap, ◌∙◌, arith}
 use Rattle.std.specs.Prelude.{IfSome}
 use Rattle.std.specs.List.{All, enumerate_from}
-use Rattle.std.proofs.lemmas.Bool.{cases_eq, cases_lt, eqb-true, eq-eqb, false≢true}
+use Rattle.std.proofs.lemmas.Bool.{cases_eq, cases_lt, eqb-true, eq-eqb, false≢true, or_left, or_right, or_cases}
 use Rattle.std.proofs.lemmas.List.{get_or-map, get_or_append_left, get_or_past, length-map, length_push, map_push}
 use Rattle.std.proofs.lemmas.List.Elements.{All-head, All-tail}
 use Rattle.std.proofs.Math.Seq.{get_or-append_seam}
@@ -163,18 +163,6 @@ tested_as_init Gone account is = absurd is
 -- with the account of one more component, if that is an init
 abbrev pub with_head : Heads → Role → Heads
 with_head heads role account = heads account || is_init_on role account
-
-or_left : (a b : Bool) → a ≡ true → (a || b) ≡ true
-or_left true b holds = refl
-or_left false b holds = absurd (false≢true holds)
-
-or_right : (a b : Bool) → b ≡ true → (a || b) ≡ true
-or_right true b holds = refl
-or_right false b holds = holds
-
-or_cases : (a b : Bool) → (a || b) ≡ true → (a ≡ true) ⊎ (b ≡ true)
-or_cases true b holds = inl refl
-or_cases false b holds = inr holds
 
 -- what was a head still is
 pub more_heads : (heads : Heads) (role : Role) (account : ℕ) → heads account ≡ true → with_head heads role account ≡ true

@@ -1,13 +1,11 @@
 //! Rules of the routes' table: what each asks of a session request, and the server that it leads to.
-ghost use Rattle.std.specs.Prelude.{◌≡◌, nat_eq, string_bytes, IfOk, Some};
-ghost use Rattle.std.specs.List.{starts_with, ends_with};
+ghost use Rattle.std.specs.Prelude.{◌≡◌, IfOk, Some};
 ghost use Rattle.std.specs.Str.{bytes_eq};
-ghost use Rattle.std.specs.Option.{option_map, option_copied};
 ghost use Rattle.own_model.specs.Listed.{own_rule};
 ghost use Rattle.own_model.specs.Routes.{as_asked, decided, matches};
 ghost use Rattle.init_core.specs.Rows.{model_lead, name_asked, service_named};
 
-use start_lists::{Name, Rule};
+use start_lists::{LabelTest, Name, Rule};
 use std::alloc::{AllocError, Global};
 use std::marker::Model;
 use trade_base::{SERVICES, Service};
@@ -118,15 +116,11 @@ fn service_named(name: &[u8]) -> Option<Service>
 #[derive(Drop)]
 pub(crate) struct ResolvedRule {
     service: ServiceTest,
-    label: Option<String>,
-    label_prefix: Option<String>,
-    label_suffix: Option<String>,
+    labels: LabelTest,
     to: Lead,
 }
 
 impl Model for ResolvedRule {
-    ghost use Rattle.std.specs.Prelude.{string_bytes};
-    ghost use Rattle.std.specs.Option.{option_map};
     ghost use Rattle.own_model.specs.Routes as model;
     ghost use Rattle.init_core.specs.Rows.{model_lead, name_asked};
 
@@ -134,9 +128,9 @@ impl Model for ResolvedRule {
 
     ghost view = { λ rule. record {
       service = name_asked rule.service;
-      label = option_map string_bytes rule.label;
-      label_prefix = option_map string_bytes rule.label_prefix;
-      label_suffix = option_map string_bytes rule.label_suffix;
+      label = rule.labels.whole;
+      label_prefix = rule.labels.prefix;
+      label_suffix = rule.labels.suffix;
       to = model_lead rule.to;
     } };
 }
@@ -154,9 +148,7 @@ impl ResolvedRule {
     {
         Ok(ResolvedRule {
             service,
-            label: copied(alloc, rule.label())?,
-            label_prefix: copied(alloc, rule.label_prefix())?,
-            label_suffix: copied(alloc, rule.label_suffix())?,
+            labels: rule.labels().copy(alloc)?,
             to,
         })
     }
@@ -165,10 +157,7 @@ impl ResolvedRule {
     fn matches(&self, service: &ServiceName<'_>, label: &[u8]) -> bool
         ensures { result ≡ matches self.now service.now label.now }
     {
-        self.service.holds(service)
-            && is_text(&self.label, label)
-            && begins_with(&self.label_prefix, label)
-            && ends_with(&self.label_suffix, label)
+        self.service.holds(service) && self.labels.holds(label)
     }
 }
 
@@ -182,45 +171,4 @@ pub(crate) fn lead_by(rules: &[ResolvedRule], service: &ServiceName<'_>, label: 
         }
     }
     Lead::Nowhere
-}
-
-/// Copies a text, if there is one, in exactly its size.
-fn copied(alloc: Global, text: Option<&str>) -> Result<Option<String>, AllocError>
-    ensures { IfOk result (λ copy. option_map string_bytes copy ≡ option_copied text.entry) }
-{
-    match text {
-        Some(text) => Ok(Some(String::from_str(alloc, text)?)),
-        None => Ok(None),
-    }
-}
-
-/// Returns whether a label is the one asked for, if one is.
-fn is_text(asked: &Option<String>, label: &[u8]) -> bool
-    ensures { result ≡ as_asked (bytes_eq label.now) (option_map string_bytes asked.now) }
-{
-    match asked {
-        Some(asked) => label == asked.as_str().as_bytes(),
-        None => true,
-    }
-}
-
-/// Returns whether a label begins as asked.
-fn begins_with(asked: &Option<String>, label: &[u8]) -> bool
-    ensures { result
-        ≡ as_asked (starts_with nat_eq label.now) (option_map string_bytes asked.now) }
-{
-    match asked {
-        Some(asked) => label.starts_with(asked.as_str().as_bytes()),
-        None => true,
-    }
-}
-
-/// Returns whether a label ends as asked.
-fn ends_with(asked: &Option<String>, label: &[u8]) -> bool
-    ensures { result ≡ as_asked (ends_with nat_eq label.now) (option_map string_bytes asked.now) }
-{
-    match asked {
-        Some(asked) => label.ends_with(asked.as_str().as_bytes()),
-        None => true,
-    }
 }

@@ -1,13 +1,14 @@
 -- What a start list tells of a component's calls hangs on no budget.
 use Rattle.std.proofs.lemmas.Grind.{take_at_read}
-use Rattle.std.proofs.Common.{◌≡◌, ℕ, zero, suc, ◌+◌, ◌<◌, ◌==◌, cond, take, get_or, ◌&&◌, Bool, not, List, [], ◌∷◌, ◌++◌, length, map, refl, sym, ap, ◌∙◌}
-use Rattle.std.proofs.lemmas.List.{length-map, map-append}
+use Rattle.std.proofs.Common.{◌≡◌, ℕ, zero, suc, ◌+◌, ◌<◌, ◌==◌, cond, take, get_or, ◌&&◌, Bool, List, [], ◌∷◌, ◌++◌, length, map, refl, sym, ap, ◌∙◌}
+use Rattle.std.proofs.lemmas.List.{map-append}
 use Rattle.std.proofs.lemmas.Option.{same_Some, slice_get-map, unwrap_or-slice_get}
 use Rattle.std.proofs.lemmas.List.Sums.{sum_by-cons}
-use Rattle.std.specs.Prelude.{if◌then◌else◌, Option, Some, None, position, count_by, slice_index_or}
-use Rattle.std.specs.List.{prefix_len, slice_get}
+use Rattle.std.specs.Prelude.{if◌then◌else◌, Option, Some, None, count_by, slice_index_or}
+use Rattle.std.specs.List.{slice_get}
 use Rattle.std.specs.Option.{option_map, option_and_then, unwrap_or}
 use Rattle.std.specs.Str.{bytes_eq}
+use Rattle.start_lists.proofs.ListLemmas.{position-map}
 use Rattle.trade_base.specs.Service.{service_name, services}
 use Rattle.own_model.specs.Listed.{Listed, ListedEntry, ListedRule, Target, Way, init_entry, default_of, most_lists, offers, named_provider, only_provider, way_to, rules_for, service_of, service_at, server_at, lead_of, lead_to, lead_without, own_rule, own_rule_for, own_rules_asking, own_rules, level_of, levels_within, kind_of, reserve_of, start_of, start_list_of}
 use Rattle.own_model.specs.Listed.Target.{Child, AnyChild, Parent}
@@ -22,13 +23,6 @@ use Rattle.least.specs.Alike.{bare, but_budgets, own_entry, own_state}
 use Rattle.least.specs.Run.{Begins}
 
 -- ---- lists that a function makes
-
-prefix_len-map : {X Y : Type 0} (p : Y → Bool) (f : X → Y) (xs : List X) → prefix_len p (map f xs) ≡ prefix_len (λ x. p (f x)) xs
-prefix_len-map p f [] = refl
-prefix_len-map p f (x ∷ xs) = rw (prefix_len-map p f xs) refl
-
-position-map : {X Y : Type 0} (p : Y → Bool) (f : X → Y) (xs : List X) → position (λ x. p (f x)) xs ≡ position p (map f xs)
-position-map p f xs = sym (rw (prefix_len-map (λ y. not (p y)) f xs, length-map xs f) refl)
 
 count-map : {X Y : Type 0} (p : Y → Bool) (f : X → Y) (xs : List X) → count_by (λ x. p (f x)) xs ≡ count_by p (map f xs)
 count-map p f [] = refl

@@ -6,6 +6,8 @@ use Rattle.std.proofs.Math.Seq.{take-append_seam}
 use Rattle.std.proofs.Common.{arith, ◌≡◌, ℕ, suc, ◌-◌, ◌<◌, ◌≤◌, ◌&&◌, ◌||◌, Bool, true, false, List, [], ◌∷◌, ◌++◌, nat_lt, nat_le, nat_eq, refl, sym, ap, ◌∙◌, ⊎_elim, subst, max, length, take}
 use Rattle.own_model.proofs.ListLemmas.{all_append}
 use Rattle.std.specs.Prelude.{if◌then◌else◌, Option, Some, None, is_some}
+use Rattle.std.proofs.Math.Bool.{or-false, or_assoc}
+use Rattle.budget_laws.proofs.StretchLemmas.{below_through}
 use Rattle.own_model.specs.Amounts.{Amounts}
 use Rattle.budget_laws.proofs.CellLemmas.{begins_within}
 use Rattle.budget_laws.specs.Need.{Need, IsBelow, cell_by, covers_ram, greatest_choice}
@@ -16,23 +18,11 @@ use Rattle.least.specs.declared.trial.Trial.{Trial}
 
 -- ---- tests
 
-pub or_none : (a : Bool) → (a || false) ≡ a
-or_none true = refl
-or_none false = refl
-
-or_third : (a b c : Bool) → ((a || b) || c) ≡ (a || (b || c))
-or_third true b c = refl
-or_third false b c = refl
-
 -- ---- two rows in one
 
 below_through : (r g : ℕ) (end : Option ℕ) → r < g → IsBelow g end → is_below r end ≡ true
 below_through r g None less below = refl
 below_through r g (Some end) less below = grind (arith, nat_tests, less, below)
-
-starts_below : (x y : ℕ) (end : Option ℕ) → x ≤ y → IsBelow y end → IsBelow x end
-starts_below x y None within below = tt
-starts_below x y (Some end) within below = omega (arith, within, below)
 
 -- RAM from f on, in two parts, of which one ends where the other begins
 pub in_parts : (f g r : ℕ) (end : Option ℕ) (enough : Bool) → IsBelow g end → f < g →
@@ -48,21 +38,21 @@ in_parts f g r end enough below order =
     let past : nat_le g r ≡ true = grind (arith, nat_tests, more) in
     let before : nat_lt r g ≡ false = grind (arith, nat_tests, more) in
     let from : nat_le f r ≡ true = grind (arith, nat_tests, more, order) in
-    rw (past, before, from) (sym (or_none (is_below r end && enough))))
+    rw (past, before, from) (sym (or-false (is_below r end && enough))))
     (cases_lt r g)
 
 -- ---- lists of rows
 
 pub serves_more : (rows : List Row) (row : Row) (budget : Amounts) → serves (rows ++ row ∷ []) budget ≡ (serves rows budget || covers row budget)
 serves_more rows row budget =
-    list_any-append (λ r. covers r budget) rows (row ∷ []) ∙ ap (λ b. serves rows budget || b) (or_none (covers row budget))
+    list_any-append (λ r. covers r budget) rows (row ∷ []) ∙ ap (λ b. serves rows budget || b) (or-false (covers row budget))
 
 -- a row of which the last was made two
 pub serves_joined : (rows : List Row) (above row both : Row) (budget : Amounts) → covers both budget ≡ (covers above budget || covers row budget) →
     serves (rows ++ both ∷ []) budget ≡ (serves (rows ++ above ∷ []) budget || covers row budget)
 serves_joined rows above row both budget joins =
     serves_more rows both budget ∙ ap (λ b. serves rows budget || b) joins
-    ∙ sym (or_third (serves rows budget) (covers above budget) (covers row budget))
+    ∙ sym (or_assoc (serves rows budget) (covers above budget) (covers row budget))
     ∙ ap (λ b. b || covers row budget) (sym (serves_more rows above budget))
 
 -- each of a list's, and of one more
@@ -99,7 +89,7 @@ front n xs ys same = ap (λ m. take m (xs ++ ys)) (sym same) ∙ take-append_sea
 pub stretch_split : (w : Bool) (one : Amounts) (needs : List Need) (rest : List Stretch) (budget : Amounts) →
     is_covered (stretch_of w one needs rest) budget ≡ (is_covered (stretch_of w one needs []) budget || is_covered rest budget)
 stretch_split true one needs rest budget = refl
-stretch_split false one needs rest budget = ap (λ b. b || is_covered rest budget) (sym (or_none (nat_le (cell_by one needs).ram_from budget.ram && nat_le budget.ram one.ram && nat_le (cell_by one needs).caps_from budget.caps)))
+stretch_split false one needs rest budget = ap (λ b. b || is_covered rest budget) (sym (or-false (nat_le (cell_by one needs).ram_from budget.ram && nat_le budget.ram one.ram && nat_le (cell_by one needs).caps_from budget.caps)))
 
 module _ (ram caps : ℕ) (needs : List Need) (want : Bool) (trial : Trial) (is : IsRun needs want (record { ram = ram; caps = caps }) trial) where
   abbrev one : Amounts
@@ -121,7 +111,7 @@ module _ (ram caps : ℕ) (needs : List Need) (want : Bool) (trial : Trial) (is 
   pub wanting : (rows : List Row) (budget : Amounts) → is_some trial.refused ≡ true →
       serves rows budget ≡ (serves rows budget || is_covered (stretch_of want one needs []) budget)
   wanting rows budget refused =
-      sym (or_none (serves rows budget))
+      sym (or-false (serves rows budget))
       ∙ ap (λ w. serves rows budget || is_covered (stretch_of w one needs []) budget) (sym refused ∙ is.want)
 
   -- and the row of any other covers what its stretch does
@@ -129,7 +119,7 @@ module _ (ram caps : ℕ) (needs : List Need) (want : Bool) (trial : Trial) (is 
       is_below budget.ram row.ram_below ≡ nat_le budget.ram ram → covers row budget ≡ is_covered (stretch_of want one needs []) budget
   serving row budget granted from needed below =
       (λ i. nat_le ((from ∙ begins) i) budget.ram && below i && nat_le ((needed ∙ needs_caps) i) budget.caps)
-      ∙ sym (or_none (nat_le (cell_by one needs).ram_from budget.ram && nat_le budget.ram ram && nat_le (cell_by one needs).caps_from budget.caps))
+      ∙ sym (or-false (nat_le (cell_by one needs).ram_from budget.ram && nat_le budget.ram ram && nat_le (cell_by one needs).caps_from budget.caps))
       ∙ ap (λ w. is_covered (stretch_of w one needs []) budget) (sym granted ∙ is.want)
 
   -- a run in no want adds its row
@@ -139,7 +129,7 @@ module _ (ram caps : ℕ) (needs : List Need) (want : Bool) (trial : Trial) (is 
       AreRows new × ((budget : Amounts) → budget.ram ≤ top → serves new budget ≡ (serves old budget || is_covered (stretch_of want one needs []) budget))
   adds_run old new row top granted from needed below ends adds all =
       let within : row.ram_from ≤ ram = subst (λ n. n ≤ ram) (sym from) begins_in in
-      let added = adds all (starts_below row.ram_from ram row.ram_below within below, tt) in (
+      let added = adds all (below_through row.ram_from ram row.ram_below within below, tt) in (
         added.0,
         λ budget up. added.1 budget ∙ ap (λ b. serves old budget || b) (serving row budget granted from needed (ends budget.ram up)),
       )
@@ -162,7 +152,7 @@ module _ (each : Amounts → List Need) (want : Amounts → Bool) (caps ram : �
   split_here runs before after is so_far =
       let rest = if nat_eq choice 0 then [] else stretches each want caps runs (choice - 1) in
       ap (λ b. b || is_covered rest budget) is
-      ∙ or_third before (is_covered (stretch_of (want at) at (each at) []) budget) (is_covered rest budget)
+      ∙ or_assoc before (is_covered (stretch_of (want at) at (each at) []) budget) (is_covered rest budget)
       ∙ ap (λ b. before || b) (sym (stretch_split (want at) at (each at) rest budget))
       ∙ so_far
 
@@ -178,7 +168,7 @@ module _ (each : Amounts → List Need) (want : Amounts → Bool) (caps ram : �
   pub stops : (runs number : ℕ) (before after : Bool) → number ≡ choice → nat_eq number 0 ≡ true →
       after ≡ (before || is_covered (stretch_of (want at) at (each at) []) budget) → Splits before (suc runs) ram → after ≡ all
   stops runs number before after same none is so_far =
-      sym (or_none after)
+      sym (or-false after)
       ∙ ap (λ b. after || is_covered (if b then [] else stretches each want caps runs (choice - 1)) budget) (sym (ap (λ n. nat_eq n 0) (sym same) ∙ none))
       ∙ split_here runs before after is so_far
 
@@ -223,4 +213,4 @@ module _ (each : Amounts → List Need) (want : Amounts → Bool) (caps ram top 
 pub none_left : (each : Amounts → List Need) (want : Amounts → Bool) (caps : ℕ) (rows : List Row) (next : Option ℕ) (budget : Amounts) →
     covered_with each want caps rows 0 next budget ≡ serves rows budget
 none_left each want caps rows None budget = refl
-none_left each want caps rows (Some ram) budget = or_none (serves rows budget)
+none_left each want caps rows (Some ram) budget = or-false (serves rows budget)

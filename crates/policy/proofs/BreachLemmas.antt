@@ -1,6 +1,7 @@
 -- What the reach of a server says of a demand.
-use Rattle.std.proofs.Common.{◌≡◌, ℕ, ◌<◌, ◌≤◌, ◌+◌, zero, suc, Bool, true, false, List, [], Option, Some, None, refl, sym, subst, ap, ◌∙◌, arith, ◌⊎◌, inl, inr}
+use Rattle.std.proofs.Common.{◌≡◌, ℕ, ◌<◌, ◌≤◌, ◌+◌, Bool, true, false, List, [], Option, Some, None, refl, sym, subst, ◌∙◌, arith, inl, inr}
 use Rattle.std.specs.Prelude.{MatchOption}
+use Rattle.reach.proofs.WaysLemmas.{below_next}
 use Rattle.own_model.specs.Listed.{Listed}
 use Rattle.reach.specs.Reach.{AllLead, IsGiven, IsShortest}
 use Rattle.policy.specs.Demand.{LeadsThere}
@@ -17,16 +18,10 @@ pub some_there : (list : Listed) (client : ℕ) (service : List ℕ) (server : �
     → IsShortest list client service server label → LeadsThere list client service server label
 some_there list client service server label is = record { given = is.given; leads = is.leads }
 
-below_or_at : (n most : ℕ) → n < most + 1 → (n < most) ⊎ (n ≡ most)
-below_or_at zero zero within = inr refl
-below_or_at zero (suc most) within = inl (omega arith)
-below_or_at (suc n) zero within = absurd (omega arith)
-below_or_at (suc n) (suc most) within = elim (below_or_at n most (omega arith)) [ inl less ↦ inl (omega arith) | inr same ↦ inr (ap suc same) ]
-
 -- what holds below a bound and at it holds below the next
 pub one_more : (P : ℕ → Type 0) (place : ℕ) → ((n : ℕ) → n < place → P n) → P place → (n : ℕ) → n < place + 1 → P n
 one_more P place before here n less =
-    elim (below_or_at n place less) [ inl below ↦ before n below | inr same ↦ subst P (sym same) here ]
+    elim (below_next n place less) [ inl below ↦ before n below | inr same ↦ subst P (sym same) here ]
 
 -- what is promised where nothing is given
 pub none_given : {T : Type 0} → (P : Type 0) (Q : T → Type 0) (o : Option T) → o ≡ None → MatchOption o P Q → P

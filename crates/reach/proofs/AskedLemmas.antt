@@ -1,13 +1,15 @@
 -- Labels that agree with what rules ask lead alike, and each label that no rule knows by itself agrees with two rules' texts.
-use Rattle.std.proofs.Common.{◌≡◌, ℕ, ◌<◌, ◌≤◌, zero, suc, ◌-◌, Bool, true, false, ◌&&◌, ◌||◌, List, [], ◌∷◌, ◌++◌, length, get_or, take, drop, Option, Some, None, refl, sym, subst, ap, ◌∙◌, nat_eq, nat_le, arith, ◌⊎◌, inl, inr}
+use Rattle.std.proofs.Common.{◌≡◌, ℕ, ◌<◌, ◌≤◌, zero, suc, ◌-◌, Bool, true, false, ◌&&◌, List, [], ◌∷◌, ◌++◌, length, get_or, take, drop, Option, Some, None, refl, sym, subst, ap, ◌∙◌, nat_eq, nat_le, arith, ◌⊎◌, inl, inr}
 use Rattle.std.specs.Prelude.{codes, if◌then◌else◌}
 use Rattle.std.specs.List.{list_all, list_any, starts_with, ends_with, slice_get}
 use Rattle.std.specs.Option.{option_and_then, option_map, unwrap_or}
 use Rattle.std.specs.Str.{bytes_eq}
 use Rattle.std.proofs.lemmas.Bool.Decides.{Decides-eqb, nat_tests}
 use Rattle.std.proofs.lemmas.Slice.Eq.{bytes_eq-Decides, starts_is, ends_is}
-use Rattle.std.proofs.lemmas.List.{append_assoc, append-nil, length-append}
+use Rattle.std.proofs.lemmas.List.{append_assoc, append-nil, length-append, drop_all}
 use Rattle.std.proofs.lemmas.List.Folds.{list_all-append}
+use Rattle.std.proofs.lemmas.Bool.{and_parts, and_from, or_parts, both_ways, or_cases}
+use Rattle.std.proofs.Math.Seq.{drop-append_seam}
 use Rattle.own_model.specs.SessionArgs.{is_quotable}
 use Rattle.own_model.specs.Routes.{as_asked, label_with}
 use Rattle.own_model.specs.Listed.{Listed, ListedEntry, ListedRule, asks_for, end_of, init_entry, most_lists, route_within, rules_for, way_by, way_to}
@@ -16,18 +18,6 @@ use Rattle.reach.specs.Asked.{AskedLabel, agrees, agrees_within, asked_by, asked
 use Rattle.reach.proofs.KeyLemmas.{begins_from, ends_from, same_tests}
 
 -- ---- tests
-
-pub two_hold : (a b : Bool) → (a && b) ≡ true → (a ≡ true) × (b ≡ true)
-two_hold true b is = (refl, is)
-two_hold false b is = cc
-
-pub both_hold : (a b : Bool) → a ≡ true → b ≡ true → (a && b) ≡ true
-both_hold true b is other = other
-both_hold false b is other = cc
-
-none_hold : (a b : Bool) → (a || b) ≡ false → (a ≡ false) × (b ≡ false)
-none_hold true b is = cc
-none_hold false b is = (refl, is)
 
 pub as_is : (a b : Bool) → same_as a b ≡ true → a ≡ b
 as_is true true same = refl
@@ -60,16 +50,6 @@ parted (f ∷ front) rest (g ∷ head) end same =
 pub take_front : (a b : List ℕ) → take (length a) (a ++ b) ≡ a
 take_front [] b = refl
 take_front (x ∷ a) b = ap (λ xs. x ∷ xs) (take_front a b)
-
-pub drop_front : (a b : List ℕ) → drop (length a) (a ++ b) ≡ b
-drop_front [] b = refl
-drop_front (x ∷ a) b = drop_front a b
-
-drop_all : (n : ℕ) (a : List ℕ) → length a ≤ n → drop n a ≡ []
-drop_all zero [] less = refl
-drop_all zero (x ∷ a) less = absurd (omega arith)
-drop_all (suc n) [] less = refl
-drop_all (suc n) (x ∷ a) less = drop_all n a (omega arith)
 
 pub begins_by : (text front : List ℕ) → starts_with nat_eq text front ≡ true → text ≡ front ++ drop (length front) text
 begins_by text front begins = (starts_is Decides-eqb text front _ refl).0 begins
@@ -122,7 +102,7 @@ behind_case before text asked rest same =
           ))
       | inr way ↦
           (let tail : drop (length before) asked ≡ way.0 ∷ way.1 =
-          ap (λ a. drop (length before) a) way.2 ∙ drop_front before (way.0 ∷ way.1) in (
+          ap (λ a. drop (length before) a) way.2 ∙ drop-append_seam before (way.0 ∷ way.1) in (
             begins_from text (drop (length before) asked) rest (way.3 ∙ ap (λ d. d ++ rest) (sym tail)),
             λ other begins. begins_from (before ++ other) asked (drop (length (drop (length before) asked)) other)
                 (ap (λ o. before ++ o) (begins_by other (drop (length before) asked) begins)
@@ -154,23 +134,18 @@ front_more before front rest (Some asked) holds =
 
 tail_is : (before label cut : List ℕ) → ends_with nat_eq before cut ≡ true → is_tail before label (Some (cut ++ label)) ≡ true
 tail_is before label cut ends =
-    both_hold _ _ (ends_from (cut ++ label) cut label refl)
+    and_from _ _ (ends_from (cut ++ label) cut label refl)
     (ap (λ c. ends_with nat_eq before c)
     (ap (λ n. take n (cut ++ label)) (omega (arith, length-append cut label)) ∙ take_front cut label)
     ∙ ends)
-
-not_both : (b : Bool) → b ≡ true → b ≡ false → ⊥
-not_both true is isnt = cc
-not_both false is isnt = cc
 
 end_behind : (before label : List ℕ) (asked : Option (List ℕ)) → as_asked (ends_with nat_eq (before ++ label)) asked ≡ true
     → is_tail before label asked ≡ false → ends_with nat_eq label (text_of asked) ≡ true
 end_behind before label None holds lost = ends_from label label [] (sym (append-nil label))
 end_behind before label (Some asked) holds lost =
     elim (parted before label (take (length (before ++ label) - length asked) (before ++ label)) asked (ends_by (before ++ label) asked holds)) [
-      | inl way ↦ absurd (not_both (is_tail before label (Some asked))
-          (ap (λ a. is_tail before label (Some a)) way.2
-          ∙ tail_is before label way.0 (ends_from before (take (length (before ++ label) - length asked) (before ++ label)) way.0 way.1)) lost)
+      | inl way ↦ absurd (both_ways (is_tail before label (Some asked)) lost (ap (λ a. is_tail before label (Some a)) way.2
+          ∙ tail_is before label way.0 (ends_from before (take (length (before ++ label) - length asked) (before ++ label)) way.0 way.1)))
       | inr way ↦ ends_from label (way.0 ∷ way.1) asked way.3
     ]
 
@@ -191,18 +166,18 @@ end_within end (Some asked) holds = holds
 given_is : (label : List ℕ) → IsGiven label → is_given label ≡ true
 given_is label given =
     let short : length label ≤ 64 = given.short in
-    both_hold _ _ (grind (arith, nat_tests)) given.plain
+    and_from _ _ (grind (arith, nat_tests)) given.plain
 
 pub is_given_then : (label : List ℕ) → is_given label ≡ true → IsGiven label
 is_given_then label is =
-    let both = two_hold (nat_le (length label) 64) (list_all is_quotable label) is in
+    let both = and_parts (nat_le (length label) 64) (list_all is_quotable label) is in
     let short : nat_le (length label) 64 ≡ true = both.0 in
     record { short = grind (arith, nat_tests); plain = both.1 }
 
 given_parts : (front rest : List ℕ) → IsGiven (front ++ rest) → (is_given front ≡ true) × (is_given rest ≡ true)
 given_parts front rest given =
     let long : length (front ++ rest) ≤ 64 = given.short in
-    let both = two_hold (list_all is_quotable front) (list_all is_quotable rest) (sym (list_all-append is_quotable front rest) ∙ given.plain) in (
+    let both = and_parts (list_all is_quotable front) (list_all is_quotable rest) (sym (list_all-append is_quotable front rest) ∙ given.plain) in (
       given_is front (record { short = omega (arith, length-append front rest); plain = both.0 }),
       given_is rest (record { short = omega (arith, length-append front rest); plain = both.1 }),
     )
@@ -242,8 +217,7 @@ not_whole : (before label : List ℕ) (asked : Option (List ℕ)) → as_asked (
     → is_whole before label asked ≡ false → asks_nothing asked ≡ true
 not_whole before label None holds lost = refl
 not_whole before label (Some asked) holds lost =
-    absurd (not_both (bytes_eq asked (before ++ label))
-    ((bytes_eq-Decides asked (before ++ label)).1 (sym ((bytes_eq-Decides (before ++ label) asked).0 holds))) lost)
+    absurd (both_ways (bytes_eq asked (before ++ label)) lost ((bytes_eq-Decides asked (before ++ label)).1 (sym ((bytes_eq-Decides (before ++ label) asked).0 holds))))
 
 nothing_holds : (seen : List ℕ) (asked : Option (List ℕ)) → asks_nothing asked ≡ true → as_asked (bytes_eq seen) asked ≡ true
 nothing_holds seen None is = refl
@@ -266,7 +240,7 @@ open_then : (service before label front end rest head : List ℕ) (rule : Listed
     → asks_for rule service (before ++ label) ≡ true → is_open rule service (before ++ front) end ≡ true
 open_then service before label front end rest head rule given lost begins ends within holds =
     let parts = open_parts _ _ _ _ holds in
-    let unknown = none_hold (is_whole before label rule.label) (is_tail before label rule.label_suffix) lost in
+    let unknown = or_parts (is_whole before label rule.label) (is_tail before label rule.label_suffix) lost in
     let nothing = not_whole before label rule.label parts.1 unknown.0 in
     let opened = front_behind before label rule.label_prefix parts.2 in
     let ended = end_behind before label rule.label_suffix parts.3 unknown.1 in
@@ -276,7 +250,7 @@ open_then service before label front end rest head rule given lost begins ends w
     let end_given = (given_parts (take (length label - length last) label) last (subst IsGiven (ends_by label last ended) given)).1 in
     let asked = asked_when service (length before) rule _ _ _ _ refl refl refl refl parts.0 nothing front_given end_given in
     let bounds = subst (λ a. Within label (length front) (length end) a) asked within in
-    let short = bounds.0 (both_hold _ _ opened.0 ended) in
+    let short = bounds.0 (and_from _ _ opened.0 ended) in
     open_by _ _ _ _ parts.0 nothing
     (opened.1 front (fronts_order label front first (begins_from label front rest begins) opened.0 short.0))
     (end_within end rule.label_suffix (ends_order label end last (ends_from label head end ends) ended short.1))
@@ -306,10 +280,10 @@ rules_agreeing : (service before label front end rest head : List ℕ) (rules : 
     → list_all (rule_agrees service (before ++ front) (before ++ label) end) rules ≡ true
 rules_agreeing service before label front end rest head [] given lost begins ends within = refl
 rules_agreeing service before label front end rest head (rule ∷ rules) given lost begins ends within =
-    let unknown = none_hold (is_known before label rule) (list_any (is_known before label) rules) lost in
+    let unknown = or_parts (is_known before label rule) (list_any (is_known before label) rules) lost in
     let bounds = within_split label (length front) (length end) (asked_of_rule service (length before) rule)
     (asked_by service (length before) rules) within in
-    both_hold _ _ (rule_agreeing service before label front end rest head rule given unknown.0 begins ends bounds.0)
+    and_from _ _ (rule_agreeing service before label front end rest head rule given unknown.0 begins ends bounds.0)
     (rules_agreeing service before label front end rest head rules given unknown.1 begins ends bounds.1)
 
 -- ---- lists within lists
@@ -339,9 +313,9 @@ lists_agreeing : (lists : ℕ) (list : Listed) (entry : ListedEntry) (service be
     → agrees_within lists list entry service (before ++ front) (before ++ label) end ≡ true
 lists_agreeing zero list entry service before label front end rest head given lost begins ends within = refl
 lists_agreeing (suc lists) list entry service before label front end rest head given lost begins ends within =
-    let unknown = none_hold (list_any (is_known before label) (rules_for list entry)) _ lost in
+    let unknown = or_parts (list_any (is_known before label) (rules_for list entry)) _ lost in
     let bounds = within_split label (length front) (length end) (asked_by service (length before) (rules_for list entry)) _ within in
-    both_hold _ _ (rules_agreeing service before label front end rest head (rules_for list entry) given unknown.0 begins ends bounds.0)
+    and_from _ _ (rules_agreeing service before label front end rest head (rules_for list entry) given unknown.0 begins ends bounds.0)
     (outer_agreeing lists list entry.name service before label front end rest head (init_entry list entry.home) given
     (λ init unknown_there bounds_there.
     lists_agreeing lists list init service (behind entry.name before) label front end rest head given unknown_there begins ends bounds_there)
@@ -363,8 +337,8 @@ way_alike : (entries : List ListedEntry) (init : ℕ) (service opened seen other
     → way_by entries init rules service seen ≡ way_by entries init rules service other
 way_alike entries init service opened seen other end [] one two = refl
 way_alike entries init service opened seen other end (rule ∷ rules) one two =
-    let first = two_hold (rule_agrees service opened seen end rule) _ one in
-    let second = two_hold (rule_agrees service opened other end rule) _ two in
+    let first = and_parts (rule_agrees service opened seen end rule) _ one in
+    let second = and_parts (rule_agrees service opened other end rule) _ two in
     let same : asks_for rule service seen ≡ asks_for rule service other = as_is _ _ first.0 ∙ sym (as_is _ _ second.0) in
     let others = way_alike entries init service opened seen other end rules first.1 second.1 in
     ap (λ t. if t then way_to entries init rule.target service else way_by entries init rules service seen) same
@@ -397,8 +371,8 @@ route_alike : (lists : ℕ) (list : Listed) (entry : ListedEntry) (service opene
     → route_within lists list entry service seen ≡ route_within lists list entry service other
 route_alike zero list entry service opened seen other end some more one two = refl
 route_alike (suc lists) list entry service opened seen other end some more one two =
-    let first = two_hold (list_all (rule_agrees service opened seen end) (rules_for list entry)) _ one in
-    let second = two_hold (list_all (rule_agrees service opened other end) (rules_for list entry)) _ two in
+    let first = and_parts (list_all (rule_agrees service opened seen end) (rules_for list entry)) _ one in
+    let second = and_parts (list_all (rule_agrees service opened other end) (rules_for list entry)) _ two in
     let here = way_alike list.entries entry.home service opened seen other end (rules_for list entry) first.0 second.0 in
     let out = outward_alike lists list entry.name service opened seen other end (init_entry list entry.home) some more
     (λ init agreeing others. route_alike lists list init service (behind entry.name opened) (behind entry.name seen) (behind entry.name other) end
@@ -444,7 +418,7 @@ HasLongest label size asked =
 
 upto_none : (label : List ℕ) (size : AskedLabel → ℕ) (most : ℕ) (asked : List AskedLabel) → NoneFits label asked → UpTo label size most asked
 upto_none label size most [] none = tt
-upto_none label size most (one ∷ asked) none = ((λ is. absurd (not_both _ is none.0)), upto_none label size most asked none.1)
+upto_none label size most (one ∷ asked) none = ((λ is. absurd (both_ways _ none.0 is)), upto_none label size most asked none.1)
 
 upto_more : (label : List ℕ) (size : AskedLabel → ℕ) (most more : ℕ) (asked : List AskedLabel) → most ≤ more → UpTo label size most asked
     → UpTo label size more asked
@@ -469,7 +443,7 @@ longest_more label size first asked false is (inl none) = inl (is, none)
 longest_more label size first asked true is (inl none) =
     inr (first, is, at_first first asked, ((λ _. omega arith), upto_none label size (size first) asked none))
 longest_more label size first asked false is (inr best) =
-    inr (best.0, best.1, at_later first best.0 asked best.2, ((λ fit. absurd (not_both _ fit is)), best.3))
+    inr (best.0, best.1, at_later first best.0 asked best.2, ((λ fit. absurd (both_ways _ is fit)), best.3))
 longest_more label size first asked true is (inr best) =
     elim (either_way (size best.0) (size first)) [
       | inl less ↦ inr (first, is, at_first first asked, ((λ _. omega arith), upto_more label size (size best.0) (size first) asked less best.3))
@@ -482,7 +456,7 @@ longest label size (first ∷ asked) = longest_more label size first asked (fits
 
 the_longest : (label : List ℕ) (size : AskedLabel → ℕ) (first : AskedLabel) (asked : List AskedLabel) → fits label first ≡ true
     → NoneFits label (first ∷ asked) ⊎ HasLongest label size (first ∷ asked) → HasLongest label size (first ∷ asked)
-the_longest label size first asked is (inl none) = absurd (not_both _ is none.0)
+the_longest label size first asked is (inl none) = absurd (both_ways _ none.0 is)
 the_longest label size first asked is (inr best) = best
 
 upto_at : (label : List ℕ) (size : AskedLabel → ℕ) (most : ℕ) (one : AskedLabel) (asked : List AskedLabel) (k : ℕ)
@@ -512,10 +486,10 @@ pub record IsBetween (list : Listed) (client : ℕ) (service label : List ℕ) (
 
 fits_parts : (label : List ℕ) (one : AskedLabel) → fits label one ≡ true
     → (starts_with nat_eq label one.front ≡ true) × (ends_with nat_eq label one.end ≡ true)
-fits_parts label one fit = two_hold (starts_with nat_eq label one.front) (ends_with nat_eq label one.end) fit
+fits_parts label one fit = and_parts (starts_with nat_eq label one.front) (ends_with nat_eq label one.end) fit
 
 fits_nothing : (label : List ℕ) → fits label (record { front = []; end = [] }) ≡ true
-fits_nothing label = both_hold _ _ (begins_from label [] label refl) (ends_from label label [] (sym (append-nil label)))
+fits_nothing label = and_from _ _ (begins_from label [] label refl) (ends_from label label [] (sym (append-nil label)))
 
 between_of : (list : Listed) (client : ℕ) (service label : List ℕ) (others : List AskedLabel)
     → HasLongest label (λ a. length a.front) (record { front = []; end = [] } ∷ others)
@@ -632,10 +606,6 @@ agrees_not zero list entry service opened seen end some here = absurd (omega ari
 agrees_not (suc lists) list entry service opened seen end some here =
     and_false (list_all (rule_agrees service opened seen end) (rules_for list entry)) _ here
 
-either_holds : (a b : Bool) → (a || b) ≡ true → (a ≡ true) ⊎ (b ≡ true)
-either_holds true b is = inl refl
-either_holds false b is = inr is
-
 pub known_goes_on : (lists less : ℕ) (list : Listed) (entry init : ListedEntry) (before outer label : List ℕ) → lists ≡ suc less
     → init_entry list entry.home ≡ Some init → outer ≡ behind entry.name before → known_within lists list entry before label ≡ true
     → (list_any (is_known before label) (rules_for list entry) ≡ true) ⊎ (known_within less list init outer label ≡ true)
@@ -645,7 +615,7 @@ known_goes_on (suc lists) less list entry init before outer label more found see
     let there = ap (λ n. known_within n list init outer label) same
     ∙ (ap (λ o. known_within lists list init o label) sees
     ∙ ap (λ o. unwrap_or (option_map (λ i. known_within lists list i (behind entry.name before) label) o) false) (sym found)) in
-    elim (either_holds (list_any (is_known before label) (rules_for list entry)) _ is) [
+    elim (or_cases (list_any (is_known before label) (rules_for list entry)) _ is) [
       | inl here ↦ inl here
       | inr outward ↦ inr (there ∙ outward)
     ]
@@ -654,7 +624,7 @@ pub known_ends : (lists : ℕ) (list : Listed) (entry : ListedEntry) (before lab
     → known_within lists list entry before label ≡ true → list_any (is_known before label) (rules_for list entry) ≡ true
 known_ends zero list entry before label none is = cc
 known_ends (suc lists) list entry before label none is =
-    elim (either_holds (list_any (is_known before label) (rules_for list entry)) _ is) [
+    elim (or_cases (list_any (is_known before label) (rules_for list entry)) _ is) [
       | inl here ↦ here
       | inr outward ↦
           (let lost = sym (ap (λ o. unwrap_or (option_map (λ i. known_within lists list i (behind entry.name before) label) o) false) none) ∙ outward in

@@ -1,14 +1,17 @@
 -- A few labels stand for all that can be given.
-use Rattle.std.proofs.Common.{◌≡◌, ℕ, ◌<◌, ◌≤◌, zero, suc, ◌-◌, ◌+◌, Bool, true, false, ◌&&◌, ◌||◌, List, [], ◌∷◌, ◌++◌, length, get_or, take, drop, Option, Some, None, refl, sym, subst, ap, ◌∙◌, nat_eq, nat_le, arith, ◌⊎◌, inl, inr}
+use Rattle.std.proofs.Common.{◌≡◌, ℕ, ◌<◌, ◌≤◌, suc, ◌-◌, ◌+◌, Bool, true, false, ◌&&◌, List, [], ◌∷◌, ◌++◌, length, get_or, take, drop, Option, Some, refl, sym, subst, ap, ◌∙◌, nat_eq, nat_le, arith, ◌⊎◌, inl, inr}
 use Rattle.std.specs.Prelude.{All, Any}
 use Rattle.std.specs.List.{list_any, starts_with, ends_with}
 use Rattle.std.specs.Str.{bytes_eq}
-use Rattle.std.proofs.lemmas.Bool.Decides.{Decides-eqb, nat_tests}
+use Rattle.std.proofs.lemmas.Bool.Decides.{nat_tests}
 use Rattle.std.proofs.lemmas.Slice.Eq.{bytes_eq-Decides}
-use Rattle.std.proofs.lemmas.List.{length-append}
+use Rattle.std.proofs.lemmas.List.{length-append, get_or_default}
 use Rattle.std.proofs.lemmas.List.Elements.{All-contains, All-push}
 use Rattle.std.proofs.lemmas.List.Folds.{Any-from_list_any}
 use Rattle.std.proofs.lemmas.List.Quantifiers.{Any-push}
+use Rattle.std.proofs.lemmas.Bool.{and_parts, or_cases}
+use Rattle.std.proofs.Math.Seq.{drop-append_seam}
+use Rattle.reach.proofs.TrailLemmas.{same_end}
 use Rattle.own_model.specs.Listed.{Listed, ListedEntry, ListedRule, init_entry, rules_for}
 use Rattle.reach.specs.Reach.{IsGiven, leads_to}
 use Rattle.reach.specs.Closure.{KeptLabel}
@@ -19,7 +22,7 @@ use Rattle.reach.proofs.KeyLemmas.{begins_from, ends_from}
 use Rattle.reach.proofs.ClosureLemmas.{any_grown, below_or_at, grown_push, grown_same, grown_then}
 use Rattle.reach.proofs.FirstLemmas.{serving_join}
 use Rattle.reach.proofs.FollowLemmas.{decided_alike}
-use Rattle.reach.proofs.AskedLemmas.{IsBetween, begins_by, between, drop_front, ends_by, known_goes_on, leads_alike, parted, take_front, two_hold}
+use Rattle.reach.proofs.AskedLemmas.{IsBetween, begins_by, between, ends_by, known_goes_on, leads_alike, parted, take_front}
 
 -- ---- one after another
 
@@ -52,12 +55,6 @@ offered_on list client service first last old new adds offered =
 
 -- ---- one label
 
-same_is : (one other : Option ℕ) → same_child one other ≡ true → one ≡ other
-same_is None None same = refl
-same_is None (Some b) same = cc
-same_is (Some a) None same = cc
-same_is (Some a) (Some b) same = ap Some ((Decides-eqb a b).0 same)
-
 at_most : (n most : ℕ) → nat_le n most ≡ true → n ≤ most
 at_most n most less = grind (arith, nat_tests)
 
@@ -67,8 +64,8 @@ pub held_known : (list : Listed) (client : ℕ) (service label : List ℕ) (chil
     → IsHeld list client service kept label
 held_known list client service label child rules most kept known told leads decides long =
     let any = Any-from_list_any (goes_as_short child rules most) kept known in
-    let both = two_hold (nat_le (length any.1.label) most) (same_child any.1.child child && bytes_eq any.1.key rules) any.4 in
-    let ends = two_hold (same_child any.1.child child) (bytes_eq any.1.key rules) both.1 in
+    let both = and_parts (nat_le (length any.1.label) most) (same_child any.1.child child && bytes_eq any.1.key rules) any.4 in
+    let ends = and_parts (same_child any.1.child child) (bytes_eq any.1.key rules) both.1 in
     let one = All-contains (IsFollowed list client service) kept any.1 told (any.0, any.2, any.3) in
     let short : length any.1.label ≤ most = at_most (length any.1.label) most both.0 in (
       any.0,
@@ -77,7 +74,7 @@ held_known list client service label child rules most kept known told leads deci
       any.3,
       record {
         short = omega arith;
-        alike = same_is any.1.child child ends.0 ∙ leads;
+        alike = same_end any.1.child child ends.0 ∙ leads;
         decided = sym one.decided ∙ ((bytes_eq-Decides any.1.key rules).0 ends.1 ∙ decides);
       },
     )
@@ -106,7 +103,7 @@ joined_all list client service before front end kept each =
     λ cut rest is ends given.
     let long = ap length is in
     let head : take (length cut) end ≡ cut = ap (λ e. take (length cut) e) is ∙ take_front cut rest in
-    let tail : drop (length cut) end ≡ rest = ap (λ e. drop (length cut) e) is ∙ drop_front cut rest in
+    let tail : drop (length cut) end ≡ rest = ap (λ e. drop (length cut) e) is ∙ drop-append_seam cut rest in
     subst (λ r. IsHeld list client service kept (front ++ r)) tail
     (each (length cut) (omega (arith, length-append cut rest))
     (ap (λ c. ends_with nat_eq before c) head ∙ ends)
@@ -122,7 +119,7 @@ pub whole_held : (list : Listed) (client : ℕ) (service before asked label : Li
     → IsGiven label → is_whole before label (Some asked) ≡ true → IsHeld list client service kept label
 whole_held list client service before asked label kept held given whole =
     let is : asked ≡ before ++ label = (bytes_eq-Decides asked (before ++ label)).0 whole in
-    let tail : drop (length before) asked ≡ label = ap (λ a. drop (length before) a) is ∙ drop_front before label in
+    let tail : drop (length before) asked ≡ label = ap (λ a. drop (length before) a) is ∙ drop-append_seam before label in
     subst (λ l. IsHeld list client service kept l) tail (held (subst IsGiven (sym tail) given))
 
 pub whole_begins : (before label asked : List ℕ) → starts_with nat_eq asked before ≡ false → is_whole before label (Some asked) ≡ true → ⊥
@@ -134,20 +131,12 @@ pub tail_held : (list : Listed) (client : ℕ) (service before asked label : Lis
     → AreJoined list client service before [] asked kept → IsGiven label → is_tail before label (Some asked) ≡ true
     → IsHeld list client service kept label
 tail_held list client service before asked label kept joined given tail =
-    let both = two_hold (ends_with nat_eq asked label) (ends_with nat_eq before (take (length asked - length label) asked)) tail in
+    let both = and_parts (ends_with nat_eq asked label) (ends_with nat_eq before (take (length asked - length label) asked)) tail in
     joined (take (length asked - length label) asked) label (ends_by asked label both.0) both.1 given
-
-either : (a b : Bool) → (a || b) ≡ true → (a ≡ true) ⊎ (b ≡ true)
-either true b is = inl refl
-either false b is = inr is
 
 pub known_either : (before label : List ℕ) (rule : ListedRule) → is_known before label rule ≡ true
     → (is_whole before label rule.label ≡ true) ⊎ (is_tail before label rule.label_suffix ≡ true)
-known_either before label rule is = either (is_whole before label rule.label) (is_tail before label rule.label_suffix) is
-
-joins_both : (a b : Bool) → a ≡ true → b ≡ true → (a && b) ≡ true
-joins_both true b is other = other
-joins_both false b is other = cc
+known_either before label rule is = or_cases (is_whole before label rule.label) (is_tail before label rule.label_suffix) is
 
 -- ---- all labels
 
@@ -282,17 +271,6 @@ known_held list client service before rule whole end label old new whole_is end_
       | inr is ↦ tails label given (ap (λ o. is_tail before label o) end_is ∙ is)
     ]
 
--- the default doesn't matter within a list
-rule_at : (rules : List ListedRule) (place : ℕ) (d e : ListedRule) → place < length rules → get_or rules place d ≡ get_or rules place e
-rule_at [] place d e within = absurd (omega arith)
-rule_at (x ∷ rules) zero d e within = refl
-rule_at (x ∷ rules) (suc place) d e within = rule_at rules place d e (omega arith)
-
-asked_at : (asked : List AskedLabel) (place : ℕ) (d e : AskedLabel) → place < length asked → get_or asked place d ≡ get_or asked place e
-asked_at [] place d e within = absurd (omega arith)
-asked_at (x ∷ asked) zero d e within = refl
-asked_at (x ∷ asked) (suc place) d e within = asked_at asked place d e (omega arith)
-
 pub rules_more : (list : Listed) (client : ℕ) (service before : List ℕ) (rules : List ListedRule) (rule : ListedRule) (place next : ℕ)
     (old new : List KeptLabel) → next ≡ place + 1 → place < length rules → rule ≡ get_or rules place rule
     → ((k : ℕ) (d : ListedRule) → k < place → (label : List ℕ) → IsGiven label → is_known before label (get_or rules k d) ≡ true
@@ -306,7 +284,7 @@ rules_more list client service before rules rule place next old new is within at
       | inl below ↦ held_on list client service old new label adds (each k d below label given known)
       | inr same ↦ here label given
           (ap (λ r. is_known before label r)
-          (at ∙ (rule_at rules place rule d within ∙ ap (λ n. get_or rules n d) (sym same))) ∙ known)
+          (at ∙ (get_or_default rules place rule d within ∙ ap (λ n. get_or rules n d) (sym same))) ∙ known)
     ]
 
 pub rules_all : (list : Listed) (client : ℕ) (service before : List ℕ) (rules : List ListedRule) (place : ℕ) (kept : List KeptLabel)
@@ -342,7 +320,7 @@ firsts_more list client service firsts lasts first place next old new is within 
     elim (below_or_at k place (omega arith)) [
       | inl below ↦ λ m e inside. offered_on list client service (get_or firsts k d) (get_or lasts m e) old new adds (each k d below m e inside)
       | inr same ↦ subst (λ a. All (IsOffered list client service new a) lasts)
-          (at ∙ (asked_at firsts place first d within ∙ ap (λ n. get_or firsts n d) (sym same))) here
+          (at ∙ (get_or_default firsts place first d within ∙ ap (λ n. get_or firsts n d) (sym same))) here
     ]
 
 pub lasts_more : (list : Listed) (client : ℕ) (service : List ℕ) (asked : List AskedLabel) (first last : AskedLabel) (place next : ℕ)
@@ -354,7 +332,7 @@ lasts_more list client service asked first last place next old new is within at 
     elim (below_or_at k place (omega arith)) [
       | inl below ↦ offered_on list client service first (get_or asked k d) old new adds (each k d below)
       | inr same ↦ subst (λ a. IsOffered list client service new first a)
-          (at ∙ (asked_at asked place last d within ∙ ap (λ n. get_or asked n d) (sym same))) here
+          (at ∙ (get_or_default asked place last d within ∙ ap (λ n. get_or asked n d) (sym same))) here
     ]
 
 pub offered_all : (list : Listed) (client : ℕ) (service : List ℕ) (firsts lasts : List AskedLabel) (place : ℕ) (kept : List KeptLabel)

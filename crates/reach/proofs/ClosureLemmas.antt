@@ -1,14 +1,15 @@
 -- What is kept of each label, one byte after another.
-use Rattle.std.proofs.Common.{◌≡◌, ◌≢◌, ℕ, ◌<◌, ◌≤◌, zero, suc, ◌+◌, Bool, true, false, ◌&&◌, List, [], ◌∷◌, ◌++◌, length, get_or, refl, sym, subst, ap, ◌∙◌, arith, ◌⊎◌, inl, inr}
+use Rattle.std.proofs.Common.{◌≡◌, ◌≢◌, ℕ, ◌<◌, ◌≤◌, zero, suc, ◌+◌, true, ◌&&◌, List, [], ◌∷◌, ◌++◌, length, get_or, refl, sym, subst, ap, ◌∙◌, arith, ◌⊎◌, inl, inr}
 use Rattle.std.specs.Prelude.{All, Any}
 use Rattle.std.specs.List.{list_all, list_any}
 use Rattle.std.proofs.lemmas.Slice.Eq.{bytes_eq-Decides}
-use Rattle.std.proofs.lemmas.List.{append_assoc, length-append}
+use Rattle.std.proofs.lemmas.List.{append_assoc, length-append, get_or_default}
 use Rattle.std.proofs.lemmas.Bool.Decides.{nat_tests}
 use Rattle.std.proofs.lemmas.List.Elements.{All-contains, All-push}
 use Rattle.std.proofs.lemmas.List.Folds.{Any-from_list_any, list_all-append}
 use Rattle.std.proofs.lemmas.List.Quantifiers.{Any-push}
 use Rattle.std.proofs.Math.ListN.{get_or-append}
+use Rattle.std.proofs.lemmas.Bool.{and_from, and_parts}
 use Rattle.own_model.specs.Listed.{Listed}
 use Rattle.own_model.specs.SessionArgs.{is_quotable}
 use Rattle.reach.specs.Reach.{IsGiven, leads_to}
@@ -36,12 +37,6 @@ grown_then old between new first then =
 pub grown_push : (kept : List KeptLabel) (one : KeptLabel) → IsGrown kept (kept ++ one ∷ [])
 grown_push kept one =
     record { longer = omega (arith, length-append kept (one ∷ [])); stays = λ k d within. get_or-append kept (one ∷ []) d k within }
-
--- the default doesn't matter within a list
-pub same_at : (kept : List KeptLabel) (place : ℕ) (d e : KeptLabel) → place < length kept → get_or kept place d ≡ get_or kept place e
-same_at [] place d e within = absurd (omega arith)
-same_at (x ∷ kept) zero d e within = refl
-same_at (x ∷ kept) (suc place) d e within = same_at kept place d e (omega arith)
 
 -- ---- one label
 
@@ -76,29 +71,21 @@ keeps_new list client service label one kept sound given is keyed leads =
 
 -- ---- a byte more
 
-pub both_true : (a b : Bool) → a ≡ true → b ≡ true → (a && b) ≡ true
-both_true true b is this = this
-both_true false b is this = cc
-
-pub two_true : (a b : Bool) → (a && b) ≡ true → (a ≡ true) × (b ≡ true)
-two_true true b is = (refl, is)
-two_true false b is = cc
-
 pub given_more : (label : List ℕ) (byte : ℕ) → IsGiven label → length label < 64 → is_quotable byte ≡ true → IsGiven (label ++ byte ∷ [])
 given_more label byte given short plain =
     let all : list_all is_quotable label ≡ true = given.plain in
     record {
       short = omega (arith, length-append label (byte ∷ []));
-      plain = list_all-append is_quotable label (byte ∷ []) ∙ both_true _ _ all (both_true _ _ plain refl);
+      plain = list_all-append is_quotable label (byte ∷ []) ∙ and_from _ _ all (and_from _ _ plain refl);
     }
 
 given_less : (label : List ℕ) (byte : ℕ) → IsGiven (label ++ byte ∷ []) → IsGiven label × (is_quotable byte ≡ true) × (length label < 64)
 given_less label byte given =
-    let both = two_true (list_all is_quotable label) (is_quotable byte && true)
+    let both = and_parts (list_all is_quotable label) (is_quotable byte && true)
     (sym (list_all-append is_quotable label (byte ∷ [])) ∙ given.plain) in
     let short : length (label ++ byte ∷ []) ≤ 64 = given.short in
     let less : length label < 64 = omega (arith, length-append label (byte ∷ [])) in
-    (record { short = omega arith; plain = both.0 }, (two_true _ _ both.1).0, less)
+    (record { short = omega arith; plain = both.0 }, (and_parts _ _ both.1).0, less)
 
 pub quotable_within : (byte : ℕ) → is_quotable byte ≡ true → (32 ≤ byte) × (byte < 127)
 quotable_within byte plain = grind (arith, nat_tests)
@@ -337,14 +324,14 @@ pub done_at : (list : Listed) (client : ℕ) (service label : List ℕ) (most pl
     → IsLengthenedAt list client service most old place new
 done_at list client service label most place old new one within is same longer =
     λ d long. subst (λ (t : List ℕ). IsLengthened list client service t 32 127 new)
-    (same ∙ ap (λ (o : KeptLabel). o.label) (sym (same_at old place d one within ∙ is))) longer
+    (same ∙ ap (λ (o : KeptLabel). o.label) (sym (get_or_default old place d one within ∙ is))) longer
 
 -- and nothing where it has another number of bytes
 pub passed_at : (list : Listed) (client : ℕ) (service label : List ℕ) (most place : ℕ) (old new : List KeptLabel) (one : KeptLabel)
     → place < length old → get_or old place one ≡ one → label ≡ one.label → length label ≢ most
     → IsLengthenedAt list client service most old place new
 passed_at list client service label most place old new one within is same other =
-    λ d long. absurd (other (ap length same ∙ (ap (λ (o : KeptLabel). length o.label) (sym (same_at old place d one within ∙ is)) ∙ long)))
+    λ d long. absurd (other (ap length same ∙ (ap (λ (o : KeptLabel). length o.label) (sym (get_or_default old place d one within ∙ is)) ∙ long)))
 
 pub given_at : (list : Listed) (client : ℕ) (service label : List ℕ) (most place : ℕ) (kept : List KeptLabel) (one : KeptLabel)
     → All (IsKept list client service most) kept → place < length kept → get_or kept place one ≡ one → label ≡ one.label → IsGiven label

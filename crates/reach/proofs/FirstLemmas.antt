@@ -1,15 +1,16 @@
 -- Of what is asked, some serve for all.
-use Rattle.std.proofs.Common.{◌≡◌, ℕ, ◌<◌, zero, suc, ◌+◌, ◌-◌, Bool, true, List, [], ◌∷◌, ◌++◌, length, drop, take, get_or, refl, sym, subst, ap, ◌∙◌, arith, inl, inr, nat_eq}
+use Rattle.std.proofs.Common.{◌≡◌, ℕ, ◌<◌, ◌+◌, ◌-◌, Bool, true, List, [], ◌∷◌, ◌++◌, length, drop, take, get_or, refl, sym, subst, ap, ◌∙◌, arith, inl, inr, nat_eq}
 use Rattle.std.specs.Prelude.{Any}
 use Rattle.std.specs.List.{list_any, starts_with, ends_with}
 use Rattle.std.specs.Str.{bytes_eq}
 use Rattle.std.proofs.Math.ListN.{get_or-append}
-use Rattle.std.proofs.lemmas.List.{append_assoc, append-nil, length-append}
+use Rattle.std.proofs.lemmas.List.{append_assoc, append-nil, length-append, get_or_default}
 use Rattle.std.proofs.lemmas.List.Folds.{Any-from_list_any}
 use Rattle.std.proofs.lemmas.List.Quantifiers.{Any-push}
 use Rattle.std.proofs.lemmas.Slice.Eq.{bytes_eq-Decides}
+use Rattle.std.proofs.lemmas.Bool.{and_parts, and_from}
 use Rattle.reach.specs.Asked.{AskedLabel, is_first_for, is_last_for, joins}
-use Rattle.reach.proofs.AskedLemmas.{begins_by, both_hold, ends_by, two_hold}
+use Rattle.reach.proofs.AskedLemmas.{begins_by, ends_by}
 use Rattle.reach.proofs.ClosureLemmas.{below_or_at}
 use Rattle.reach.proofs.KeyLemmas.{begins_from, ends_from}
 
@@ -30,17 +31,12 @@ same_text text = (bytes_eq-Decides text text).1 refl
 pub first_itself : (some : List AskedLabel) (one : AskedLabel) → Any (λ other. is_first_for one other ≡ true) (some ++ one ∷ [])
 first_itself some one =
     Any-push (λ (other : AskedLabel). is_first_for one other ≡ true) some one
-    (both_hold _ _ (same_text one.front) (ends_from one.end [] one.end refl))
+    (and_from _ _ (same_text one.front) (ends_from one.end [] one.end refl))
 
 pub last_itself : (some : List AskedLabel) (one : AskedLabel) → Any (λ other. is_last_for one other ≡ true) (some ++ one ∷ [])
 last_itself some one =
     Any-push (λ (other : AskedLabel). is_last_for one other ≡ true) some one
-    (both_hold _ _ (same_text one.end) (begins_from one.front one.front [] (sym (append-nil one.front))))
-
-asked_at : (asked : List AskedLabel) (place : ℕ) (d e : AskedLabel) → place < length asked → get_or asked place d ≡ get_or asked place e
-asked_at [] place d e within = absurd (omega arith)
-asked_at (x ∷ asked) zero d e within = refl
-asked_at (x ∷ asked) (suc place) d e within = asked_at asked place d e (omega arith)
+    (and_from _ _ (same_text one.end) (begins_from one.front one.front [] (sym (append-nil one.front))))
 
 -- those before a place are served
 abbrev pub ServedTo : (AskedLabel → AskedLabel → Bool) → List AskedLabel → ℕ → List AskedLabel → Type 0
@@ -54,18 +50,18 @@ served_more serves asked one place old new within is seen stays here k d less =
     elim (below_or_at k place (omega arith)) [
       | inl below ↦ stays (serves (get_or asked k d)) (seen k d below)
       | inr same ↦ subst (λ (o : AskedLabel). Any (λ other. serves o other ≡ true) new)
-          (is ∙ (asked_at asked place one d within ∙ ap (λ n. get_or asked n d) (sym same))) here
+          (is ∙ (get_or_default asked place one d within ∙ ap (λ n. get_or asked n d) (sym same))) here
     ]
 
 -- ---- what they tell
 
-front_then : (a b c : List ℕ) → starts_with nat_eq a b ≡ true → starts_with nat_eq b c ≡ true → starts_with nat_eq a c ≡ true
+pub front_then : (a b c : List ℕ) → starts_with nat_eq a b ≡ true → starts_with nat_eq b c ≡ true → starts_with nat_eq a c ≡ true
 front_then a b c first second =
     begins_from a c (drop (length c) b ++ drop (length b) a)
     (begins_by a b first
     ∙ (ap (λ x. x ++ drop (length b) a) (begins_by b c second) ∙ append_assoc c (drop (length c) b) (drop (length b) a)))
 
-end_then : (a b c : List ℕ) → ends_with nat_eq a b ≡ true → ends_with nat_eq b c ≡ true → ends_with nat_eq a c ≡ true
+pub end_then : (a b c : List ℕ) → ends_with nat_eq a b ≡ true → ends_with nat_eq b c ≡ true → ends_with nat_eq a c ≡ true
 end_then a b c first second =
     let front = take (length a - length b) a in
     let more = take (length b - length c) b in
@@ -77,12 +73,12 @@ pub serving_join : (first last one other : AskedLabel) → is_first_for first on
     → starts_with nat_eq first.front last.front ≡ true → ends_with nat_eq last.end first.end ≡ true
     → (one.front ≡ first.front) × (other.end ≡ last.end) × (joins one other ≡ true)
 serving_join first last one other is_first is_last fronts ends =
-    let f = two_hold (bytes_eq one.front first.front) (ends_with nat_eq first.end one.end) is_first in
-    let l = two_hold (bytes_eq other.end last.end) (starts_with nat_eq last.front other.front) is_last in
+    let f = and_parts (bytes_eq one.front first.front) (ends_with nat_eq first.end one.end) is_first in
+    let l = and_parts (bytes_eq other.end last.end) (starts_with nat_eq last.front other.front) is_last in
     let front : one.front ≡ first.front = (bytes_eq-Decides one.front first.front).0 f.0 in
     let end : other.end ≡ last.end = (bytes_eq-Decides other.end last.end).0 l.0 in (
       front,
       end,
-      both_hold _ _ (subst (λ t. starts_with nat_eq t other.front ≡ true) (sym front) (front_then first.front last.front other.front fronts l.1))
+      and_from _ _ (subst (λ t. starts_with nat_eq t other.front ≡ true) (sym front) (front_then first.front last.front other.front fronts l.1))
           (subst (λ t. ends_with nat_eq t one.end ≡ true) (sym end) (end_then last.end first.end one.end ends f.1)),
     )

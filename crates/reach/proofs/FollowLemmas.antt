@@ -3,12 +3,13 @@ use Rattle.std.proofs.Common.{◌≡◌, ℕ, ◌<◌, zero, suc, ◌+◌, Bool,
 use Rattle.std.specs.Prelude.{if◌then◌else◌, nat_lt, not, position}
 use Rattle.std.specs.List.{list_all, prefix_len, slice_get}
 use Rattle.std.specs.Option.{option_map, unwrap_or}
+use Rattle.std.proofs.lemmas.Bool.{and_parts}
 use Rattle.own_model.specs.Routes.{label_with}
 use Rattle.own_model.specs.Listed.{Listed, ListedEntry, ListedRule, asks_for, init_entry, most_lists, rules_for}
 use Rattle.reach.specs.Asked.{agrees, agrees_within, behind, rule_agrees}
 use Rattle.reach.specs.Deciding.{decided, trail_of}
 use Rattle.reach.specs.Hops.{hops_of, hops_within, leads_out}
-use Rattle.reach.proofs.AskedLemmas.{as_is, behind_is, behind_long, two_hold}
+use Rattle.reach.proofs.AskedLemmas.{as_is, behind_is, behind_long}
 use Rattle.reach.proofs.KeyLemmas.{places_of}
 
 before_alike : (service opened seen other end : List ℕ) (rules : List ListedRule)
@@ -16,8 +17,8 @@ before_alike : (service opened seen other end : List ℕ) (rules : List ListedRu
     → prefix_len (λ rule. not (asks_for rule service seen)) rules ≡ prefix_len (λ rule. not (asks_for rule service other)) rules
 before_alike service opened seen other end [] one two = refl
 before_alike service opened seen other end (rule ∷ rules) one two =
-    let first = two_hold (rule_agrees service opened seen end rule) _ one in
-    let second = two_hold (rule_agrees service opened other end rule) _ two in
+    let first = and_parts (rule_agrees service opened seen end rule) _ one in
+    let second = and_parts (rule_agrees service opened other end rule) _ two in
     let same : asks_for rule service seen ≡ asks_for rule service other = as_is _ _ first.0 ∙ sym (as_is _ _ second.0) in
     let others = before_alike service opened seen other end rules first.1 second.1 in
     ap (λ t. if not t then 1 + prefix_len (λ rule. not (asks_for rule service seen)) rules else 0) same
@@ -51,8 +52,8 @@ hops_alike : (lists : ℕ) (list : Listed) (entry : ListedEntry) (service opened
     → places_of (hops_within lists list entry service seen) ≡ places_of (hops_within lists list entry service other)
 hops_alike zero list entry service opened seen other end some more one two = refl
 hops_alike (suc lists) list entry service opened seen other end some more one two =
-    let first = two_hold (list_all (rule_agrees service opened seen end) (rules_for list entry)) _ one in
-    let second = two_hold (list_all (rule_agrees service opened other end) (rules_for list entry)) _ two in
+    let first = and_parts (list_all (rule_agrees service opened seen end) (rules_for list entry)) _ one in
+    let second = and_parts (list_all (rule_agrees service opened other end) (rules_for list entry)) _ two in
     let here = first_alike service opened seen other end (rules_for list entry) first.0 second.0 in
     let out = hops_out lists list entry.name service opened seen other end
     (leads_out (rules_for list entry) (position (λ rule. asks_for rule service other) (rules_for list entry)))

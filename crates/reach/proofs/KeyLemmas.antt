@@ -9,6 +9,7 @@ use Rattle.std.proofs.lemmas.Slice.Eq.{bytes_eq-Decides, starts_is, ends_is}
 use Rattle.std.proofs.lemmas.List.{append_assoc, length-append, take-append-le}
 use Rattle.std.proofs.Common.{length-drop}
 use Rattle.std.proofs.Math.Seq.{take-append-add}
+use Rattle.std.proofs.lemmas.Bool.{false_from_ne_true}
 use Rattle.own_model.specs.Routes.{as_asked, label_with}
 use Rattle.own_model.specs.Listed.{Listed, ListedEntry, ListedRule, asks_for, end_of, init_entry, most_lists, route_within, rules_for, way_by, way_to}
 use Rattle.reach.specs.Deciding.{decided, trail_of}
@@ -17,10 +18,6 @@ use Rattle.reach.specs.Reach.{leads_to}
 use Rattle.reach.specs.Keys.{end_mark, filled, front_mark, is_lost, key_of, key_within, lost_of, lost_texts, mark, marks_by, marks_of, whole_mark}
 
 -- ---- tests
-
-not_true : (b : Bool) → (b ≡ true → ⊥) → b ≡ false
-not_true true is = absurd (is refl)
-not_true false is = refl
 
 pub same_tests : (a b : Bool) → (a ≡ true → b ≡ true) → (b ≡ true → a ≡ true) → a ≡ b
 same_tests true b there back = sym (there refl)
@@ -58,7 +55,7 @@ whole_case : (asked seen rest : List ℕ) (b : Bool) → starts_with nat_eq aske
 unfolding whole_by
 whole_case asked seen rest true begins = sym (ap (λ s. bytes_eq (s ++ rest) asked) (begins_take asked seen begins))
 whole_case asked seen rest false begins =
-    not_true _ (λ same. let is = begins_from asked seen rest (sym ((bytes_eq-Decides (seen ++ rest) asked).0 same)) in cc)
+    false_from_ne_true _ (λ same. let is = begins_from asked seen rest (sym ((bytes_eq-Decides (seen ++ rest) asked).0 same)) in cc)
 
 whole_read : (asked seen rest : List ℕ) → bytes_eq (seen ++ rest) asked ≡ whole_by (whole_mark asked seen) asked rest
 whole_read asked seen rest = whole_case asked seen rest (starts_with nat_eq asked seen) refl
@@ -108,7 +105,7 @@ front_case asked seen rest true b begun begins =
 front_case asked seen rest false true begun begins =
     sym (ap (λ s. starts_with nat_eq (s ++ rest) asked) (begins_take asked seen begins))
 front_case asked seen rest false false begun begins =
-    not_true _ (λ is. front_lost asked seen rest begun begins (front_apart asked seen rest is (by_length asked seen)))
+    false_from_ne_true _ (λ is. front_lost asked seen rest begun begins (front_apart asked seen rest is (by_length asked seen)))
 
 front_read : (asked seen rest : List ℕ) → starts_with nat_eq (seen ++ rest) asked ≡ front_by (front_mark asked seen) asked rest
 front_read asked seen rest =

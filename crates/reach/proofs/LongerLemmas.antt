@@ -3,22 +3,13 @@ use Rattle.std.proofs.Common.{◌≡◌, ◌≢◌, ℕ, ◌<◌, ◌≤◌, zer
 use Rattle.std.specs.Prelude.{codes, if◌then◌else◌, slice_index}
 use Rattle.std.specs.List.{starts_with, slice_get}
 use Rattle.std.specs.Option.{option_map, unwrap_or}
-use Rattle.std.proofs.lemmas.Bool.Decides.{Decides-eqb}
-use Rattle.std.proofs.lemmas.Slice.Eq.{starts_is}
 use Rattle.std.proofs.lemmas.List.{append_assoc, append-nil, length-append}
-use Rattle.std.proofs.Math.Seq.{drop-cons}
+use Rattle.std.proofs.Math.Seq.{drop-cons, drop-append_seam}
+use Rattle.reach.proofs.AskedLemmas.{begins_by}
 use Rattle.own_model.specs.Routes.{label_with}
 use Rattle.own_model.specs.Listed.{Listed, ListedEntry, ListedRule, init_entry, most_lists, rules_for}
 use Rattle.reach.specs.Keys.{end_mark, front_mark, key_of, key_within, lost_of, mark, marks_by, marks_of, whole_mark}
 use Rattle.reach.proofs.KeyLemmas.{begins_from, lost_on}
-
--- a text that begins with another is that one and the rest
-parts : (text front : List ℕ) → starts_with nat_eq text front ≡ true → text ≡ front ++ drop (length front) text
-parts text front begins = (starts_is Decides-eqb text front _ refl).0 begins
-
-drop_parts : (front rest : List ℕ) → drop (length front) (front ++ rest) ≡ rest
-drop_parts [] rest = refl
-drop_parts (b ∷ front) rest = drop_parts front rest
 
 -- ---- one rule
 
@@ -33,7 +24,7 @@ pub marks_lost : (service : List ℕ) (rule : ListedRule) (seen longer key : Lis
     → starts_with nat_eq key (marks_of service rule seen) ≡ true → slice_index key 0 ≡ 0
     → (marks_of service rule longer ≡ 0 ∷ []) × (length (marks_of service rule seen) ≡ 1)
 marks_lost service rule seen longer key more begins none =
-    let lost = lost_case (lost_of service rule seen) _ _ _ key _ (parts key (marks_of service rule seen) begins) none in (
+    let lost = lost_case (lost_of service rule seen) _ _ _ key _ (begins_by key (marks_of service rule seen) begins) none in (
       ap (λ l. if l then 0 ∷ []
           else 1 ∷ mark whole_mark rule.label longer ∷ mark front_mark rule.label_prefix longer ∷ mark end_mark rule.label_suffix longer ∷ [])
           (lost_on service rule seen longer more lost),
@@ -48,7 +39,7 @@ some_case false a b c key rest is = omega (arith, ap length is)
 -- a key that begins with a rule's marks has one
 pub marks_some : (service : List ℕ) (rule : ListedRule) (seen key : List ℕ) → starts_with nat_eq key (marks_of service rule seen) ≡ true
     → 1 ≤ length key
-marks_some service rule seen key begins = some_case (lost_of service rule seen) _ _ _ key _ (parts key (marks_of service rule seen) begins)
+marks_some service rule seen key begins = some_case (lost_of service rule seen) _ _ _ key _ (begins_by key (marks_of service rule seen) begins)
 
 live_case : (lost : Bool) (a b c : ℕ) (key rest : List ℕ) → key ≡ (if lost then 0 ∷ [] else 1 ∷ a ∷ b ∷ c ∷ []) ++ rest
     → slice_index key 0 ≢ 0 → (length (if lost then 0 ∷ [] else 1 ∷ a ∷ b ∷ c ∷ []) ≡ 4) × (4 ≤ length key)
@@ -58,26 +49,26 @@ live_case false a b c key rest is some = (refl, omega (arith, ap length is))
 pub marks_live : (service : List ℕ) (rule : ListedRule) (seen key : List ℕ) → starts_with nat_eq key (marks_of service rule seen) ≡ true
     → slice_index key 0 ≢ 0 → (length (marks_of service rule seen) ≡ 4) × (4 ≤ length key)
 marks_live service rule seen key begins some =
-    live_case (lost_of service rule seen) _ _ _ key _ (parts key (marks_of service rule seen) begins) some
+    live_case (lost_of service rule seen) _ _ _ key _ (begins_by key (marks_of service rule seen) begins) some
 
 -- ---- the rules of a list
 
 front_first : (text a b : List ℕ) → starts_with nat_eq text (a ++ b) ≡ true → starts_with nat_eq text a ≡ true
 front_first text a b begins =
-    begins_from text a (b ++ drop (length (a ++ b)) text) (parts text (a ++ b) begins ∙ append_assoc a b (drop (length (a ++ b)) text))
+    begins_from text a (b ++ drop (length (a ++ b)) text) (begins_by text (a ++ b) begins ∙ append_assoc a b (drop (length (a ++ b)) text))
 
 -- what stands behind the first part
 front_rest : (text a b : List ℕ) → starts_with nat_eq text (a ++ b) ≡ true → drop (length a) text ≡ b ++ drop (length (a ++ b)) text
 front_rest text a b begins =
-    ap (λ t. drop (length a) t) (parts text (a ++ b) begins ∙ append_assoc a b (drop (length (a ++ b)) text))
-    ∙ drop_parts a (b ++ drop (length (a ++ b)) text)
+    ap (λ t. drop (length a) t) (begins_by text (a ++ b) begins ∙ append_assoc a b (drop (length (a ++ b)) text))
+    ∙ drop-append_seam a (b ++ drop (length (a ++ b)) text)
 
 front_then : (text a b : List ℕ) → starts_with nat_eq text (a ++ b) ≡ true → starts_with nat_eq (drop (length a) text) b ≡ true
 front_then text a b begins = begins_from (drop (length a) text) b (drop (length (a ++ b)) text) (front_rest text a b begins)
 
 front_left : (text a b : List ℕ) → starts_with nat_eq text (a ++ b) ≡ true → drop (length (a ++ b)) text ≡ drop (length b) (drop (length a) text)
 front_left text a b begins =
-    sym (ap (λ t. drop (length b) t) (front_rest text a b begins) ∙ drop_parts b (drop (length (a ++ b)) text))
+    sym (ap (λ t. drop (length b) t) (front_rest text a b begins) ∙ drop-append_seam b (drop (length (a ++ b)) text))
 
 by_turn : (service seen : List ℕ) (rules : List ListedRule) (rule : ListedRule) (place next : ℕ) → next ≡ place + 1 → place < length rules
     → get_or rules place rule ≡ rule
@@ -145,10 +136,10 @@ pub named_begins : (name seen longer : List ℕ) → starts_with nat_eq longer s
 named_begins name [] [] more = begins_from name name [] (sym (append-nil name))
 named_begins name [] (b ∷ longer) more =
     begins_from ((name ++ codes " -> ") ++ (b ∷ longer)) name (codes " -> " ++ (b ∷ longer)) (append_assoc name (codes " -> ") (b ∷ longer))
-named_begins name (a ∷ seen) [] more = let is = parts [] (a ∷ seen) more in cc
+named_begins name (a ∷ seen) [] more = let is = begins_by [] (a ∷ seen) more in cc
 named_begins name (a ∷ seen) (b ∷ longer) more =
     begins_from ((name ++ codes " -> ") ++ (b ∷ longer)) ((name ++ codes " -> ") ++ (a ∷ seen)) (drop (length (a ∷ seen)) (b ∷ longer))
-    (ap (λ t. (name ++ codes " -> ") ++ t) (parts (b ∷ longer) (a ∷ seen) more)
+    (ap (λ t. (name ++ codes " -> ") ++ t) (begins_by (b ∷ longer) (a ∷ seen) more)
     ∙ sym (append_assoc (name ++ codes " -> ") (a ∷ seen) (drop (length (a ∷ seen)) (b ∷ longer))))
 
 pub key_first : (lists : ℕ) (list : Listed) (entry : ListedEntry) (service seen key : List ℕ) → 0 < lists
@@ -165,7 +156,7 @@ key_outer (suc lists) less list entry init service seen outer key rest more is l
     let same : lists ≡ less = omega arith in
     left
     ∙ (ap (λ k. drop (length (marks_by service (rules_for list entry) seen)) k) is
-    ∙ (drop_parts (marks_by service (rules_for list entry) seen) _
+    ∙ (drop-append_seam (marks_by service (rules_for list entry) seen) _
     ∙ (ap (λ o. unwrap_or (option_map (λ i. key_within lists list i service (label_with entry.name seen)) o) []) found
     ∙ (ap (λ n. key_within n list init service (label_with entry.name seen)) same
     ∙ ap (λ o. key_within less list init service o) (sym sees)))))

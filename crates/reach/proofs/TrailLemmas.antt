@@ -1,15 +1,16 @@
 -- What is kept of each label's trail, and what the trails tell of all given labels.
-use Rattle.std.proofs.Common.{◌≡◌, ◌≢◌, ℕ, ◌<◌, ◌≤◌, zero, suc, ◌+◌, Bool, true, false, ◌||◌, List, [], ◌∷◌, ◌++◌, length, get_or, refl, sym, subst, ap, ◌∙◌, arith, ◌⊎◌, inl, inr, Option, Some, None}
+use Rattle.std.proofs.Common.{◌≡◌, ◌≢◌, ℕ, ◌<◌, ◌≤◌, zero, suc, ◌+◌, Bool, true, List, [], ◌∷◌, ◌++◌, length, get_or, refl, sym, subst, ap, ◌∙◌, arith, ◌⊎◌, inl, inr, Option, Some, None}
 use Rattle.std.specs.Prelude.{All, Any, nat_le}
 use Rattle.std.specs.List.{list_all, list_any}
 use Rattle.std.specs.Str.{bytes_eq}
 use Rattle.std.proofs.lemmas.Bool.Decides.{nat_tests}
 use Rattle.std.proofs.lemmas.Slice.Eq.{bytes_eq-Decides}
-use Rattle.std.proofs.lemmas.List.{length-append}
+use Rattle.std.proofs.lemmas.List.{length-append, get_or_default}
 use Rattle.std.proofs.lemmas.List.Elements.{All-contains, All-push}
 use Rattle.std.proofs.lemmas.List.Folds.{Any-from_list_any, list_any-from_Any}
 use Rattle.std.proofs.Math.ListN.{get_or-append}
 use Rattle.std.proofs.lemmas.List.Quantifiers.{Any-push}
+use Rattle.std.proofs.lemmas.Bool.{and_from, and_parts, or_left, or_right, or_cases}
 use Rattle.own_model.specs.Listed.{Listed}
 use Rattle.own_model.specs.SessionArgs.{is_quotable}
 use Rattle.reach.specs.Closure.{KeptLabel}
@@ -17,7 +18,7 @@ use Rattle.reach.specs.Deciding.{AreTrails, IsOnTrail, IsTrail, KeepsTrail, Trai
 use Rattle.reach.specs.Reach.{IsGiven, leads_to}
 use Rattle.reach.specs.Trails.{AreSeen}
 use Rattle.reach.specs.Ways.{GoesAlike, IsTold, StandForAll}
-use Rattle.reach.proofs.ClosureLemmas.{below_or_at, both_true, quotable_within, same_at, two_true}
+use Rattle.reach.proofs.ClosureLemmas.{below_or_at, quotable_within}
 use Rattle.reach.proofs.KeyLemmas.{same_tests}
 
 -- ---- one trail
@@ -25,7 +26,7 @@ use Rattle.reach.proofs.KeyLemmas.{same_tests}
 at_most : (m n : ℕ) → nat_le m n ≡ true → m ≤ n
 at_most m n is = grind (arith, nat_tests)
 
-same_end : (child other : Option ℕ) → same_child child other ≡ true → child ≡ other
+pub same_end : (child other : Option ℕ) → same_child child other ≡ true → child ≡ other
 same_end None None is = refl
 same_end None (Some other) is = cc
 same_end (Some child) None is = cc
@@ -36,8 +37,8 @@ pub keeps_known : (list : Listed) (client : ℕ) (service rules : List ℕ) (one
     → list_any (is_same one.label rules one.child) trails ≡ true → KeepsTrail list client service one.label trails trails
 keeps_known list client service rules one trails told are decides known =
     let any = Any-from_list_any (is_same one.label rules one.child) trails known in
-    let first = two_true (bytes_eq any.1.rules rules) _ any.4 in
-    let then = two_true (same_child any.1.child one.child) _ first.1 in
+    let first = and_parts (bytes_eq any.1.rules rules) _ any.4 in
+    let then = and_parts (same_child any.1.child one.child) _ first.1 in
     record {
       told = are;
       stays = λ other there. there;
@@ -103,7 +104,7 @@ seen_at list client service kept size place k one d old new within is seen keeps
     keeps.stays (get_or kept k d).label (seen.before k d below long)
 seen_at list client service kept size place k one d old new within is seen keeps long (inr same) =
     subst (λ (o : KeptLabel). Any (IsOnTrail list client service o.label) new)
-    (sym (ap (λ n. get_or kept n d) same ∙ (same_at kept place d one within ∙ is))) keeps.there
+    (sym (ap (λ n. get_or kept n d) same ∙ (get_or_default kept place d one within ∙ is))) keeps.there
 
 pub seen_more : (list : Listed) (client : ℕ) (service : List ℕ) (kept : List KeptLabel) (size place : ℕ) (one : KeptLabel) (old new : List TrailAt)
     → place < length kept → get_or kept place one ≡ one → AreSeen list client service kept size place old
@@ -123,7 +124,7 @@ passed_at : (list : Listed) (client : ℕ) (service : List ℕ) (kept : List Kep
 passed_at list client service kept size place k one d trails within is other seen long (inl below) = seen.before k d below long
 passed_at list client service kept size place k one d trails within is other seen long (inr same) =
     absurd (other
-    (ap (λ (o : KeptLabel). length o.label) (sym (ap (λ n. get_or kept n d) same ∙ (same_at kept place d one within ∙ is))) ∙ long))
+    (ap (λ (o : KeptLabel). length o.label) (sym (ap (λ n. get_or kept n d) same ∙ (get_or_default kept place d one within ∙ is))) ∙ long))
 
 -- a label of another length is passed
 pub seen_passed : (list : Listed) (client : ℕ) (service : List ℕ) (kept : List KeptLabel) (size place : ℕ) (one : KeptLabel) (trails : List TrailAt)
@@ -180,31 +181,19 @@ trails_of list client service kept trails stand seen =
 
 -- ---- whether something holds of some given label
 
-left_true : (a b : Bool) → a ≡ true → (a || b) ≡ true
-left_true true b is = refl
-left_true false b is = cc
-
-right_true : (a b : Bool) → b ≡ true → (a || b) ≡ true
-right_true true b is = refl
-right_true false b is = is
-
-one_true : (a b : Bool) → (a || b) ≡ true → (a ≡ true) ⊎ (b ≡ true)
-one_true true b is = inl refl
-one_true false b is = inr is
-
 byte_in : (bound byte : ℕ) (holds : ℕ → Bool) → (byte < bound) → is_quotable byte ≡ true → holds byte ≡ true → some_byte bound holds ≡ true
 byte_in zero byte holds within plain is = absurd (omega arith)
 byte_in (suc bound) byte holds within plain is =
     elim (below_or_at byte bound (omega arith)) [
-      | inl less ↦ right_true _ _ (byte_in bound byte holds less plain is)
-      | inr same ↦ left_true _ _ (both_true _ _ (sym (ap is_quotable same) ∙ plain) (sym (ap holds same) ∙ is))
+      | inl less ↦ or_right _ _ (byte_in bound byte holds less plain is)
+      | inr same ↦ or_left _ _ (and_from _ _ (sym (ap is_quotable same) ∙ plain) (sym (ap holds same) ∙ is))
     ]
 
 byte_out : (bound : ℕ) (holds : ℕ → Bool) → some_byte bound holds ≡ true → (byte : ℕ) × (is_quotable byte ≡ true) × (holds byte ≡ true)
 byte_out zero holds is = cc
 byte_out (suc bound) holds is =
-    elim (one_true _ _ is) [
-      | inl here ↦ (let both = two_true (is_quotable bound) (holds bound) here in (bound, both.0, both.1))
+    elim (or_cases _ _ is) [
+      | inl here ↦ (let both = and_parts (is_quotable bound) (holds bound) here in (bound, both.0, both.1))
       | inr below ↦ byte_out bound holds below
     ]
 
@@ -212,10 +201,10 @@ label_in : (most : ℕ) (label : List ℕ) (holds : List ℕ → Bool) → lengt
     → holds label ≡ true → some_label most holds ≡ true
 label_in zero [] holds short plain is = is
 label_in zero (b ∷ label) holds short plain is = absurd (omega arith)
-label_in (suc most) [] holds short plain is = left_true _ _ is
+label_in (suc most) [] holds short plain is = or_left _ _ is
 label_in (suc most) (b ∷ label) holds short plain is =
-    let both = two_true (is_quotable b) (list_all is_quotable label) plain in
-    right_true _ _ (byte_in 127 b (λ byte. some_label most (λ label. holds (byte ∷ label))) (quotable_within b both.0).1 both.0
+    let both = and_parts (is_quotable b) (list_all is_quotable label) plain in
+    or_right _ _ (byte_in 127 b (λ byte. some_label most (λ label. holds (byte ∷ label))) (quotable_within b both.0).1 both.0
     (label_in most label (λ label. holds (b ∷ label)) (omega arith) both.1 is))
 
 -- a label of at most so many bytes of which it holds
@@ -225,12 +214,12 @@ Found most holds = (label : List ℕ) × (length label ≤ most) × (list_all is
 label_out : (most : ℕ) (holds : List ℕ → Bool) → some_label most holds ≡ true → Found most holds
 label_out zero holds is = ([], omega arith, refl, is)
 label_out (suc most) holds is =
-    elim (one_true _ _ is) [
+    elim (or_cases _ _ is) [
       | inl here ↦ ([], omega arith, refl, here)
       | inr more ↦ (let first = byte_out 127 (λ byte. some_label most (λ label. holds (byte ∷ label))) more in
           let rest = label_out most (λ label. holds (first.0 ∷ label)) first.2 in
           let short : length rest.0 ≤ most = rest.1 in
-          (first.0 ∷ rest.0, omega arith, both_true _ _ first.1 rest.2, rest.3))
+          (first.0 ∷ rest.0, omega arith, and_from _ _ first.1 rest.2, rest.3))
     ]
 
 pub some_given : (holds : List ℕ → Bool) (label : List ℕ) → IsGiven label → holds label ≡ true → for_some_label holds ≡ true

@@ -1,16 +1,16 @@
 -- What is told of a server, by labels that show where all given ones lead.
-use Rattle.std.proofs.Common.{◌≡◌, ℕ, ◌<◌, ◌≤◌, ◌+◌, zero, suc, Bool, true, false, ◌&&◌, List, [], ◌∷◌, length, get_or, refl, sym, ap, ◌∙◌, arith, ◌⊎◌, inl, inr, nat_lt, Option, Some, None}
+use Rattle.std.proofs.Common.{◌≡◌, ℕ, ◌<◌, ◌≤◌, ◌+◌, suc, Bool, true, false, ◌&&◌, List, [], ◌∷◌, length, get_or, refl, sym, ap, ◌∙◌, arith, ◌⊎◌, inl, inr, nat_lt, Option, Some, None}
 use Rattle.std.specs.List.{list_all}
 use Rattle.std.proofs.lemmas.Bool.Decides.{nat_tests}
-use Rattle.std.proofs.lemmas.List.{append-nil}
+use Rattle.std.proofs.lemmas.List.{append-nil, get_or_default}
 use Rattle.std.proofs.lemmas.List.Elements.{All-contains}
 use Rattle.std.proofs.lemmas.List.Sums.{AllPass-from_list_all}
 use Rattle.own_model.specs.Listed.{Listed}
 use Rattle.reach.specs.Reach.{AllLead, IsShortest, NoneLeads, SomeStray, leads_to}
 use Rattle.reach.specs.Closure.{AreKept, IsKept, KeptLabel, StandsFor}
-use Rattle.reach.proofs.ClosureLemmas.{same_at}
 use Rattle.reach.specs.Deciding.{trail_of}
 use Rattle.reach.specs.Ways.{AreWays, GoesAlike, IsBest, IsLeast, IsTold, StandForAll, is_child, is_shorter, leads}
+use Rattle.reach.proofs.ClosureLemmas.{below_or_at}
 
 -- ---- from labels that stand for all others
 
@@ -63,17 +63,13 @@ is_child_of : (server : ℕ) (child : Option ℕ) → child ≡ Some server → 
 is_child_of server None is = cc
 is_child_of server (Some child) is = let same : child ≡ server = cc in grind (arith, nat_tests)
 
-below_next : (k place : ℕ) → k < place + 1 → (k < place) ⊎ (k ≡ place)
-below_next zero zero less = inr refl
-below_next zero (suc place) less = inl (omega arith)
-below_next (suc k) zero less = absurd (omega arith)
-below_next (suc k) (suc place) less =
-    elim (below_next k place (omega arith)) [ inl below ↦ inl (omega arith) | inr same ↦ inr (ap suc same) ]
+pub below_next : (k place : ℕ) → k < place + 1 → (k < place) ⊎ (k ≡ place)
+below_next k place less = below_or_at k place (omega arith)
 
 at_place : (kept : List KeptLabel) (place k : ℕ) (one d : KeptLabel) → one ≡ get_or kept place one → place < length kept → k ≡ place
     → get_or kept k d ≡ one
 at_place kept place k one d here within same =
-    ap (λ n. get_or kept n d) same ∙ (same_at kept place d one within ∙ sym here)
+    ap (λ n. get_or kept n d) same ∙ (get_or_default kept place d one within ∙ sym here)
 
 leads_at : (kept : List KeptLabel) (server k : ℕ) (one d : KeptLabel) (b : Bool) → get_or kept k d ≡ one → leads server one ≡ b
     → leads server (get_or kept k d) ≡ b
@@ -96,7 +92,7 @@ least_more kept server place best k one d here within least (inl lost) leading (
 least_more kept server place best k one d here within least (inr short) leading (inr same) =
     let less : best < place = least.within in
     let mine = ap (λ (o : KeptLabel). length o.label) (at_place kept place k one d here within same) in
-    let other = ap (λ (o : KeptLabel). length o.label) (same_at kept best d one (omega arith)) in
+    let other = ap (λ (o : KeptLabel). length o.label) (get_or_default kept best d one (omega arith)) in
     omega arith
 
 not_shorter : (m n : ℕ) → nat_lt m n ≡ false → n ≤ m
@@ -139,7 +135,7 @@ taken_least kept server place (Some best) k one d here within is shorter there (
     let less : best < place = is.within in
     let least : length (get_or kept best d).label ≤ length (get_or kept k d).label = is.least k d below there in
     let mine = ap (λ (o : KeptLabel). length o.label) (at_place kept place place one d here within refl) in
-    let other = ap (λ (o : KeptLabel). length o.label) (same_at kept best d one (omega arith)) in
+    let other = ap (λ (o : KeptLabel). length o.label) (get_or_default kept best d one (omega arith)) in
     let short : length one.label < length (get_or kept best one).label = is_less _ _ shorter in
     omega arith
 taken_least kept server place best k one d here within is shorter there (inr same) =
@@ -206,7 +202,7 @@ least_at : (kept : List KeptLabel) (server place : ℕ) (one two : KeptLabel) (k
     → length one.label ≤ most
 least_at kept server place one two k best is within there leading most short =
     let inside : place < length kept = best.within in
-    let at : get_or kept k one ≡ two = same_at kept k one two within ∙ there in
+    let at : get_or kept k one ≡ two = get_or_default kept k one two within ∙ there in
     let least : length (get_or kept place one).label ≤ length (get_or kept k one).label =
     best.least k one within (leads_at kept server k two one true at leading) in
     let mine = ap (λ (o : KeptLabel). length o.label) is in

@@ -6,6 +6,8 @@ use Rattle.std.specs.Option.{option_and_then, option_map, option_or}
 use Rattle.std.specs.Str.{bytes_eq}
 use Rattle.std.proofs.lemmas.Bool.Decides.{nat_tests}
 use Rattle.std.proofs.lemmas.List.Quantifiers.{position-Some}
+use Rattle.std.proofs.lemmas.Bool.{and_parts}
+use Rattle.std.proofs.lemmas.Option.{slice_get-get_or}
 use Rattle.trade_base.specs.declared.service.Service.{Service}
 use Rattle.own_model.specs.Account.{Account, shortage}
 use Rattle.own_model.specs.Listed.{Binary, Listed, ListedEntry, ListedRule, Target, Way, asks_for, end_of, init_entry, levels_within, most_lists, named_provider, offers, route_within, rules_for, server_at, serves, service_at, service_of, start_of, way_by, way_to}
@@ -22,10 +24,6 @@ use Rattle.reach.specs.WishLaws.{Asks, WishesAreDenied, WishesAreOpened}
 
 -- ---- who is led to serves
 
-both_are : (a b : Bool) → (a && b) ≡ true → (a ≡ true) × (b ≡ true)
-both_are true b is = (refl, is)
-both_are false b is = cc
-
 serves_one : (binary : Binary) (service : List ℕ) → serves binary service ≡ true → (kind : Service) × (service_of binary ≡ Some kind)
 serves_one Script service is = cc
 serves_one (Server kind) service is = (kind, refl)
@@ -34,17 +32,12 @@ serves_one Init service is = cc
 offers_one : (entry : ListedEntry) (init : ℕ) (service : List ℕ) → offers init service entry ≡ true
     → (kind : Service) × (service_of entry.binary ≡ Some kind)
 offers_one entry init service is =
-    serves_one entry.binary service (both_are entry.provides _ (both_are (entry.home == init) _ is).1).1
-
-entry_there : (entries : List ListedEntry) (k : ℕ) (d : ListedEntry) → k < length entries → slice_get entries k ≡ Some (get_or entries k d)
-entry_there [] k d within = absurd (omega arith)
-entry_there (e ∷ entries) zero d within = refl
-entry_there (e ∷ entries) (suc k) d within = entry_there entries k d (omega arith)
+    serves_one entry.binary service (and_parts entry.provides _ (and_parts (entry.home == init) _ is).1).1
 
 kind_there : (entries : List ListedEntry) (k : ℕ) (d : ListedEntry) (kind : Service) → k < length entries
     → service_of (get_or entries k d).binary ≡ Some kind → service_at entries k ≡ Some kind
 kind_there entries k d kind within is =
-    ap (λ o. option_and_then (λ (e : ListedEntry). service_of e.binary) o) (entry_there entries k d within) ∙ is
+    ap (λ o. option_and_then (λ (e : ListedEntry). service_of e.binary) o) (slice_get-get_or entries k d within) ∙ is
 
 -- an entry, of a list that has a place
 some_entry : (entries : List ListedEntry) (p : ListedEntry → Bool) (k : ℕ) → position p entries ≡ Some k → ListedEntry
@@ -56,7 +49,7 @@ named_serves : (entries : List ListedEntry) (init : ℕ) (name service : List �
 named_serves entries init name service k found =
     let d = some_entry entries (λ e. bytes_eq e.name name && offers init service e) k found in
     let is = position-Some (λ e. bytes_eq e.name name && offers init service e) entries k d found in
-    let kind = offers_one (get_or entries k d) init service (both_are (bytes_eq (get_or entries k d).name name) _ is.1).1 in
+    let kind = offers_one (get_or entries k d) init service (and_parts (bytes_eq (get_or entries k d).name name) _ is.1).1 in
     (kind.0, kind_there entries k d kind.0 is.0 kind.1)
 
 only_case : (entries : List ListedEntry) (init : ℕ) (service : List ℕ) (k : ℕ) (b : Bool)

@@ -1,20 +1,15 @@
 -- Which rules decide where a wish goes, list by list outward.
-use Rattle.std.specs.Prelude.{ℕ, zero, suc, Bool, true, false, List, [], ◌∷◌, if◌then◌else◌, position, Option, Some, None}
+use Rattle.std.specs.Prelude.{ℕ, zero, suc, Bool, false, List, [], ◌∷◌, if◌then◌else◌, position, Option, Some, None}
 use Rattle.std.specs.List.{slice_get}
 use Rattle.std.specs.Option.{option_map, unwrap_or}
 use Rattle.own_model.specs.Routes.{label_with}
-use Rattle.own_model.specs.Listed.{Listed, ListedEntry, ListedRule, Target, asks_for, init_entry, most_lists, rules_for}
-use Rattle.own_model.specs.Listed.Target.{Child, AnyChild, Parent}
+use Rattle.own_model.specs.Listed.{Listed, ListedEntry, ListedRule, asks_for, init_entry, most_lists, rules_for}
+use Rattle.start_lists.specs.Labels.{is_parent}
 
 -- the label as a list's rules see it, and the place of the first of them that matches, if one does
 pub record HopAt : Type 0 where
   pub seen : List ℕ
   pub rule : Option ℕ
-
-abbrev pub is_parent : Target → Bool
-is_parent (Child name) = false
-is_parent AnyChild = false
-is_parent Parent = true
 
 -- the rule at a place leads outward
 abbrev pub leads_out : List ListedRule → Option ℕ → Bool

@@ -1,16 +1,16 @@
 //! What the rules that a client's wishes meet ask of a label that isn't empty.
-ghost use Rattle.std.specs.Prelude.{◌≡◌, ◌+◌, ◌*◌, ◌≤◌, ◌++◌, [], ◌∷◌, length, drop, if◌then◌else◌, nat_eq, Some, None, IfOk, OnOk};
+ghost use Rattle.std.specs.Prelude.{◌≡◌, ◌+◌, ◌*◌, ◌≤◌, ◌++◌, [], ◌∷◌, length, if◌then◌else◌, Some, None, IfOk, OnOk};
 ghost use Rattle.std.specs.Option.{option_copied};
-ghost use Rattle.std.specs.List.{list_all, starts_with, ends_with};
-ghost use Rattle.own_model.specs.Routes.{as_asked};
+ghost use Rattle.std.specs.List.{list_all};
 ghost use Rattle.reach.specs.Asked.{agrees, agrees_within, asked_by, asked_of, asked_of_rule, asked_texts, asked_within, asks_nothing, behind, is_open, rule_agrees, text_of};
 
-use crate::key::{MOST_LISTS, asks_service, init_entry, rules_of};
 use crate::label::{Label, behind};
 use crate::wishes::Wishes;
+use routes::MOST_LISTS;
 use start_lists::{Entry, Rule, StartList};
 use std::alloc::{AllocError, Global};
 use std::marker::Model;
+use text_codec::skip_bytes;
 
 /// How a label has to begin and to end.
 #[derive(Drop)]
@@ -82,8 +82,8 @@ fn add_asked(
     if lists == 0 {
         return Ok(());
     }
-    add_by(asked, rules_of(list, entry), service, before.len())?;
-    match init_entry(list, entry.home()) {
+    add_by(asked, list.rules_of(entry), service, before.len())?;
+    match list.init_entry(entry.home()) {
         Some(init) => {
             let outer = behind(entry.name(), before);
             add_asked(asked, list, lists - 1, init, service, outer.as_slice())
@@ -118,10 +118,10 @@ fn add_rule(
     ensures { OnOk result (asked.new.items
         ≡ asked.old.items ++ asked_of_rule service.now before rule.now) }
 {
-    if asks_service(rule, service) && asks_nothing(rule.label()) {
+    if rule.asks_service(service) && asks_nothing(rule.label()) {
         let front = text_of(rule.label_prefix());
         let end = text_of(rule.label_suffix());
-        return add_texts(asked, text_behind(front, before), end);
+        return add_texts(asked, skip_bytes(front, before), end);
     }
     Ok(())
 }
@@ -154,17 +154,6 @@ fn text_of(asked: Option<&str>) -> &[u8]
     match asked {
         Some(asked) => asked.as_bytes(),
         None => &[],
-    }
-}
-
-/// What stands behind so many bytes of a text.
-pub(crate) fn text_behind(text: &[u8], before: usize) -> &[u8]
-    ensures { result.now ≡ drop before text.now }
-{
-    if before < text.len() {
-        &text[before..]
-    } else {
-        &[]
     }
 }
 
@@ -208,10 +197,10 @@ fn agrees_within(
     if lists == 0 {
         return true;
     }
-    if !agrees_by(rules_of(list, entry), service, opened, seen, end) {
+    if !agrees_by(list.rules_of(entry), service, opened, seen, end) {
         return false;
     }
-    match init_entry(list, entry.home()) {
+    match list.init_entry(entry.home()) {
         Some(init) => {
             let opened = behind(entry.name(), opened);
             let seen = behind(entry.name(), seen);
@@ -253,28 +242,8 @@ fn rule_agrees(rule: &Rule, service: &[u8], opened: &[u8], seen: &[u8], end: &[u
 fn is_open(rule: &Rule, service: &[u8], opened: &[u8], end: &[u8]) -> bool
     ensures { result ≡ is_open rule.now service.now opened.now end.now }
 {
-    asks_service(rule, service)
+    rule.asks_service(service)
         && asks_nothing(rule.label())
-        && begins_with(rule.label_prefix(), opened)
-        && ends_with(rule.label_suffix(), end)
-}
-
-// Whether a text begins as asked.
-fn begins_with(asked: Option<&str>, text: &[u8]) -> bool
-    ensures { result ≡ as_asked (starts_with nat_eq text.now) (option_copied asked.entry) }
-{
-    match asked {
-        Some(asked) => text.starts_with(asked.as_bytes()),
-        None => true,
-    }
-}
-
-// Whether a text ends as asked.
-fn ends_with(asked: Option<&str>, text: &[u8]) -> bool
-    ensures { result ≡ as_asked (ends_with nat_eq text.now) (option_copied asked.entry) }
-{
-    match asked {
-        Some(asked) => text.ends_with(asked.as_bytes()),
-        None => true,
-    }
+        && rule.labels().begins(opened)
+        && rule.labels().ends(end)
 }

@@ -1,6 +1,5 @@
 //! The rules by which a wish leads where it leads, in a line.
 use crate::course::{Course, Hop};
-use crate::key::init_entry;
 use crate::texts::{RuleAt, RuleFor};
 use start_lists::Entry;
 use std::fmt::{self, Display};
@@ -28,7 +27,7 @@ impl fmt::Display for Brief<'_> {
             if let Some(entry) = asks {
                 show_hop(f, entry, hop, is_first)?;
                 is_first = false;
-                asks = init_entry(list, entry.home());
+                asks = list.init_entry(entry.home());
             }
         }
         Ok(())

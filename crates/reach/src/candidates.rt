@@ -7,17 +7,18 @@ ghost use Rattle.reach.specs.Reach.{IsGiven};
 ghost use Rattle.reach.specs.Ways.{StandForAll};
 ghost use Rattle.reach.specs.Asked.{Adds, IsCut, AreJoined, AreOffered, IsFilled, IsFollowed, IsHeld, IsOffered, behind, goes_as_short, is_known, is_tail, is_whole, joins, known, known_within};
 
-use crate::asked::{Asked, agrees, asked_of, text_behind};
+use crate::asked::{Asked, agrees, asked_of};
 use crate::firsts::{firsts_of, lasts_of};
 use crate::held::Kept;
-use crate::key::{MOST_LISTS, client_entry, init_entry, rules_of};
+use crate::key::client_entry;
 use crate::label::{LONGEST_GIVEN, Label, behind};
 use crate::rules::{rules_for, same_child};
 use crate::wishes::Wishes;
 use arrayvec::ArrayVec;
-use routes::route;
+use routes::{MOST_LISTS, route};
 use start_lists::{Entry, Rule};
 use std::alloc::{AllocError, Global};
+use text_codec::skip_bytes;
 
 /// Labels that stand for all that can be given; none where no byte can stand between two texts for all that can.
 pub(crate) fn few_labels(alloc: Global, wishes: Wishes<'_>) -> Result<Option<Vec<Kept>>, AllocError>
@@ -138,8 +139,8 @@ fn offer_known_within(
     if lists == 0 {
         return Ok(());
     }
-    offer_known_by(alloc, kept, wishes, rules_of(wishes.list, entry), before)?;
-    match init_entry(wishes.list, entry.home()) {
+    offer_known_by(alloc, kept, wishes, wishes.list.rules_of(entry), before)?;
+    match wishes.list.init_entry(entry.home()) {
         Some(init) => {
             let outer = behind(entry.name(), before);
             offer_known_within(alloc, kept, wishes, lists - 1, init, outer.as_slice())
@@ -214,7 +215,7 @@ fn offer_whole(
 {
     match asked {
         Some(asked) => {
-            let rest = text_behind(asked.as_bytes(), before.len());
+            let rest = skip_bytes(asked.as_bytes(), before.len());
             offer(alloc, kept, wishes, rest)
         }
         None => Ok(()),

@@ -1,15 +1,14 @@
 //! Where one wish leads, and by which rules, list by list outward.
 ghost use Rattle.std.specs.Prelude.{◌≡◌, ◌+◌, ◌*◌, ◌<◌, ◌≤◌, ◌++◌, length, position, IfOk, OnOk};
-ghost use Rattle.start_lists.specs.View.{model_target};
 ghost use Rattle.own_model.specs.Listed.{asks_for};
-ghost use Rattle.reach.specs.Hops.{hops_of, hops_within, is_parent, leads_out};
+ghost use Rattle.reach.specs.Hops.{hops_of, hops_within, leads_out};
 ghost use Rattle.reach.specs.Reach.{leads_to};
 
-use crate::key::{MOST_LISTS, init_entry, rules_of};
-use crate::label::{LONGEST_GIVEN, LONGEST_SEEN, label_with};
+use crate::label::LONGEST_GIVEN;
 use crate::texts::{PathAt, RuleFor, Signs};
 use arrayvec::ArrayVec;
-use routes::route;
+use calls::{LONGEST_LABEL, label_of};
+use routes::{MOST_LISTS, route};
 use session_proto::SessionArgs;
 use start_lists::{Binary, Entry, Rule, StartList, Target};
 use std::alloc::{AllocError, Global};
@@ -19,7 +18,7 @@ use std::marker::Model;
 /// What the rules of a list decide of a wish.
 #[derive(Drop)]
 pub struct Hop {
-    seen: ArrayVec<u8, LONGEST_SEEN>,
+    seen: ArrayVec<u8, LONGEST_LABEL>,
     rule: Option<usize>,
 }
 
@@ -199,7 +198,7 @@ fn add_hops(
     if lists == 0 {
         return Ok(());
     }
-    let rules = rules_of(list, entry);
+    let rules = list.rules_of(entry);
     let rule = first_match(rules, service, seen);
     hops.push(Hop {
         seen: copied(seen),
@@ -208,9 +207,9 @@ fn add_hops(
     if !leads_out(rules, rule) {
         return Ok(());
     }
-    match init_entry(list, entry.home()) {
+    match list.init_entry(entry.home()) {
         Some(init) => {
-            let outer = label_with(entry.name(), seen);
+            let outer = label_of(entry.name(), seen);
             add_hops(hops, list, lists - 1, init, service, outer.as_slice())
         }
         None => Ok(()),
@@ -232,27 +231,17 @@ fn leads_out(rules: &[Rule], place: Option<usize>) -> bool
         return false;
     };
     match rules.get(place) {
-        Some(rule) => is_parent(rule.target()),
+        Some(rule) => rule.target().is_parent(),
         None => false,
     }
 }
 
-// Whether a target leads out of its init.
-fn is_parent(target: &Target) -> bool
-    ensures { result ≡ is_parent (model_target target.now) }
-{
-    match target {
-        Target::Child(_) | Target::AnyChild => false,
-        Target::Parent => true,
-    }
-}
-
 // The bytes of a label once more.
-fn copied(seen: &[u8]) -> ArrayVec<u8, LONGEST_SEEN>
+fn copied(seen: &[u8]) -> ArrayVec<u8, LONGEST_LABEL>
     requires { length seen.now ≤ 208 }
     ensures { result.items ≡ seen.now }
 {
-    let mut text = ArrayVec::<u8, LONGEST_SEEN>::new();
+    let mut text = ArrayVec::<u8, LONGEST_LABEL>::new();
     let _ = text.try_extend_from_slice(seen);
     text
 }
@@ -267,7 +256,7 @@ impl fmt::Display for Course<'_> {
             if let Some(entry) = asks {
                 show_hop(f, list, entry, hop)?;
                 last = Some(RuleFor::of(entry, hop.rule));
-                asks = init_entry(list, entry.home());
+                asks = list.init_entry(entry.home());
             }
         }
         self.show_end(f, last)
@@ -299,7 +288,7 @@ fn show_hop<W: fmt::Write>(
     let rule = RuleFor::of(entry, hop.rule);
     let seen = Signs::of(hop.seen.as_slice());
     write!(f, "{rule}, where the label is \"{seen}\"")?;
-    show_target(f, target_at(rules_of(list, entry), hop.rule))
+    show_target(f, target_at(list.rules_of(entry), hop.rule))
 }
 
 // The target of the rule at a place, if there is one.

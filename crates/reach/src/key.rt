@@ -2,18 +2,14 @@
 ghost use Rattle.std.specs.Prelude.{◌≡◌, ◌+◌, ◌*◌, ◌≤◌, ◌<◌, ◌++◌, length, IfOk, OnOk};
 ghost use Rattle.std.specs.Option.{option_copied};
 ghost use Rattle.std.specs.List.{slice_get};
-ghost use Rattle.std.specs.Str.{bytes_eq};
-ghost use Rattle.own_model.specs.Routes.{as_asked};
-ghost use Rattle.own_model.specs.Listed.{init_entry, rules_for};
 ghost use Rattle.reach.specs.Keys.{whole_mark, front_mark, end_mark, filled, is_lost, key_of, key_within, mark, marks_by, marks_of};
 
-use crate::label::{Label, label_with};
+use crate::label::Label;
 use crate::wishes::Wishes;
+use calls::label_of;
+use routes::MOST_LISTS;
 use start_lists::{Entry, Rule, StartList};
 use std::alloc::{AllocError, Global};
-
-/// How many lists there are at most between a client and the machine, both of theirs among them.
-pub(crate) const MOST_LISTS: usize = 4;
 
 /// The key of a label: labels of one key lead alike, and so do all longer ones that begin with them.
 pub(crate) fn key_of(
@@ -65,10 +61,10 @@ fn add_key(
     if lists == 0 {
         return Ok(());
     }
-    add_marks(key, rules_of(list, entry), service, seen)?;
-    match init_entry(list, entry.home()) {
+    add_marks(key, list.rules_of(entry), service, seen)?;
+    match list.init_entry(entry.home()) {
         Some(init) => {
-            let outer = label_with(entry.name(), seen);
+            let outer = label_of(entry.name(), seen);
             add_key(key, list, lists - 1, init, service, outer.as_slice())
         }
         None => Ok(()),
@@ -80,27 +76,6 @@ pub(crate) fn client_entry<'a>(wishes: Wishes<'a>) -> Option<&'a Entry>
     ensures { option_copied result ≡ slice_get wishes.entry.list.now.entries wishes.entry.client }
 {
     wishes.list.entries().get(wishes.client)
-}
-
-/// The entry of the init of a number; the machine's has none.
-pub(crate) fn init_entry(list: &StartList, init: usize) -> Option<&Entry>
-    ensures { option_copied result ≡ init_entry list.now init }
-{
-    if init == 0 {
-        None
-    } else {
-        list.entries().get(init - 1)
-    }
-}
-
-/// The rules for an entry: its own route, or else the default route of its list.
-pub(crate) fn rules_of<'a>(list: &'a StartList, entry: &'a Entry) -> &'a [Rule]
-    ensures { result.now ≡ rules_for list.now entry.now }
-{
-    match entry.route() {
-        Some(rules) => rules,
-        None => list.default_of(entry.home()),
-    }
 }
 
 // The marks of the rules of a list.
@@ -133,7 +108,7 @@ pub(crate) fn add_rule(
 {
     let whole = mark_of_whole(rule.label(), seen);
     let front = mark_of_front(rule.label_prefix(), seen);
-    if !asks_service(rule, service)
+    if !rule.asks_service(service)
         || is_lost(rule.label(), whole)
         || is_lost(rule.label_prefix(), front)
     {
@@ -154,16 +129,6 @@ fn is_lost(asked: Option<&str>, mark: usize) -> bool
     match asked {
         Some(_) => mark == 0,
         None => false,
-    }
-}
-
-/// Whether a rule asks for a service.
-pub(crate) fn asks_service(rule: &Rule, service: &[u8]) -> bool
-    ensures { result ≡ as_asked (bytes_eq service.now) rule.now.service }
-{
-    match rule.service() {
-        Some(asked) => service == asked.as_bytes(),
-        None => true,
     }
 }
 

@@ -1,21 +1,18 @@
 //! Labels that a client gives, and what the lists around it see of them.
 ghost use Rattle.std.specs.Prelude.{◌≡◌, ◌+◌, ◌≤◌, length};
 ghost use Rattle.std.specs.List.{list_all};
-ghost use Rattle.own_model.specs.Routes.{label_with};
 ghost use Rattle.own_model.specs.SessionArgs.{is_quotable};
 ghost use Rattle.reach.specs.Asked.{behind};
 
 use crate::texts::Signs;
 use arrayvec::ArrayVec;
+use calls::LONGEST_LABEL;
 use std::fmt::{self, Display};
 use std::marker::Model;
 use text_codec::is_quotable;
 
 /// The most bytes of a label that a client gives.
 pub(crate) const LONGEST_GIVEN: usize = 64;
-
-/// The most bytes of a label with the names of all inits above a client before it.
-pub(crate) const LONGEST_SEEN: usize = 208;
 
 /// A label: at most 64 bytes.
 #[derive(Drop)]
@@ -99,26 +96,12 @@ impl fmt::Display for Label {
     }
 }
 
-/// A name, and a label behind it, if there is one.
-pub(crate) fn label_with(name: &[u8], given: &[u8]) -> ArrayVec<u8, LONGEST_SEEN>
-    requires { length name.now + 4 + length given.now ≤ 208 }
-    ensures { result.items ≡ label_with name.now given.now }
-{
-    let mut label = ArrayVec::<u8, LONGEST_SEEN>::new();
-    let _ = label.try_extend_from_slice(name);
-    if !given.is_empty() {
-        let _ = label.try_extend_from_slice(b" -> ");
-        let _ = label.try_extend_from_slice(given);
-    }
-    label
-}
-
 /// A name before a text, with the arrow between them.
-pub(crate) fn behind(name: &[u8], text: &[u8]) -> ArrayVec<u8, LONGEST_SEEN>
+pub(crate) fn behind(name: &[u8], text: &[u8]) -> ArrayVec<u8, LONGEST_LABEL>
     requires { length name.now + 4 + length text.now ≤ 208 }
     ensures { result.items ≡ behind name.now text.now }
 {
-    let mut label = ArrayVec::<u8, LONGEST_SEEN>::new();
+    let mut label = ArrayVec::<u8, LONGEST_LABEL>::new();
     let _ = label.try_extend_from_slice(name);
     let _ = label.try_extend_from_slice(b" -> ");
     let _ = label.try_extend_from_slice(text);

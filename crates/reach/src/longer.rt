@@ -3,9 +3,11 @@ ghost use Rattle.std.specs.Prelude.{◌≡◌, ◌+◌, ◌*◌, ◌≤◌, ◌<
 ghost use Rattle.std.specs.List.{starts_with};
 ghost use Rattle.reach.specs.Keys.{key_of, key_within, marks_by, marks_of};
 
-use crate::key::{MOST_LISTS, add_rule, client_entry, filled, init_entry, rules_of};
-use crate::label::{Label, label_with};
+use crate::key::{add_rule, client_entry, filled};
+use crate::label::Label;
 use crate::wishes::Wishes;
+use calls::label_of;
+use routes::MOST_LISTS;
 use start_lists::{Entry, Rule, StartList};
 use std::alloc::{AllocError, Global};
 
@@ -64,11 +66,11 @@ fn add_longer(
     if lists == 0 {
         return Ok(());
     }
-    let outer = add_longer_marks(next, key, rules_of(list, entry), service, seen, longer)?;
-    match init_entry(list, entry.home()) {
+    let outer = add_longer_marks(next, key, list.rules_of(entry), service, seen, longer)?;
+    match list.init_entry(entry.home()) {
         Some(init) => {
-            let seen = label_with(entry.name(), seen);
-            let longer = label_with(entry.name(), longer);
+            let seen = label_of(entry.name(), seen);
+            let longer = label_of(entry.name(), longer);
             add_longer(
                 next,
                 outer,

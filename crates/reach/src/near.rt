@@ -1,8 +1,10 @@
 //! Which path may have been meant by one that nobody has.
+ghost use Rattle.std.specs.Prelude.{◌≤◌};
+
 use crate::named::{Sought, is_sought};
+use near_words::is_away;
 use start_lists::{Path, StartList};
 use std::alloc::{AllocError, Global};
-use strsim::levenshtein;
 
 /// The path that may be meant: of those that are sought the first that one edit makes of it, or else the first that two do.
 pub(crate) fn near_path(
@@ -24,11 +26,13 @@ fn path_away(
     written: &str,
     sought: Sought,
     edits: usize,
-) -> Result<Option<Path>, AllocError> {
+) -> Result<Option<Path>, AllocError>
+    requires { edits ≤ 2 }
+{
     for entry in list.entries() {
         if is_sought(entry, sought) {
             let path = entry.to_path();
-            if levenshtein(alloc, written, path.as_str())? == edits {
+            if is_away(alloc, edits, written, path.as_str())? {
                 return Ok(Some(path));
             }
         }

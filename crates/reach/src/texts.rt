@@ -42,7 +42,7 @@ impl<'a> RuleAt<'a> {
 impl fmt::Display for RuleAt<'_> {
     fn fmt<W: fmt::Write>(&self, f: &mut fmt::Formatter<W>) -> fmt::Result {
         match self.place {
-            Some(place) => write!(f, "{}[{place}]", route_name(self.entry)),
+            Some(place) => write!(f, "{}[{place}]", self.entry.route_name()),
             None => f.write_str("no rule"),
         }
     }
@@ -66,14 +66,6 @@ impl<'a> RuleFor<'a> {
 impl fmt::Display for RuleFor<'_> {
     fn fmt<W: fmt::Write>(&self, f: &mut fmt::Formatter<W>) -> fmt::Result {
         write!(f, "{} for {}", self.rule, self.rule.entry.to_path())
-    }
-}
-
-// The member that holds the rules for an entry.
-fn route_name(entry: &Entry) -> &'static str {
-    match entry.route() {
-        Some(_) => "route",
-        None => "default-route",
     }
 }
 

@@ -1,11 +1,12 @@
 -- What is met in each line: an event more is a mark more, at its place.
-use Rattle.std.proofs.Common.{◌≡◌, ℕ, ◌+◌, ◌<◌, ◌≤◌, zero, suc, nat_eq, cond, ◌&&◌, ◌||◌, Bool, true, false, List, [], ◌∷◌, ◌++◌, length, get_or, slice_set, append-nil, append_assoc, Some, None, Result, Ok, Err, OnOk, arith, refl, sym, ap, ◌∙◌}
+use Rattle.std.proofs.Common.{◌≡◌, ℕ, ◌+◌, ◌<◌, ◌≤◌, zero, suc, nat_eq, cond, ◌&&◌, ◌||◌, Bool, true, false, List, [], ◌∷◌, ◌++◌, length, get_or, slice_set, append-nil, append_assoc, Some, None, arith, refl, sym, ap, ◌∙◌}
 use Rattle.std.specs.List.{list_all, list_any}
 use Rattle.std.proofs.lemmas.Bool.Decides.{nat_tests}
 use Rattle.std.proofs.lemmas.Grind.{flat_map-append}
 use Rattle.std.proofs.lemmas.List.{get_or-map, map-set}
 use Rattle.std.proofs.lemmas.List.Concat.{flat_map-cons}
 use Rattle.std.proofs.lemmas.List.Folds.{list_all-append, list_any-append}
+use Rattle.std.proofs.Math.Bool.{or-false, or-true, and-true}
 use Rattle.recording.specs.Marked.{all_marked, marked, marks_after, noted_more, unmarked}
 use Rattle.recording.specs.Notes.{heard_first, heard_more}
 use Rattle.recording.specs.Played.{Event, Hearing, Meeting}
@@ -16,33 +17,21 @@ use Rattle.recording.specs.Recorded.{Mark, expecting, hearings_at, hears, holds,
 
 -- ---- one line
 
-or_false : (b : Bool) → (b || false) ≡ b
-or_false true = refl
-or_false false = refl
-
-or_true : (b : Bool) → (b || true) ≡ true
-or_true true = refl
-or_true false = refl
-
-and_true : (b : Bool) → (b && true) ≡ b
-and_true true = refl
-and_true false = refl
-
 any_more : {X : Type 0} (p : X → Bool) (xs : List X) (x : X) → list_any p (xs ++ x ∷ []) ≡ (list_any p xs || p x)
-any_more p xs x = list_any-append p xs (x ∷ []) ∙ ap (λ b. list_any p xs || b) (or_false (p x))
+any_more p xs x = list_any-append p xs (x ∷ []) ∙ ap (λ b. list_any p xs || b) (or-false (p x))
 
 all_more : {X : Type 0} (p : X → Bool) (xs : List X) (x : X) → list_all p (xs ++ x ∷ []) ≡ (list_all p xs && p x)
-all_more p xs x = list_all-append p xs (x ∷ []) ∙ ap (λ b. list_all p xs && b) (and_true (p x))
+all_more p xs x = list_all-append p xs (x ∷ []) ∙ ap (λ b. list_all p xs && b) (and-true (p x))
 
 -- the first hearing
 heard_once : (line : List ℕ) (h : Hearing) → note_of line h (h ∷ []) ≡ heard_more line (heard_first h) h
 heard_once line h =
     rw (
-      or_false h.expects,
-      or_false h.binds,
-      and_true (holds h.lines line h),
-      and_true (holds h.lines (expecting line h.reply) h),
-      and_true (holds h.lines (expecting line (verdict h.reply)) h),
+      or-false h.expects,
+      or-false h.binds,
+      and-true (holds h.lines line h),
+      and-true (holds h.lines (expecting line h.reply) h),
+      and-true (holds h.lines (expecting line (verdict h.reply)) h),
     ) refl
 
 -- and one more
@@ -68,9 +57,9 @@ hears_if b meeting = cond b (hears meeting) []
 mark_met : (line : List ℕ) (logs : Bool) (hs : List Hearing) (meeting : Meeting) (b : Bool) →
     record { line = line; logs = logs || (b && is_logged meeting); note = noted line (hs ++ hears_if b meeting) }
     ≡ cond b (marked (record { line = line; logs = logs; note = noted line hs }) meeting) (record { line = line; logs = logs; note = noted line hs })
-mark_met line logs hs Logs true = rw (append-nil hs, or_true logs) refl
-mark_met line logs hs (Hears h) true = rw (noted_again line hs h, or_false logs) refl
-mark_met line logs hs meeting false = rw (append-nil hs, or_false logs) refl
+mark_met line logs hs Logs true = rw (append-nil hs, or-true logs) refl
+mark_met line logs hs (Hears h) true = rw (noted_again line hs h, or-false logs) refl
+mark_met line logs hs meeting false = rw (append-nil hs, or-false logs) refl
 
 hearings_more : (n : ℕ) (es : List Event) (e : Event) →
     hearings_at n (es ++ e ∷ []) ≡ hearings_at n es ++ hears_if (nat_eq e.number n) e.meeting
@@ -173,8 +162,3 @@ pub marked_before : (number : ℕ) (meeting : Meeting) (marks : List Marked) →
     marks_view marks ≡ marks_after 1 (record { number = number; meeting = meeting }) (marks_view marks)
 unfolding event_of
 marked_before number meeting marks low = sym (marks_low 1 (event_of number meeting) (marks_view marks) low)
-
--- what follows where there was room
-pub ok_then : {T E P Q : Type 0} (r : Result T E) → (P → Q) → OnOk r P → OnOk r Q
-ok_then (Ok x) f holds = f holds
-ok_then (Err fault) f none = tt

@@ -1,10 +1,11 @@
 -- Where a text is cut at its first newline.
 use Rattle.std.specs.Prelude.{nat_eq}
-use Rattle.std.proofs.Common.{◌≤◌, ◌≡◌, ℕ, ◌+◌, ltb, cond, not, Bool, true, false, List, [], ◌∷◌, length, take, drop, position, Some, None, refl, arith}
+use Rattle.std.proofs.Common.{◌≤◌, ◌≡◌, ℕ, ◌+◌, ltb, cond, not, Bool, false, List, [], ◌∷◌, length, take, drop, position, Some, None, arith}
 use Rattle.std.specs.List.{All, position_or_len}
 use Rattle.std.proofs.lemmas.Bool.Decides.{nat_tests}
 use Rattle.std.proofs.lemmas.List.Splits.{slice_split_first, slice_split_none}
 use Rattle.std.proofs.lemmas.List.Sums.{prefix_len-le-length, prefix_len_passes}
+use Rattle.std.proofs.lemmas.Bool.{not-true}
 use Rattle.recording.specs.Recorded.{pieces_of}
 
 is_newline : ℕ → Bool
@@ -13,11 +14,6 @@ is_newline = λ b. nat_eq b 10
 pub cut_at : (text : List ℕ) (n : ℕ) → position (λ b. nat_eq b 10) text ≡ Some n
     → pieces_of text ≡ take n text ∷ pieces_of (drop (n + 1) text)
 cut_at text n is = grind (arith, nat_tests, slice_split_first)
-
--- what isn't true is false
-not-true : (b : Bool) → not b ≡ true → b ≡ false
-not-true true e = absurd (cc)
-not-true false e = refl
 
 found_none : (n len : ℕ) → cond (ltb n len) (Some n) None ≡ None → len ≤ n
 found_none n len none = grind (arith, nat_tests)

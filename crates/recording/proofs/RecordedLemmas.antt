@@ -1,7 +1,7 @@
 -- What is recorded of a scenario that is played line by line.
-use Rattle.std.proofs.Common.{◌≡◌, ℕ, ◌<◌, ◌≤◌, nat_le, nat_lt, cond, not, ◌&&◌, Bool, true, false, is_some, List, [], ◌∷◌, length, Option, Some, None, Result, Ok, Err, IfOk, OnOk, arith, ap, refl, subst, sym, ◌∙◌}
+use Rattle.std.proofs.Common.{◌≡◌, ℕ, ◌<◌, ◌≤◌, nat_lt, cond, not, ◌&&◌, Bool, false, is_some, List, [], ◌∷◌, length, Option, Some, None, Result, Ok, Err, IfOk, OnOk, ap, refl, subst, sym, ◌∙◌}
 use Rattle.std.specs.List.{flat_map}
-use Rattle.std.proofs.lemmas.Bool.Decides.{nat_tests}
+use Rattle.std.proofs.lemmas.Bool.{le-leb, lt-leb}
 use Rattle.own_model.specs.Listed.{Listed, start_list_of}
 use Rattle.own_model.specs.Reply.{log_text}
 use Rattle.own_model.specs.StartList.{Boots}
@@ -40,20 +40,14 @@ entries_behind stage line = entries_by stage (deed_of stage.known line)
 
 -- ---- the turn of a line
 
-is_short : (n : ℕ) → n ≤ longest_line → nat_le n longest_line ≡ true
-is_short n short = grind (arith, nat_tests)
-
-is_long : (n : ℕ) → longest_line < n → nat_le n longest_line ≡ false
-is_long n long = grind (arith, nat_tests)
-
 -- what a line is
 pub deed_long : (known : Known) (line : List ℕ) → longest_line < length line → deed_of known line ≡ Passes
-deed_long known line long = ap (λ b. cond b (deed_filled (filled known line)) Passes) (is_long (length line) long)
+deed_long known line long = ap (λ b. cond b (deed_filled (filled known line)) Passes) (lt-leb (length line) longest_line long)
 
 deed_short : (known : Known) (line : List ℕ) (made : Result Filled NameFault) → length line ≤ longest_line → made ≡ filled known line →
     deed_of known line ≡ deed_filled made
 deed_short known line made short is =
-    ap (λ b. cond b (deed_filled (filled known line)) Passes) (is_short (length line) short) ∙ ap deed_filled (sym is)
+    ap (λ b. cond b (deed_filled (filled known line)) Passes) (le-leb (length line) longest_line short) ∙ ap deed_filled (sym is)
 
 pub deed_unnamed : (known : Known) (line : List ℕ) (fault : NameFault) → length line ≤ longest_line → Err fault ≡ filled known line →
     deed_of known line ≡ Passes

@@ -1,11 +1,12 @@
 //! Lines as they are written.
-ghost use Rattle.std.specs.Prelude.{◌≡◌, ◌++◌, ◌==◌, ◌-◌, OnOk, IfOk, true, take, drop, length, slice_index};
+ghost use Rattle.std.specs.Prelude.{◌≡◌, ◌++◌, ◌==◌, ◌-◌, OnOk, IfOk, true, take, length, slice_index};
 ghost use Rattle.std.specs.Option.{unwrap_or};
 ghost use Rattle.friendly_lines.specs.Friendly.{arrow_of, end_of};
 ghost use Rattle.recording.specs.Recorded.{byte_of_lines, call_end, ending_of, escaped_byte, expected_lines, expecting, kept};
 
 use friendly_lines::{arrow_of, end_of};
 use std::alloc::{AllocError, Global};
+use text_codec::skip_bytes;
 
 /// Writes a line as it is, with its newline.
 pub(crate) fn put_kept(text: &mut Vec<u8>, line: &[u8]) -> Result<(), AllocError>
@@ -39,7 +40,7 @@ pub(crate) fn expecting(alloc: Global, line: &[u8], reply: &[u8]) -> Result<Vec<
     new.extend_from_slice(first(call_end(line), line))?;
     new.extend_from_slice(b" => ")?;
     new.extend_from_slice(reply)?;
-    new.extend_from_slice(behind(end_of(line), line))?;
+    new.extend_from_slice(skip_bytes(line, end_of(line)))?;
     Ok(new)
 }
 
@@ -99,16 +100,5 @@ fn first(count: usize, text: &[u8]) -> &[u8]
         &text[..count]
     } else {
         text
-    }
-}
-
-// What is behind the first bytes of a text, so many.
-fn behind(count: usize, text: &[u8]) -> &[u8]
-    ensures { result.now ≡ drop count text.now }
-{
-    if count < text.len() {
-        &text[count..]
-    } else {
-        b""
     }
 }

@@ -1,6 +1,6 @@
 -- How far the first line of a text reaches, and what is left behind it.
-use Rattle.std.proofs.Common.{◌≡◌, ℕ, ◌+◌, ◌-◌, ◌<◌, ◌≤◌, ltb, cond, not, Bool, true, false, List, [], ◌∷◌, ◌++◌, length, take, drop, Some, None, arith, refl, sym, ◌∙◌, ap, position, suc, zero, ⊎_elim}
-use Rattle.std.proofs.lemmas.Bool.{cases_lt}
+use Rattle.std.proofs.Common.{◌≡◌, ℕ, ◌+◌, ◌-◌, ◌<◌, ◌≤◌, ltb, cond, not, false, List, [], ◌∷◌, ◌++◌, length, take, drop, Some, None, arith, refl, sym, ◌∙◌, ap, position, suc, zero, ⊎_elim}
+use Rattle.std.proofs.lemmas.Bool.{cases_lt, not-true}
 use Rattle.std.proofs.lemmas.Bool.Decides.{nat_tests}
 use Rattle.std.proofs.lemmas.List.{drop_all, take_all, take_rest, take-append-drop}
 use Rattle.std.proofs.lemmas.List.Folds.{prefix_len-append, length-prefix_len}
@@ -13,11 +13,6 @@ use Rattle.scenario_lines.specs.Lines.{is_newline, line_length, line_of, after_l
 -- a line is no longer than all the bytes
 pub line_length-le : (bytes : List ℕ) → line_length bytes ≤ length bytes
 line_length-le bytes = prefix_len-le-length (λ b. not (is_newline b)) bytes
-
--- what isn't true is false
-not-true : (b : Bool) → not b ≡ true → b ≡ false
-not-true true e = absurd (cc)
-not-true false e = refl
 
 -- where no newline is found, the line is all there is
 found_none : (n len : ℕ) → n ≤ len → cond (ltb n len) (Some n) None ≡ None → len ≡ n

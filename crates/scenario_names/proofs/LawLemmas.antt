@@ -1,8 +1,9 @@
 -- What holds of names.
-use Rattle.std.proofs.Common.{◌≡◌, ℕ, ◌==◌, ◌||◌, Bool, true, false, cond, is_none, length, take, position, slice_index, List, [], ◌∷◌, ◌++◌, Option, Some, None, Result, Ok, refl, sym, ap, ◌∙◌}
+use Rattle.std.proofs.Common.{◌≡◌, ℕ, ◌==◌, ◌||◌, Bool, cond, is_none, length, take, position, slice_index, List, [], ◌∷◌, ◌++◌, Option, Some, None, Result, Ok, refl, sym, ap, ◌∙◌}
 use Rattle.std.specs.Option.{option_or}
 use Rattle.std.specs.Str.{bytes_eq}
 use Rattle.std.proofs.lemmas.Slice.Eq.{bytes_eq-Decides}
+use Rattle.std.proofs.Math.Bool.{or-true}
 use Rattle.friendly_lines.specs.Friendly.{signs_of}
 use Rattle.scenario_names.specs.Filling.{Filled, body_of, filled_parts, front_length, is_dollar, whole}
 use Rattle.scenario_names.specs.Known.{Binding, Known, newest}
@@ -15,15 +16,11 @@ plain_lines_stay known line none =
     ap (λ (o : Option ℕ). cond {A = Result Filled NameFault} (is_none o || (slice_index (signs_of line) 0 == 33 || slice_index (signs_of line) 0 == 35))
     (Ok (whole line)) (filled_parts known (front_length line) (body_of line))) none
 
-or_true : (t : Bool) → (t || true) ≡ true
-or_true true = refl
-or_true false = refl
-
 pub marked_lines_stay : MarkedLinesStay
 marked_lines_stay known line marked =
     ap (λ n. cond {A = Result Filled NameFault} (is_none (position is_dollar line) || (n == 33 || n == 35))
     (Ok (whole line)) (filled_parts known (front_length line) (body_of line))) marked
-    ∙ ap (λ (t : Bool). cond {A = Result Filled NameFault} t (Ok (whole line)) (filled_parts known (front_length line) (body_of line))) (or_true (is_none (position is_dollar line)))
+    ∙ ap (λ (t : Bool). cond {A = Result Filled NameFault} t (Ok (whole line)) (filled_parts known (front_length line) (body_of line))) (or-true (is_none (position is_dollar line)))
 
 -- the last binding of a name is the newest
 newest_is : (name value : List ℕ) (bs : List Binding) → newest name (bs ++ record { name = name; value = value } ∷ []) ≡ Some value

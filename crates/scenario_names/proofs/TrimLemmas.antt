@@ -1,7 +1,8 @@
 -- Blanks at the end of a text.
-use Rattle.std.proofs.Common.{◌≡◌, ℕ, ◌+◌, ◌-◌, ◌<◌, ◌≤◌, ◌&&◌, Bool, true, false, cond, suc, List, [], ◌∷◌, ◌++◌, length, take, get_or, refl, sym, ap, ◌∙◌, arith, add-one}
+use Rattle.std.proofs.Common.{◌≡◌, ℕ, ◌+◌, ◌-◌, ◌<◌, ◌≤◌, ◌&&◌, Bool, true, false, cond, suc, List, [], ◌∷◌, ◌++◌, length, take, get_or, sym, ap, ◌∙◌, arith, add-one}
 use Rattle.std.proofs.Math.Seq.{take-suc}
 use Rattle.std.specs.List.{list_all}
+use Rattle.std.proofs.Math.Bool.{and-false}
 use Rattle.friendly_lines.specs.Words.{is_blank}
 use Rattle.scenario_names.specs.Directives.{trimmed}
 
@@ -16,14 +17,9 @@ trimmed_blank (x ∷ xs) b blank =
     ap (λ (t : Bool). cond t [] (x ∷ trimmed (xs ++ b ∷ []))) (all_more (x ∷ xs) b blank)
     ∙ ap (λ (l : List ℕ). cond (list_all is_blank (x ∷ xs)) [] (x ∷ l)) (trimmed_blank xs b blank)
 
--- a sign that is none
-and_false : (t : Bool) → (t && false) ≡ false
-and_false true = refl
-and_false false = refl
-
 not_all : (xs : List ℕ) (b : ℕ) → is_blank b ≡ false → list_all is_blank (xs ++ b ∷ []) ≡ false
 not_all [] b sign = ap (λ (t : Bool). t && true) sign
-not_all (x ∷ xs) b sign = ap (λ (t : Bool). is_blank x && t) (not_all xs b sign) ∙ and_false (is_blank x)
+not_all (x ∷ xs) b sign = ap (λ (t : Bool). is_blank x && t) (not_all xs b sign) ∙ and-false (is_blank x)
 
 trimmed_sign : (xs : List ℕ) (b : ℕ) → is_blank b ≡ false → trimmed (xs ++ b ∷ []) ≡ xs ++ b ∷ []
 trimmed_sign [] b sign = ap (λ (t : Bool). cond t [] (b ∷ [])) (not_all [] b sign)

@@ -3,8 +3,7 @@ use Rattle.std.proofs.Common.{◌≡◌, ℕ, zero, suc, ◌+◌, ◌<◌, ◌�
 use Rattle.std.specs.List.{slice_get}
 use Rattle.std.specs.Option.{option_map, unwrap_or}
 use Rattle.std.proofs.lemmas.Bool.{cases_eq, false≢true}
-use Rattle.std.proofs.lemmas.Grind.{common_steps}
-use Rattle.std.proofs.lemmas.List.{get_or_append_left, get_or_push}
+use Rattle.std.proofs.lemmas.List.{get_or_append_left, get_or_push, length_push}
 use Rattle.std.proofs.lemmas.Option.{get_or_from_slice_get, slice_get_read, slice_get_within}
 use Rattle.own_model.specs.Listed.{ListedEntry}
 use Rattle.start_lists.specs.Depth.{Grow, HaveHomes, IsHome, is_init, is_list}
@@ -19,20 +18,17 @@ no_homes place entry is = absurd (omega (arith, slice_get_within [] place entry 
 
 -- ---- one entry more
 
-longer : (entries : List ListedEntry) (e : ListedEntry) → length (entries ++ e ∷ []) ≡ length entries + 1
-longer entries e = grind (arith, common_steps)
-
 -- each is still there
 still_there : (entries : List ListedEntry) (e entry : ListedEntry) (place : ℕ) → slice_get entries place ≡ Some entry → slice_get (entries ++ e ∷ []) place ≡ Some entry
 still_there entries e entry place is =
     let inside = slice_get_within entries place entry is in
-    slice_get_read (entries ++ e ∷ []) (length entries + 1) place entry (sym (longer entries e)) (omega (arith, inside))
+    slice_get_read (entries ++ e ∷ []) (length entries + 1) place entry (sym (length_push entries e)) (omega (arith, inside))
     (sym (get_or_append_left entries (e ∷ []) entry place inside ∙ get_or_from_slice_get entries place entry entry is))
 
 -- and the last one is new
 pub last_there : (entries : List ListedEntry) (e : ListedEntry) → slice_get (entries ++ e ∷ []) (length entries) ≡ Some e
 last_there entries e =
-    slice_get_read (entries ++ e ∷ []) (length entries + 1) (length entries) e (sym (longer entries e)) (omega arith)
+    slice_get_read (entries ++ e ∷ []) (length entries + 1) (length entries) e (sym (length_push entries e)) (omega arith)
     (sym (get_or_push entries e e (length entries) refl))
 
 -- what is found to be an init is one
@@ -68,7 +64,7 @@ grow_by entries e homes is = record {
         record { before = grind (arith, list_before entries e.home is, here, same); list = grind (arith, list_stays entries e e.home is, same) }
     | inr other ↦
         let inside = slice_get_within (entries ++ e ∷ []) place entry there in
-        let before : place < length entries = omega (arith, inside, longer entries e, other) in
+        let before : place < length entries = omega (arith, inside, length_push entries e, other) in
         let was : entry ≡ get_or entries place entry = sym (sym (get_or_append_left entries (e ∷ []) entry place before) ∙ get_or_from_slice_get (entries ++ e ∷ []) place entry entry there) in
         let home = home_at entries place entry homes before was in
         record { before = home.before; list = list_stays entries e entry.home home.list }

@@ -13,7 +13,7 @@ prefix_len-map p f [] = refl
 prefix_len-map p f (x ∷ xs) = rw (prefix_len-map p f xs) refl
 
 -- the first that passes
-position-map : {X Y : Type 0} (p : Y → Bool) (f : X → Y) (xs : List X) → position (λ x. p (f x)) xs ≡ position p (map f xs)
+pub position-map : {X Y : Type 0} (p : Y → Bool) (f : X → Y) (xs : List X) → position (λ x. p (f x)) xs ≡ position p (map f xs)
 position-map p f xs = sym (rw (prefix_len-map (λ y. not (p y)) f xs, length-map xs f) refl)
 
 -- an entry of a path is found at one place in both

@@ -1,6 +1,7 @@
 pub mod Finder
 pub mod Members
 pub mod Rules
+pub mod Labels
 pub mod Entries
 pub mod Depth
 pub mod StartText

@@ -5,6 +5,7 @@ ghost use Rattle.std.specs.Result.{result_map_both};
 ghost use Rattle.own_model.specs.Listed.{offers, reserve_of, serves, service_of};
 ghost use Rattle.start_lists.specs.Depth.{is_init};
 ghost use Rattle.start_lists.specs.Entries.{binary_of, no_binary};
+ghost use Rattle.start_lists.specs.Labels.{route_name};
 ghost use Rattle.start_lists.specs.Members.{name_in};
 ghost use Rattle.start_lists.specs.View.{model_binary};
 ghost use Rattle.calls.specs.Quotas.{reserve_amounts};
@@ -216,6 +217,16 @@ impl Entry {
         match &self.route {
             Some(rules) => Some(rules.as_slice()),
             None => None,
+        }
+    }
+
+    /// Returns the name of the member that has the rules for it.
+    pub fn route_name(&self) -> &'static str
+        ensures { result.now ≡ route_name self.now }
+    {
+        match &self.route {
+            Some(_) => "route",
+            None => "default-route",
         }
     }
 

@@ -1,11 +1,11 @@
 //! Start lists, read of JSON.
 ghost use Rattle.std.specs.Prelude.{◌≡◌, ◌≢◌, ◌<◌, ◌≤◌, is_some, length, map, IfOk, IfErr, Ok, Some, None};
-ghost use Rattle.std.specs.Option.{option_map};
+ghost use Rattle.std.specs.Option.{option_copied, option_map};
 ghost use Rattle.std.specs.List.{position, slice_get};
 ghost use Rattle.std.specs.Result.{result_map_both};
 ghost use Rattle.std.specs.Str.{bytes_eq};
 ghost use Rattle.serde_json.specs.View.{view};
-ghost use Rattle.own_model.specs.Listed.{default_of, rules_for, start_list_of};
+ghost use Rattle.own_model.specs.Listed.{default_of, init_entry, rules_for, start_list_of};
 ghost use Rattle.own_model.specs.StartList.{entries_of};
 ghost use Rattle.own_model.specs.Transcript.{entry_at};
 ghost use Rattle.start_lists.specs.Depth.{IsHome, is_init};
@@ -28,7 +28,7 @@ use std::alloc::Global;
 use std::marker::Model;
 
 /// The most bytes of a start list's text.
-const LONGEST_TEXT: usize = 65_536;
+pub const LONGEST_TEXT: usize = 65_536;
 
 /// The fewest pages of a machine, and the fewest capabilities.
 const SMALLEST: u32 = 16;
@@ -37,7 +37,7 @@ const SMALLEST: u32 = 16;
 const LARGEST: u32 = 4096;
 
 /// How deep inits nest at most below the machine's.
-const DEEPEST: usize = 3;
+pub const DEEPEST: usize = 3;
 
 /// A machine, and the components that its inits start on it: the entries of all lists, an init directly before its own.
 #[derive(Drop)]
@@ -237,10 +237,27 @@ impl StartList {
         ensures { option_map (rules_for self.now) (slice_get self.now.entries client)
             ≡ Some result.now }
     {
-        let entry = &self.entries[client];
+        self.rules_of(&self.entries[client])
+    }
+
+    /// Returns the rules for an entry: its own route, or else the default route of its list.
+    pub fn rules_of<'a>(&'a self, entry: &'a Entry) -> &'a [Rule]
+        ensures { result.now ≡ rules_for self.now entry.now }
+    {
         match entry.route() {
             Some(rules) => rules,
             None => self.default_of(entry.home()),
+        }
+    }
+
+    /// Returns the entry of the init of a number; the machine's has none.
+    pub fn init_entry(&self, init: usize) -> Option<&Entry>
+        ensures { option_copied result ≡ init_entry self.now init }
+    {
+        if init == 0 {
+            None
+        } else {
+            self.entries.as_slice().get(init - 1)
         }
     }
 }

@@ -1,13 +1,14 @@
 //! Rules: what they ask of a wish for a session, and where they lead.
-ghost use Rattle.std.specs.Prelude.{◌≡◌, nat_eq, string_bytes, IfOk};
-ghost use Rattle.std.specs.List.{starts_with, ends_with};
+ghost use Rattle.std.specs.Prelude.{◌≡◌, IfOk};
 ghost use Rattle.std.specs.Str.{bytes_eq};
 ghost use Rattle.std.specs.Option.{option_map, option_copied};
 ghost use Rattle.own_model.specs.Routes.{as_asked};
 ghost use Rattle.serde_json.specs.View.{view};
+ghost use Rattle.start_lists.specs.Labels.{is_parent, labels_of};
 ghost use Rattle.start_lists.specs.View.{model_target};
 ghost use Rattle.start_lists.specs.Rules.{rule_of, rules_of, service_asked, target_named};
 
+use crate::label_test::LabelTest;
 use crate::member::{is_true, name_of, short_list, text_if_told};
 use crate::name::Name;
 use serde_json::Value;
@@ -25,19 +26,27 @@ pub enum Target {
     Parent,
 }
 
+impl Target {
+    /// Returns whether it leads out of its init.
+    pub fn is_parent(&self) -> bool
+        ensures { result ≡ is_parent (model_target self.now) }
+    {
+        match self {
+            Target::Child(_) | Target::AnyChild => false,
+            Target::Parent => true,
+        }
+    }
+}
+
 /// A rule: what it asks of the service and of the label that the client gave, as far as it asks, and its target.
 #[derive(Drop)]
 pub struct Rule {
     service: Option<Name>,
-    label: Option<String>,
-    label_prefix: Option<String>,
-    label_suffix: Option<String>,
+    labels: LabelTest,
     target: Target,
 }
 
 impl Model for Rule {
-    ghost use Rattle.std.specs.Prelude.{string_bytes};
-    ghost use Rattle.std.specs.Option.{option_map};
     ghost use Rattle.own_model.specs.Listed.{ListedRule};
 
     ghost Value = { ListedRule };
@@ -46,9 +55,9 @@ impl Model for Rule {
 
     ghost view = { λ rule. record {
       service = rule.service;
-      label = option_map string_bytes rule.label;
-      label_prefix = option_map string_bytes rule.label_prefix;
-      label_suffix = option_map string_bytes rule.label_suffix;
+      label = rule.labels.whole;
+      label_prefix = rule.labels.prefix;
+      label_suffix = rule.labels.suffix;
       target = model_target rule.target;
     } };
 }
@@ -72,10 +81,17 @@ impl Rule {
     pub fn matches(&self, service: &[u8], label: &[u8]) -> bool
         ensures { result ≡ asks_for self.now service.now label.now }
     {
-        has_name(&self.service, service)
-            && is_text(&self.label, label)
-            && begins_with(&self.label_prefix, label)
-            && ends_with(&self.label_suffix, label)
+        self.asks_service(service) && self.labels.holds(label)
+    }
+
+    /// Returns whether it asks for a service, or for any.
+    pub fn asks_service(&self, service: &[u8]) -> bool
+        ensures { result ≡ as_asked (bytes_eq service.now) self.now.service }
+    {
+        match &self.service {
+            Some(asked) => service == asked.as_bytes(),
+            None => true,
+        }
     }
 
     /// The name of the service that it asks for, or none where it asks for any.
@@ -92,21 +108,28 @@ impl Rule {
     pub fn label(&self) -> Option<&str>
         ensures { option_copied result ≡ self.now.label }
     {
-        text_of(&self.label)
+        self.labels.whole()
     }
 
     /// How a label has to begin, if that is asked.
     pub fn label_prefix(&self) -> Option<&str>
         ensures { option_copied result ≡ self.now.label_prefix }
     {
-        text_of(&self.label_prefix)
+        self.labels.prefix()
     }
 
     /// How a label has to end, if that is asked.
     pub fn label_suffix(&self) -> Option<&str>
         ensures { option_copied result ≡ self.now.label_suffix }
     {
-        text_of(&self.label_suffix)
+        self.labels.suffix()
+    }
+
+    /// Returns what it asks of labels.
+    pub fn labels(&self) -> &LabelTest
+        ensures { result.now ≡ labels_of self.now }
+    {
+        &self.labels
     }
 
     /// Where it leads.
@@ -114,57 +137,6 @@ impl Rule {
         ensures { model_target result.now ≡ self.now.target }
     {
         &self.target
-    }
-}
-
-/// The text, if there is one.
-fn text_of(text: &Option<String>) -> Option<&str>
-    ensures { option_copied result ≡ option_map string_bytes text.now }
-{
-    match text {
-        Some(text) => Some(text.as_str()),
-        None => None,
-    }
-}
-
-/// Whether a service is the one asked for, if one is.
-fn has_name(asked: &Option<Name>, service: &[u8]) -> bool
-    ensures { result ≡ as_asked (bytes_eq service.now) asked.now }
-{
-    match asked {
-        Some(asked) => service == asked.as_bytes(),
-        None => true,
-    }
-}
-
-/// Whether a label is the one asked for, if one is.
-fn is_text(asked: &Option<String>, label: &[u8]) -> bool
-    ensures { result ≡ as_asked (bytes_eq label.now) (option_map string_bytes asked.now) }
-{
-    match asked {
-        Some(asked) => label == asked.as_str().as_bytes(),
-        None => true,
-    }
-}
-
-/// Whether a label begins as asked.
-fn begins_with(asked: &Option<String>, label: &[u8]) -> bool
-    ensures { result
-        ≡ as_asked (starts_with nat_eq label.now) (option_map string_bytes asked.now) }
-{
-    match asked {
-        Some(asked) => label.starts_with(asked.as_str().as_bytes()),
-        None => true,
-    }
-}
-
-/// Whether a label ends as asked.
-fn ends_with(asked: &Option<String>, label: &[u8]) -> bool
-    ensures { result ≡ as_asked (ends_with nat_eq label.now) (option_map string_bytes asked.now) }
-{
-    match asked {
-        Some(asked) => label.ends_with(asked.as_str().as_bytes()),
-        None => true,
     }
 }
 
@@ -220,21 +192,9 @@ impl<'v> Told<'v> {
     {
         Ok(Rule {
             service: self.service,
-            label: copied(alloc, self.label)?,
-            label_prefix: copied(alloc, self.label_prefix)?,
-            label_suffix: copied(alloc, self.label_suffix)?,
+            labels: LabelTest::new(alloc, self.label, self.label_prefix, self.label_suffix)?,
             target: self.target,
         })
-    }
-}
-
-/// A copy of a text that may be missing.
-fn copied(alloc: Global, text: Option<&str>) -> Result<Option<String>, AllocError>
-    ensures { IfOk result (λ copy. option_map string_bytes copy ≡ option_copied text.entry) }
-{
-    match text {
-        Some(text) => Ok(Some(String::from_str(alloc, text)?)),
-        None => Ok(None),
     }
 }
 

@@ -1,5 +1,5 @@
 -- Whether a rule is one of those that decide a wish, list by list outward.
-use Rattle.std.proofs.Common.{◌≡◌, ℕ, suc, ◌==◌, ◌&&◌, ◌||◌, Bool, true, false, List, ◌∷◌, Some, None, refl, ap, ◌∙◌}
+use Rattle.std.proofs.Common.{◌≡◌, ℕ, suc, ◌==◌, ◌&&◌, ◌||◌, Bool, true, false, List, ◌∷◌, Some, None, ap, ◌∙◌}
 use Rattle.std.specs.List.{slice_get}
 use Rattle.own_model.specs.Listed.{Listed, ListedEntry}
 use Rattle.start_review.specs.Idle.{is_among, is_of, of_home}
@@ -51,15 +51,3 @@ among_outward list owner place number rule init rules all entry is somebody othe
     ∙ ap (of_home (λ init. is_among list owner place init rules)) home
 
 -- ---- two tests
-
-pub both_hold : (a b : Bool) → a ≡ true → b ≡ true → (a && b) ≡ true
-both_hold true b is other = other
-both_hold false b is other = cc
-
-pub first_fails : (a b : Bool) → a ≡ false → (a && b) ≡ false
-first_fails true b is = cc
-first_fails false b is = refl
-
-pub second_fails : (a b : Bool) → b ≡ false → (a && b) ≡ false
-second_fails true b is = is
-second_fails false b is = refl

@@ -1,5 +1,5 @@
 -- Each fault of a value has a place.
-use Rattle.std.proofs.Common.{◌≡◌, ℕ, zero, suc, ◌+◌, ◌<◌, true, false, Bool, List, [], ◌∷◌, codes, flat_map, length, is_some, Option, Some, None, Result, Ok, Err, refl, sym, ap, subst, ◌∙◌, inl, inr, arith}
+use Rattle.std.proofs.Common.{◌≡◌, ℕ, zero, suc, ◌+◌, ◌<◌, true, false, Bool, List, [], ◌∷◌, codes, flat_map, length, is_some, Option, Some, None, Result, Ok, Err, refl, sym, ap, subst, ◌∙◌, inl, inr, arith, one-add}
 use Rattle.std.specs.Prelude.{IfErr, MatchResult, if◌then◌else◌}
 use Rattle.std.specs.List.{enumerate_from, slice_get}
 use Rattle.std.specs.Option.{option_and_then, IsSome}
@@ -73,13 +73,10 @@ counts_init deeper place above k so_far d each (Ok head) is fails =
     let own = flat_map (with_own deeper steps) (enumerate_from 0 head.starts) in
     let more = counts_all (read_within deeper) below (with_own deeper steps) (each below steps) 0 next head.starts in
     subst (λ n. Counts (length so_far.entries) n (all_read (read_within deeper) below next head.starts))
-    (one_more (length own)
+    (one-add (length own)
     ∙ ap (λ starts. length (found_at above (k, d) ∷ flat_map (with_own deeper steps) (enumerate_from 0 starts))) (head_starts place true so_far d head is)
     ∙ ap (λ found. length (found_at above (k, d) ∷ found)) (sym (own_found deeper steps (runs (codes "init") d) (get (codes "config") d))))
     (shift (all_read (read_within deeper) below next head.starts) (length so_far.entries) (length next.entries) 1 (length own) (length_push so_far.entries head.entry) more)
-  where
-    one_more : (n : ℕ) → 1 + n ≡ suc n
-    one_more n = omega arith
 counts_init deeper place above k so_far d each (Err fault) is fails = record { counted = (omega arith, fails.fault) }
 
 counts_within : (deeper : ℕ) (place : Place) (above : List Step) (k : ℕ) (so_far : SoFar) (d : Data)

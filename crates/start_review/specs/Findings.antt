@@ -11,7 +11,8 @@ use Rattle.own_model.specs.Listed.Target.{Child, AnyChild, Parent}
 use Rattle.start_review.specs.Hiding.{decides_some, hides}
 use Rattle.start_review.specs.Idle.{is_idle}
 use Rattle.start_review.specs.Left.{budget_of}
-use Rattle.start_review.specs.Near.{names_in, nearest}
+use Rattle.near_words.specs.Near.{nearest}
+use Rattle.start_review.specs.Near.{names_in}
 use Rattle.start_review.specs.Outer.{chosen_end, outer_init, why_idle, wide_front}
 use Rattle.start_review.specs.Reached.{is_led_to, leads_somewhere}
 use Rattle.start_review.specs.Steps.{part_of}

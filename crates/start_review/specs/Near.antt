@@ -1,21 +1,6 @@
--- Which word may have been meant by a misspelt one.
-use Rattle.std.specs.Prelude.{ℕ, ◌*◌, ◌==◌, ◌&&◌, Bool, List, [], ◌∷◌, find, if◌then◌else◌, length, nat_eq, nat_lt, Option}
-use Rattle.std.specs.Option.{option_or}
-use Rattle.std.specs.Str.{chars}
+-- The names among which one may have been meant.
+use Rattle.std.specs.Prelude.{ℕ, ◌==◌, List, [], ◌∷◌, if◌then◌else◌}
 use Rattle.own_model.specs.Listed.{ListedEntry}
-use Rattle.strsim.specs.Edits.{levenshtein_row}
-
--- how many characters are added, left out or replaced between two words
-abbrev pub edits : List ℕ → List ℕ → ℕ
-edits meant written = levenshtein_row nat_eq (chars meant) (chars written) (length (chars written))
-
--- so many edits lead from one to the other, fewer than half of the bytes of what is meant
-abbrev pub is_away : ℕ → List ℕ → List ℕ → Bool
-is_away count written meant = (edits meant written == count) && nat_lt (2 * count) (length meant)
-
--- the first word that is one edit away, or else the first that is two away
-abbrev pub nearest : List (List ℕ) → List ℕ → Option (List ℕ)
-nearest words written = option_or (find (is_away 1 written) words) (find (is_away 2 written) words)
 
 -- the names of the entries of an init's list
 abbrev pub names_in : ℕ → List ListedEntry → List (List ℕ)

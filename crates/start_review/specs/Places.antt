@@ -7,7 +7,7 @@ use Rattle.serde_json.specs.Data.{Data}
 use Rattle.serde_json.specs.Find.{get}
 use Rattle.start_lists.specs.Quota.{quota_fault}
 use Rattle.start_lists.specs.Members.{is_object, short_list}
-use Rattle.start_lists.specs.Misread.{entry_at_fault}
+use Rattle.start_lists.specs.Misread.{member_of, entry_at_fault}
 use Rattle.start_lists.specs.Rules.{rule_of}
 use Rattle.start_lists.specs.StartText.{list_in, list_of}
 use Rattle.start_lists.specs.declared.fault.BootFault.{BootFault}
@@ -41,23 +41,6 @@ member_in part member = record { part = part; member = Some member }
 
 abbrev pub whole : Part → Spot
 whole part = record { part = part; member = None }
-
--- the member that has a bad value
-abbrev pub member_of : Field → List ℕ
-member_of field.Size = codes "size"
-member_of field.Machine = codes "machine"
-member_of field.Pages = codes "pages"
-member_of field.Caps = codes "caps"
-member_of field.DefaultRoute = codes "default-route"
-member_of field.Start = codes "start"
-member_of field.Name = codes "name"
-member_of field.Binary = codes "binary"
-member_of field.Quantum = codes "quantum"
-member_of field.Provides = codes "provides"
-member_of field.Route = codes "route"
-member_of field.Reserve = codes "reserve"
-member_of field.ReserveCaps = codes "reserve-caps"
-member_of field.Config = codes "config"
 
 -- the first value of a list that is no rule, by its place, where it is a list of at most 32
 abbrev pub bad_rule : Option Data → Option (ℕ × Data)

@@ -6,7 +6,7 @@ use Rattle.std.specs.Str.{bytes_eq}
 use Rattle.serde_json.specs.Data.{Data, Members, no_members, member}
 use Rattle.serde_json.specs.Find.{as_object, get}
 use Rattle.start_review.specs.Findings.{told}
-use Rattle.start_review.specs.Near.{nearest}
+use Rattle.near_words.specs.Near.{nearest}
 use Rattle.start_review.specs.Steps.{rule_at}
 use Rattle.start_review.specs.Values.{EntryValue, elements_in, found_in, runs}
 use Rattle.start_review.specs.declared.finding.Finding.{Finding}

@@ -5,7 +5,7 @@ ghost use Rattle.serde_json.specs.Find.{get};
 ghost use Rattle.serde_json.specs.View.{view};
 ghost use Rattle.start_lists.specs.Misread.{entry_at_fault};
 ghost use Rattle.start_lists.specs.declared.fault.BootFault.TheVariants.{NoMemory};
-ghost use Rattle.start_review.specs.Places.{FaultsHavePlaces, bad_rule, field_of, inner_rules_spot, member_in, member_of, own_rules_spot, rules_spot, spot_at, spot_before, spot_in, spot_of, spot_of_flaw, start_spot, whole};
+ghost use Rattle.start_review.specs.Places.{FaultsHavePlaces, bad_rule, field_of, inner_rules_spot, member_in, own_rules_spot, rules_spot, spot_at, spot_before, spot_in, spot_of, spot_of_flaw, start_spot, whole};
 ghost use Rattle.start_review.specs.RuleFaults.{rule_fault};
 ghost use Rattle.start_review.specs.Values.{seen};
 
@@ -326,31 +326,9 @@ fn flaw_in(
         _ => {
             let part = Part::Entry(number, found.steps.copy(alloc)?);
             let expected = expected_of(value, field, taken);
-            Some(at(part, Some(value), member_of(field), expected))
+            Some(at(part, Some(value), field.as_str(), expected))
         }
     })
-}
-
-// The member that a fault of an entry's member is of.
-fn member_of(field: Field) -> &'static str
-    ensures { result.now ≡ member_of field }
-{
-    match field {
-        Field::Size => "size",
-        Field::Machine => "machine",
-        Field::Pages => "pages",
-        Field::Caps => "caps",
-        Field::DefaultRoute => "default-route",
-        Field::Start => "start",
-        Field::Name => "name",
-        Field::Binary => "binary",
-        Field::Quantum => "quantum",
-        Field::Provides => "provides",
-        Field::Route => "route",
-        Field::Reserve => "reserve",
-        Field::ReserveCaps => "reserve-caps",
-        Field::Config => "config",
-    }
 }
 
 // What is expected of such a member; of a name that an earlier entry has, another one.

@@ -2,20 +2,9 @@
 ghost use Rattle.std.specs.Prelude.{◌≡◌, nat_eq, true, position};
 ghost use Rattle.std.specs.List.{starts_with, ends_with};
 ghost use Rattle.std.specs.Option.{is_none, option_copied};
-ghost use Rattle.std.specs.Str.{bytes_eq};
-ghost use Rattle.start_review.specs.Hiding.{asks_service, covers, covers_labels, covers_prefix, covers_suffix, decides_some, has, hides, is_decided_before, HiddenNeverDecide};
+ghost use Rattle.start_review.specs.Hiding.{covers, covers_labels, covers_prefix, covers_suffix, decides_some, has, hides, is_decided_before, HiddenNeverDecide};
 
 use start_lists::{Name, Rule};
-
-/// Whether a rule asks for a service.
-pub(crate) fn asks_service(rule: &Rule, service: &[u8]) -> bool
-    ensures { result ≡ asks_service rule.now service.now }
-{
-    match rule.service() {
-        Some(asked) => service == asked.as_bytes(),
-        None => true,
-    }
-}
 
 /// Whether what the earlier rule asks of the label is implied by what the later one asks.
 pub(crate) fn covers_labels(earlier: &Rule, later: &Rule) -> bool
@@ -105,14 +94,14 @@ pub(crate) fn hidden_by(earlier: &[Rule], rule: &Rule) -> Option<usize>
 pub(crate) fn decides_some(earlier: &[Rule], rule: &Rule, service: &[u8]) -> bool
     ensures { result ≡ decides_some earlier.now rule.now service.now }
 {
-    asks_service(rule, service) && !is_decided_before(earlier, rule, service)
+    rule.asks_service(service) && !is_decided_before(earlier, rule, service)
 }
 
 // Whether one of the earlier rules decides whatever wishes for a service the rule matches.
 fn is_decided_before(earlier: &[Rule], rule: &Rule, service: &[u8]) -> bool
     ensures { result ≡ is_decided_before earlier.now rule.now service.now }
 {
-    earlier.iter().any(|before| asks_service(before, service) && covers_labels(before, rule))
+    earlier.iter().any(|before| before.asks_service(service) && covers_labels(before, rule))
 }
 
 /// A hidden rule never decides: what it matches, the rule that hides it matches.

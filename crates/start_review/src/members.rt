@@ -5,7 +5,7 @@ ghost use Rattle.std.specs.Str.{bytes_eq};
 ghost use Rattle.start_review.specs.Unread.{is_comment, is_read, members_read, unread};
 
 use crate::finding::{Known, Remark, Written};
-use crate::near::near_word;
+use near_words::nearest;
 use std::alloc::{AllocError, Global};
 
 /// The kinds of objects in a start list.
@@ -82,7 +82,7 @@ impl Table {
         if is_comment(member) || self.reads(member) {
             return Ok(None);
         }
-        let near = match near_word(alloc, self.members(), member)? {
+        let near = match nearest(alloc, self.members(), member)? {
             Some(known) => Some(Known(known)),
             None => None,
         };

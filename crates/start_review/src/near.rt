@@ -1,13 +1,14 @@
-//! Which word may have been meant by a misspelt one.
-ghost use Rattle.std.specs.Prelude.{◌≡◌, ◌≤◌, IfOk, find, map};
+//! Which name may have been meant by a misspelt one.
+ghost use Rattle.std.specs.Prelude.{◌≡◌, ◌≤◌, IfOk, find};
 ghost use Rattle.std.specs.Option.{option_copied};
 ghost use Rattle.start_review.specs.Findings.{case_of, other_case};
-ghost use Rattle.start_review.specs.Near.{is_away, names_in, nearest};
+ghost use Rattle.near_words.specs.Near.{is_away, nearest};
+ghost use Rattle.start_review.specs.Near.{names_in};
 
 use crate::finding::{Known, Remark};
+use near_words::is_away;
 use start_lists::{Entry, Name};
 use std::alloc::{AllocError, Global};
-use strsim::levenshtein;
 use trade_base::{SERVICES, Service};
 
 /// The name of an entry of an init's list that may be meant by one that none has, if one is near.
@@ -44,48 +45,6 @@ fn name_away(
         }
     }
     Ok(None)
-}
-
-/// The word that may be meant by one that is none of these, if one is near.
-pub(crate) fn near_word<'a>(
-    alloc: Global,
-    words: &[&'a str],
-    written: &str,
-) -> Result<Option<&'a str>, AllocError>
-    ensures { IfOk result
-        (λ near. option_copied near ≡ nearest (map (λ word. word.now) words.now) written.now) }
-{
-    match word_away(alloc, words, 1, written)? {
-        Some(word) => Ok(Some(word)),
-        None => word_away(alloc, words, 2, written),
-    }
-}
-
-// The first word that is so many edits away.
-fn word_away<'a>(
-    alloc: Global,
-    words: &[&'a str],
-    count: usize,
-    written: &str,
-) -> Result<Option<&'a str>, AllocError>
-    requires { count ≤ 2 }
-    ensures { IfOk result (λ found. option_copied found
-        ≡ find (is_away count written.now) (map (λ word. word.now) words.now)) }
-{
-    for word in words {
-        if is_away(alloc, count, written, word)? {
-            return Ok(Some(*word));
-        }
-    }
-    Ok(None)
-}
-
-// Whether so many edits lead from one word to the other, fewer than half of the bytes of what is meant.
-fn is_away(alloc: Global, count: usize, written: &str, meant: &str) -> Result<bool, AllocError>
-    requires { count ≤ 2 }
-    ensures { IfOk result (λ is. is ≡ is_away count written.now meant.now) }
-{
-    Ok(levenshtein(alloc, meant, written)? == count && 2 * count < meant.len())
 }
 
 /// Whether a rule asks for a service in another case.

@@ -1,5 +1,5 @@
 //! Texts that rules ask of labels, and rules of outer lists, which see names before the label that a client gives.
-ghost use Rattle.std.specs.Prelude.{◌≡◌, ◌+◌, drop, find, length, nat_eq, nat_lt, IfOk};
+ghost use Rattle.std.specs.Prelude.{◌≡◌, ◌+◌, find, length, nat_eq, nat_lt, IfOk};
 ghost use Rattle.std.specs.List.{ends_with, list_all, list_any, starts_with};
 ghost use Rattle.std.specs.Option.{option_copied, option_map};
 ghost use Rattle.own_model.specs.SessionArgs.{is_quotable};
@@ -12,7 +12,7 @@ use crate::idle::is_of;
 use crate::part::Owner;
 use start_lists::{Binary, Entry, Rule, StartList};
 use std::alloc::{AllocError, Global};
-use text_codec::is_quotable;
+use text_codec::{is_quotable, skip_bytes};
 
 /// The first init that asks an owner's list, if one does: to it the list is an outer one.
 pub(crate) fn outer_init(list: &StartList, owner: Owner) -> Option<&Entry>
@@ -156,7 +156,7 @@ fn is_let_in(init: &Entry, names: &[u8], entry: &Entry) -> bool
     is_below(init, entry)
         && own.starts_with(names)
         && own != names
-        && !behind(own, names.len()).starts_with(b" -> ")
+        && !skip_bytes(own, names.len()).starts_with(b" -> ")
 }
 
 // Whether an entry that asks, or whose own do, is below an init.
@@ -167,7 +167,7 @@ fn is_below(init: &Entry, entry: &Entry) -> bool
     let label = entry.label();
     !is_server(entry.binary())
         && label.starts_with(above)
-        && behind(label, above.len()).starts_with(b" -> ")
+        && skip_bytes(label, above.len()).starts_with(b" -> ")
 }
 
 /// Whether a binary is a server's.
@@ -184,18 +184,7 @@ pub(crate) fn is_server(binary: Binary) -> bool
 fn names_from<'a>(init: &Entry, entry: &'a Entry) -> &'a [u8]
     ensures { result.now ≡ names_from init.now entry.now }
 {
-    behind(entry.label(), init.label().len() + 4)
-}
-
-// What stands behind so many bytes of a text.
-fn behind(text: &[u8], count: usize) -> &[u8]
-    ensures { result.now ≡ drop count text.now }
-{
-    if count < text.len() {
-        &text[count..]
-    } else {
-        &[]
-    }
+    skip_bytes(entry.label(), init.label().len() + 4)
 }
 
 /// Whether an outer list asks for an end of at least a byte.

@@ -22,11 +22,8 @@ use crate::spare::{Advice, Spare, spare_of};
 use crate::tree::Tree;
 use crate::unread::tell_unread;
 use serde_json::Value;
-use start_lists::{BootFault, Field, StartList};
+use start_lists::{BootFault, Field, LONGEST_TEXT, StartList};
 use std::alloc::{AllocError, Global};
-
-/// The most bytes of a start list's text.
-const LONGEST_TEXT: usize = 65_536;
 
 /// A start list that boots, and what is to be told of it.
 #[derive(Drop)]

@@ -9,11 +9,8 @@ ghost use Rattle.start_review.specs.Values.{elements_in, found_at, found_in, fou
 
 use crate::part::{Step, Steps};
 use serde_json::Value;
-use start_lists::Name;
+use start_lists::{DEEPEST, Name};
 use std::alloc::{AllocError, Global};
-
-/// How deep inits nest below the machine's.
-const DEEPEST: usize = 3;
 
 /// An entry's value, and the steps to it.
 #[derive(Drop)]

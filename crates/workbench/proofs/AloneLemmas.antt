@@ -19,7 +19,7 @@ use Rattle.own_model.proofs.RunSaidByLemmas.{pieces_stand_alone, state_stands_al
 use Rattle.scenario_lines.specs.Answer.{AnswersLine, IsAnswer, answer_text, answered_name, answered_reply, finished_lines}
 use Rattle.scenario_lines.specs.Answered.{after_all}
 use Rattle.scenario_lines.specs.declared.answering.LineAnswer.{LineAnswer}
-use Rattle.scenario_lines.proofs.AnsweringLemmas.{told_answer}
+use Rattle.scenario_lines.proofs.AnsweringLemmas.{told_answer, said_one}
 use Rattle.scenario_lines.proofs.ToldLemmas.{left_by_both, said_by-append}
 use Rattle.workbench.specs.Alone.{AreAlike, SeesAlone, alone_tells, told_in}
 use Rattle.workbench.specs.Played.{calls_said}
@@ -54,10 +54,6 @@ is_of_line name entries line true said = is_of_spoken name entries (spoken line)
 -- what is heard of a name's line is the name's
 pub is_of_heard : (name : List ℕ) (entries : List Entry) (line : List ℕ) → is_said_by name line ≡ true → IsOf name entries (heard entries line)
 is_of_heard name entries line said = is_of_line name entries line (nat_le (length line) longest_line) said
-
--- lines of a name are these
-pub said_one : (name line : List ℕ) (b : Bool) → is_said_by name line ≡ b → said_by (Some name) (line ∷ []) ≡ cond b (line ∷ []) []
-said_one name line b is = ap (λ t. cond t (line ∷ []) []) is
 
 module _ (name : List ℕ) (start : World) (earlier : List (List ℕ)) where
   -- the name's own state after all calls is the one after its own

@@ -1,5 +1,6 @@
 -- Which faults come, and whether a write has failed then.
 use Rattle.std.proofs.Common.{◌≡◌, Bool, true, false, ◌||◌, List, ℕ, Some, None, Result, Ok, Err, IfErr, IsErrAnd, refl, sym, ◌∙◌, ap}
+use Rattle.std.proofs.Math.Bool.{or-true}
 use Rattle.friendly_lines.specs.Friendly.{Said, said_of}
 use Rattle.friendly_lines.specs.declared.fault.Fault.{Fault}
 use Rattle.scenario_lines.specs.Next.{AllWork}
@@ -53,17 +54,12 @@ pub roomless_on : {T : Type 0} (r : Result T PlayFault) (failed takes : Bool) {e
 roomless_on (Ok done) failed takes is room works more = absurd is
 roomless_on (Err fault) failed takes is room works more = rw (is, room) (works, more)
 
--- what a line's reading takes
-or_true : (b : Bool) → (b || true) ≡ true
-or_true true = refl
-or_true false = refl
-
 pub line_takes : (calls : Bool) (f : Filled) (line : List ℕ) (said : Result Said Fault) → said ≡ said_of line → takes_room calls said ≡ true → takes_in calls (Says f (said_of line)) ≡ true
 line_takes calls f line said is takes = ap (λ b. b || has_holes f) (ap (takes_room calls) (sym is) ∙ takes)
 
 -- and what its reply binds
 pub holes_take : (calls : Bool) (f : Filled) (said : Result Said Fault) → has_holes f ≡ true → takes_in calls (Says f said) ≡ true
-holes_take calls f said some = ap (λ b. takes_room calls said || b) some ∙ or_true (takes_room calls said)
+holes_take calls f said some = ap (λ b. takes_room calls said || b) some ∙ or-true (takes_room calls said)
 
 -- devices of which none had failed
 pub all_work : (read_failed write_failed complaint_failed : Bool) → fault_before read_failed (write_failed || complaint_failed) ≡ None → AllWork read_failed write_failed complaint_failed

@@ -1,12 +1,13 @@
 -- What is kept of peaks from call to call.
 use Rattle.std.proofs.Common.{Bor, ◌≡◌, ◌≤◌, inl, inr, ℕ, ◌+◌, ◌<◌, ◌==◌, ◌&&◌, Bool, true, false, true≢false, cond, eqb-true, not, List, [], ◌∷◌, ◌++◌, length, is_some, max, Option, Some, None, refl, sym, ◌∙◌, ap, arith}
-use Rattle.std.proofs.lemmas.Bool.{eq-eqb}
+use Rattle.std.proofs.lemmas.Bool.{eq-eqb, and_parts}
 use Rattle.std.proofs.lemmas.Bool.Decides.{nat_tests}
 use Rattle.std.proofs.lemmas.Option.{none-some, same_Some}
 use Rattle.std.specs.Prelude.{nat_le, nat_lt, not, ◌||◌}
 use Rattle.std.specs.List.{position}
 use Rattle.std.specs.Str.{bytes_eq}
 use Rattle.std.specs.Option.{option_map, option_map_or, option_or}
+use Rattle.std.proofs.Math.Bool.{and-false}
 use Rattle.own_model.proofs.RunningLemmas.{world_running-push}
 use Rattle.own_model.specs.Account.{Account}
 use Rattle.own_model.specs.Amounts.{Amounts}
@@ -52,10 +53,6 @@ or_none : (o : Option Noted) → option_or o None ≡ o
 or_none None = refl
 or_none (Some noted) = refl
 
-and_false : (b : Bool) → (b && false) ≡ false
-and_false true = refl
-and_false false = refl
-
 -- nothing more is kept where nothing is begun
 pub none_kept : (was begun : Option Noted) → begun ≡ None → was ≡ option_or was begun
 none_kept was begun none = sym (ap (option_or was) none ∙ or_none was)
@@ -63,12 +60,6 @@ none_kept was begun none = sym (ap (option_or was) none ∙ or_none was)
 -- whose a session is hangs on its component and its selector alone
 at_same : (component selector : ℕ) (one other : Kept) → one.component ≡ other.component → one.selector ≡ other.selector → is_kept_at component selector one ≡ is_kept_at component selector other
 at_same component selector one other same_component same_selector = λ i. (component == same_component i) && (selector == same_selector i)
-
-both : (a b : Bool) → (a && b) ≡ true → (a ≡ true) × (b ≡ true)
-both true true is = (refl, refl)
-both true false is = absurd (true≢false (sym is))
-both false true is = absurd (true≢false (sym is))
-both false false is = absurd (true≢false (sym is))
 
 raised_or : (now : Option Session) (was : Option Noted) (noted raised : Noted) (account : Account) → option_map (λ (x : Session). x.account) now ≡ Some account → raised ≡ noted_more noted account →
     option_or (raised_in now was) (Some raised) ≡ raised_in now (option_or was (Some noted))
@@ -98,7 +89,7 @@ module _ (world : World) (kept yielded : List Kept) (session : Kept) (component 
           option_or (raised_in now (found yielded component selector)) (cond b (Some (noted_in raised)) None)
           ≡ raised_in now (option_or (found yielded component selector) (cond b (Some (noted_in session)) None))
       by true is =
-          let parts = both (component == session.component) (selector == session.selector) is in
+          let parts = and_parts (component == session.component) (selector == session.selector) is in
           raised_or now (found yielded component selector) (noted_in session) (noted_in raised) account (there (eqb-true _ _ parts.0) (eqb-true _ _ parts.1)) noted
       by false is = or_none (raised_in now (found yielded component selector)) ∙ ap (raised_in now) (sym (or_none (found yielded component selector)))
 
@@ -111,7 +102,7 @@ module _ (world : World) (kept yielded : List Kept) (session : Kept) (component 
       by : (b : Bool) → is_kept_at component selector session ≡ b →
           raised_in now (found yielded component selector) ≡ raised_in now (option_or (found yielded component selector) (cond b (Some (noted_in session)) None))
       by true is =
-          let parts = both (component == session.component) (selector == session.selector) is in
+          let parts = and_parts (component == session.component) (selector == session.selector) is in
           let none = gone (eqb-true _ _ parts.0) (eqb-true _ _ parts.1) in
           gone_none now (found yielded component selector) none ∙ sym (gone_none now (option_or (found yielded component selector) (Some (noted_in session))) none)
       by false is = ap (raised_in now) (sym (or_none (found yielded component selector)))
@@ -177,7 +168,7 @@ kept_first starts component was c q = none_kept (found was c q) (begun_below sta
     below = grind (arith, nat_tests)
 
     none : begun_below starts component 0 c q ≡ None
-    none = ap (λ b. cond ((c == component) && b) (starts q) None) below ∙ ap (λ b. cond b (starts q) None) (and_false (c == component))
+    none = ap (λ b. cond ((c == component) && b) (starts q) None) below ∙ ap (λ b. cond b (starts q) None) (and-false (c == component))
 
 -- what is there is found
 pub is_found : {A : Type 0} (of : A → Noted) (o : Option A) (is : Option Noted) (none : Bool) → option_map of o ≡ is → is_some o ≡ not none → none ≡ false → is_some is ≡ true
@@ -202,8 +193,8 @@ heard_said entries line =
     elim (nat_le (length line) longest_line) as (λ b. cond b (heard_spoken entries (spoken line)) NoCall ≡ heard_spoken entries (cond b (spoken line) None)) [ true ↦ refl | false ↦ refl ]
 
 opens_not_of : (kind : Kind) (says : Spoken) (component c : ℕ) → opens says.call ≡ false → opens_for c (heard_of kind says component) ≡ false
-opens_not_of Script says component c other = ap (λ b. (c == component) && b) other ∙ and_false (c == component)
-opens_not_of Server says component c other = ap (λ b. (c == component) && b) other ∙ and_false (c == component)
+opens_not_of Script says component c other = ap (λ b. (c == component) && b) other ∙ and-false (c == component)
+opens_not_of Server says component c other = ap (λ b. (c == component) && b) other ∙ and-false (c == component)
 opens_not_of Init says component c other = refl
 
 opens_not_found : (entries : List Entry) (says : Spoken) (found_at : Option ℕ) (c : ℕ) → opens says.call ≡ false → opens_for c (heard_call entries says found_at) ≡ false

@@ -1,5 +1,6 @@
 -- A line that is played: what it says is answered and told, or nothing changes, and then it is judged.
 use Rattle.std.proofs.Common.{◌≡◌, ℕ, ◌&&◌, ◌||◌, Bool, true, false, List, [], ◌∷◌, ◌++◌, append-nil, is_some, Option, Some, None, Result, Ok, Err, IfOk, OnOk, refl, sym, ◌∙◌, ap, subst}
+use Rattle.workbench.proofs.HearLemmas.{on_ok}
 use Rattle.own_model.specs.SaidBy.{said_by}
 use Rattle.own_model.specs.Transcript.{heard}
 use Rattle.own_model.specs.World.{World, world_running}
@@ -23,10 +24,6 @@ use Rattle.workbench.specs.declared.watch.Heard.{Heard}
 use Rattle.workbench.proofs.FailLemmas.{fails_before, fails_beside}
 use Rattle.workbench.proofs.PlayedLemmas.{told_of_one}
 use Rattle.workbench.proofs.TurnLemmas.{stands_answered}
-
-on_ok : {T E : Type 0} {P : Type 0} (r : Result T E) → P → OnOk r P
-on_ok (Ok done) p = p
-on_ok (Err fault) p = tt
 
 -- what was told is told, whatever a complaint becomes
 told_unless : {T E : Type 0} {w w' : Option (List ℕ)} {g g' text : List ℕ} (r : Result T E) → Tells w g w' g' text → TellsUnless r w g w' g' text

@@ -1,6 +1,7 @@
 -- A play from line to line: what was played, and what it leaves at its end.
 use Rattle.std.proofs.Common.{◌≡◌, ◌||◌, ℕ, ◌+◌, ◌<◌, ◌≤◌, ◌^◌, List, [], ◌∷◌, ◌++◌, length, Option, Some, None, IfNone, Result, Ok, Err, OnOk, Bool, true, false, ⊎_elim, arith, refl, sym, ◌∙◌, ap, subst, append-nil}
 use Rattle.std.specs.Result.{result_err}
+use Rattle.std.proofs.lemmas.Bool.{or_from, or_parts}
 use Rattle.own_model.specs.SaidBy.{said_by}
 use Rattle.own_model.specs.StartList.{Entry}
 use Rattle.own_model.specs.World.{World}
@@ -10,7 +11,6 @@ use Rattle.scenario_lines.specs.Gathered.{TellsUnless}
 use Rattle.scenario_lines.specs.Plays.{EndsAs, EndsFor, GoesOn, PlaysAll as PlaysLines, PlaysLine}
 use Rattle.scenario_lines.specs.declared.play_fault.PlayFault.{PlayFault}
 use Rattle.scenario_lines.specs.declared.play_fault.PlayFault.TheVariants.{ReadFault, WriteFault, TooManyLines, NoMemory}
-use Rattle.scenario_lines.proofs.FaultLemmas.{none_of, or_none}
 use Rattle.scenario_lines.proofs.ToldLemmas.{left_none, said_none}
 use Rattle.workbench.specs.Faults.{takes_in}
 use Rattle.workbench.specs.Played.{calls_answered, calls_said, told_of_calls, told_of_turns}
@@ -182,7 +182,7 @@ closes_as (Err NoMemory) a b fails = absurd (let e : false ≡ true = fails.1 in
 
 -- complaints can be told where no fault came
 pub complaints_work : (fault : Option PlayFault) (k a : Bool) → (k || a) ≡ is_write_fault fault → IfNone fault (a ≡ false)
-complaints_work None k a writing = (none_of k a writing).1
+complaints_work None k a writing = (or_parts k a writing).1
 complaints_work (Some fault) k a writing = tt
 
 -- what is complained of then may not be told
@@ -206,8 +206,8 @@ plays_closed (Some fault) ended a b closes plays = rw closes.0 plays
 
 -- whether a write failed
 pub closed_writing : (fault ended : Option PlayFault) (k a b : Bool) → (k || a) ≡ is_write_fault fault → ClosesAs fault ended a b → (k || b) ≡ is_write_fault ended
-closed_writing None None k a b writing closes = or_none k b (none_of k a writing).0 closes
-closed_writing None (Some fault) k a b writing closes = rw (closes.0, closes.1, (none_of k a writing).0) refl
+closed_writing None None k a b writing closes = or_from k b (or_parts k a writing).0 closes
+closed_writing None (Some fault) k a b writing closes = rw (closes.0, closes.1, (or_parts k a writing).0) refl
 closed_writing (Some fault) ended k a b writing closes = rw (closes.0, closes.1) writing
 
 -- whether a read failed, and what was kept

@@ -1,6 +1,6 @@
 -- Turns, one after others: the calls that are answered, and what is told of them.
-use Rattle.std.proofs.Common.{◌≡◌, ℕ, ◌<◌, ◌≤◌, true, false, cond, List, [], ◌∷◌, ◌++◌, length, nat_le, Option, None, arith, refl, sym, ◌∙◌, ap, append_assoc, append-nil}
-use Rattle.std.proofs.lemmas.Bool.Decides.{nat_tests}
+use Rattle.std.proofs.Common.{◌≡◌, ℕ, ◌<◌, ◌≤◌, cond, List, [], ◌∷◌, ◌++◌, length, Option, None, refl, sym, ◌∙◌, ap, append_assoc, append-nil}
+use Rattle.std.proofs.lemmas.Bool.{le-leb, lt-leb}
 use Rattle.std.proofs.lemmas.Grind.{flat_map-append}
 use Rattle.own_model.specs.SaidBy.{said_by}
 use Rattle.own_model.specs.Transcript.{longest_line}
@@ -15,20 +15,13 @@ use Rattle.scenario_names.specs.Filling.{filled}
 use Rattle.workbench.specs.Writes.{transcript_of}
 use Rattle.workbench.specs.declared.stand.Stand.{Stand}
 
--- a line's length is tested
-is_short : (n : ℕ) → n ≤ longest_line → nat_le n longest_line ≡ true
-is_short n short = grind (arith, nat_tests)
-
-is_long : (n : ℕ) → longest_line < n → nat_le n longest_line ≡ false
-is_long n long = grind (arith, nat_tests)
-
 -- what a line is that isn't too long
 pub deed_of-short : (stand : Stand) (line : List ℕ) → length line ≤ longest_line → deed_of stand line ≡ deed_filled (filled stand.known line)
-deed_of-short stand line short = ap (λ b. cond b (deed_filled (filled stand.known line)) TooLong) (is_short (length line) short)
+deed_of-short stand line short = ap (λ b. cond b (deed_filled (filled stand.known line)) TooLong) (le-leb (length line) longest_line short)
 
 -- and one that is
 pub deed_of-long : (stand : Stand) (line : List ℕ) → longest_line < length line → deed_of stand line ≡ TooLong
-deed_of-long stand line long = ap (λ b. cond b (deed_filled (filled stand.known line)) TooLong) (is_long (length line) long)
+deed_of-long stand line long = ap (λ b. cond b (deed_filled (filled stand.known line)) TooLong) (lt-leb (length line) longest_line long)
 
 -- the calls of turns, and then of others
 pub calls_said-append : (xs ys : List Turn) → calls_said (xs ++ ys) ≡ calls_said xs ++ calls_said ys

@@ -1,5 +1,5 @@
 -- The text of a row, cell by cell.
-use Rattle.std.proofs.Common.{◌≡◌, ℕ, suc, ◌+◌, ◌^◌, ◌<◌, ◌==◌, ◌&&◌, ◌||◌, Bool, true, false, cond, if◌then◌else◌, List, [], ◌∷◌, ◌++◌, length, take, drop, get_or, arith, refl, sym, ◌∙◌, ap, append_assoc, append-nil, codes, Option, Some, None}
+use Rattle.std.proofs.Common.{◌≡◌, ℕ, suc, ◌+◌, ◌^◌, ◌<◌, ◌==◌, ◌||◌, Bool, true, false, cond, if◌then◌else◌, List, [], ◌∷◌, ◌++◌, length, take, drop, get_or, arith, refl, sym, ◌∙◌, ap, append_assoc, append-nil, codes, Option, Some, None}
 use Rattle.std.specs.Prelude.{decimal}
 use Rattle.std.specs.Char.{is_ascii_digit}
 use Rattle.std.specs.List.{list_any}
@@ -11,6 +11,7 @@ use Rattle.std.proofs.lemmas.Fmt.{digits_decimal}
 use Rattle.std.proofs.lemmas.List.{take-append-drop}
 use Rattle.std.proofs.lemmas.Option.{none-some, same_Some}
 use Rattle.std.proofs.lemmas.Str.Parse.{numerals_by_value, tells_all_ascii_digits}
+use Rattle.std.proofs.lemmas.Bool.{and_parts}
 use Rattle.csv.specs.Writing.{default_writer, escaped, field_text, fields_text, is_blank, needs_byte, needs_quotes, quoted, row_text}
 use Rattle.own_model.specs.Account.{Account}
 use Rattle.own_model.specs.Session.{Session}
@@ -27,13 +28,9 @@ use Rattle.workbench.specs.Watching.{IsToldOf}
 digit_plain : (b : ℕ) → is_ascii_digit b ≡ true → needs_byte default_writer b ≡ false
 digit_plain b digit = grind (arith, nat_tests)
 
-both : (x y : Bool) → (x && y) ≡ true → (x ≡ true) × (y ≡ true)
-both true y e = (refl, e)
-both false y e = absurd (cc)
-
 digits_plain : (ds : List ℕ) → all_ascii_digits ds ≡ true → list_any (needs_byte default_writer) ds ≡ false
 digits_plain [] digits = refl
-digits_plain (b ∷ bs) digits = let parts = both _ _ digits in λ i. digit_plain b parts.0 i || digits_plain bs parts.1 i
+digits_plain (b ∷ bs) digits = let parts = and_parts _ _ digits in λ i. digit_plain b parts.0 i || digits_plain bs parts.1 i
 
 -- a number needs no quotes
 pub plain_number : (n : ℕ) → n < 2 ^ 64 → field_text default_writer (decimal n) ≡ decimal n

@@ -1,9 +1,9 @@
 //! The peaks of accounts: the most that was in use after any line.
-ghost use Rattle.std.specs.Prelude.{◌≡◌, ◌<◌, ◌≤◌, ◌==◌, ◌&&◌, ℕ, [], length, if◌then◌else◌, None, IfOk, IfSome, OnOk};
+ghost use Rattle.std.specs.Prelude.{◌≡◌, ◌<◌, ◌==◌, ◌&&◌, ℕ, [], length, if◌then◌else◌, None, IfOk, IfSome, OnOk};
 ghost use Rattle.std.specs.Option.{option_map, option_or};
 ghost use Rattle.own_model.specs.Listed.{start_list_of};
 ghost use Rattle.own_model.specs.Routes.{label_with};
-ghost use Rattle.own_model.specs.Session.{Session as Opened, given};
+ghost use Rattle.own_model.specs.Session.{Session as Opened};
 ghost use Rattle.own_model.specs.StartList.{entries_of};
 ghost use Rattle.own_model.specs.World.{account_at, machine_init};
 ghost use Rattle.pd_core.specs.Answer.{quotas_account};
@@ -257,7 +257,7 @@ impl Peaks {
         let Some(account) = core.session_account(component, selector) else {
             return Ok(());
         };
-        let given = label_given(opening.args);
+        let given = SessionArgs::label_given(opening.args);
         self.sessions.push(Session {
             component,
             selector,
@@ -305,17 +305,6 @@ fn account_of<R: Router + Drop>(core: &Core<R>, component: usize, selector: u64)
         core.session_account(component, selector)
     } else {
         None
-    }
-}
-
-// The label that a client gives with the arguments of a session: none where they are no arguments.
-fn label_given(args: &[u8]) -> &[u8]
-    ensures label { result.now ≡ (given args.now).label }
-    ensures short { length result.now ≤ 64 }
-{
-    match SessionArgs::read(args) {
-        Ok(args) => args.label(),
-        Err(_) => b"",
     }
 }
 

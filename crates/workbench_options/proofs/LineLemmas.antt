@@ -5,6 +5,7 @@ use Rattle.std.specs.Box.{box_value}
 use Rattle.std.specs.Str.{bytes_eq}
 use Rattle.std.specs.Str.Parse.{ParsesBool}
 use Rattle.std.proofs.lemmas.Slice.Eq.{bytes_eq-Decides}
+use Rattle.std.proofs.Math.Bool.{or-false}
 use Rattle.clap.specs.Kinds.{HasKind}
 use Rattle.clap.specs.Words.{AddsArg, AddsSubcommand, App, FailsBy, Kinds, ReadsOne, Row, Text, app_of, subcommand_rows, with_subcommand}
 use Rattle.clap.specs.declared.builder.arg.Arg.{Arg}
@@ -34,15 +35,11 @@ pub value_or : (found : Option (Bor (List ℕ))) (other result : Bor (List ℕ))
 value_or None other result same = ap (λ (t : Bor (List ℕ)). t.now) same
 value_or (Some t) other result same = ap (λ (t : Bor (List ℕ)). t.now) same
 
-or_false : (b : Bool) → (b || false) ≡ b
-or_false true = refl
-or_false false = refl
-
 -- an argument that counts for its command alone is added
 pub local_added : (old : Command) (arg : Arg) (new : Command) → AddsArg old arg new → arg.global ≡ false
     → (out-Command new).has_globals ≡ (out-Command old).has_globals
 local_added old arg new adds local =
-    adds.globals ∙ ap (λ (b : Bool). (out-Command old).has_globals || b) local ∙ or_false (out-Command old).has_globals
+    adds.globals ∙ ap (λ (b : Bool). (out-Command old).has_globals || b) local ∙ or-false (out-Command old).has_globals
 
 -- a command of a table is added
 pub added : (old sub new : Command) (form : Form) → AddsSubcommand old sub new → IsTold form sub

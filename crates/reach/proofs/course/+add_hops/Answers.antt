@@ -26,6 +26,6 @@ returns-in-Some t c =
     c.copied.result.items c.as_slice.result.now c.rules_of-rules.result.now c.first_match-rule.result c.args.hops.now.items
     c.push.new.self.items c.add_hops.new.hops.items (omega arith) c.copied.ensures c.rules_of-rules.ensures c.first_match-rule.ensures
     c.in_ok-push.ensures.items (cc) (sym (c.in-Some.ensures ∙ ap (λ n. init_entry c.args.list.now n) c.home.ensures))
-    (c.as_slice.ensures.value ∙ (c.label_with-outer.ensures ∙ ap (λ n. label_with n c.args.seen.now) c.name.ensures.name))
+    (c.as_slice.ensures.value ∙ (c.label_of-outer.ensures.label ∙ ap (λ n. label_with n c.args.seen.now) c.name.ensures.name))
     goes)
     c.add_hops.ensures

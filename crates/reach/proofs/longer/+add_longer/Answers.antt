@@ -11,9 +11,9 @@ use Rattle.reach.proofs.longer.+add_longer.Goals as goal
 pub add_longer-requires : goal.add_longer-requires
 add_longer-requires t c =
     let sees : c.as_slice.result.now ≡ label_with c.args.entry.now.name c.args.seen.now =
-    c.as_slice.ensures.value ∙ (c.label_with-seen.ensures ∙ ap (λ n. label_with n c.args.seen.now) c.name.ensures.name) in
+    c.as_slice.ensures.value ∙ (c.label_of-seen.ensures.label ∙ ap (λ n. label_with n c.args.seen.now) c.name.ensures.name) in
     let sees_more : c.as_slice-in-Some.result.now ≡ label_with c.args.entry.now.name c.args.longer.now =
-    c.as_slice-in-Some.ensures.value ∙ (c.label_with-longer.ensures ∙ ap (λ n. label_with n c.args.longer.now) c.name-in-Some.ensures.name) in (
+    c.as_slice-in-Some.ensures.value ∙ (c.label_of-longer.ensures.label ∙ ap (λ n. label_with n c.args.longer.now) c.name-in-Some.ensures.name) in (
       search rules,
       (
         named_short c.args.lists c.args.entry.now.name c.args.seen.now c.as_slice.result.now (omega arith) sees
@@ -42,7 +42,7 @@ returns-in-Some t c =
     (λ goes. key_goes_on c.args.lists _ c.args.list.now c.args.entry.now c.in-Some.init.now c.args.service.now c.args.longer.now
     c.as_slice-in-Some.result.now c.args.next.now.items c.add_longer_marks.new.next.items c.add_longer.new.next.items (omega arith)
     (sym (c.in-Some.ensures ∙ ap (λ n. init_entry c.args.list.now n) c.home.ensures))
-    (c.as_slice-in-Some.ensures.value ∙ (c.label_with-longer.ensures ∙ ap (λ n. label_with n c.args.longer.now) c.name-in-Some.ensures.name))
+    (c.as_slice-in-Some.ensures.value ∙ (c.label_of-longer.ensures.label ∙ ap (λ n. label_with n c.args.longer.now) c.name-in-Some.ensures.name))
     (c.in_ok-outer.ensures.marks ∙ ap (λ r. c.args.next.now.items ++ marks_by c.args.service.now r c.args.longer.now) c.rules_of.ensures)
     goes)
     c.add_longer.ensures

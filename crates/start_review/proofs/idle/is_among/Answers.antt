@@ -2,8 +2,9 @@
 use Rattle.std.proofs.Common.{◌≡◌, ◌∙◌, ◌+◌, ◌-◌, ◌<◌, ◌==◌, ◌&&◌, ◌∷◌, false, true, suc, length, drop, get_or, Some, None, add-one, drop-cons, arith, refl, sym}
 use Rattle.std.specs.List.{slice_get}
 use Rattle.std.proofs.lemmas.Bool.Decides.{nat_tests}
+use Rattle.std.proofs.lemmas.Bool.{and_from, and_left, and_right}
 use Rattle.start_review.specs.Idle.{is_of}
-use Rattle.start_review.proofs.IdleLemmas.{among_here, among_nobody, among_none, among_outward, both_hold, first_fails, second_fails}
+use Rattle.start_review.proofs.IdleLemmas.{among_here, among_nobody, among_none, among_outward}
 use Rattle.start_review.proofs.idle.is_among.Goals.{else-is_of-via-then-is_of+else-rule-place, else-is_of-via-else-is_of}
 use Rattle.start_review.proofs.idle.is_among.Goals as goal
 
@@ -27,7 +28,7 @@ returns-then-rule-place c =
     let same : (get_or c.args.rules.now c.loop-rule.rule-index 0 == c.args.place) ≡ true = grind (arith, nat_tests) in
     sym (among_here c.args.list.now c.args.owner c.args.place c.loop-rule.number (get_or c.args.rules.now c.loop-rule.rule-index 0)
     (drop (c.loop-rule.rule-index + 1) c.args.rules.now) (drop c.loop-rule.rule-index c.args.rules.now) c.in-Some.entry.now at somebody
-    (both_hold _ _ mine same))
+    (and_from _ _ mine same))
     ∙ c.loop-rule.invariant
 
 pub returns-then-home-eq0 : goal.returns-then-home-eq0
@@ -38,9 +39,9 @@ returns-then-home-eq0 c =
     let somebody : slice_get c.args.list.now.entries c.loop-rule.number ≡ Some c.in-Some.entry.now = sym c.in-Some.ensures in
     let other : (is_of c.args.owner c.loop-rule.number c.in-Some.entry.now && get_or c.args.rules.now c.loop-rule.rule-index 0 == c.args.place) ≡ false =
     elim c.else-is_of.branch [
-      | else-is_of-via-then-is_of+else-rule-place w ↦ second_fails (is_of c.args.owner c.loop-rule.number c.in-Some.entry.now) (get_or c.args.rules.now c.loop-rule.rule-index 0 == c.args.place)
+      | else-is_of-via-then-is_of+else-rule-place w ↦ and_right (is_of c.args.owner c.loop-rule.number c.in-Some.entry.now) (get_or c.args.rules.now c.loop-rule.rule-index 0 == c.args.place)
           (grind (arith, nat_tests, w.if-rule-place.false))
-      | else-is_of-via-else-is_of w ↦ first_fails _ _ (sym c.is_of.ensures ∙ w.if-is_of.false)
+      | else-is_of-via-else-is_of w ↦ and_left _ _ (sym c.is_of.ensures ∙ w.if-is_of.false)
     ] in
     let top : c.in-Some.entry.now.home ≡ 0 = omega (arith, c.home.ensures, c.if-home-eq0.true) in
     sym (among_none c.args.list.now c.args.owner c.args.place c.loop-rule.number (get_or c.args.rules.now c.loop-rule.rule-index 0)
@@ -55,9 +56,9 @@ loop-rule-preserved c =
     let somebody : slice_get c.args.list.now.entries c.loop-rule.number ≡ Some c.in-Some.entry.now = sym c.in-Some.ensures in
     let other : (is_of c.args.owner c.loop-rule.number c.in-Some.entry.now && get_or c.args.rules.now c.loop-rule.rule-index 0 == c.args.place) ≡ false =
     elim c.else-is_of.branch [
-      | else-is_of-via-then-is_of+else-rule-place w ↦ second_fails (is_of c.args.owner c.loop-rule.number c.in-Some.entry.now) (get_or c.args.rules.now c.loop-rule.rule-index 0 == c.args.place)
+      | else-is_of-via-then-is_of+else-rule-place w ↦ and_right (is_of c.args.owner c.loop-rule.number c.in-Some.entry.now) (get_or c.args.rules.now c.loop-rule.rule-index 0 == c.args.place)
           (grind (arith, nat_tests, w.if-rule-place.false))
-      | else-is_of-via-else-is_of w ↦ first_fails _ _ (sym c.is_of.ensures ∙ w.if-is_of.false)
+      | else-is_of-via-else-is_of w ↦ and_left _ _ (sym c.is_of.ensures ∙ w.if-is_of.false)
     ] in
     let out : c.in-Some.entry.now.home ≡ suc (c.home-number.result - 1) = omega (arith, c.home.ensures, c.home-number.ensures, c.if-home-eq0.false) in
     sym (among_outward c.args.list.now c.args.owner c.args.place c.loop-rule.number (get_or c.args.rules.now c.loop-rule.rule-index 0)

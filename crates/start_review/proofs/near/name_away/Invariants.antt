@@ -1,6 +1,7 @@
 use Rattle.std.proofs.Common.{◌≡◌, drop}
 use Rattle.std.specs.List.{find}
-use Rattle.start_review.specs.Near.{is_away, names_in}
+use Rattle.near_words.specs.Near.{is_away}
+use Rattle.start_review.specs.Near.{names_in}
 use Rattle.start_review.proofs.near.name_away.Given as goal
 
 abbrev pub invariant-loop-entry : goal.invariant-loop-entry

@@ -1,8 +1,9 @@
 -- The mark of the line, if there is such a line.
 use Rattle.std.proofs.Common.{arith}
+use Rattle.std.proofs.lemmas.Result.{on_ok_weaker}
 use Rattle.recording.specs.Played.Meeting.{Hears}
 use Rattle.recording.specs.Views.{hearing_view}
-use Rattle.recording.proofs.MarkLemmas.{marked_at, marked_before, marked_behind, ok_then}
+use Rattle.recording.proofs.MarkLemmas.{marked_at, marked_before, marked_behind}
 use Rattle.recording.proofs.marks.Marks.hear.Goals as goal
 
 pub returns-in_default : goal.returns-in_default
@@ -11,7 +12,7 @@ returns-in_default c =
 
 pub returns-in-Some-get_mut : goal.returns-in-Some-get_mut
 returns-in-Some-get_mut c =
-    ok_then c.hear.result
+    on_ok_weaker c.hear.result
     (marked_at c.args.number c.in-Some.place (Hears (hearing_view c.args.hearing.now)) c.args.self.now.marks.items c.in-Some-get_mut.mark.now
     c.hear.new.self (omega (arith, c.in-Some.ensures)) c.in-Some-get_mut.ensures.item.3.0 c.in-Some-get_mut.ensures.value)
     c.hear.ensures

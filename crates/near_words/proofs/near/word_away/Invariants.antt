@@ -1,7 +1,7 @@
 use Rattle.std.proofs.Common.{◌≡◌, drop, map}
 use Rattle.std.specs.List.{find}
-use Rattle.start_review.specs.Near.{is_away}
-use Rattle.start_review.proofs.near.word_away.Given as goal
+use Rattle.near_words.specs.Near.{is_away}
+use Rattle.near_words.proofs.near.word_away.Given as goal
 
 abbrev pub invariant-loop-word : goal.invariant-loop-word
 invariant-loop-word l =
