@@ -181,13 +181,23 @@ fn add_fault(
     }
     let text = fault.to_string(alloc)?;
     let part = part_at(alloc, &fault.place)?;
+    add_flaw(listing, path, part.as_str(), text.as_str())
+}
+
+// Adds the fault of a list with its part.
+fn add_flaw<'a>(
+    listing: &mut Listing,
+    path: &'a str,
+    part: &'a str,
+    text: &'a str,
+) -> Result<(), AllocError> {
     listing.add(&[
         ("kind", Field::Word("fault")),
         ("file", text_of(path)),
         ("line", Field::Nothing),
         ("column", Field::Nothing),
-        ("part", text_of(part.as_str())),
-        ("text", text_of(text.as_str())),
+        ("part", text_of(part)),
+        ("text", text_of(text)),
     ])
 }
 

@@ -1,6 +1,7 @@
 //! Diagnostics of a command, on standard error or in a text.
 use crate::streams::{Place as Stream, Writer, plain_writer, text_of};
 use arrayvec::ArrayString;
+use scenario::Sink;
 use std::alloc::AllocError;
 use std::fmt::{Display, Write};
 use std::{fmt, io};
@@ -116,7 +117,7 @@ pub(crate) fn error_line<D: Display>(
     Ok(text_of(rt, writer))
 }
 
-// Writes a diagnostic; a write that fails loses it.
+// Writes a diagnostic; a write that fails loses it, and so does a writer that has failed.
 fn write<D: Display>(
     rt: &HostRuntime,
     writer: &mut Writer<'_>,
@@ -126,6 +127,9 @@ fn write<D: Display>(
     message: &D,
 ) -> Result<(), AllocError> {
     let text = message.to_string(rt.alloc())?;
+    if writer.failed() {
+        return Ok(());
+    }
     let subject = Subject {
         file: spot.file.as_bytes(),
         form,

@@ -54,8 +54,8 @@ fn played(
     match kind {
         Kind::Run => run(alloc, play, LISTED, reader, writer, complaints),
         Kind::Trace => trace(alloc, play, reader, writer, complaints),
-        Kind::Accounts => accounts(alloc, play, reader, writer, complaints),
-        Kind::Alone => alone(alloc, play, b"alice", reader, writer, complaints),
+        Kind::Accounts => Ok(accounts(alloc, play, reader, writer, complaints)?.ending),
+        Kind::Alone => Ok(alone(alloc, play, b"alice", reader, writer, complaints)?.ending),
     }
 }
 
