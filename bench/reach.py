@@ -1,9 +1,12 @@
 #!/usr/bin/env python3
-"""reach.py PROGRAM [LISTS] [SEED]: draws start lists whose rules ask for pieces of what their lists see, and labels, and compares
-each cell of `PROGRAM reach --csv` with where a second reading of the rules leads these labels and the one that is told."""
-import csv, io, json, os, random, subprocess, sys, tempfile
+"""reach.py PROGRAM [LISTS] [SEED]: draws start lists whose rules ask for pieces of what their lists see, and of each list a changed
+one. A second reading of the rules routes all labels of at most four bytes of a small alphabet, and some labels drawn at random. The
+sets of labels and the witnesses of `PROGRAM reach --json` and `PROGRAM diff --json` are compared with these routes."""
+import copy, itertools, json, os, random, subprocess, sys, tempfile
 
 GIVEN = [chr(b) for b in range(32, 127) if chr(b) not in '"\\']
+SMALL = ["".join(x) for size in range(5) for x in itertools.product("ab> ", repeat=size)]
+SERVICES = ("LOG", "File_system")
 
 
 def text(draw, names):
@@ -134,47 +137,158 @@ def texts(value):
             yield from texts(inner)
 
 
-def compare(program, draw, path):
+def changed(draw, whole):
+    """A copy of a list with one rule more, one less, or another text or target in one."""
+    made = copy.deepcopy(whole)
+    lists = list(rule_lists(made))
+    for _ in range(1 + draw.randrange(2)):
+        rules_of = draw.choice(lists)
+        kind = draw.randrange(4)
+        if kind == 0 or not rules_of:
+            rules_of.insert(draw.randrange(len(rules_of) + 1), rule(draw, draw.choice(([], ["carol"], ["sub", "carol"])), ["log", "log2", "files"]))
+        elif kind == 1:
+            rules_of.pop(draw.randrange(len(rules_of)))
+        else:
+            one = draw.choice(rules_of)
+            asked = [member for member in one if member.startswith("label")]
+            if asked:
+                text_of = one.pop(draw.choice(asked))
+                one[draw.choice(("label", "label_prefix", "label_suffix"))] = text_of
+            else:
+                one[draw.choice(("label", "label_prefix", "label_suffix"))] = text(draw, [])
+    return made
+
+
+def rule_lists(whole):
+    """All lists of rules of a start list or of an init's config."""
+    yield whole["default-route"]
+    for entry in whole["start"]:
+        if "route" in entry:
+            yield entry["route"]
+        if "config" in entry:
+            yield from rule_lists(entry["config"])
+
+
+def servers(whole, place=""):
+    for entry in whole["start"]:
+        for service in entry.get("provides", []):
+            yield service, place + entry["name"]
+        if "config" in entry:
+            yield from servers(entry["config"], place + entry["name"] + "/")
+
+
+def has_pattern(pattern, x):
+    if pattern["exactly"] is not None:
+        return x == pattern["exactly"]
+    return x.startswith(pattern["beginning"] or "") and x.endswith(pattern["ending"] or "")
+
+
+def has(shapes, x):
+    return any(has_pattern(shape, x) and not any(has_pattern(one, x) for one in shape["except"]) for shape in shapes)
+
+
+def faults(what, shapes, witness, drawn, holds):
+    """What is wrong with a set and its witness: each drawn label is in the set exactly if it holds, and the witness is a shortest."""
+    for x in drawn:
+        if has(shapes, x) != holds(x):
+            yield f"{what}: {x!r} is {'' if holds(x) else 'not '}of the set, but {shapes}"
+    if (witness is None) != (not shapes):
+        yield f"{what}: the witness is {witness!r}, and the set {shapes}"
+    if witness is not None:
+        if len(witness) > 64 or any(c not in GIVEN for c in witness) or not holds(witness) or not has(shapes, witness):
+            yield f"{what}: {witness!r} is no label of the set"
+        shorter = [x for x in drawn if len(x) < len(witness) and holds(x)]
+        if shorter:
+            yield f"{what}: {shorter[0]!r} is shorter than {witness!r}"
+
+
+class Reading:
+    """A start list by the second reading: where labels are routed."""
+
+    def __init__(self, whole, drawn):
+        self.lists = dict(clients(whole["start"], whole["default-route"], "", []))
+        self.servers = list(servers(whole))
+        self.drawn = drawn
+        self.found = {(client, service): {} for client in self.lists for service in SERVICES}
+
+    def route(self, client, service, x):
+        known = self.found.get((client, service))
+        if known is None:
+            return None
+        if x not in known:
+            known[x] = leads(self.lists[client], service, x)
+        return known[x]
+
+
+def run(program, *arguments):
+    told = subprocess.run([program, *arguments], capture_output=True, text=True)
+    if told.returncode not in (0, 4):
+        raise SystemExit(f"{arguments}: {told.stderr}")
+    return told.returncode, json.loads(told.stdout)
+
+
+def faults_of_reach(program, path, one):
+    for cell in run(program, "reach", "--json", path)[1]:
+        client, service, server = cell["from"], cell["service"], cell["to"]
+        what = f"{client} {service} {server}"
+        yield from faults(what, cell["labels"], cell["witness"], one.drawn, lambda x: one.route(client, service, x) == server)
+        wide = [{"exactly": None, "beginning": None, "ending": None, "except": []}]
+        if (cell["reach"] == "always") != (cell["labels"] == wide) or (cell["reach"] == "none") != (cell["labels"] == []):
+            yield f"{what}: {cell['reach']}, and the set {cell['labels']}"
+        if cell["label"] != (cell["witness"] if cell["reach"] == "some" else None):
+            yield f"{what}: label {cell['label']!r}, and the witness {cell['witness']!r}"
+
+
+def faults_of_diff(program, before, after, old, new):
+    status, told = run(program, "diff", "--json", before, after)
+    if status != (4 if told else 0):
+        yield f"status {status}, and {told}"
+    cells = {(it["name"], it["service"], it["to"]): it for it in told if it["kind"] == "reach"}
+    nothing = {"gained": [], "gained_witness": None, "lost": [], "lost_witness": None}
+    for client in {**old.lists, **new.lists}:
+        for service, server in dict.fromkeys(old.servers + new.servers):
+            it = cells.pop((client, service, server), nothing)
+            what = f"{client} {service} {server}"
+            was = lambda x: old.route(client, service, x) == server
+            now = lambda x: new.route(client, service, x) == server
+            yield from faults(what + " gained", it["gained"], it["gained_witness"], old.drawn, lambda x: now(x) and not was(x))
+            yield from faults(what + " lost", it["lost"], it["lost_witness"], old.drawn, lambda x: was(x) and not now(x))
+    for cell in cells:
+        yield f"{cell}: no script and server of either list"
+
+
+def compare(program, draw, before, after):
+    """The faults of one pair of lists, and how many sets were compared that are neither empty nor all labels."""
     entries, _, default = start(draw, 0)
     whole = {"machine": {"pages": 1024, "caps": 1024}, "default-route": default, "start": entries}
-    with open(path, "w") as out:
-        json.dump(whole, out)
-    told = subprocess.run([program, "reach", "--csv", path], capture_output=True, text=True)
-    if told.returncode:
-        return [told.stderr], 0
-    rows = list(csv.DictReader(io.StringIO(told.stdout)))
-    who = dict(clients(entries, default, "", []))
-    wrong = []
-    drawn = list(labels(draw, list(texts(whole))))
-    for row in rows:
-        lists, service, server, label = who[row["from"]], row["service"], row["to"], row["label"]
-        ways = [(x, leads(lists, service, x) == server) for x in drawn]
-        if row["reach"] == "some" and (len(label) > 64 or any(c not in GIVEN for c in label) or leads(lists, service, label) != server):
-            wrong.append(f"{row}: this label doesn't lead there")
-        for x, leads_there in ways:
-            if row["reach"] == "always" and not leads_there:
-                wrong.append(f"{row}: {x!r} doesn't lead there")
-            if row["reach"] == "none" and leads_there or row["reach"] == "some" and leads_there and len(x) < len(label):
-                wrong.append(f"{row}: {x!r} leads there")
-    return wrong, sum(row["reach"] != "none" for row in rows)
+    other = changed(draw, whole)
+    for path, made in ((before, whole), (after, other)):
+        with open(path, "w") as out:
+            json.dump(made, out)
+    drawn = list(dict.fromkeys(SMALL + list(labels(draw, list(texts([whole, other]))))))
+    old, new = Reading(whole, drawn), Reading(other, drawn)
+    wrong = list(faults_of_reach(program, before, old)) + list(faults_of_diff(program, before, after, old, new))
+    return wrong, sum(1 for cell in run(program, "reach", "--json", before)[1] if cell["reach"] == "some")
 
 
 def main():
     program = os.path.abspath(sys.argv[1])
     lists = int(sys.argv[2]) if len(sys.argv) > 2 else 100
     draw = random.Random(int(sys.argv[3]) if len(sys.argv) > 3 else 1)
-    reached = 0
+    some = differing = 0
     with tempfile.TemporaryDirectory() as folder:
-        path = os.path.join(folder, "list.json")
+        before, after = (os.path.join(folder, name) for name in ("before.json", "after.json"))
         for count in range(lists):
-            wrong, some = compare(program, draw, path)
-            reached += some
+            wrong, found = compare(program, draw, before, after)
+            some += found
+            differing += run(program, "diff", "--json", before, after)[0] == 4
             if wrong:
                 print(f"list {count}: {wrong[0]}")
-                with open(path) as text_of:
-                    print(text_of.read())
+                for path in (before, after):
+                    with open(path) as text_of:
+                        print(text_of.read())
                 return 1
-    print(f"{lists} lists, {reached} cells that are reached: no difference")
+    print(f"{lists} lists, {some} cells with some labels, {differing} lists whose changed one differs: no difference")
     return 0
 
 

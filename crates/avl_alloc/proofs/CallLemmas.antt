@@ -18,14 +18,14 @@ use Rattle.avl_alloc.specs.Found.{block_addr}
 use Rattle.avl_alloc.specs.Layout.{Laid, heap_of, sizes_of, bytes_of, hole_count, weigh_all, none, whole, IsChunk, AreChunks, IsLaidOut, IsSound, ChangesHoles}
 use Rattle.avl_alloc.specs.Context.{Context, heap_with, start_of, Stand, StandUsed, Turn}
 use Rattle.avl_tree.proofs.TreeLemmas.{one, high_bound}
-use Rattle.avl_alloc.proofs.WeightLemmas.{all-left, all-right, IsLong, AreLong, TidyAll, tidy_all, chunks_kept, chunks_long, chunks_apart, weigh_all-append, weigh_all-parts, weigh-site}
+use Rattle.avl_alloc.proofs.WeightLemmas.{IsLong, AreLong, TidyAll, tidy_all, chunks_kept, chunks_long, chunks_apart, weigh_all-append, weigh_all-parts, weigh-site}
 use Rattle.avl_alloc.proofs.HoleLemmas.{within_above, with_word_same, with_word_other, fits_node, holds_kept, none_at_zero}
 use Rattle.avl_alloc.proofs.TurnLemmas.{outside}
 use Rattle.avl_alloc.proofs.FitLemmas.{found-best, holes_counted}
 use Rattle.avl_alloc.proofs.LayoutLemmas.{fits_one_more, heap_is, IsTold, laid_sound}
 use Rattle.avl_alloc.proofs.ContextLemmas.{chunks_length, sizes_few, site_open}
 use Rattle.avl_alloc.proofs.TakenLemmas.{below_digits, IsSpotOf, IfFound, best_spot, short_from, taken_is, taken_blocks}
-use Rattle.own_model.proofs.ListLemmas.{all_append}
+use Rattle.own_model.proofs.ListLemmas.{all_append, all_left, all_right}
 
 -- ---- a change in one place
 
@@ -124,7 +124,7 @@ hole_taken old new w v bytes size place told sized ok is turn =
     let n : ℕ = is.hole.size in
     let h : Heap = heap_of old w in
     let long = chunks_long w 0 (sizes_of old) (heap_with is.site (Hole n ∷ [])) is.stand.laid.chunks in
-    let left = all-left IsLong is.site.left (Hole n ∷ is.site.right) (all-right AreLong is.site.older ((is.site.left ++ Hole n ∷ is.site.right) ∷ is.site.newer) long).0 in
+    let left = all_left IsLong is.site.left (Hole n ∷ is.site.right) (all_right AreLong is.site.older ((is.site.left ++ Hole n ∷ is.site.right) ∷ is.site.newer) long).0 in
     let best : best_hole (block_size bytes) (holes_of h) ≡ Some is.hole = subst (λ z. best_hole z (holes_of h) ≡ Some is.hole) sized is.best in
     record {
       heap = turn_heap old new w v is.site place (Hole n ∷ []) (cut size n) turn

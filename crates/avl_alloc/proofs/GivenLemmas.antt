@@ -2,10 +2,11 @@
 use Rattle.std.proofs.Common.{◌≡◌, ℕ, suc, ◌+◌, ◌-◌, ◌^◌, ◌<◌, ◌≤◌, Bool, true, false, refl, sym, ap, ◌∙◌, subst, inl, inr, arith, List, [], ◌∷◌, ◌++◌, length, take, drop, get_or, Some, None, not}
 use Rattle.std.specs.Prelude.{◌==◌, nat_lt, if◌then◌else◌}
 use Rattle.std.specs.List.{AllByRecursion}
-use Rattle.std.proofs.lemmas.Bool.{cases_lt}
+use Rattle.std.proofs.lemmas.Bool.{cases_lt, not-true}
 use Rattle.std.proofs.lemmas.Bool.Decides.{nat_tests}
 use Rattle.std.proofs.lemmas.List.{append_assoc, append-nil, get_or_past, length-take-le, take-append-drop, set_split}
 use Rattle.std.proofs.Math.Seq.{drop-cons}
+use Rattle.own_model.proofs.ListLemmas.{all_right}
 use Rattle.own_model.specs.Heap.{Block, Used, Hole, bytes_in, AreBlocks, Heap}
 use Rattle.own_model.specs.BestFit.{chunk_of, given_in, given, used_at, payload_at, binary_digits}
 use Rattle.avl_alloc.specs.declared.best_fit.BestFit.{BestFit}
@@ -16,7 +17,7 @@ use Rattle.avl_alloc.specs.Layout.{heap_of, hole_count, sizes_of, whole, kept_at
 use Rattle.avl_alloc.specs.Context.{Context, heap_with, Stand, Turn, gap, first_hole, start_of}
 use Rattle.avl_alloc.specs.Walk.{block_there}
 use Rattle.avl_alloc.proofs.HoleLemmas.{within_in, within_above}
-use Rattle.avl_alloc.proofs.WeightLemmas.{around-parts, weigh-site, AreLong, IsLong, all-right, laid_long}
+use Rattle.avl_alloc.proofs.WeightLemmas.{around-parts, weigh-site, AreLong, IsLong, laid_long}
 use Rattle.avl_alloc.proofs.LayoutLemmas.{sound_chunk, sound_missing, sound_told}
 use Rattle.avl_alloc.proofs.ContextLemmas.{chunks_length, site_clear}
 use Rattle.avl_alloc.proofs.TurnLemmas.{stand_narrowed}
@@ -29,11 +30,7 @@ use Rattle.own_model.proofs.HeapBlockLemmas.{bytes-append}
 -- ---- what a walk's end is not
 
 pub not_used : (target : ℕ) (b : BlockFound) → not b.used ≡ true → None ≡ used_over target b
-not_used target b hole = let used : b.used ≡ false = is_hole b.used hole in simp used
-  where
-    is_hole : (used : Bool) → not used ≡ true → used ≡ false
-    is_hole true is = absurd (cc)
-    is_hole false is = refl
+not_used target b hole = let used : b.used ≡ false = not-true b.used hole in simp used
 
 pub not_start : (target : ℕ) (b : BlockFound) → (b.offset ≡ target → ⊥) → None ≡ used_over target b
 not_start target b other = let start : (b.offset == target) ≡ false = grind (arith, nat_tests) in neither b.used start
@@ -41,10 +38,6 @@ not_start target b other = let start : (b.offset == target) ≡ false = grind (a
     neither : (used : Bool) → (b.offset == target) ≡ false → None ≡ (if used then (if b.offset == target then Some b.size else None) else None)
     neither true start = simp start
     neither false start = refl
-
-pub is_used : (used : Bool) → not used ≡ false → used ≡ true
-is_used true is = refl
-is_used false is = absurd (cc)
 
 pub used_start : (target : ℕ) (b : BlockFound) → b.used ≡ true → b.offset ≡ target → Some b.size ≡ used_over target b
 used_start target b used at = let start : (b.offset == target) ≡ true = grind (arith, nat_tests) in simp (used, start)
@@ -110,7 +103,7 @@ module _ (fit : BestFit) (w : Words) (chunk offset : ℕ) (b : BlockFound) (soun
       let number = length-take-le chunk h (omega arith) in
       let split = chunk_split h chunk lt in
       let long = subst AreLong f.is (sound_long fit w sound chunk) in
-      let long_right = (all-right IsLong (gap p) (Used n ∷ f.right) (all-right IsLong f.left (gap p ++ Used n ∷ f.right) long)).1 in
+      let long_right = (all_right IsLong (gap p) (Used n ∷ f.right) (all_right IsLong f.left (gap p ++ Used n ∷ f.right) long)).1 in
       let joined : gap p ++ Used n ∷ gap m ++ past ≡ gap p ++ Used n ∷ f.right = append_assoc (gap p) (Used n ∷ gap m) past ∙ ap (λ z. gap p ++ Used n ∷ z) (past_is f.right long_right) in
       let parts : f.left ++ (gap p ++ Used n ∷ gap m ++ past) ≡ blocks = ap (λ z. f.left ++ z) joined ∙ sym f.is in
       let site : Context = record { older = older; left = f.left; right = past; newer = newer } in

@@ -11,9 +11,9 @@ use Rattle.avl_alloc.specs.Fit.{AreShort}
 use Rattle.avl_alloc.specs.Words.{Words}
 use Rattle.avl_alloc.specs.Layout.{AreChunks}
 use Rattle.avl_alloc.specs.Context.{Context, heap_with}
-use Rattle.avl_alloc.proofs.WeightLemmas.{AreLong, all-left, all-right, laid_long}
+use Rattle.avl_alloc.proofs.WeightLemmas.{AreLong, laid_long}
 use Rattle.own_model.proofs.HeapBlockLemmas.{bytes-append}
-use Rattle.own_model.proofs.ListLemmas.{all_append}
+use Rattle.own_model.proofs.ListLemmas.{all_append, all_left, all_right}
 
 -- ---- digits
 
@@ -172,9 +172,9 @@ blocks_turned (Hole n ∷ left) xs ys starts turn are =
 pub heap_turned : (at : Context) (xs ys : List Block) → (AreBlocks (at.left ++ (xs ++ at.right)) → AreBlocks (at.left ++ (ys ++ at.right))) →
     AllByRecursion AreBlocks (heap_with at xs) → AllByRecursion AreBlocks (heap_with at ys)
 heap_turned at xs ys turn all =
-    let here = all-right AreBlocks at.older ((at.left ++ (xs ++ at.right)) ∷ at.newer) all in
+    let here = all_right AreBlocks at.older ((at.left ++ (xs ++ at.right)) ∷ at.newer) all in
     all_append AreBlocks at.older ((at.left ++ (ys ++ at.right)) ∷ at.newer)
-    (all-left AreBlocks at.older ((at.left ++ (xs ++ at.right)) ∷ at.newer) all) (turn here.0, here.1)
+    (all_left AreBlocks at.older ((at.left ++ (xs ++ at.right)) ∷ at.newer) all) (turn here.0, here.1)
 
 cut_blocks : (size n : ℕ) (right : List Block) → IsBlockSize size → size ≤ n → AreBlocks (Hole n ∷ right) → AreBlocks (cut size n ++ right)
 cut_blocks size n right sized le are =

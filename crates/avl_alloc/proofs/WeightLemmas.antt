@@ -2,6 +2,7 @@
 use Rattle.std.proofs.Common.{◌≡◌, ℕ, ◌+◌, ◌*◌, ◌^◌, ◌≤◌, refl, ◌∙◌, arith, List, [], ◌∷◌, ◌++◌, length}
 use Rattle.std.specs.List.{AllByRecursion}
 use Rattle.std.proofs.lemmas.Bool.Decides.{nat_tests}
+use Rattle.own_model.proofs.ListLemmas.{all_left, all_right}
 use Rattle.own_model.specs.Heap.{Block, Used, Hole, size_of, bytes_in, Heap}
 use Rattle.avl_alloc.specs.Words.{Words, place_at, within}
 use Rattle.avl_alloc.specs.Holes.{heads, links}
@@ -116,24 +117,16 @@ tidy_all q n (x ∷ xs) long =
 
 -- ---- all of a list
 
-pub all-left : {X : Type 0} (P : X → Type 0) (xs ys : List X) → AllByRecursion P (xs ++ ys) → AllByRecursion P xs
-all-left P [] ys all = tt
-all-left P (x ∷ xs) ys all = (all.0, all-left P xs ys all.1)
-
-pub all-right : {X : Type 0} (P : X → Type 0) (xs ys : List X) → AllByRecursion P (xs ++ ys) → AllByRecursion P ys
-all-right P [] ys all = all
-all-right P (x ∷ xs) ys all = all-right P xs ys all.1
-
 -- ---- around a part of a heap
 
 pub tidy_around : (q : ℕ) (at : Context) (xs : List Block) (n : ℕ) → AllByRecursion AreLong (heap_with at xs) →
     AreTidy (around (heads q) none at n) (around (whole q) none at n) (around none (heads q) at n) (around none (links q) at n) (around none (whole q) at n)
 tidy_around q at xs n long =
     let chunk = at.left ++ (xs ++ at.right) in
-    let here = all-right AreLong at.older (chunk ∷ at.newer) long in
-    let older = tidy_all q 0 at.older (all-left AreLong at.older (chunk ∷ at.newer) long) in
-    let left = tidy_in q (place_at (length at.older) 0) at.left (all-left IsLong at.left (xs ++ at.right) here.0) in
-    let right = tidy_in q (start_of at + n) at.right (all-right IsLong xs at.right (all-right IsLong at.left (xs ++ at.right) here.0)) in
+    let here = all_right AreLong at.older (chunk ∷ at.newer) long in
+    let older = tidy_all q 0 at.older (all_left AreLong at.older (chunk ∷ at.newer) long) in
+    let left = tidy_in q (place_at (length at.older) 0) at.left (all_left IsLong at.left (xs ++ at.right) here.0) in
+    let right = tidy_in q (start_of at + n) at.right (all_right IsLong xs at.right (all_right IsLong at.left (xs ++ at.right) here.0)) in
     let newer = tidy_all q (length at.older + 1) at.newer here.1 in
     record { used = omega arith; holes = omega arith }
 

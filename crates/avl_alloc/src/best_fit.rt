@@ -9,10 +9,11 @@ ghost use Rattle.avl_alloc.specs.Context.{Context, heap_with, Stand, StandSomewh
 ghost use Rattle.avl_alloc.specs.Walk.{block_there};
 ghost use Rattle.avl_alloc.specs.Found.{used_block, block_addr};
 
-use super::chunk::{Block, HEADER, HOLE, LEAST, USED, hole_at, set_header, set_state, walk};
+use super::chunk::{Block, HOLE, USED, hole_at, set_header, set_state, walk};
 use super::holes::{HoleKey, Holes};
 use super::memory::{SPAN, WordMemory, load, place_of};
 use avl_tree::{find, insert, remove};
+use trade_base::{BLOCK_HEADER, LEAST_BLOCK};
 
 /// The most chunks of a heap.
 pub const MOST_CHUNKS: usize = 64;
@@ -182,7 +183,7 @@ impl BestFit {
             M.loads memory.new ≤ M.loads memory.old + 2 * length blocks }
     {
         let block = self.reach(memory, addr)?;
-        if block.used && HEADER <= addr.offset - block.offset {
+        if block.used && BLOCK_HEADER <= addr.offset - block.offset {
             Some(UsedBlock {
                 chunk: addr.chunk,
                 offset: block.offset,
@@ -235,7 +236,7 @@ impl BestFit {
         let whole = load(memory, place);
         self.take_out(memory, place, whole);
         let left = whole - size;
-        if left < LEAST {
+        if left < LEAST_BLOCK {
             return;
         }
         self.split(memory, place, size, left);
@@ -358,5 +359,5 @@ pub fn block_bytes(bytes: u64) -> u64
     requires { bytes < 65536 }
     ensures { result ≡ block_size bytes }
 {
-    (HEADER + bytes.next_multiple_of(16)).max(LEAST)
+    (BLOCK_HEADER + bytes.next_multiple_of(16)).max(LEAST_BLOCK)
 }

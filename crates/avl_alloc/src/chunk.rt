@@ -6,12 +6,7 @@ ghost use Rattle.avl_alloc.specs.Layout.{Laid, IsRoom};
 ghost use Rattle.avl_alloc.specs.Walk.{block_over};
 
 use super::memory::{WordMemory, load, load_of, store};
-
-/// The bytes of a header. The payload of a block is what follows.
-pub const HEADER: u64 = 16;
-
-/// The least block.
-pub const LEAST: u64 = 48;
+use trade_base::BLOCK_HEADER;
 
 /// Where a header says whether its block is used.
 const STATE: u64 = 8;
@@ -111,8 +106,8 @@ pub fn walk<M: WordMemory>(memory: &mut M, chunk: usize, target: u64) -> Block
 
 /// The same offset. Where it is taken in, the compiler knows that its lowest bits are 0.
 fn whole(offset: u64) -> u64
-    requires { offset % HEADER ≡ 0 }
+    requires { offset % BLOCK_HEADER ≡ 0 }
     ensures { result ≡ offset }
 {
-    offset / HEADER * HEADER
+    offset / BLOCK_HEADER * BLOCK_HEADER
 }

@@ -1,3 +1,5 @@
+pub mod AskedLemmas
+pub mod OutcomeLemmas
 pub mod ShownLemmas
 pub mod GrowthLemmas
 pub mod HeardLemmas

@@ -6,3 +6,4 @@ pub mod Run
 pub mod Reached
 pub mod Told
 pub mod Sessions
+pub mod Outcomes

@@ -17,12 +17,13 @@ ghost use Rattle.budget_meter.specs.Metered.{HasHeard, IsToldBy, Stands, is_scri
 ghost use Rattle.budget_meter.specs.Needs.{amounts_of, shown_in, shown_of, together};
 ghost use Rattle.budget_meter.specs.Run.{IsLeft, Shows};
 
-use crate::asked::{LEAST_LARGE, asked_when_told, is_told};
+use crate::asked::{LEAST_LARGE, asked_when_told};
 use crate::budget::Budget;
 use crate::growth::{FIRST_PAGES, take_growth};
 use crate::meter::{Meter, limits_of};
-use pd_core::{Call, Quotas};
-use trade_base::Refusal;
+use crate::told::is_lacking;
+use calls::{Answer, Call};
+use pd_core::Quotas;
 
 /// The least budget that passes all tests which a component's account passed so far.
 #[derive(Clone, Copy)]
@@ -63,10 +64,10 @@ impl AccountMeter {
     }
 
     /// Takes a call in, with its reply and the account that it left.
-    pub fn hear(&mut self, call: Call<'_>, reply: &[u8], after: Quotas)
+    pub fn hear(&mut self, call: Call<'_>, reply: Answer<'_>, after: Quotas)
         ensures { (entry : Entry) (calls : List Said) (budget : Amounts) (s : OwnState) →
             HasHeard entry calls budget s self.old →
-            IsToldBy reply.now after
+            IsToldBy reply.entry.text.now after
             (own_step entry (model_call call.entry) (own_run entry calls (budgeted budget s))) →
             HasHeard entry (calls ++ model_call call.entry ∷ []) budget s self.new }
     {
@@ -78,17 +79,17 @@ impl AccountMeter {
     }
 
     /// Takes a call of a run in, and answers whether it is in want.
-    pub fn follow(&mut self, call: Call<'_>, reply: &[u8], after: Quotas) -> bool
+    pub fn follow(&mut self, call: Call<'_>, reply: Answer<'_>, after: Quotas) -> bool
         ensures on { result ≡ false →
             (entry : Entry) (calls rest : List Said) (budget : Amounts) (s now : OwnState) →
             IsLeft entry calls (model_call call.entry ∷ rest) budget s now self.old →
-            IsToldBy reply.now after (own_step entry (model_call call.entry) now) →
+            IsToldBy reply.entry.text.now after (own_step entry (model_call call.entry) now) →
             IsLeft entry calls rest budget s (own_step entry (model_call call.entry) now).next
             self.new }
         ensures end { result ≡ true →
             (entry : Entry) (calls rest : List Said) (budget : Amounts) (s now : OwnState) →
             IsLeft entry calls (model_call call.entry ∷ rest) budget s now self.old →
-            IsToldBy reply.now after (own_step entry (model_call call.entry) now) →
+            IsToldBy reply.entry.text.now after (own_step entry (model_call call.entry) now) →
             Shows entry calls s budget true self.new.meter }
     {
         self.hear(call, reply, after);
@@ -96,14 +97,14 @@ impl AccountMeter {
     }
 
     // Takes the tests of a call in that is answered.
-    fn take(&mut self, call: Call<'_>, reply: &[u8], after: Quotas)
+    fn take(&mut self, call: Call<'_>, reply: Answer<'_>, after: Quotas)
         ensures shown { (entry : Entry) (s : OwnState) → Stands self.old s →
-            IsToldBy reply.now after (entry_step entry (model_call call.entry) s) →
+            IsToldBy reply.entry.text.now after (entry_step entry (model_call call.entry) s) →
             shown_in self.new.meter ≡ together (shown_in self.old.meter)
             (shown_of (amounts_of self.old.meter.start) s.account
             (entry_tests entry (model_call call.entry) s)) }
         ensures pages { (entry : Entry) (s : OwnState) → Stands self.old s →
-            IsToldBy reply.now after (entry_step entry (model_call call.entry) s) →
+            IsToldBy reply.entry.text.now after (entry_step entry (model_call call.entry) s) →
             is_exit (model_call call.entry) ≡ false →
             self.new.pages ≡ (entry_step entry (model_call call.entry) s).next.heap.shape.growth }
         ensures start { self.new.meter.start ≡ self.old.meter.start }
@@ -141,20 +142,18 @@ fn is_exit(call: Call<'_>) -> bool
 }
 
 // Whether a reply to a call for a block of a chunk tells that the heap was to grow.
-fn tells_growth(reply: &[u8], before: Quotas, after: Quotas) -> bool
-    ensures { result ≡ tells_growth reply.now (quotas_account before) (quotas_account after) }
+fn tells_growth(reply: Answer<'_>, before: Quotas, after: Quotas) -> bool
+    ensures { result ≡ tells_growth reply.entry.text.now (quotas_account before) (quotas_account after) }
 {
-    is_told(reply, Refusal::OutOfRam)
-        || is_told(reply, Refusal::OutOfCaps)
-        || before.caps_used < after.caps_used
+    is_lacking(reply) || before.caps_used < after.caps_used
 }
 
 // Whether a call that is answered so is in want: a request is refused by the reserve, and of a session its server replies.
-fn is_in_want(call: Call<'_>, reply: &[u8]) -> bool
-    ensures { result ≡ told_wants (model_call call.entry) reply.now }
+fn is_in_want(call: Call<'_>, reply: Answer<'_>) -> bool
+    ensures { result ≡ told_wants (model_call call.entry) reply.entry.text.now }
 {
     match call {
         Call::Request(_) | Call::CallSession { .. } => false,
-        _ => is_told(reply, Refusal::OutOfRam) || is_told(reply, Refusal::OutOfCaps),
+        _ => is_lacking(reply),
     }
 }

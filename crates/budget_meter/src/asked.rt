@@ -3,6 +3,7 @@ ghost use Rattle.std.specs.Prelude.{◌≡◌, ◌<◌, ◌+◌, ◌-◌, ◌^�
 ghost use Rattle.std.specs.Str.{bytes_eq};
 ghost use Rattle.trade_base.specs.Page.{page_of, is_valid_size};
 ghost use Rattle.trade_base.specs.Refusal.{refusal_name};
+ghost use Rattle.trade_base.specs.declared.refusal.Refusal.TheVariants.{InvalidSession, ServiceDenied};
 ghost use Rattle.own_model.specs.BestFit.{block_size};
 ghost use Rattle.own_model.specs.Growth.{is_large};
 ghost use Rattle.own_model.specs.OwnState.{OwnState};
@@ -16,9 +17,10 @@ ghost use Rattle.budget_laws.specs.Test.{arguments_tests, entry_tests, test_of, 
 ghost use Rattle.budget_meter.specs.Asked.{AsksAs, asked_tests, is_of_chunk};
 
 use crate::budget::Budget;
-use pd_core::Call;
+use crate::told::{tells_denied, tells_unnamed};
+use calls::{Answer, Call, Outcome};
 use session_proto::{FileRequest, SessionArgs};
-use trade_base::{PAGE, Refusal, page_round};
+use trade_base::{PAGE, page_round};
 
 /// The least size of a block that stands alone, in no chunk.
 pub(crate) const LEAST_LARGE: u64 = 65_536;
@@ -41,16 +43,21 @@ pub fn asked_by_call(call: Call<'_>) -> Option<Budget> {
     match call {
         Call::New(0) => None,
         Call::New(n) => least_chunk(n),
-        Call::Open { args, .. } | Call::Upgrade { args, .. } => named_by(args),
-        _ => asked_when_told(call, b""),
+        _ => asked_when_told(
+            call,
+            Answer {
+                outcome: Outcome::Done,
+                text: b"ok",
+            },
+        ),
     }
 }
 
 /// What a call that is answered so tests, if it makes one test and no more: all calls but those for a block of a chunk. That a
 /// service is denied, or that no session is named, is found before anything is tested.
-pub(crate) fn asked_when_told(call: Call<'_>, reply: &[u8]) -> Option<Budget>
+pub(crate) fn asked_when_told(call: Call<'_>, reply: Answer<'_>) -> Option<Budget>
     ensures once { is_of_chunk (model_call call.entry) ≡ false → (entry : Entry) (s : OwnState) →
-        reply.now ≡ reply_text (entry_step entry (model_call call.entry) s).reply →
+        reply.entry.text.now ≡ reply_text (entry_step entry (model_call call.entry) s).reply →
         asked_tests result ≡ entry_tests entry (model_call call.entry) s }
 {
     match call {
@@ -59,8 +66,8 @@ pub(crate) fn asked_when_told(call: Call<'_>, reply: &[u8]) -> Option<Budget>
         Call::Snew(n) => sliced_pages(n),
         Call::Capalloc => Some(Budget { ram: 0, caps: 1 }),
         Call::Yield(args) => named_by(args),
-        Call::Open { args, .. } => named_unless(Refusal::ServiceDenied, args, reply),
-        Call::Upgrade { args, .. } => named_unless(Refusal::InvalidSession, args, reply),
+        Call::Open { args, .. } => named_by_open(args, reply),
+        Call::Upgrade { args, .. } => named_by_upgrade(args, reply),
         _ => None,
     }
 }
@@ -87,23 +94,28 @@ fn sliced_pages(n: u64) -> Option<Budget>
     whole_pages(n.checked_add(SLICED_HEADER)?)
 }
 
-// What arguments name, but where a call was refused for this.
-fn named_unless(refusal: Refusal, args: &[u8], reply: &[u8]) -> Option<Budget>
-    ensures told { bytes_eq reply.now (refusal_name refusal) ≡ true → result ≡ None }
-    ensures named { bytes_eq reply.now (refusal_name refusal) ≡ false →
+// What the arguments of an open name, unless no route leads to a provider.
+fn named_by_open(args: &[u8], reply: Answer<'_>) -> Option<Budget>
+    ensures told { bytes_eq reply.entry.text.now (refusal_name ServiceDenied) ≡ true → result ≡ None }
+    ensures named { bytes_eq reply.entry.text.now (refusal_name ServiceDenied) ≡ false →
         asked_tests result ≡ arguments_tests (arguments_of args.now) }
 {
-    if is_told(reply, refusal) {
+    if tells_denied(reply) {
         return None;
     }
     named_by(args)
 }
 
-/// Whether a reply is a refusal.
-pub(crate) fn is_told(reply: &[u8], refusal: Refusal) -> bool
-    ensures { result ≡ bytes_eq reply.now (refusal_name refusal) }
+// What the arguments of an upgrade name, unless no session has the selector.
+fn named_by_upgrade(args: &[u8], reply: Answer<'_>) -> Option<Budget>
+    ensures told { bytes_eq reply.entry.text.now (refusal_name InvalidSession) ≡ true → result ≡ None }
+    ensures named { bytes_eq reply.entry.text.now (refusal_name InvalidSession) ≡ false →
+        asked_tests result ≡ arguments_tests (arguments_of args.now) }
 {
-    reply == refusal.name().as_bytes()
+    if tells_unnamed(reply) {
+        return None;
+    }
+    named_by(args)
 }
 
 /// What arguments name, if they are in the grammar.

@@ -25,6 +25,7 @@ use crate::growth::{FIRST_PAGES, take_growth};
 use crate::meter::{Meter, limits_of};
 use crate::sizes::Sizes;
 use crate::told::{is_granted, is_short, tells_charge};
+use calls::Answer;
 use pd_core::Quotas;
 use session_proto::FileRequest;
 use std::alloc::{AllocError, Global};
@@ -94,10 +95,15 @@ impl SessionMeter {
     }
 
     /// Takes a request in, with its reply and the account that it left.
-    pub fn hear(&mut self, request: &[u8], reply: &[u8], after: Quotas) -> Result<(), AllocError>
+    pub fn hear(
+        &mut self,
+        request: &[u8],
+        reply: Answer<'_>,
+        after: Quotas,
+    ) -> Result<(), AllocError>
         ensures { OnOk result ((all : List Reaches) (donation : Amounts) (session : Session)
             (buffer : Option NamedBuffer) → HasReached all donation session self.old →
-            IsServedBy reply.now after buffer
+            IsServedBy reply.entry.text.now after buffer
             (served (bytes_of_buffer buffer) (session_run all (donating donation session))
             request.now) →
             HasReached (all ++ Asked (bytes_of_buffer buffer) request.now ∷ []) donation session
@@ -117,7 +123,7 @@ impl SessionMeter {
     pub fn follow(
         &mut self,
         request: &[u8],
-        reply: &[u8],
+        reply: Answer<'_>,
         after: Quotas,
     ) -> Result<bool, AllocError>
         ensures on { IfOk result (λ wants. wants ≡ false →
@@ -125,7 +131,7 @@ impl SessionMeter {
             (buffer : Option NamedBuffer) →
             IsLeft sent (Asks request.now ∷ rest) donation session (bytes_of_buffer buffer) now
             self.old →
-            IsServedBy reply.now after buffer (served (bytes_of_buffer buffer) now request.now) →
+            IsServedBy reply.entry.text.now after buffer (served (bytes_of_buffer buffer) now request.now) →
             IsLeft sent rest donation session
             (served (bytes_of_buffer buffer) now request.now).buffer
             (served (bytes_of_buffer buffer) now request.now).session self.new) }
@@ -134,7 +140,7 @@ impl SessionMeter {
             (buffer : Option NamedBuffer) →
             IsLeft sent (Asks request.now ∷ rest) donation session (bytes_of_buffer buffer) now
             self.old →
-            IsServedBy reply.now after buffer (served (bytes_of_buffer buffer) now request.now) →
+            IsServedBy reply.entry.text.now after buffer (served (bytes_of_buffer buffer) now request.now) →
             Shows sent session donation true self.new.meter) }
     {
         self.hear(request, reply, after)?;
@@ -142,16 +148,16 @@ impl SessionMeter {
     }
 
     // Takes the tests of a request in that is answered.
-    fn take(&mut self, request: FileRequest<'_>, reply: &[u8], after: Quotas)
+    fn take(&mut self, request: FileRequest<'_>, reply: Answer<'_>, after: Quotas)
         requires { HasHex request }
         ensures shown { (files : Files) → self.old.account.ram_limit.0 < 2 ^ 64 →
             self.old.pages ≡ files.shape.growth → Keeps self.old.sizes files.files →
             shown_in self.new.meter ≡ together (shown_in self.old.meter)
             (shown_of (amounts_of self.old.meter.start) (quotas_account self.old.account)
-            (told_tests (Some (model_request request.entry)) reply.now
+            (told_tests (Some (model_request request.entry)) reply.entry.text.now
             (quotas_account self.old.account) (quotas_account after) files)) }
         ensures pages { (files : Files) → self.old.pages ≡ files.shape.growth →
-            self.new.pages ≡ told_growth (Some (model_request request.entry)) reply.now
+            self.new.pages ≡ told_growth (Some (model_request request.entry)) reply.entry.text.now
             (quotas_account self.old.account) (quotas_account after) files }
         ensures start { self.new.meter.start ≡ self.old.meter.start }
         ensures sizes { self.new.sizes ≡ self.old.sizes }
@@ -170,13 +176,13 @@ impl SessionMeter {
     fn asked_when_told(
         &self,
         request: FileRequest<'_>,
-        reply: &[u8],
+        reply: Answer<'_>,
         after: Quotas,
     ) -> Option<Budget>
         requires { HasHex request }
         ensures { is_create (model_request request.entry) ≡ false → (files : Files) →
             Keeps self.now.sizes files.files →
-            AsksAs result (told_tests (Some (model_request request.entry)) reply.now
+            AsksAs result (told_tests (Some (model_request request.entry)) reply.entry.text.now
             (quotas_account self.now.account) (quotas_account after) files) }
     {
         match request {

@@ -7,7 +7,8 @@ ghost use Rattle.session_proto.specs.File.{HasHex, model_request};
 ghost use Rattle.budget_meter.specs.Sizes.{Keeps, new_file};
 ghost use Rattle.budget_meter.specs.Told.{Changes, IsCreated, IsDone, IsWritten};
 
-use crate::told::is_granted;
+use crate::told::{is_granted, replies_done};
+use calls::Answer;
 use session_proto::FileRequest;
 use std::alloc::{AllocError, Global};
 
@@ -83,11 +84,11 @@ impl Sizes {
         &mut self,
         alloc: Global,
         request: FileRequest<'_>,
-        reply: &[u8],
+        reply: Answer<'_>,
     ) -> Result<(), AllocError>
         requires { HasHex request }
         ensures { OnOk result ((old new : List ModelFile) → Keeps self.old old →
-            Changes (Some (model_request request.entry)) reply.now old new → Keeps self.new new) }
+            Changes (Some (model_request request.entry)) reply.entry.text.now old new → Keeps self.new new) }
     {
         match request {
             FileRequest::Create(file) => self.create(alloc, file, reply)?,
@@ -108,20 +109,20 @@ impl Sizes {
     }
 
     // Keeps a new file, where it was made.
-    fn create(&mut self, alloc: Global, name: &[u8], reply: &[u8]) -> Result<(), AllocError>
+    fn create(&mut self, alloc: Global, name: &[u8], reply: Answer<'_>) -> Result<(), AllocError>
         ensures { OnOk result ((old new : List ModelFile) → Keeps self.old old →
-            IsCreated name.now reply.now old new → Keeps self.new new) }
+            IsCreated name.now reply.entry.text.now old new → Keeps self.new new) }
     {
-        if reply == b"OK".as_slice() {
+        if replies_done(reply) {
             self.add(alloc, name)?;
         }
         Ok(())
     }
 
     // Keeps that so many bytes of a file were written, from an offset on.
-    fn write(&mut self, name: &[u8], offset: u64, count: u64, reply: &[u8])
+    fn write(&mut self, name: &[u8], offset: u64, count: u64, reply: Answer<'_>)
         ensures { (old new : List ModelFile) → Keeps self.old old →
-            IsWritten name.now offset count reply.now old new → Keeps self.new new }
+            IsWritten name.now offset count reply.entry.text.now old new → Keeps self.new new }
     {
         if !is_granted(reply) {
             return;
@@ -132,9 +133,9 @@ impl Sizes {
     }
 
     // Keeps that a file was cleared.
-    fn clear(&mut self, name: &[u8], reply: &[u8])
+    fn clear(&mut self, name: &[u8], reply: Answer<'_>)
         ensures { (old new : List ModelFile) → Keeps self.old old →
-            IsDone reply.now (rewritten name.now [] old) old new → Keeps self.new new }
+            IsDone reply.entry.text.now (rewritten name.now [] old) old new → Keeps self.new new }
     {
         if is_granted(reply) {
             self.resize(name, 0);
@@ -142,9 +143,9 @@ impl Sizes {
     }
 
     // Keeps that a file was dropped.
-    fn drop_file(&mut self, name: &[u8], reply: &[u8])
+    fn drop_file(&mut self, name: &[u8], reply: Answer<'_>)
         ensures { (old new : List ModelFile) → Keeps self.old old →
-            IsDone reply.now (without name.now old) old new → Keeps self.new new }
+            IsDone reply.entry.text.now (without name.now old) old new → Keeps self.new new }
     {
         if is_granted(reply) {
             self.remove(name);

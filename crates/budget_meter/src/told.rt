@@ -1,28 +1,110 @@
-//! What the replies to a session's requests tell.
-ghost use Rattle.std.specs.Prelude.{◌≡◌};
+//! What the answers to calls and requests state.
+ghost use Rattle.std.specs.Prelude.{◌≡◌, ◌||◌, codes};
+ghost use Rattle.std.specs.Str.{bytes_eq};
+ghost use Rattle.trade_base.specs.Refusal.{refusal_name};
+ghost use Rattle.trade_base.specs.declared.refusal.Refusal.TheVariants.{InvalidSession as Unnamed, OutOfCaps as NoCaps, OutOfRam as NoRam, ServiceDenied as Denied};
 ghost use Rattle.pd_core.specs.Answer.{quotas_account};
 ghost use Rattle.budget_laws.specs.Request.{tells_short};
+ghost use Rattle.budget_meter.specs.Outcomes.{grants, is_denied, is_done, is_unnamed, lacks, lacks_session};
 ghost use Rattle.budget_meter.specs.Told.{is_granted, tells_charge};
 
+use calls::{Answer, FileError, Outcome, ServiceOutcome};
 use pd_core::Quotas;
+use trade_base::Refusal;
 
-/// Whether a request was done.
-pub(crate) fn is_granted(reply: &[u8]) -> bool
-    ensures { result ≡ is_granted reply.now }
+/// Returns whether a service did what was requested.
+pub(crate) fn is_granted(reply: Answer<'_>) -> bool
+    ensures { result ≡ is_granted reply.entry.text.now }
 {
-    reply.starts_with(b"OK")
+    grants(reply.outcome)
 }
 
-/// Whether the session's account refused it.
-pub(crate) fn is_short(reply: &[u8]) -> bool
-    ensures { result ≡ tells_short reply.now }
+fn grants(outcome: Outcome) -> bool
+    ensures { result ≡ grants outcome }
 {
-    reply == b"ERR OUT_OF_RAM".as_slice() || reply == b"ERR OUT_OF_CAPS".as_slice()
+    match outcome {
+        Outcome::Served(ServiceOutcome::Refused(_)) => false,
+        Outcome::Served(_) => true,
+        _ => false,
+    }
+}
+
+/// Returns whether a service did what was requested, and replies nothing more.
+pub(crate) fn replies_done(reply: Answer<'_>) -> bool
+    ensures { result ≡ bytes_eq reply.entry.text.now (codes "OK") }
+{
+    is_done(reply.outcome)
+}
+
+fn is_done(outcome: Outcome) -> bool
+    ensures { result ≡ is_done outcome }
+{
+    matches!(outcome, Outcome::Served(ServiceOutcome::Done))
+}
+
+/// Returns whether the session's account is short of quota for a request.
+pub(crate) fn is_short(reply: Answer<'_>) -> bool
+    ensures { result ≡ tells_short reply.entry.text.now }
+{
+    lacks_session(reply.outcome)
+}
+
+fn lacks_session(outcome: Outcome) -> bool
+    ensures { result ≡ lacks_session outcome }
+{
+    matches!(
+        outcome,
+        Outcome::Served(ServiceOutcome::Refused(FileError::OutOfRam | FileError::OutOfCaps))
+    )
+}
+
+/// Returns whether the caller's account is short of quota for a call.
+pub(crate) fn is_lacking(reply: Answer<'_>) -> bool
+    ensures { result ≡ (bytes_eq reply.entry.text.now (refusal_name NoRam)
+        || bytes_eq reply.entry.text.now (refusal_name NoCaps)) }
+{
+    lacks(reply.outcome)
+}
+
+fn lacks(outcome: Outcome) -> bool
+    ensures { result ≡ lacks outcome }
+{
+    matches!(
+        outcome,
+        Outcome::Refused(Refusal::OutOfRam | Refusal::OutOfCaps)
+    )
+}
+
+/// Returns whether no route leads to a provider.
+pub(crate) fn tells_denied(reply: Answer<'_>) -> bool
+    ensures { result ≡ bytes_eq reply.entry.text.now (refusal_name Denied) }
+{
+    is_denied(reply.outcome)
+}
+
+fn is_denied(outcome: Outcome) -> bool
+    ensures { result ≡ is_denied outcome }
+{
+    matches!(outcome, Outcome::Refused(Refusal::ServiceDenied))
+}
+
+/// Returns whether no session has the selector.
+pub(crate) fn tells_unnamed(reply: Answer<'_>) -> bool
+    ensures { result ≡ bytes_eq reply.entry.text.now (refusal_name Unnamed) }
+{
+    is_unnamed(reply.outcome)
+}
+
+fn is_unnamed(outcome: Outcome) -> bool
+    ensures { result ≡ is_unnamed outcome }
+{
+    matches!(outcome, Outcome::Refused(Refusal::InvalidSession))
 }
 
 /// Whether something was to be charged that takes a capability.
-pub(crate) fn tells_charge(reply: &[u8], before: Quotas, after: Quotas) -> bool
-    ensures { result ≡ tells_charge reply.now (quotas_account before) (quotas_account after) }
+pub(crate) fn tells_charge(reply: Answer<'_>, before: Quotas, after: Quotas) -> bool
+    ensures { result
+        ≡ tells_charge reply.entry.text.now (quotas_account before) (quotas_account after) }
 {
     is_short(reply) || before.caps_used < after.caps_used
 }

@@ -1,4 +1,6 @@
 pub mod Call
+pub mod FileError
+pub mod Outcome
 pub mod Quotas
 pub mod Told
 pub mod Written

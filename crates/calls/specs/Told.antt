@@ -6,5 +6,6 @@ pub record Told : Type 0 where
   pub lines : List ℕ
   pub text : List ℕ
 
-abbrev pub nothing_told : Told
-nothing_told = record { lines = []; text = [] }
+-- a text without log lines
+abbrev pub told_alone : List ℕ → Told
+told_alone text = record { lines = []; text = text }

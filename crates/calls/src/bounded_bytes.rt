@@ -1,8 +1,10 @@
 //! Bytes in memory that doesn't grow.
 ghost use Rattle.std.specs.Prelude.{◌≡◌, ◌+◌, ◌*◌, ◌≤◌, [], ◌++◌, length, map, decimal, IfOk};
 ghost use Rattle.hex.specs.Hex.{encode_lower};
-ghost use Rattle.own_model.specs.Reply.{printed};
+ghost use Rattle.own_model.specs.Reply.{hex_text, printed, quota_text, share_text};
+ghost use Rattle.calls.specs.Quotas.{quotas_account};
 
+use crate::quotas::Quotas;
 use std::alloc::Global;
 use std::boxed::BoxedSlice;
 use std::marker::Model;
@@ -63,6 +65,17 @@ impl BoundedBytes {
         self.len = 0;
     }
 
+    /// Puts bytes that fit in place of all that is written.
+    #[inline]
+    pub(crate) fn replace(&mut self, bytes: &[u8])
+        requires { length bytes.now ≤ self.old.size }
+        ensures replaced { self.new ≡ record self.old { text = bytes.now } }
+        ensures len { length self.new.text ≡ length bytes.now }
+    {
+        self.clear();
+        self.add(bytes);
+    }
+
     /// Appends bytes that still fit.
     pub(crate) fn add(&mut self, more: &[u8])
         requires { length self.old.text + length more.now ≤ self.old.size }
@@ -85,10 +98,47 @@ impl BoundedBytes {
         self.len = end;
     }
 
-    /// Appends bytes in hexadecimal digits.
+    /// Appends a use and a limit, with a slash between them, for which there is room.
+    fn add_share(&mut self, used: u64, limit: u64)
+        requires { length self.old.text + 41 ≤ self.old.size }
+        ensures added { self.new
+            ≡ record self.old { text = self.old.text ++ share_text used limit } }
+        ensures len { length self.new.text ≤ length self.old.text + 41 }
+    {
+        self.add_number(used);
+        self.add(b"/");
+        self.add_number(limit);
+    }
+
+    /// Appends use and limit of RAM and of capabilities, for which there is room.
+    pub(crate) fn add_quotas(&mut self, quotas: Quotas)
+        requires { length self.old.text + 100 ≤ self.old.size }
+        ensures { self.new ≡ record self.old {
+          text = self.old.text ++ quota_text (quotas_account quotas);
+        } }
+    {
+        self.add(b"ram ");
+        self.add_share(quotas.ram_used.0, quotas.ram_limit.0);
+        self.add(b" caps ");
+        self.add_share(
+            u64::from(quotas.caps_used.0),
+            u64::from(quotas.caps_limit.0),
+        );
+    }
+
+    /// Appends bytes in hexadecimal digits of small letters.
+    #[tactic(auto, using(own_model::proofs::HexLemmas::hex_text_is))]
     pub(crate) fn add_hex(&mut self, bytes: &[u8])
         requires { length self.old.text + 2 * length bytes.now ≤ self.old.size }
-        ensures added { self.new
+        ensures { self.new ≡ record self.old { text = self.old.text ++ hex_text bytes.now } }
+    {
+        self.encode(bytes);
+    }
+
+    // The same, as the digits of the library.
+    fn encode(&mut self, bytes: &[u8])
+        requires { length self.old.text + 2 * length bytes.now ≤ self.old.size }
+        ensures { self.new
             ≡ record self.old { text = self.old.text ++ encode_lower bytes.now } }
     {
         let end = self.len + 2 * bytes.len();

@@ -1,15 +1,14 @@
--- What the trace of a scenario shows of a machine: which of its rows are met.
-use Rattle.std.specs.Prelude.{◌≡◌, ℕ, ◌+◌, ◌&&◌, ◌||◌, zero, suc, Bool, false, List, [], ◌∷◌, ◌++◌, map, drop, length, Option, Some, None}
+-- What the answered calls of a scenario show of a machine: which of its rows are met.
+use Rattle.std.specs.Prelude.{ℕ, ◌+◌, ◌&&◌, ◌||◌, zero, suc, Bool, false, List, [], ◌∷◌, ◌++◌, map, length, Option, Some, None}
 use Rattle.std.specs.List.{flat_map, list_any}
-use Rattle.std.specs.Option.{unwrap_or}
+use Rattle.std.specs.Option.{option_copied}
 use Rattle.std.specs.Str.{bytes_eq}
-use Rattle.csv.specs.Reading.{AreRecords, default_config, strip_bom}
-use Rattle.csv.specs.Records.{field_at}
-use Rattle.csv.specs.declared.parser.State.TheVariants as state
 use Rattle.trade_base.specs.Refusal.{refusal_name}
 use Rattle.own_model.specs.Listed.{Listed, ListedEntry, ListedRule}
-use Rattle.coverage.specs.Forms.{forms, is_form_of, refusals_of}
-use Rattle.coverage.specs.Requests.{errors_of, is_asked, is_error, requests}
+use Rattle.own_model.specs.Call.{Spoken, spoken}
+use Rattle.exchanges.specs.Exchange.{Exchange}
+use Rattle.coverage.specs.Forms.{form_of, forms, is_form_of, refusals_of}
+use Rattle.coverage.specs.Requests.{errors_of, is_asked, is_error, request_word, requests}
 use Rattle.coverage.specs.Rules.{decided_by, is_rule}
 use Rattle.coverage.specs.declared.asked.Asked.{Asked}
 use Rattle.coverage.specs.declared.event.Event.{Event}
@@ -18,53 +17,67 @@ use Rattle.coverage.specs.declared.event.Route.{Route}
 use Rattle.coverage.specs.declared.event.Route.TheVariants.{Own, Inner, Machine}
 use Rattle.coverage.specs.declared.event.RuleAt.{RuleAt}
 use Rattle.coverage.specs.declared.form.Form.{Form}
+use Rattle.coverage.specs.declared.row.Answered.{Answered}
 use Rattle.coverage.specs.declared.row.Row.{Row}
 
--- ---- the answers of a trace
+-- ---- answers
 
 -- a call, as the engine's line, and what it was answered
 pub record Answer : Type 0 where
   pub line : List ℕ
   pub reply : List ℕ
 
--- the cell of a row at a place, or nothing
-abbrev pub cell : List (List ℕ) → ℕ → List ℕ
-cell row place = unwrap_or (field_at row place) []
-
--- a row of a trace tells who called, what, and the reply
-abbrev pub answer_of : List (List ℕ) → Answer
-answer_of row = record { line = cell row 1 ++ 32 ∷ cell row 2; reply = cell row 3 }
-
--- those of a trace, whose first row has the names of the columns
-abbrev pub answers_told : List (List (List ℕ)) → List Answer
-answers_told rows = map answer_of (drop 1 rows)
+abbrev pub answer_of : Exchange → Answer
+answer_of exchange = record { line = exchange.line; reply = exchange.reply }
 
 -- ---- what an answer shows
 
 abbrev pub has_rule : List RuleAt → RuleAt → Bool
 has_rule rules rule = list_any (is_rule rule) rules
 
--- a line with this reply shows an event, where these rules decided its wish
-abbrev pub shown_with : List ℕ → List ℕ → List RuleAt → Event → Bool
-shown_with line reply rules (Refused form refusal) = is_form_of form line && bytes_eq reply (refusal_name refusal)
-shown_with line reply rules (Failed asked error) = is_asked asked line && is_error error reply
-shown_with line reply rules (Decided rule) = has_rule rules rule
+-- what an answered line shows with: the form of its call, the first word of the request that the call makes of a session, if these
+-- are there, the reply, and the rules that decided the wish
+pub record Evidence : Type 0 where
+  pub form : Option Form
+  pub word : Option (List ℕ)
+  pub reply : List ℕ
+  pub rules : List RuleAt
+
+abbrev pub evidence_in : Answered → Evidence
+evidence_in it = record { form = it.form; word = option_copied it.word; reply = it.answer.text.now; rules = it.rules.now }
+
+-- that of a line by what it says, if it says a call, and by the reply
+abbrev pub evidence_of : Listed → Option Spoken → List ℕ → Evidence
+evidence_of list None reply = record { form = None; word = None; reply = reply; rules = [] }
+evidence_of list (Some said) reply = record {
+  form = form_of said.call;
+  word = request_word said.call;
+  reply = reply;
+  rules = decided_by list said reply;
+}
+
+abbrev pub evidence : Listed → Answer → Evidence
+evidence list answer = evidence_of list (spoken answer.line) answer.reply
+
+-- with this an event is shown
+abbrev pub shown_with : Evidence → Event → Bool
+shown_with it (Refused form refusal) = is_form_of form it.form && bytes_eq it.reply (refusal_name refusal)
+shown_with it (Failed asked error) = is_asked asked it.word && is_error error it.reply
+shown_with it (Decided rule) = has_rule it.rules rule
 
 abbrev pub is_shown : Listed → Event → Answer → Bool
-is_shown list event answer = shown_with answer.line answer.reply (decided_by list answer.line answer.reply) event
+is_shown list event answer = shown_with (evidence list answer) event
 
 -- ---- rows
 
 -- a row once such a line was answered
-abbrev pub row_with : List ℕ → List ℕ → List RuleAt → Row → Row
-row_with line reply rules row = record { event = row.event; met = row.met || shown_with line reply rules row.event }
+abbrev pub row_with : Evidence → Row → Row
+row_with it row = record { event = row.event; met = row.met || shown_with it row.event }
 
 -- rows once these were answered
 abbrev pub rows_after : Listed → List Answer → List Row → List Row
 rows_after list [] rows = rows
-rows_after list (answer ∷ answers) rows =
-    rows_after list answers
-    (map (row_with answer.line answer.reply (decided_by list answer.line answer.reply)) rows)
+rows_after list (answer ∷ answers) rows = rows_after list answers (map (row_with (evidence list answer)) rows)
 
 abbrev pub unmet : Event → Row
 unmet event = record { event = event; met = false }
@@ -102,24 +115,8 @@ abbrev pub rows_of : Listed → List Row
 rows_of list =
     calls_rows ++ requests_rows ++ route_rows Machine (length list.default_route) ++ rows_of_entries 0 list.entries
 
--- ---- a trace
-
--- rows of a trace, one after the other, are all that its text has
-abbrev pub AreTold : List ℕ → List (List (List ℕ)) → Type 0
-AreTold trace told = AreRecords default_config state.StartRecord (strip_bom trace) told
-
--- rows have become these once all answers of a trace were noted in them
-pub record NotesTrace (list : Listed) (trace : List ℕ) (old new : List Row) : Type 0 where
-  pub told : List (List (List ℕ))
-  pub are : AreTold trace told
-  pub notes : new ≡ rows_after list (answers_told told) old
+-- ---- all answers
 
 -- a row is met also where some answer shows its event
 abbrev pub row_by : Listed → List Answer → Row → Row
 row_by list answers row = record { event = row.event; met = row.met || list_any (is_shown list row.event) answers }
-
--- on the machine of a list a scenario with this trace shows this: a row is met exactly where some answer shows that
-pub record IsCovered (list : Listed) (trace : List ℕ) (rows : List Row) : Type 0 where
-  pub told : List (List (List ℕ))
-  pub are : AreTold trace told
-  pub is : rows ≡ map (row_by list (answers_told told)) (rows_of list)

@@ -1,9 +1,9 @@
 -- The table of calls: its forms, and what each is refused for.
-use Rattle.std.specs.Prelude.{ℕ, ◌||◌, Bool, true, false, List, [], ◌∷◌, codes}
+use Rattle.std.specs.Prelude.{ℕ, ◌||◌, Bool, true, false, List, [], ◌∷◌, codes, Option, Some, None}
 use Rattle.std.specs.Str.{bytes_eq}
 use Rattle.trade_base.specs.declared.refusal.Refusal.{Refusal}
 use Rattle.trade_base.specs.declared.refusal.Refusal.TheVariants.{BadLine, UnknownComponent, NotAScript, Gone, BadArgs, InvalidSize, InvalidCap, OutOfRam, OutOfCaps, RegionConflict, TooManyRegions, PageFault, TooManyChunks, ServiceDenied, InsufficientRamQuota, InsufficientCapQuota, InvalidSession}
-use Rattle.coverage.specs.Words.{form_in}
+use Rattle.own_model.specs.Call.{Call, Call as call}
 use Rattle.coverage.specs.declared.form.Form.{Form}
 use Rattle.coverage.specs.declared.form.Form.TheVariants.{AnyLine, AnyCall, Alloc, Free, Attach, AttachAt, Detach, Peek, Poke, Capalloc, Capfree, New, Del, Snew, Sdel, Request, Yield, Open, Upgrade, CallSession, Close}
 
@@ -66,6 +66,32 @@ is_wide AnyLine = true
 is_wide AnyCall = true
 is_wide form = false
 
--- a line is a call of a form
-abbrev pub is_form_of : Form → List ℕ → Bool
-is_form_of form line = is_wide form || bytes_eq (form_in line) (form_word form)
+-- the form of a call, if calls of it are ever refused
+abbrev pub form_of : Call → Option Form
+form_of (call.Alloc n) = Some Alloc
+form_of (call.Free selector) = Some Free
+form_of (call.Attach selector) = Some Attach
+form_of (call.AttachAt selector address) = Some AttachAt
+form_of (call.Detach address) = Some Detach
+form_of (call.Peek address count) = Some Peek
+form_of (call.Poke address bytes) = Some Poke
+form_of call.Capalloc = Some Capalloc
+form_of (call.Capfree selector) = Some Capfree
+form_of (call.New n) = Some New
+form_of (call.Del address) = Some Del
+form_of (call.Snew n) = Some Snew
+form_of (call.Sdel address) = Some Sdel
+form_of call.Quota = None
+form_of call.Reserve = None
+form_of (call.Request text) = Some Request
+form_of (call.Yield text) = Some Yield
+form_of (call.Open service text) = Some Open
+form_of (call.Upgrade selector text) = Some Upgrade
+form_of (call.CallSession selector request) = Some CallSession
+form_of (call.Close selector) = Some Close
+form_of call.Exit = None
+
+-- a line whose call has this form is one of a form
+abbrev pub is_form_of : Form → Option Form → Bool
+is_form_of form None = is_wide form
+is_form_of form (Some other) = is_wide form || bytes_eq (form_word other) (form_word form)

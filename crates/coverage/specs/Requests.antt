@@ -1,11 +1,13 @@
 -- The table of requests: what services are asked for, and what each request is answered in error.
-use Rattle.std.specs.Prelude.{ℕ, ◌&&◌, ◌||◌, Bool, true, false, List, [], ◌∷◌, codes, length, take, drop, nat_le}
+use Rattle.std.specs.Prelude.{ℕ, ◌&&◌, ◌||◌, Bool, true, false, List, [], ◌∷◌, codes, length, take, drop, nat_le, Option, Some, None}
 use Rattle.std.specs.Str.{bytes_eq}
 use Rattle.own_model.specs.FileText.{error_name}
-use Rattle.session_proto.specs.FileReply.{model_error}
-use Rattle.session_proto.specs.declared.file_reply.FileError.{FileError}
-use Rattle.session_proto.specs.declared.file_reply.FileError.TheVariants.{BadRequest, BadName, Exists, NotFound, Gap, TooLong, End, TooManyChunks, OutOfRam, OutOfCaps, InvalidSize, NoBuffer, BadRange}
-use Rattle.coverage.specs.Words.{form_in, request_in}
+use Rattle.own_model.specs.Call.{Call}
+use Rattle.own_model.specs.Call.Call.{CallSession}
+use Rattle.own_model.specs.Text.{first_word}
+use Rattle.calls.specs.FileError.{model_error}
+use Rattle.calls.specs.declared.file_error.FileError.{FileError}
+use Rattle.calls.specs.declared.file_error.FileError.TheVariants.{BadRequest, BadName, Exists, NotFound, Gap, TooLong, End, TooManyChunks, OutOfRam, OutOfCaps, InvalidSize, NoBuffer, BadRange}
 use Rattle.coverage.specs.declared.asked.Asked.{Asked}
 use Rattle.coverage.specs.declared.asked.Asked.TheVariants.{AnyRequest, Create, Write, Read, Size, Clear, Drop, Name, Buffer, Unbuffer, Put, Get}
 
@@ -45,10 +47,15 @@ abbrev pub is_any : Asked → Bool
 is_any AnyRequest = true
 is_any asked = false
 
--- a line makes such a request
-abbrev pub is_asked : Asked → List ℕ → Bool
-is_asked asked line =
-    bytes_eq (form_in line) (codes "call") && (is_any asked || bytes_eq (request_in line) (asked_word asked))
+-- the first word of the request that a call makes of a session
+abbrev pub request_word : Call → Option (List ℕ)
+request_word (CallSession selector request) = Some (first_word request).word
+request_word call = None
+
+-- a request that begins with this word is such a one; no request is none
+abbrev pub is_asked : Asked → Option (List ℕ) → Bool
+is_asked asked None = false
+is_asked asked (Some word) = is_any asked || bytes_eq word (asked_word asked)
 
 -- a reply tells an error
 abbrev pub is_error : FileError → List ℕ → Bool

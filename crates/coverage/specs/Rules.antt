@@ -1,4 +1,4 @@
--- Rules by their places, and which of them decide the wish of an answered line.
+-- Rules by their places, and which of them decide the wish of an answered call.
 use Rattle.std.specs.Prelude.{ℕ, ◌&&◌, ◌==◌, zero, suc, Bool, true, false, List, [], ◌∷◌, ◌++◌, is_some, if◌then◌else◌, position, Option, Some, None}
 use Rattle.std.specs.List.{list_any, slice_get}
 use Rattle.std.specs.Option.{option_and_then, option_map}
@@ -6,7 +6,7 @@ use Rattle.std.specs.Str.{bytes_eq}
 use Rattle.trade_base.specs.declared.refusal.Refusal.{Refusal}
 use Rattle.trade_base.specs.declared.refusal.Refusal.TheVariants.{BadLine, UnknownComponent, NotAScript, Gone, BadArgs}
 use Rattle.trade_base.specs.Refusal.{refusal_name}
-use Rattle.own_model.specs.Call.{Call, Spoken, spoken}
+use Rattle.own_model.specs.Call.{Call, Spoken}
 use Rattle.own_model.specs.Call.Call.{Open}
 use Rattle.own_model.specs.Listed.{Listed, ListedEntry}
 use Rattle.own_model.specs.Session.{given}
@@ -63,7 +63,7 @@ rules_from list asks [] = []
 rules_from list asks (hop ∷ hops) =
     rule_in (option_and_then (route_for list) asks) hop.rule ++ rules_from list (option_and_then (init_of list) asks) hops
 
--- ---- the wish of a line
+-- ---- the wish of a call
 
 pub record Wish : Type 0 where
   pub client : ℕ
@@ -78,15 +78,11 @@ wish_by list name (Open service text) =
     option_map (λ client. record { client = client; service = service; label = (given text).label }) (client_of list name)
 wish_by list name call = None
 
-abbrev pub wish_in : Listed → Option Spoken → Option Wish
-wish_in list None = None
-wish_in list (Some says) = wish_by list says.name says.call
-
 abbrev pub rules_of_wish : Listed → Option Wish → List RuleAt
 rules_of_wish list None = []
 rules_of_wish list (Some wish) = rules_from list (Some wish.client) (hops_of list wish.client wish.service wish.label)
 
--- ---- of an answered line
+-- ---- of an answered call
 
 -- refused so, a call comes to no rule
 abbrev pub turned_away : List Refusal
@@ -95,6 +91,6 @@ turned_away = BadLine ∷ UnknownComponent ∷ NotAScript ∷ Gone ∷ BadArgs �
 abbrev pub is_turned_away : List ℕ → Bool
 is_turned_away reply = list_any (λ refusal. bytes_eq reply (refusal_name refusal)) turned_away
 
--- the rules that decided the wish of a line with this reply
-abbrev pub decided_by : Listed → List ℕ → List ℕ → List RuleAt
-decided_by list line reply = if is_turned_away reply then [] else rules_of_wish list (wish_in list (spoken line))
+-- the rules that decided the wish of a call with this reply
+abbrev pub decided_by : Listed → Spoken → List ℕ → List RuleAt
+decided_by list said reply = if is_turned_away reply then [] else rules_of_wish list (wish_by list said.name said.call)

@@ -1,9 +1,11 @@
 //! What services are asked for, and what each request is answered in error.
 ghost use Rattle.std.specs.Prelude.{◌≡◌};
-ghost use Rattle.coverage.specs.Requests.{asked_word, errors_of, is_asked};
+ghost use Rattle.std.specs.Option.{option_copied};
+ghost use Rattle.calls.specs.Call.{model_call};
+ghost use Rattle.coverage.specs.Requests.{asked_word, errors_of, is_asked, request_word};
 
-use crate::row::{form_in, request_in};
-use session_proto::FileError;
+use calls::{Call, FileError};
+use text_codec::split_first_word;
 
 /// To what an error is the answer: to any request of a session, or to one of a form.
 #[derive(Clone, Copy)]
@@ -40,6 +42,7 @@ pub(crate) const REQUESTS: [Asked; 12] = [
 
 impl Asked {
     ghost use Rattle.std.specs.Prelude.{◌≡◌};
+    ghost use Rattle.std.specs.Option.{option_copied};
     ghost use Rattle.coverage.specs.Requests.{asked_word, errors_of, is_any, is_asked};
 
     /// The word of its requests; of any request words that no line has.
@@ -125,11 +128,26 @@ impl Asked {
         matches!(self, Asked::AnyRequest)
     }
 
-    /// Whether a line makes a request of it.
-    pub(crate) fn is_in(self, line: &[u8]) -> bool
-        ensures { result ≡ is_asked self line.now }
+    /// Returns whether a request of a session that begins with this word is one of it; no call of a session's is none.
+    pub(crate) fn is_in(self, word: Option<&[u8]>) -> bool
+        ensures { result ≡ is_asked self (option_copied word.entry) }
     {
-        form_in(line) == b"call".as_slice()
-            && (self.is_any() || request_in(line) == self.word().as_bytes())
+        match word {
+            Some(word) => self.is_any() || word == self.word().as_bytes(),
+            None => false,
+        }
+    }
+}
+
+/// Returns the first word of the request that a call makes of a session, if it makes one.
+pub(crate) fn request_word(call: Call<'_>) -> Option<&[u8]>
+    ensures { option_copied result ≡ request_word (model_call call.entry) }
+{
+    match call {
+        Call::CallSession { request, .. } => {
+            let (word, _) = split_first_word(request);
+            Some(word)
+        }
+        _ => None,
     }
 }

@@ -1,12 +1,16 @@
-//! What the trace of a scenario shows.
-ghost use Rattle.std.specs.Prelude.{◌≡◌, ◌∷◌, ◌++◌, [], IfOk, OnOk};
-ghost use Rattle.csv.specs.Records.{fields_of};
-ghost use Rattle.coverage.specs.Covered.{IsCovered, NotesTrace, answer_of, cell, rows_after};
+//! What the calls of a scenario show.
+ghost use Rattle.std.specs.Prelude.{◌≡◌, ◌∷◌, [], IfOk, OnOk, Some, map};
+ghost use Rattle.calls.specs.Call.{model_call};
+ghost use Rattle.coverage.specs.Covered.{answer_of, evidence_of, row_by, row_with, rows_after, rows_of};
 
+use crate::asked::request_word;
+use crate::form::form_of;
 use crate::row::{Answered, Row};
 use crate::table::rows_of;
 use crate::wish::decided_by;
-use csv::{ByteRecord, ReaderBuilder};
+use call_lines::read_line;
+use calls::{Answer, Call};
+use exchanges::Exchange;
 use start_lists::StartList;
 use std::alloc::{AllocError, Global};
 
@@ -17,77 +21,82 @@ pub struct Coverage {
     pub rows: Vec<Row>,
 }
 
-/// What a scenario shows of the machine of a start list, by its trace: of each row of both tables and of each rule whether some
-/// answered call of the trace shows that. An error is want of memory.
-pub fn cover(alloc: Global, list: &StartList, trace: &[u8]) -> Result<Coverage, AllocError>
-    ensures { IfOk result (λ coverage. IsCovered list.now trace.now coverage.rows.items) }
+/// What a scenario shows of the machine of a start list, by its calls with their replies: of each row of both tables and of each
+/// rule whether some call shows that. An error is out of memory.
+pub fn cover(
+    alloc: Global,
+    list: &StartList,
+    exchanges: &[Exchange],
+) -> Result<Coverage, AllocError>
+    ensures { IfOk result (λ coverage. coverage.rows.items
+        ≡ map (row_by list.now (map answer_of exchanges.now)) (rows_of list.now)) }
 {
     let mut rows = rows_of(alloc, list)?;
-    note_all(alloc, list, trace, rows.as_mut_slice())?;
+    note_all(alloc, list, exchanges, rows.as_mut_slice())?;
     Ok(Coverage { rows })
 }
 
-// Notes in rows what the answered calls of a trace show: all of its rows but the first, which has the names of its columns.
+// Notes in rows what calls show.
 fn note_all(
     alloc: Global,
     list: &StartList,
-    trace: &[u8],
+    exchanges: &[Exchange],
     rows: &mut [Row],
 ) -> Result<(), AllocError>
-    ensures { OnOk result (NotesTrace list.now trace.now rows.old rows.new) }
+    ensures { OnOk result (rows.new ≡ rows_after list.now (map answer_of exchanges.now) rows.old) }
 {
-    let reader = ReaderBuilder::new()
-        .has_headers(false)
-        .flexible(true)
-        .from_reader(alloc, trace);
-    let mut named = false;
-    for row in reader.into_byte_records() {
-        let Ok(row) = row else {
-            return Err(AllocError);
-        };
-        if named {
-            note_row(alloc, list, &row, rows)?;
-        }
-        named = true;
+    for exchange in exchanges {
+        note(alloc, list, exchange, rows)?;
     }
     Ok(())
 }
 
-// Notes in rows what a row of a trace shows.
-fn note_row(
+// Notes in rows what an answered line shows.
+fn note(
     alloc: Global,
     list: &StartList,
-    row: &ByteRecord,
+    exchange: &Exchange,
     rows: &mut [Row],
 ) -> Result<(), AllocError>
     ensures { OnOk result (rows.new
-        ≡ rows_after list.now (answer_of (fields_of row.now) ∷ []) rows.old) }
+        ≡ rows_after list.now (answer_of exchange.now ∷ []) rows.old) }
 {
-    let line = line_of(alloc, cell(row, 1), cell(row, 2))?;
-    let reply = cell(row, 3);
-    let rules = decided_by(alloc, list, line.as_slice(), reply)?;
+    let answer = exchange.answer();
+    match read_line(exchange.line()) {
+        Ok((name, call)) => note_call(alloc, list, name, call, answer, rows),
+        Err(_) => {
+            let answered = Answered {
+                form: None,
+                word: None,
+                answer,
+                rules: &[],
+            };
+            answered.note(rows);
+            Ok(())
+        }
+    }
+}
+
+// Notes in rows what a name's call shows by its answer.
+fn note_call(
+    alloc: Global,
+    list: &StartList,
+    name: &[u8],
+    call: Call<'_>,
+    answer: Answer<'_>,
+    rows: &mut [Row],
+) -> Result<(), AllocError>
+    ensures { OnOk result (rows.new ≡ map (row_with (evidence_of list.now
+        (Some (record { name = name.now; call = model_call call.entry }))
+        answer.entry.text.now)) rows.old) }
+{
+    let rules = decided_by(alloc, list, name, call, answer)?;
     let answered = Answered {
-        line: line.as_slice(),
-        reply,
+        form: form_of(call),
+        word: request_word(call),
+        answer,
         rules: rules.as_slice(),
     };
     answered.note(rows);
     Ok(())
-}
-
-// The cell at a place, or nothing.
-fn cell(row: &ByteRecord, place: usize) -> &[u8]
-    ensures { result.now ≡ cell (fields_of row.now) place }
-{
-    row.get(place).unwrap_or(b"")
-}
-
-// A line by the name and the call.
-fn line_of(alloc: Global, name: &[u8], call: &[u8]) -> Result<Vec<u8>, AllocError>
-    ensures { IfOk result (λ line. line.items ≡ name.now ++ 32 ∷ call.now) }
-{
-    let mut line = Vec::from_slice(alloc, name)?;
-    line.push(b' ')?;
-    line.extend_from_slice(call)?;
-    Ok(line)
 }

@@ -1,11 +1,13 @@
 //! What answers may show.
 ghost use Rattle.std.specs.Prelude.{◌≡◌};
+ghost use Rattle.std.specs.Str.{bytes_eq};
+ghost use Rattle.trade_base.specs.Refusal.{refusal_name};
 ghost use Rattle.coverage.specs.Requests.{is_error};
 ghost use Rattle.coverage.specs.Rules.{is_rule, is_same};
 
 use crate::asked::Asked;
 use crate::form::Form;
-use session_proto::FileError;
+use calls::{Answer, FileError, Outcome, ServiceOutcome};
 use trade_base::Refusal;
 
 /// Something that an answer may show.
@@ -64,9 +66,16 @@ impl RuleAt {
     }
 }
 
-/// Whether a reply tells an error.
-pub(crate) fn is_error(error: FileError, reply: &[u8]) -> bool
-    ensures { result ≡ is_error error reply.now }
+/// Returns whether a call is refused so.
+pub(crate) fn is_refused(answer: Answer<'_>, refusal: Refusal) -> bool
+    ensures { result ≡ bytes_eq answer.entry.text.now (refusal_name refusal) }
 {
-    reply.len() >= 4 && &reply[..4] == b"ERR ".as_slice() && &reply[4..] == error.name().as_bytes()
+    matches!(answer.outcome, Outcome::Refused(other) if other == refusal)
+}
+
+/// Returns whether a service refuses a request so.
+pub(crate) fn is_error(answer: Answer<'_>, error: FileError) -> bool
+    ensures { result ≡ is_error error answer.entry.text.now }
+{
+    matches!(answer.outcome, Outcome::Served(ServiceOutcome::Refused(other)) if other == error)
 }

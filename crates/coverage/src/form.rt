@@ -1,12 +1,13 @@
 //! The forms of calls, and what each is refused for.
 ghost use Rattle.std.specs.Prelude.{◌≡◌};
-ghost use Rattle.coverage.specs.Forms.{form_word, forms, is_form_of, is_wide, refusals_of};
+ghost use Rattle.calls.specs.Call.{model_call};
+ghost use Rattle.coverage.specs.Forms.{form_of, form_word, forms, is_form_of, is_wide, refusals_of};
 
-use crate::row::form_in;
+use calls::Call;
 use trade_base::Refusal;
 
 /// To what a refusal is the answer: to any line, to any call, or to a call of a form.
-#[derive(Clone, Copy)]
+#[derive(Clone, Copy, PartialEq, Eq)]
 pub enum Form {
     AnyLine,
     AnyCall,
@@ -149,10 +150,38 @@ impl Form {
         matches!(self, Form::AnyLine | Form::AnyCall)
     }
 
-    /// Whether a line is a call of it.
-    pub(crate) fn is_of(self, line: &[u8]) -> bool
-        ensures { result ≡ is_form_of self line.now }
+    /// Returns whether a line whose call has this form is one of it.
+    pub(crate) fn is_of(self, form: Option<Form>) -> bool
+        ensures { result ≡ is_form_of self form }
     {
-        self.is_wide() || form_in(line) == self.word().as_bytes()
+        self.is_wide() || form == Some(self)
+    }
+}
+
+/// Returns the form of a call, if calls of it are ever refused.
+pub(crate) fn form_of(call: Call<'_>) -> Option<Form>
+    ensures { result ≡ form_of (model_call call.entry) }
+{
+    match call {
+        Call::Alloc(_) => Some(Form::Alloc),
+        Call::Free(_) => Some(Form::Free),
+        Call::Attach(_) => Some(Form::Attach),
+        Call::AttachAt { .. } => Some(Form::AttachAt),
+        Call::Detach(_) => Some(Form::Detach),
+        Call::Peek { .. } => Some(Form::Peek),
+        Call::Poke { .. } => Some(Form::Poke),
+        Call::Capalloc => Some(Form::Capalloc),
+        Call::Capfree(_) => Some(Form::Capfree),
+        Call::New(_) => Some(Form::New),
+        Call::Del(_) => Some(Form::Del),
+        Call::Snew(_) => Some(Form::Snew),
+        Call::Sdel(_) => Some(Form::Sdel),
+        Call::Request(_) => Some(Form::Request),
+        Call::Yield(_) => Some(Form::Yield),
+        Call::Open { .. } => Some(Form::Open),
+        Call::Upgrade { .. } => Some(Form::Upgrade),
+        Call::CallSession { .. } => Some(Form::CallSession),
+        Call::Close(_) => Some(Form::Close),
+        Call::Quota | Call::Reserve | Call::Exit => None,
     }
 }

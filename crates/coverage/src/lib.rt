@@ -18,6 +18,6 @@ pub use asked::Asked;
 pub use covering::{Coverage, cover};
 pub use event::{Event, Route, RuleAt};
 pub use form::Form;
-pub use laws::{calls_are_on_the_table, rows_are_read_back};
+pub use laws::calls_are_on_the_table;
 pub use report::Report;
 pub use row::Row;

@@ -1,13 +1,11 @@
 //! Rows of what may be shown, with whether it was.
 ghost use Rattle.std.specs.Prelude.{◌≡◌, map};
 ghost use Rattle.std.specs.List.{list_any};
-ghost use Rattle.std.specs.Option.{unwrap_or};
-ghost use Rattle.own_model.specs.Text.{first_word};
-ghost use Rattle.coverage.specs.Words.{behind_word, form_in, request_in};
-ghost use Rattle.coverage.specs.Covered.{has_rule, row_with, shown_with};
+ghost use Rattle.coverage.specs.Covered.{evidence_in, has_rule, row_with, shown_with};
 
-use crate::event::{Event, RuleAt, is_error};
-use text_codec::split_first_word;
+use crate::event::{Event, RuleAt, is_error, is_refused};
+use crate::form::Form;
+use calls::Answer;
 
 /// Something that an answer may show, and whether one did.
 #[derive(Clone, Copy)]
@@ -23,36 +21,36 @@ impl Row {
     }
 }
 
-/// An answered line, with the rules that decided its wish.
+/// What an answered line shows with: the form of its call, the first word of the request that the call makes, if these are there,
+/// the answer, and the rules that decided the request of a session.
 #[derive(Clone, Copy)]
 pub(crate) struct Answered<'a, 'b> {
-    pub line: &'a [u8],
-    pub reply: &'a [u8],
+    pub form: Option<Form>,
+    pub word: Option<&'a [u8]>,
+    pub answer: Answer<'a>,
     pub rules: &'b [RuleAt],
 }
 
 impl Answered<'_, '_> {
-    ghost use Rattle.std.specs.Prelude.{◌≡◌};
-    ghost use Rattle.coverage.specs.Covered.{has_rule, row_with, shown_with};
+    ghost use Rattle.std.specs.Prelude.{◌≡◌, map};
+    ghost use Rattle.coverage.specs.Covered.{evidence_in, row_with, shown_with};
 
-    // Whether it shows an event.
+    // Returns whether it shows an event.
     fn shows(self, event: Event) -> bool
-        ensures { result
-            ≡ shown_with self.entry.line.now self.entry.reply.now self.entry.rules.now event }
+        ensures { result ≡ shown_with (evidence_in self.entry) event }
     {
         match event {
             Event::Refused(form, refusal) => {
-                form.is_of(self.line) && self.reply == refusal.name().as_bytes()
+                form.is_of(self.form) && is_refused(self.answer, refusal)
             }
-            Event::Failed(asked, error) => asked.is_in(self.line) && is_error(error, self.reply),
+            Event::Failed(asked, error) => asked.is_in(self.word) && is_error(self.answer, error),
             Event::Decided(rule) => has_rule(self.rules, rule),
         }
     }
 
-    // A row behind it.
+    // Returns a row after it.
     fn noted_in(self, row: Row) -> Row
-        ensures { result
-            ≡ row_with self.entry.line.now self.entry.reply.now self.entry.rules.now row }
+        ensures { result ≡ row_with (evidence_in self.entry) row }
     {
         Row {
             event: row.event,
@@ -62,8 +60,7 @@ impl Answered<'_, '_> {
 
     /// Notes in each row whether it shows that.
     pub(crate) fn note(self, rows: &mut [Row])
-        ensures { rows.new ≡ map
-            (row_with self.entry.line.now self.entry.reply.now self.entry.rules.now) rows.old }
+        ensures { rows.new ≡ map (row_with (evidence_in self.entry)) rows.old }
     {
         for row in rows.iter_mut() {
             *row = self.noted_in(*row);
@@ -71,39 +68,9 @@ impl Answered<'_, '_> {
     }
 }
 
-// Whether a rule is one of these.
+// Returns whether a rule is one of these.
 fn has_rule(rules: &[RuleAt], rule: RuleAt) -> bool
     ensures { result ≡ has_rule rules.now rule }
 {
     rules.iter().any(|other| rule.is(*other))
-}
-
-// What stands behind the first word and a space.
-fn behind_word(text: &[u8]) -> &[u8]
-    ensures { result.now ≡ behind_word text.now }
-{
-    let (_, rest) = split_first_word(text);
-    rest.unwrap_or(b"")
-}
-
-// The first word.
-fn word_of(text: &[u8]) -> &[u8]
-    ensures { result.now ≡ (first_word text.now).word }
-{
-    let (word, _) = split_first_word(text);
-    word
-}
-
-/// The form of a line's call.
-pub(crate) fn form_in(line: &[u8]) -> &[u8]
-    ensures { result.now ≡ form_in line.now }
-{
-    word_of(behind_word(line))
-}
-
-/// The word of a line's request.
-pub(crate) fn request_in(line: &[u8]) -> &[u8]
-    ensures { result.now ≡ request_in line.now }
-{
-    word_of(behind_word(behind_word(behind_word(line))))
 }

@@ -1,14 +1,13 @@
-//! The rules that decide the wish of an answered line.
+//! The rules that decide the session request of an answered call.
 ghost use Rattle.std.specs.Prelude.{◌≡◌, ◌∷◌, ◌++◌, ◌<◌, ◌≤◌, [], length, IfOk, IfSome, IfNone, OnOk, Some, None};
 ghost use Rattle.std.specs.List.{slice_get};
 ghost use Rattle.std.specs.Option.{option_and_then, option_map};
-ghost use Rattle.own_model.specs.Call.{spoken};
+ghost use Rattle.calls.specs.Call.{model_call};
 ghost use Rattle.own_model.specs.Session.{given};
-ghost use Rattle.coverage.specs.Rules.{decided_by, default_of, init_of, init_place, is_turned_away, route_by, route_for, rule_in, rules_from, rules_of_wish, wish_in};
+ghost use Rattle.coverage.specs.Rules.{decided_by, default_of, init_of, init_place, is_turned_away, route_by, route_for, rule_in, rules_from, rules_of_wish, wish_by};
 
-use crate::event::{Route, RuleAt};
-use call_lines::read_line;
-use calls::Call;
+use crate::event::{Route, RuleAt, is_refused};
+use calls::{Answer, Call};
 use reach::{Course, Hop};
 use session_proto::SessionArgs;
 use start_lists::{Entry, StartList};
@@ -24,36 +23,44 @@ const TURNED_AWAY: [Refusal; 5] = [
     Refusal::BadArgs,
 ];
 
-/// The rules that decided the wish of a line with this reply, list by list outward.
+/// Returns the rules that decided the session request of a name's call with this answer, list by list outward. An error is out of
+/// memory.
 pub(crate) fn decided_by(
     alloc: Global,
     list: &StartList,
-    line: &[u8],
-    reply: &[u8],
+    name: &[u8],
+    call: Call<'_>,
+    answer: Answer<'_>,
 ) -> Result<Vec<RuleAt>, AllocError>
-    ensures { IfOk result (λ rules. rules.items ≡ decided_by list.now line.now reply.now) }
+    ensures { IfOk result (λ rules. rules.items ≡ decided_by list.now
+        (record { name = name.now; call = model_call call.entry }) answer.entry.text.now) }
 {
-    if is_turned_away(reply) {
+    if is_turned_away(answer) {
         return Ok(Vec::new(alloc));
     }
-    rules_of_line(alloc, list, line)
+    rules_of_call(alloc, list, name, call)
 }
 
-// Whether a reply is one of those.
-fn is_turned_away(reply: &[u8]) -> bool
-    ensures { result ≡ is_turned_away reply.now }
+// Returns whether an answer is one of those refusals.
+fn is_turned_away(answer: Answer<'_>) -> bool
+    ensures { result ≡ is_turned_away answer.entry.text.now }
 {
     TURNED_AWAY
         .iter()
-        .any(|refusal| reply == refusal.name().as_bytes())
+        .any(|refusal| is_refused(answer, *refusal))
 }
 
-// The rules that decide the wish of a line, if it is one.
-fn rules_of_line(alloc: Global, list: &StartList, line: &[u8]) -> Result<Vec<RuleAt>, AllocError>
+// Returns the rules that decide the session request of a name's call, if it makes one.
+fn rules_of_call(
+    alloc: Global,
+    list: &StartList,
+    name: &[u8],
+    call: Call<'_>,
+) -> Result<Vec<RuleAt>, AllocError>
     ensures { IfOk result (λ rules. rules.items
-        ≡ rules_of_wish list.now (wish_in list.now (spoken line.now))) }
+        ≡ rules_of_wish list.now (wish_by list.now name.now (model_call call.entry))) }
 {
-    let Ok((name, Call::Open { service, args })) = read_line(line) else {
+    let Call::Open { service, args } = call else {
         return Ok(Vec::new(alloc));
     };
     match list.find(name) {

@@ -6,7 +6,7 @@ use Rattle.scenario_lines.specs.Answered.{after_all, told_of_all}
 use Rattle.scenario_lines.specs.Faults.{Fails}
 use Rattle.scenario_lines.specs.Gathered.{TellsUnless}
 use Rattle.scenario_lines.specs.Plays.{GoesOn, PlaysLine}
-use Rattle.scenario_lines.specs.declared.answering.LineAnswer.{LineAnswer}
+use Rattle.scenario_lines.specs.declared.line_answer.LineAnswer.{LineAnswer}
 use Rattle.scenario_lines.specs.declared.play_fault.PlayFault.{PlayFault}
 use Rattle.scenario_lines.specs.declared.play_fault.PlayFault.TheVariants.{ReadFault, WriteFault, TooManyLines, NoMemory}
 use Rattle.scenario_lines.proofs.AnsweringLemmas.{told_answer}

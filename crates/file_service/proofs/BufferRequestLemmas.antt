@@ -20,7 +20,7 @@ use Rattle.region_map.specs.Regions.{Regions}
 use Rattle.dataspace_core.specs.Store.{Store, space_at}
 use Rattle.server_frame.specs.Lent.{IsEffect, bytes_lent}
 use Rattle.server_frame.specs.Session.{holding_of}
-use Rattle.calls.specs.Told.{Told, nothing_told}
+use Rattle.calls.specs.Told.{Told}
 use Rattle.server_frame.specs.declared.effect.Effect.{Effect}
 use Rattle.server_frame.specs.declared.effect.Effect.TheVariants.{Nothing}
 use Rattle.session_proto.specs.File.{model_request}
@@ -182,7 +182,7 @@ module _ {session : FileSession} {store : Store} {regions : Regions} (ready : Is
   pub files_answered : {later : FileSession} {new : Store} {after : Regions} (text : List ℕ) (request : model.FileRequest) (reply : model.FileReply) (told_now told_then : Told) →
       session_request text ≡ Some (OfFiles request) → KeepsRooms session.rooms later.rooms store new regions after →
       Serves (served_in request session has) reply session later (stock_of later.rooms new after) →
-      told_then ≡ record told_now { text = told_now.text ++ file_reply reply } → told_now ≡ nothing_told →
+      told_then ≡ record told_now { text = file_reply reply } → told_now.lines ≡ [] →
       IsAnswered (session_served (session_request text) session store regions) Nothing told_then session later store new regions after
   files_answered {later} {new} {after} text request reply told_now told_then reads keeps serves tells none =
       subst (λ r. IsAnswered (session_served r session store regions) Nothing told_then session later store new regions after) (sym reads) (record {
@@ -196,7 +196,7 @@ module _ {session : FileSession} {store : Store} {regions : Regions} (ready : Is
   pub buffer_answered : {later : FileSession} {new : Store} {after : Regions} (text : List ℕ) (request : BufferRequest) (reply : model.FileReply) (effect does : Effect) (told_now told_then : Told) →
       session_request text ≡ Some (OfBuffer request) → Answers (session_served (Some (OfBuffer request)) session store regions) reply session later new after →
       effect ≡ does → IsEffect does (buffer_key session.buffer) (buffer_key later.buffer) → StayFurnished session.rooms later.rooms store new regions after →
-      told_then ≡ record told_now { text = told_now.text ++ file_reply reply } → told_now ≡ nothing_told →
+      told_then ≡ record told_now { text = file_reply reply } → told_now.lines ≡ [] →
       IsAnswered (session_served (session_request text) session store regions) effect told_then session later store new regions after
   buffer_answered {later} {new} {after} text request reply effect does told_now told_then reads answers same is_effect stays tells none =
       subst (λ r. IsAnswered (session_served r session store regions) effect told_then session later store new regions after) (sym reads) (record {

@@ -3,7 +3,7 @@ use Rattle.std.proofs.Common.{rules, ◌≡◌, ℕ, ◌+◌, Bool, true, false,
 use Rattle.std.proofs.lemmas.Bool.{false_from_ne_true}
 use Rattle.std.proofs.lemmas.Bool.Decides.{nat_tests}
 use Rattle.std.proofs.lemmas.Option.{same_Some}
-use Rattle.std.specs.Prelude.{Option, None}
+use Rattle.std.specs.Prelude.{None}
 use Rattle.std.specs.FinMap.{get, len, empty, len-empty}
 use Rattle.std.specs.Ordering.{nat_cmp}
 use Rattle.own_model.specs.Account.{Account, credited}
@@ -29,12 +29,7 @@ use Rattle.sliced_heap.specs.Window.{IsNoHeapBlock}
 use Rattle.sliced_heap.proofs.WindowLemmas.{block_is, shown_block_at}
 use Rattle.heap_core.proofs.BesideLemmas.{no_chunk}
 use Rattle.dataspace_core.proofs.ShareLaws.{each_shown}
-use Rattle.sliced_heap.proofs.ShareLemmas.{shown_large}
-
--- what passes for a sliced block's number is that number
-sliced_number : (o : Option ℕ) → is_sliced_tag o ≡ true → o ≡ Some sliced_tag
-sliced_number None e = absurd (true≢false (sym e))
-sliced_number (Some k) e = let is : k ≡ sliced_tag = grind (arith, nat_tests) in ap Some is
+use Rattle.sliced_heap.proofs.ShareLemmas.{shown_large, sliced_number}
 
 -- where no region with another number than a heap's has moved, and none is new, the sliced blocks stay
 module _ (account : ℕ) (old new : Store) (regions after : Regions) (kept : KeepsElsewhere regions after)

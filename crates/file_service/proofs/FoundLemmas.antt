@@ -2,13 +2,11 @@
 use Rattle.std.proofs.lemmas.Bool.Decides.{nat_tests}
 use Rattle.std.proofs.Common.{rules, ◌≡◌, ℕ, ◌+◌, ◌-◌, ◌*◌, ◌^◌, ◌≤◌, true≢false, List, [], ◌∷◌, length, drop, Some, IsSome, refl, sym, ap, subst, ◌∙◌, arith, inl, inr}
 use Rattle.std.proofs.lemmas.Bool.{cases_eq}
-use Rattle.std.proofs.lemmas.Option.{none-some, same_Some}
+use Rattle.std.proofs.lemmas.Option.{same_Some}
 use Rattle.std.specs.Prelude.{Option, None, IfSome, IfNone, slice_range, unwrap_or}
 use Rattle.std.specs.FinMap.{get, insert}
-use Rattle.std.specs.Option.{option_map}
-use Rattle.std.proofs.Math.Nat.{mul-le-mul}
+use Rattle.heap_core.proofs.ClearedLemmas.{window_low}
 use Rattle.trade_base.proofs.BytesLemmas.{with_bytes-nothing}
-use Rattle.own_model.specs.HeapWindow.{heap_high}
 use Rattle.own_model.proofs.ByteLemmas.{with_part-within}
 use Rattle.own_model.proofs.EntryLemmas.{not_found_in_map}
 use Rattle.own_model.proofs.SlicedPayloadLemmas.{payload_holds}
@@ -16,7 +14,7 @@ use Rattle.own_model.specs.NatMap.{NatMap}
 use Rattle.own_model.specs.OwnState.{with_part}
 use Rattle.own_model.specs.Sliced.{sliced_header, block_found}
 use Rattle.own_model.proofs.HeapStepLemmas.{not_both}
-use Rattle.own_model.proofs.NatMapLemmas.{some_of, same, natmaps}
+use Rattle.own_model.proofs.NatMapLemmas.{some_of, same, natmaps, nothing_from}
 use Rattle.region_map.specs.Regions.{Regions}
 use Rattle.dataspace_core.specs.Share.{Share, share_in}
 use Rattle.dataspace_core.specs.Store.{Store, part, space_at, part_with_bytes, PartBecomes}
@@ -43,19 +41,10 @@ some_by (Some x) never p = refl
 pub told_of : {X : Type 0} (P : X → Type 0) (o : Option X) (x : X) → o ≡ Some x → IfSome o P → P x
 told_of {X} P o x is p = subst (λ (q : Option X). IfSome q P) is p
 
--- no address of the window is past 40 bits
-pub window_low : (machine : ℕ) → machine ≤ 4096 → heap_high machine ≤ 2 ^ 40
-window_low machine few = grind (arith, nat_tests, natmaps, mul-le-mul)
-
--- nothing is made of nothing alone
-none_mapped : {X Y : Type 0} (g : X → Y) (o : Option X) → option_map g o ≡ None → o ≡ None
-none_mapped g None is = refl
-none_mapped g (Some x) is = absurd (none-some (g x) (sym is))
-
 -- what isn't found holds no range
 pub found_none : (payloads : NatMap (List ℕ)) (address count k : ℕ) (payload : List ℕ) → block_found payloads address count ≡ None → get payloads k ≡ Some payload →
     k ≤ address → address + count ≤ k + length payload → ⊥
-found_none payloads address count k payload none there from to = search (rules, true≢false, payload_holds, not_found_in_map, none_mapped)
+found_none payloads address count k payload none there from to = search (rules, true≢false, payload_holds, not_found_in_map, nothing_from)
 
 -- what there is where there is something
 pub there_is : (m : NatMap (List ℕ)) (k : ℕ) → IsSome (get m k) → get m k ≡ Some (payload_in m k)

@@ -4,6 +4,7 @@ use Rattle.std.proofs.lemmas.Bool.Decides.{nat_tests}
 use Rattle.std.specs.Prelude.{None, Result, OnOk}
 use Rattle.std.specs.Result.{result_err}
 use Rattle.std.specs.FinMap.{get}
+use Rattle.server_frame.proofs.HoldingLemmas.{on_ok}
 use Rattle.trade_base.specs.declared.refusal.Refusal.{Refusal}
 use Rattle.own_model.specs.HeapStep.{without_block}
 use Rattle.own_model.specs.NatMap.{NatMap}
@@ -23,7 +24,7 @@ use Rattle.file_service.specs.Furnished.{IsFurnished, KeepsSession, stock}
 use Rattle.file_service.proofs.FurnishedLemmas.{ChangesNodes, nodes_are, nodes_kept, contents_stay}
 use Rattle.file_service.proofs.NodeCallLemmas.{in_place, account_stays, chunks_given}
 use Rattle.file_service.proofs.NodePlaceLemmas.{given_at}
-use Rattle.file_service.proofs.ResultLemmas.{ok_then, free_ok}
+use Rattle.file_service.proofs.ResultLemmas.{free_ok}
 
 module _ {heap : Heap} {sliced : SlicedHeap} {store : Store} {regions : Regions} (f : IsFurnished heap sliced store regions) (address : ℕ) where
   -- no large block starts there
@@ -34,7 +35,7 @@ module _ {heap : Heap} {sliced : SlicedHeap} {store : Store} {regions : Regions}
   pub gives_of : {later : Heap} {new : Store} {after : Regions} {X : Type 0} (r : Result X Refusal) → IsSome (get (heap_in heap (holding_of sliced store regions)).payloads address) →
       result_err r ≡ free_refusal (heap_at heap store regions) address →
       OnOk r (get (heap_at heap store regions).large address ≡ None → GivesSmall heap later address store new regions after) → GivesSmall heap later address store new regions after
-  gives_of r there refusal small = search (rules, ok_then, free_ok, nodes_are, no_large)
+  gives_of r there refusal small = search (rules, on_ok, free_ok, nodes_are, no_large)
 
   module _ {later : Heap} {new : Store} {after : Regions} (gives : GivesSmall heap later address store new regions after) (sound : IsSoundHeap later new after)
       (payer : heap_payer later ≡ heap_payer heap) (others : KeepsShares (heap_payer heap) store new regions.heap regions.tags after.heap after.tags) where

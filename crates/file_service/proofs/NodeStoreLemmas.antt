@@ -1,14 +1,12 @@
 -- A write of a node changes its payload alone.
-use Rattle.std.proofs.Common.{rules, ◌≡◌, ℕ, ◌+◌, ◌-◌, ◌*◌, ◌^◌, ◌<◌, ◌≤◌, true, List, [], ◌∷◌, length, get_or, suc, Some, refl, sym, ap, subst, ◌∙◌, ⊎_elim, arith, inl, inr}
+use Rattle.std.proofs.Common.{rules, ◌≡◌, ℕ, ◌+◌, ◌-◌, ◌*◌, ◌^◌, ◌<◌, ◌≤◌, true, List, length, Some, sym, ap, subst, ◌∙◌, ⊎_elim, arith, inl, inr}
 use Rattle.std.proofs.lemmas.Bool.{cases_eq}
-use Rattle.std.proofs.lemmas.Bool.Decides.{nat_tests}
 use Rattle.std.proofs.lemmas.Option.{same_Some}
-use Rattle.std.specs.Prelude.{nat_lt}
 use Rattle.std.specs.FinMap.{get, len}
+use Rattle.heap_core.proofs.ClearedLemmas.{window_low}
 use Rattle.trade_base.specs.Bytes.{with_bytes}
 use Rattle.own_model.specs.OwnState.{zeros}
 use Rattle.own_model.proofs.ByteLemmas.{length-zeros}
-use Rattle.file_service.proofs.FoundLemmas.{window_low}
 use Rattle.own_model.specs.Region.{Region}
 use Rattle.own_model.proofs.HeapStepLemmas.{not_both}
 use Rattle.own_model.proofs.Totals.{len-insert_at}
@@ -30,14 +28,6 @@ use Rattle.file_service.proofs.FurnishedLemmas.{ChangesNodes}
 use Rattle.file_service.proofs.LentLemmas.{lent_places}
 use Rattle.sliced_heap.proofs.WindowLemmas.{IsPut, is_put, blocks_in_place}
 use Rattle.sliced_heap.proofs.ShareLemmas.{kept_tag, shown_large}
-
--- bytes, each by its place, are bytes
-pub small_bytes : (bytes : List ℕ) → ((i : ℕ) → get_or bytes i 0 < 256) → are_bytes bytes ≡ true
-small_bytes [] small = refl
-small_bytes (b ∷ bytes) small =
-    let low = small 0 in
-    let test : nat_lt b 256 ≡ true = grind (arith, nat_tests) in
-    rw test (small_bytes bytes (λ i. small (suc i)))
 
 module _ (heap : Heap) (store : Store) (regions : Regions) (sound : IsSoundHeap heap store regions) (ds offset address : ℕ) (bytes : List ℕ)
     (held : HoldsRange heap store regions ds offset address (length bytes)) where

@@ -18,7 +18,7 @@ use Rattle.own_model.proofs.LogLemmas.{bytes_of_digits}
 use Rattle.own_model.proofs.NatMapLemmas.{some_of}
 use Rattle.region_map.specs.Regions.{Regions}
 use Rattle.dataspace_core.specs.Store.{Store}
-use Rattle.calls.specs.Told.{Told, nothing_told}
+use Rattle.calls.specs.Told.{Told, told_alone}
 use Rattle.file_service.specs.Rooms.{stock_of}
 use Rattle.file_service.specs.Session.{files_in, served_in, HasFiles, Serves}
 use Rattle.file_service.proofs.ServeLemmas.{serves_same}
@@ -44,12 +44,8 @@ hex_is_short text file offset hex is some =
     omega (arith, write_is_short text file offset (hex_bytes hex) (of_files (file_request text) (buffer_request text) _ is), same, bytes_of_digits hex read.0 read.1)
 
 -- what is told is the reply and nothing else
-pub told_text : (new old : Told) (reply : model.FileReply) (text : List ℕ) → new ≡ record old { text = old.text ++ file_reply reply } → old ≡ nothing_told → file_reply reply ≡ text → new ≡ record nothing_told { text = text }
-told_text new old reply text is none same = is ∙ (λ i. record (none i) { text = (none i).text ++ same i })
-
--- where nothing is told there is room for any reply but bytes
-pub has_room : (told : Told) → told ≡ nothing_told → length told.text ≤ 49
-has_room told none = subst (λ (t : Told). length t.text ≤ 49) (sym none) (omega arith)
+pub told_text : (new old : Told) (reply : model.FileReply) (text : List ℕ) → new ≡ record old { text = file_reply reply } → old.lines ≡ [] → file_reply reply ≡ text → new ≡ told_alone text
+told_text new old reply text is none same = is ∙ (λ i. record { lines = none i; text = same i })
 
 -- ---- NAME
 

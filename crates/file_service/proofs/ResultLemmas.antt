@@ -1,9 +1,7 @@
 -- What is so of calls that may be refused.
 use Rattle.std.proofs.Common.{rules, ◌≡◌, ℕ, List, cond, is_some, IsSome, Some, refl, sym, ap, subst, true≢false, ◌∙◌}
-use Rattle.std.proofs.lemmas.Option.{none-some}
-use Rattle.std.specs.Prelude.{Option, None, Result, Ok, Err, MatchResult, IsErrAnd, is_ok, IfOk, OnOk, OnErr}
+use Rattle.std.specs.Prelude.{Option, None, Result, Ok, Err, MatchResult, IsErrAnd, is_ok, IfOk, OnErr}
 use Rattle.std.specs.FinMap.{get}
-use Rattle.std.specs.Result.{result_err}
 use Rattle.trade_base.specs.declared.refusal.Refusal.{Refusal}
 use Rattle.trade_base.specs.declared.refusal.Refusal.TheVariants.{PageFault}
 use Rattle.own_model.specs.NatMap.{NatMap}
@@ -27,11 +25,6 @@ either_way (Err e) p a b c f g = g a b c
 pub keeps_same : {heap later : Heap} {sliced now : SlicedHeap} {store new : Store} {regions after : Regions} → IsFurnished heap sliced store regions →
     later ≡ heap → now ≡ sliced → new ≡ store → after ≡ regions → KeepsSession sliced later now store new regions after
 keeps_same {heap} {later} {sliced} {now} {store} {new} {regions} {after} f h s m r = search rules
-
--- what is so of an accepted call, of one that isn't refused
-pub ok_then : {X E P : Type 0} (r : Result X E) → result_err r ≡ None → OnOk r P → P
-ok_then (Ok x) none p = p
-ok_then (Err e) none p = absurd (none-some e (sym none))
 
 -- an address where a payload starts isn't refused
 pub free_ok : {o : Option Refusal} {m n : NatMap (List ℕ)} (address : ℕ) → n ≡ m → IsSome (get n address) → o ≡ cond (is_some (get m address)) None (Some PageFault) → o ≡ None

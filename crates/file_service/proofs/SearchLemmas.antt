@@ -65,11 +65,6 @@ module _ (first last : ℕ) (nodes : OwnHeap) (contents : NatMap (List ℕ)) (na
 
 -- ---- the search
 
--- all of these blocks, before and behind
-pub append_none : (xs : List ℕ) → xs ++ [] ≡ xs
-append_none [] = refl
-append_none (x ∷ xs) = ap (λ (rest : List ℕ). x ∷ rest) (append_none xs)
-
 -- one of those behind is put last of those before
 pub seam : (xs ys : List ℕ) (x : ℕ) → (xs ++ x ∷ []) ++ ys ≡ xs ++ x ∷ ys
 seam [] ys x = refl

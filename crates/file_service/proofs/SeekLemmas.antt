@@ -1,6 +1,6 @@
 -- A file is found by its name: the tree leads to its node, and no other has the name.
 use Rattle.std.proofs.Common.{◌≡◌, ◌≢◌, ℕ, ◌<◌, ◌≤◌, true, false, true≢false, Bool, not, List, [], ◌∷◌, ◌++◌, length, map, None, refl, sym, ap, subst, ◌∙◌, inl, inr, arith}
-use Rattle.std.proofs.lemmas.Bool.{cases_eq, false_from_ne_true}
+use Rattle.std.proofs.lemmas.Bool.{cases_eq, false_from_ne_true, not-false}
 use Rattle.std.proofs.lemmas.Option.{none-some}
 use Rattle.std.proofs.lemmas.Bool.Decides.{nat_tests}
 use Rattle.std.proofs.lemmas.List.{length-take}
@@ -35,11 +35,7 @@ ne_name xs slice name test at is so same =
     let e = (bytes_eq-Decides slice name).1 (at ∙ same) in true≢false (sym so ∙ is ∙ ap not e)
 
 pub eq_name : (xs slice name : List ℕ) (test : Bool) → slice ≡ xs → test ≡ not (bytes_eq slice name) → test ≡ false → xs ≡ name
-eq_name xs slice name test at is so = sym at ∙ (bytes_eq-Decides slice name).0 (not_false (bytes_eq slice name) (sym is ∙ so))
-  where
-    not_false : (b : Bool) → not b ≡ false → b ≡ true
-    not_false true e = refl
-    not_false false e = absurd (true≢false e)
+eq_name xs slice name test at is so = sym at ∙ (bytes_eq-Decides slice name).0 (not-false (bytes_eq slice name) (sym is ∙ so))
 
 -- a name that is one is short
 pub name_fits : (name : List ℕ) → is_name name ≡ true → length name ≤ 32

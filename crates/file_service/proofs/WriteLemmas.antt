@@ -3,11 +3,9 @@ use Rattle.std.proofs.Common.{rules, ◌≡◌, ◌≢◌, ℕ, ◌+◌, ◌<◌
 use Rattle.std.proofs.lemmas.Bool.{cases_lt}
 use Rattle.std.proofs.lemmas.Bool.Decides.{nat_tests}
 use Rattle.std.proofs.lemmas.Option.{same_Some, none-some}
-use Rattle.std.specs.Prelude.{nat_lt, ◌&&◌}
 use Rattle.std.specs.Option.{option_map}
 use Rattle.std.specs.FinMap.{get, insert}
 use Rattle.trade_base.specs.Bytes.{with_bytes}
-use Rattle.trade_base.specs.Page.{is_valid_size}
 use Rattle.trade_base.specs.declared.refusal.Refusal.{Refusal}
 use Rattle.trade_base.specs.declared.refusal.Refusal.TheVariants.{InvalidSize, OutOfRam}
 use Rattle.trade_base.proofs.BytesLemmas.{with_bytes-nothing}
@@ -54,10 +52,6 @@ refused_short n account r some limit is = grind (arith, nat_tests, above_limit, 
 covered_by : (b : Bool) (o : Option Refusal) → cond b o (Some InvalidSize) ≡ None → o ≡ None
 covered_by true o none = none
 covered_by false o none = absurd (none-some InvalidSize (sym none))
-
--- a content that isn't refused is covered
-pub granted_covered : (n : ℕ) (account : Account) → sliced_refusal n account ≡ None → shortage account (sliced_size n) 1 ≡ None
-granted_covered n account none = covered_by (nat_lt 0 n && is_valid_size (32 + n)) (shortage account (sliced_size n) 1) none
 
 -- ---- what a file is served
 

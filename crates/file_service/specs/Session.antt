@@ -4,7 +4,7 @@ use Rattle.own_model.specs.FileService.{Files, FileServed, is_named, request_ser
 use Rattle.own_model.specs.FileText as model
 use Rattle.own_model.specs.FileText.FileReply.{Done, Count, Bytes, Lent, Refused}
 use Rattle.session_proto.specs.FileReply.{model_error}
-use Rattle.session_proto.specs.declared.file_reply.FileError.{FileError}
+use Rattle.calls.specs.declared.file_error.FileError.{FileError}
 use Rattle.dataspace_core.specs.Share.{Share}
 use Rattle.heap_core.specs.Heap.{heap_in}
 use Rattle.sliced_heap.specs.Sliced.{sliced_of}
@@ -30,7 +30,7 @@ use Rattle.region_map.specs.Regions.{Regions}
 use Rattle.dataspace_core.specs.Store.{Store}
 use Rattle.server_frame.specs.Lent.{IsEffect, bytes_lent}
 use Rattle.server_frame.specs.Session.{holding_of}
-use Rattle.calls.specs.Told.{Told, nothing_told}
+use Rattle.calls.specs.Told.{Told, told_alone}
 use Rattle.server_frame.specs.declared.effect.Effect.{Effect}
 use Rattle.file_service.specs.declared.session.FileSession.{FileSession}
 
@@ -103,7 +103,7 @@ pub record Answers (served : BufferServed) (reply : model.FileReply) (old later 
 
 -- the reply is told, with what the request did to the buffer, and other accounts keep what they have
 pub record IsAnswered (served : BufferServed) (effect : Effect) (told : Told) (old later : FileSession) (store new : Store) (regions after : Regions) : Type 0 where
-  pub text : told ≡ record nothing_told { text = served.reply }
+  pub text : told ≡ told_alone served.reply
   pub leaves : LeavesSession served old later new after
   pub effect_is : IsEffect effect (buffer_key old.buffer) (buffer_key later.buffer)
   pub stays : StayFurnished old.rooms later.rooms store new regions after

@@ -5,6 +5,7 @@ ghost use Rattle.own_model.specs.OwnState.{zeros};
 ghost use Rattle.file_service.specs.Node.{value_of, node_of, bytes_of, name_bytes, rank_by, rank_of, word_from, IsNode};
 
 use arrayvec::ArrayVec;
+use trade_base::FILE_NODE;
 
 /// The most bytes of a file's name.
 pub const LONGEST_NAME: usize = 32;
@@ -13,7 +14,7 @@ pub const LONGEST_NAME: usize = 32;
 pub(crate) const NODE_BYTES: usize = 64;
 
 /// How many bytes of its block a node takes.
-pub(crate) const NODE_SIZE: usize = 96;
+pub(crate) const NODE_SIZE: usize = FILE_NODE as usize;
 
 /// Where the address of the next file's node stands.
 pub(crate) const NEXT: u64 = 0;

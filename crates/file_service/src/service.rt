@@ -1,5 +1,5 @@
 //! The file service: what it answers to the requests of a session.
-ghost use Rattle.std.specs.Prelude.{◌≡◌, ◌++◌, ◌*◌, ◌/◌, ◌≤◌, length, [], Some, None};
+ghost use Rattle.std.specs.Prelude.{◌≡◌, ◌*◌, ◌/◌, ◌≤◌, length, [], Some, None};
 ghost use Rattle.own_model.specs.BufferService.{session_request};
 ghost use Rattle.own_model.specs.FileText as model;
 ghost use Rattle.own_model.specs.FileText.{file_reply};
@@ -12,7 +12,6 @@ ghost use Rattle.dataspace_core.specs.Store.{account_in, IsOpenIn};
 ghost use Rattle.sliced_heap.specs.Heap.{payer_of};
 ghost use Rattle.file_service.specs.Aside.{lends_aside};
 ghost use Rattle.server_frame.specs.Session.{service_step};
-ghost use Rattle.calls.specs.Told.{nothing_told};
 ghost use Rattle.file_service.specs.Rooms.{stock_of, AreFurnished, KeepsRooms};
 ghost use Rattle.file_service.specs.Lent.{buffer_key};
 ghost use Rattle.file_service.specs.Session.{HasFiles, IsReady, IsAnswered, IsTold, Serves, done_reply, counted_reply, lent_reply, lent_effect, gone_effect, served_in, session_served};
@@ -108,7 +107,7 @@ fn answer(
     reply: &mut Reply,
 ) -> Effect
     requires ready { IsReady session.old memory.old map.old }
-    requires reply { reply.old ≡ nothing_told }
+    requires reply { reply.old.lines ≡ [] }
     ensures answered { IsAnswered
         (session_served (session_request request.now) session.old memory.old map.old)
         result reply.new session.old session.new
@@ -152,7 +151,7 @@ fn answer(
     Effect::Nothing
 }
 
-/// Tells at most so many bytes of a file from an offset on, or why not, behind what the reply was.
+/// Tells at most so many bytes of a file from an offset on, or why not.
 fn tell_read(
     session: &FileSession,
     memory: &mut Memory,
@@ -164,11 +163,10 @@ fn tell_read(
 )
     requires furnished { AreFurnished session.now.rooms memory.old map.now }
     requires files { HasFiles session.now (stock_of session.now.rooms memory.old map.now) }
-    requires room { length reply.old.text ≤ 49 }
     ensures told { (answer : Answered)
         × ((IsTold (Read file.now offset len) answer session.now
         (stock_of session.now.rooms memory.old map.now))
-        × (reply.new ≡ record reply.old { text = reply.old.text ++ file_reply answer })) }
+        × (reply.new ≡ record reply.old { text = file_reply answer })) }
     ensures memory { memory.new ≡ memory.old }
 {
     if len <= FEW_READ as u64 {
@@ -193,11 +191,10 @@ fn tell_read_by<const N: usize>(
     requires small { N ≤ MOST_READ }
     requires furnished { AreFurnished session.now.rooms memory.old map.now }
     requires files { HasFiles session.now (stock_of session.now.rooms memory.old map.now) }
-    requires room { length reply.old.text ≤ 49 }
     ensures told { (answer : Answered)
         × ((IsTold (Read file.now offset len) answer session.now
         (stock_of session.now.rooms memory.old map.now))
-        × (reply.new ≡ record reply.old { text = reply.old.text ++ file_reply answer })) }
+        × (reply.new ≡ record reply.old { text = file_reply answer })) }
     ensures memory { memory.new ≡ memory.old }
 {
     let mut buffer = [0; N];
@@ -267,7 +264,7 @@ fn write_by<const N: usize>(
     session.write(memory, map, file, offset, bytes)
 }
 
-/// Tells the name of the file at a place among the others, or that there are no more, behind what the reply was.
+/// Tells the name of the file at a place among the others, or that there are no more.
 fn tell_name(
     session: &FileSession,
     memory: &mut Memory,
@@ -277,12 +274,11 @@ fn tell_name(
 )
     requires furnished { AreFurnished session.now.rooms memory.old map.now }
     requires files { HasFiles session.now (stock_of session.now.rooms memory.old map.now) }
-    requires room { length reply.old.text ≤ 49 }
     ensures told { (answer : Answered)
         × ((Serves (served_in (Name place) session.now
         (stock_of session.now.rooms memory.old map.now)) answer session.now session.now
         (stock_of session.now.rooms memory.new map.now))
-        × (reply.new ≡ record reply.old { text = reply.old.text ++ file_reply answer })) }
+        × (reply.new ≡ record reply.old { text = file_reply answer })) }
     ensures memory { memory.new ≡ memory.old }
 {
     match session.file_at(memory, map, place) {
@@ -292,13 +288,11 @@ fn tell_name(
 }
 
 impl Rooms {
-    /// Tells use and limits of the account, behind what the reply was.
+    /// Tells use and limits of the account.
     fn tell_shares(&self, memory: &Memory, reply: &mut Reply)
         requires open { IsOpenIn memory.now (payer_of self.now.contents) }
-        requires room { length reply.old.text ≤ 49 }
         ensures { reply.new ≡ record reply.old {
-          text = reply.old.text
-              ++ file_reply (model.FileReply.Quotas
+          text = file_reply (model.FileReply.Quotas
               (account_in memory.now (payer_of self.now.contents)));
         } }
     {
@@ -315,11 +309,10 @@ impl Rooms {
     }
 }
 
-/// Tells whether it is done, behind what the reply was.
+/// Tells whether it is done.
 fn tell_done(outcome: Result<(), FileError>, reply: &mut Reply)
-    requires { length reply.old.text ≤ 49 }
     ensures { reply.new ≡ record reply.old {
-      text = reply.old.text ++ file_reply (done_reply outcome);
+      text = file_reply (done_reply outcome);
     } }
 {
     match outcome {
@@ -328,11 +321,10 @@ fn tell_done(outcome: Result<(), FileError>, reply: &mut Reply)
     }
 }
 
-/// Tells a count, behind what the reply was.
+/// Tells a count.
 fn tell_count(outcome: Result<u64, FileError>, reply: &mut Reply)
-    requires { length reply.old.text ≤ 49 }
     ensures { reply.new ≡ record reply.old {
-      text = reply.old.text ++ file_reply (counted_reply outcome);
+      text = file_reply (counted_reply outcome);
     } }
 {
     match outcome {
@@ -341,11 +333,10 @@ fn tell_count(outcome: Result<u64, FileError>, reply: &mut Reply)
     }
 }
 
-/// Tells whether a buffer is lent, behind what the reply was, and answers what that does to the buffer. Its selector follows.
+/// Tells whether a buffer is lent, and answers what that does to the buffer. Its selector follows.
 fn tell_lent(outcome: Result<DsId, FileError>, reply: &mut Reply) -> Effect
-    requires { length reply.old.text ≤ 49 }
     ensures told { reply.new ≡ record reply.old {
-      text = reply.old.text ++ file_reply (lent_reply outcome);
+      text = file_reply (lent_reply outcome);
     } }
     ensures effect { result ≡ lent_effect outcome }
 {
@@ -361,11 +352,10 @@ fn tell_lent(outcome: Result<DsId, FileError>, reply: &mut Reply) -> Effect
     }
 }
 
-/// Tells whether a buffer is taken back, behind what the reply was, and answers what that does to the buffer.
+/// Tells whether a buffer is taken back, and answers what that does to the buffer.
 fn tell_gone(outcome: Result<DsId, FileError>, reply: &mut Reply) -> Effect
-    requires { length reply.old.text ≤ 49 }
     ensures told { reply.new ≡ record reply.old {
-      text = reply.old.text ++ file_reply (done_reply outcome);
+      text = file_reply (done_reply outcome);
     } }
     ensures effect { result ≡ gone_effect outcome }
 {

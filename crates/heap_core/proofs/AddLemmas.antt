@@ -4,7 +4,7 @@ use Rattle.std.proofs.Math.ListN.{get_or-append}
 use Rattle.std.proofs.Math.Seq.{get_or-append_seam}
 use Rattle.std.proofs.lemmas.Bool.{cases_lt}
 use Rattle.std.proofs.lemmas.Bool.Decides.{nat_tests}
-use Rattle.std.proofs.lemmas.List.{length-append}
+use Rattle.std.proofs.lemmas.List.{length_push, get_or_past}
 use Rattle.std.specs.Prelude.{Option, None, nat_lt}
 use Rattle.std.specs.FinMap.{get}
 use Rattle.trade_base.specs.Page.{page_of}
@@ -27,13 +27,9 @@ use Rattle.heap_core.specs.Words.{keys_of, is_among, are_bytes, around, bytes_ar
 use Rattle.heap_core.proofs.BlockLemmas.{length-heap_of}
 use Rattle.heap_core.proofs.ChunkLemmas.{apart_distinct, are_sound, chunk_paid, stand_in}
 use Rattle.heap_core.proofs.HoleLemmas.{kept_in_chunks}
-use Rattle.heap_core.proofs.StandLemmas.{get_or-out}
 use Rattle.heap_core.proofs.WordsLemmas.{AreChunks, all_bytes, chunks_sound, distinct_apart, each_bytes, length_keys, size_blank}
 
 -- ---- a key more
-
-pub length_more : (keys : List ℕ) (x : ℕ) → length (keys ++ x ∷ []) ≡ length keys + 1
-length_more keys x = length-append keys (x ∷ [])
 
 -- the keys of chunks and one more
 pub keys_more : (chunks : List Chunk) (c : Chunk) → keys_of (chunks ++ c ∷ []) ≡ keys_of chunks ++ c.ds.0 ∷ []
@@ -42,7 +38,7 @@ keys_more (x ∷ xs) c = ap (λ ks. x.ds.0 ∷ ks) (keys_more xs c)
 
 -- which key a number has
 pub key_cases : (keys : List ℕ) (x : ℕ) (P : ℕ → ℕ → Type 0) → ((i : ℕ) → i < length keys → P i (get_or keys i 0)) → P (length keys) x → (i : ℕ) → i < length (keys ++ x ∷ []) → P i (get_or (keys ++ x ∷ []) i 0)
-key_cases keys x P low last i there = search (rules, get_or-append, length_more, get_or-append_seam, cases_lt)
+key_cases keys x P low last i there = search (rules, get_or-append, length_push, get_or-append_seam, cases_lt)
 
 -- another key is among them as before
 pub among_more : (keys : List ℕ) (x k : ℕ) → k ≢ x → is_among (keys ++ x ∷ []) k ≡ is_among keys k
@@ -53,7 +49,7 @@ among_more (y ∷ ys) x k other = let rest = among_more ys x k other in grind (a
 pub word_low : (keys : List ℕ) (x : ℕ) (old new : ℕ → List ℕ) (q : ℕ) → q / 2 ^ 32 - 1 < length keys → new (get_or keys (q / 2 ^ 32 - 1) 0) ≡ old (get_or keys (q / 2 ^ 32 - 1) 0) →
     word_in (keys ++ x ∷ []) new q ≡ word_in keys old q
 unfolding word_in
-word_low keys x old new q there same = grind (arith, nat_tests, length_more, get_or-append)
+word_low keys x old new q there same = grind (arith, nat_tests, length_push, get_or-append)
 
 -- where there is no chunk all words are the same
 pub word_out : (keys : List ℕ) (old new : ℕ → List ℕ) (q : ℕ) → length keys ≤ q / 2 ^ 32 - 1 → word_in keys new q ≡ word_in keys old q
@@ -110,7 +106,7 @@ module _ (heap : Heap) (old new : Store) (regions : Regions) (ds asked : ℕ) (s
     each = all_bytes keys (bytes_in_store new) (key_cases (keys_in heap) ds (λ i k. are_bytes (bytes_in_store new k) ≡ true)
         (λ i there. ap are_bytes (other_bytes _ (key_other i there)) ∙ each_bytes (keys_in heap) (bytes_in_store old) i (are_sound heap old regions sound).each there)
         (ap are_bytes new_bytes ∙ zeros_bytes (page_of asked)));
-    few = let n = length_more (keys_in heap) ds in let m = length_keys heap.chunks.items in omega (arith, n, m, room);
+    few = let n = length_push (keys_in heap) ds in let m = length_keys heap.chunks.items in omega (arith, n, m, room);
   }
 
   -- the account pays for them
@@ -134,11 +130,11 @@ module _ (heap : Heap) (old new : Store) (regions : Regions) (ds asked : ℕ) (s
   blocks_then = grind (arith, nat_tests, sound_kept, stand_in, kept_in_chunks, H_count, word_then)
 
   fits_then : (chunk : ℕ) → avl.bytes_of heap.fit chunk ≤ bytes_around (around keys new) chunk
-  fits_then chunk = search (rules, length_more, stand_in, around_bytes, are_sound, are_then, get_or-append, other_bytes, key_other, length_keys, get_or-out, cases_lt)
+  fits_then chunk = search (rules, length_push, stand_in, around_bytes, are_sound, are_then, get_or-append, other_bytes, key_other, length_keys, get_or_past, cases_lt)
 
   -- what best fit asks
   pub stand_then : StandIn heap.fit (words_of keys new) (bytes_around (around keys new))
   stand_then = record { sound = blocks_then.0; fits = fits_then }
 
   pub there_then : bytes_around (around keys new) (length (keys_in heap)) ≡ page_of asked
-  there_then = grind (arith, nat_tests, length_more, around_bytes, are_then, get_or-append_seam, new_bytes, length-zeros)
+  there_then = grind (arith, nat_tests, length_push, around_bytes, are_then, get_or-append_seam, new_bytes, length-zeros)

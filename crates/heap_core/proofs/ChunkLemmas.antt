@@ -6,6 +6,7 @@ use Rattle.std.proofs.lemmas.Option.{same_Some}
 use Rattle.std.specs.Prelude.{Option, nat_lt}
 use Rattle.std.specs.Option.{option_map}
 use Rattle.std.specs.FinMap.{get}
+use Rattle.std.proofs.lemmas.List.{get_or_past}
 use Rattle.avl_alloc.specs.Layout as avl
 use Rattle.avl_alloc.specs.Layout.{sizes_of}
 use Rattle.dataspace_core.specs.Store.{Store, part}
@@ -18,7 +19,6 @@ use Rattle.heap_core.specs.Words.{is_among, are_distinct, are_bytes, around, byt
 use Rattle.heap_core.proofs.AroundLemmas.{among_found, bytes_of-part, words_of-part}
 use Rattle.heap_core.proofs.PayloadLemmas.{no_chunk}
 use Rattle.dataspace_core.proofs.ShareLaws.{in_share}
-use Rattle.heap_core.proofs.StandLemmas.{get_or-out}
 use Rattle.heap_core.proofs.WordsLemmas.{AreChunks, chunks_sound, all_bytes, key_at, length_keys, size_blank}
 
 -- keys that differ at different places are distinct
@@ -92,7 +92,7 @@ module _ (heap : Heap) (store : Store) (regions : Regions) (sound : IsSound heap
       (λ (out : length (keys_in heap) ≤ chunk).
       let count = laid.count in
       let keys = length_keys heap.chunks.items in
-      let none = get_or-out (sizes_of heap.fit) chunk 0 (omega (arith, out, count, keys)) in
+      let none = get_or_past (sizes_of heap.fit) chunk 0 (omega (arith, out, count, keys)) in
       omega (arith, none))
       (cases_lt chunk (length (keys_in heap)))
 

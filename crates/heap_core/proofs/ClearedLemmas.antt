@@ -66,7 +66,7 @@ used_word w place off n (Hole m ∷ rest) laid at = ⊎_elim
     (cases_lt off m)
 
 -- the heap window of a machine ends below 2^40
-window_low : (machine : ℕ) → machine ≤ 4096 → heap_high machine ≤ 2 ^ 40
+pub window_low : (machine : ℕ) → machine ≤ 4096 → heap_high machine ≤ 2 ^ 40
 window_low machine few = grind (arith, nat_tests, mul-le-mul)
 
 module _ (heap : Heap) (store : Store) (regions : Regions) (sound : IsSound heap store regions) (block : BlockAddr) (n : ℕ) (used : IsUsed heap store block n) where

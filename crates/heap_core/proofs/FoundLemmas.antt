@@ -17,10 +17,9 @@ use Rattle.own_model.specs.Region.{Region}
 use Rattle.own_model.proofs.HeapBlockLemmas.{used_within}
 use Rattle.own_model.proofs.EntryLemmas.{value_of-append}
 use Rattle.own_model.proofs.NatMapJoinedLemmas.{from_either, get-joined}
-use Rattle.own_model.proofs.NatMapLemmas.{get-picked, and_then_from}
+use Rattle.own_model.proofs.NatMapLemmas.{get-picked, and_then_from, mapped_from}
 use Rattle.avl_alloc.specs.Layout as avl
 use Rattle.region_map.specs.Regions.{Regions}
-use Rattle.region_map.proofs.FoundLaws.{told_from}
 use Rattle.dataspace_core.specs.Store.{Store, Part, part, bytes_of}
 use Rattle.dataspace_core.specs.Share.{Share}
 use Rattle.heap_core.specs.declared.words.Chunk.{Chunk}
@@ -47,7 +46,7 @@ from_chunk part (x ∷ xs) (y ∷ ys) q w h = ⊎_elim
 -- a payload that a chunk tells is a used block's
 told_used : (start : ℕ) (bytes : List ℕ) (bs : List Block) (q : ℕ) (w : List ℕ) → told start 0 bytes bs q ≡ Some w →
     (y n : ℕ) × (used_at y bs ≡ Some n) × (q ≡ start + y + 16) × (w ≡ slice_range bytes (y + 16) (y + n))
-told_used start bytes bs q w h = search (rules, none-some, told_from, cases_lt)
+told_used start bytes bs q w h = search (rules, none-some, mapped_from, cases_lt)
 
 -- and a used block's payload is told
 used_told : (start y n : ℕ) (bytes : List ℕ) (bs : List Block) → used_at y bs ≡ Some n → told start 0 bytes bs (start + y + 16) ≡ Some (slice_range bytes (y + 16) (y + n))

@@ -1,5 +1,5 @@
 -- A large block is given back: its dataspace is detached and goes, and so does its payload.
-use Rattle.std.proofs.Common.{rules, ◌≡◌, ◌≢◌, ℕ, zero, suc, ◌+◌, ◌<◌, ◌≤◌, true, cond, eqb-true, List, [], ◌∷◌, length, get_or, refl, sym, ap, subst, ◌∙◌, ⊎_elim, arith, Some, is_some}
+use Rattle.std.proofs.Common.{rules, ◌≡◌, ◌≢◌, ℕ, ◌+◌, ◌<◌, ◌≤◌, true, cond, eqb-true, List, length, get_or, sym, ap, subst, ◌∙◌, ⊎_elim, arith, Some, is_some}
 use Rattle.std.proofs.lemmas.Bool.{cases_eq, cases_lt}
 use Rattle.std.proofs.lemmas.Bool.Decides.{nat_tests}
 use Rattle.std.proofs.lemmas.List.Sums.{sum_by-swap_remove}
@@ -9,6 +9,7 @@ use Rattle.std.specs.List.{swap_remove}
 use Rattle.std.specs.Cmp.{nat_cmp_total}
 use Rattle.std.specs.Ordering.{nat_cmp}
 use Rattle.std.specs.FinMap.{get, remove, len, from_entries, get-from_entries}
+use Rattle.std.proofs.lemmas.List.{get_or_default}
 use Rattle.arrayvec.specs.ArrayVec.{ArrayVec}
 use Rattle.own_model.specs.Entries.{value_of}
 use Rattle.own_model.specs.HeapStep.{without_large}
@@ -36,15 +37,9 @@ use Rattle.heap_core.proofs.StandLemmas.{blocks, no_blocks, not_in_chunk, SameCh
 joined-remove_second : {X : Type 0} (m n : NatMap X) (k : ℕ) → get m k ≡ None → joined m (remove n k) ≡ remove (joined m n) k
 joined-remove_second m n k free = search (rules, same, get-joined, get-remove, eqb-true)
 
--- an element of a list is the same whatever stands for those that aren't there
-get_or_any : (xs : List ℕ) (i d e : ℕ) → i < length xs → get_or xs i d ≡ get_or xs i e
-get_or_any [] i d e there = absurd (omega (arith, there))
-get_or_any (x ∷ xs) zero d e there = refl
-get_or_any (x ∷ xs) (suc i) d e there = get_or_any xs i d e (omega (arith, there))
-
 -- the element at an index, as a removal tells it
 pub item_is : (xs : List ℕ) (i d x start : ℕ) → i < length xs → x ≡ get_or xs i d → get_or xs i 0 ≡ start → x ≡ start
-item_is xs i d x start there is at = is ∙ get_or_any xs i d 0 there ∙ at
+item_is xs i d x start there is at = is ∙ get_or_default xs i d 0 there ∙ at
 
 module _ (heap : Heap) (start ds : ℕ) (old new : Store) (regions : Regions) (sound : IsSound heap old regions) (block : LiesInLarge (share_at (payer_of heap) old regions) start start ds) where
   abbrev account : ℕ
@@ -120,7 +115,7 @@ module _ (heap : Heap) (start ds : ℕ) (old new : Store) (regions : Regions) (s
         record { bytes = stood.bytes; there = kept s r (large_there S s r was.0) was.1 ∙ stood.there; whole = stood.whole; least = stood.least }
 
     times : (s : ℕ) → times_in vec.items s ≡ cond (is_some (get (large_regions smaller) s)) 1 0
-    times s = grind (arith, nat_tests, sum_by-swap_remove, get_or_any, less, get-remove_same, get-remove_other, cases_eq)
+    times s = grind (arith, nat_tests, sum_by-swap_remove, get_or_default, less, get-remove_same, get-remove_other, cases_eq)
 
     gone_laid : (count : length vec.items + 1 ≡ length heap.large.items) → IsLaid later smaller
     gone_laid count = record {

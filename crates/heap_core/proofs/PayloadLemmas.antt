@@ -4,6 +4,7 @@ use Rattle.std.proofs.lemmas.Bool.{cases_eq, cases_lt}
 use Rattle.std.proofs.lemmas.Bool.Decides.{nat_tests}
 use Rattle.std.specs.Prelude.{Option, Some, None, nat_lt, slice_range}
 use Rattle.std.specs.Option.{option_map, option_or}
+use Rattle.own_model.proofs.NatMapJoinedLemmas.{or_nothing}
 use Rattle.own_model.specs.BestFit.{used_at, chunk_of, taken_in, given_in}
 use Rattle.own_model.specs.Entries.{value_of}
 use Rattle.own_model.specs.Heap.{Block, Used, Hole, AreBlocks, Heap}
@@ -97,10 +98,6 @@ or_cond_none_last : {X : Type 0} (b : Bool) (o p : Option X) → (b ≡ true →
 or_cond_none_last true o p none = ap (λ (x : Option _). option_or x None) (none refl)
 or_cond_none_last false o p none = refl
 
-or_none : {X : Type 0} (o : Option X) → option_or o None ≡ o
-or_none None = refl
-or_none (Some x) = refl
-
 module _ (part : Part) (address : ℕ) where
   -- one chunk's payloads are one more, and no chunk before has one there
   pub payloads-more : (payload : List ℕ) (chunks : List Chunk) (heap : Heap) (c : ℕ) (blocks : List Block) (q : ℕ) →
@@ -136,7 +133,7 @@ module _ (part : Part) (address : ℕ) where
   payloads-at (x ∷ xs) (y ∷ ys) zero in_chunks in_heap none =
       value_of-append address (entries_of part x y) (payloads_of part xs ys)
       ∙ ap (option_or (value_of address (entries_of part x y))) (payloads-none xs ys (λ k. none (suc k) (λ e. absurd (omega (arith, e)))))
-      ∙ or_none (value_of address (entries_of part x y))
+      ∙ or_nothing (value_of address (entries_of part x y))
   payloads-at (x ∷ xs) (y ∷ ys) (suc c) in_chunks in_heap none =
       value_of-append address (entries_of part x y) (payloads_of part xs ys)
       ∙ ap (λ o. option_or o (value_of address (payloads_of part xs ys))) (none 0 (λ e. absurd (omega (arith, e))))

@@ -1,6 +1,6 @@
 -- Bytes are put over those of a used block's payload: the heap stays but for these bytes.
 use Rattle.std.proofs.Common.{rules, ◌≡◌, ℕ, ◌+◌, ◌-◌, ◌/◌, ◌%◌, ◌^◌, ◌<◌, ◌≤◌, true, List, [], length, get_or, sym, ap, subst, ◌∙◌, ◌⊎◌, unwrap_or, arith, Some}
-use Rattle.std.proofs.lemmas.Bool.{cases_eq, cases_lt}
+use Rattle.std.proofs.lemmas.Bool.{cases_eq, cases_lt, and_parts}
 use Rattle.std.specs.Prelude.{Option}
 use Rattle.std.specs.Option.{IsSome}
 use Rattle.std.specs.FinMap.{get}
@@ -26,11 +26,11 @@ use Rattle.heap_core.proofs.ChunkLemmas.{in_chunks, chunk_there, chunk_paid, are
 use Rattle.heap_core.proofs.FrameLemmas.{used_even}
 use Rattle.heap_core.proofs.HoleLemmas.{AreTold, are_told, payload_unkept}
 use Rattle.heap_core.proofs.StandLemmas.{chunk_total}
-use Rattle.heap_core.proofs.WordsLemmas.{both_true, distinct_apart, length_keys, put, put_at, put_other, put_around, same_if}
+use Rattle.heap_core.proofs.WordsLemmas.{distinct_apart, length_keys, put, put_at, put_other, put_around, same_if}
 
 -- a word that the bytes put don't reach stays
 pub word_past : (bytes : List ℕ) (offset : ℕ) (part : List ℕ) (o : ℕ) → offset + length part ≤ length bytes → (o % 8 ≡ 0 → (o + 8 ≤ offset) ⊎ (offset + length part ≤ o)) → word_from (with_bytes bytes offset part) o ≡ word_from bytes o
-word_past bytes offset part o fits apart = search (rules, length-with_bytes, same_if, both_true, range_before, range_after)
+word_past bytes offset part o fits apart = search (rules, length-with_bytes, same_if, and_parts, range_before, range_after)
 
 module _ (heap : Heap) (store : Store) (regions : Regions) (sound : IsSound heap store regions) (k y n offset : ℕ) (bytes : List ℕ) (there : k < length heap.chunks.items)
     (at : used_at y (chunk_of (heap_of heap.fit (words_of (keys_in heap) store)) k) ≡ Some n) (behind : y + 16 ≤ offset) (within : offset + length bytes ≤ y + n) (are : are_bytes bytes ≡ true) where

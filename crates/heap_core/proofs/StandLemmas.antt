@@ -1,10 +1,11 @@
 -- What is known of a heap that is laid in a share: its chunks, and what another share has of them.
-use Rattle.std.proofs.Common.{rules, ◌≡◌, ℕ, zero, suc, ◌+◌, ◌-◌, ◌/◌, ◌%◌, ◌^◌, ◌<◌, ◌≤◌, ◌++◌, true, false, cond, List, [], ◌∷◌, length, get_or, refl, sym, ap, subst, ◌∙◌, ⊎_elim, ◌⊎◌, arith, Some, unwrap_or}
+use Rattle.std.proofs.Common.{rules, ◌≡◌, ℕ, suc, ◌+◌, ◌-◌, ◌/◌, ◌%◌, ◌^◌, ◌<◌, ◌≤◌, ◌++◌, true, false, cond, List, [], ◌∷◌, length, get_or, refl, sym, ap, subst, ◌∙◌, ⊎_elim, ◌⊎◌, arith, Some, unwrap_or}
 use Rattle.std.proofs.lemmas.Bool.{cases_lt}
 use Rattle.std.proofs.lemmas.Bool.Decides.{nat_tests}
 use Rattle.std.specs.Prelude.{Option, None, nat_lt, slice_range}
 use Rattle.std.specs.Option.{option_map}
 use Rattle.std.specs.FinMap.{get}
+use Rattle.std.proofs.lemmas.List.{get_or_past}
 use Rattle.own_model.specs.BestFit.{used_at, chunk_of}
 use Rattle.own_model.specs.Entries.{value_of}
 use Rattle.own_model.specs.Heap as model
@@ -23,13 +24,6 @@ use Rattle.heap_core.specs.Heap.{IsLaid, StandsChunk, chunk_at, words_in, keys_i
 use Rattle.heap_core.proofs.BlockLemmas.{length-heap_of}
 use Rattle.heap_core.proofs.PayloadLemmas.{told, value_of-payloads, no_chunk, entries_of}
 use Rattle.heap_core.proofs.WordsLemmas.{length_keys, key_at}
-
--- beyond a list's elements there is the default
-pub get_or-out : {X : Type 0} (xs : List X) (i : ℕ) (d : X) → length xs ≤ i → get_or xs i d ≡ d
-get_or-out [] zero d out = refl
-get_or-out [] (suc i) d out = refl
-get_or-out (x ∷ xs) zero d out = absurd (omega (arith, out))
-get_or-out (x ∷ xs) (suc i) d out = get_or-out xs i d (omega (arith, out))
 
 -- no payload starts outside of a chunk
 pub told_outside : (start : ℕ) (bytes : List ℕ) (blocks : List Block) (q : ℕ) → AreBlocks blocks → (q < start) ⊎ (start + bytes_in blocks ≤ q) → told start 0 bytes blocks q ≡ None
@@ -76,7 +70,7 @@ module _ (heap : Heap) (share : Share) (laid : IsLaid heap share) where
 
   -- a number that is none of a chunk is none of blocks
   pub no_blocks : (k : ℕ) → length heap.chunks.items ≤ k → chunk_of blocks k ≡ []
-  no_blocks k out = get_or-out blocks k [] (subst (λ n. n ≤ k) (sym count_blocks) out)
+  no_blocks k out = get_or_past blocks k [] (subst (λ n. n ≤ k) (sym count_blocks) out)
 
   -- the bytes of a chunk in the part
   pub chunk_bytes : (k : ℕ) (there : k < length heap.chunks.items) → bytes_of share.part (chunk_at heap k).ds.0 ≡ (laid.chunks k there).bytes

@@ -1,6 +1,6 @@
 -- Words of chunks: a load reads one, a store changes one and nothing around.
 use Rattle.std.proofs.Common.{rules, ◌≡◌, ◌≢◌, ℕ, zero, suc, ◌+◌, ◌%◌, ◌^◌, ◌<◌, ◌≤◌, ◌==◌, ◌&&◌, Bool, true, false, cond, List, [], ◌∷◌, length, take, drop, get_or, refl, sym, ap, subst, ◌∙◌, ⊎_elim, ◌⊎◌, inl, inr, arith}
-use Rattle.std.proofs.lemmas.Bool.{cases_eq, cases_lt}
+use Rattle.std.proofs.lemmas.Bool.{cases_eq, cases_lt, and_parts}
 use Rattle.std.proofs.lemmas.Bool.Decides.{nat_tests}
 use Rattle.std.proofs.lemmas.List.{get_or-map, length-map}
 use Rattle.std.proofs.lemmas.List.Folds.{list_any_at, list_all-append}
@@ -83,10 +83,6 @@ size_some : (o : Option Space) (n : ℕ) → n + 8 ≤ size_in o → IsSome o
 size_some None n h = absurd (omega (arith, h))
 size_some (Some space) n h = refl
 
-pub both_true : (a b : Bool) → (a && b) ≡ true → (a ≡ true) × (b ≡ true)
-both_true true b h = (refl, h)
-both_true false b h = cc
-
 -- what makes dataspaces those of chunks
 pub record AreChunks (keys : List ℕ) (bytes : ℕ → List ℕ) : Type 0 where
   pub once : are_distinct keys ≡ true
@@ -94,7 +90,7 @@ pub record AreChunks (keys : List ℕ) (bytes : ℕ → List ℕ) : Type 0 where
   pub few : length keys ≤ 64
 
 pub sound_chunks : (keys : List ℕ) (bytes : ℕ → List ℕ) → are_chunks keys bytes ≡ true → AreChunks keys bytes
-sound_chunks keys bytes h = grind (arith, nat_tests, both_true)
+sound_chunks keys bytes h = grind (arith, nat_tests, and_parts)
 
 pub chunks_sound : (keys : List ℕ) (bytes : ℕ → List ℕ) → AreChunks keys bytes → are_chunks keys bytes ≡ true
 chunks_sound keys bytes h = grind (arith, nat_tests)
@@ -155,7 +151,7 @@ module _ (bytes : List ℕ) (offset value : ℕ) (aligned : offset % 8 ≡ 0) (l
 
   -- every other word stays
   pub word_elsewhere : (other : ℕ) → other ≢ offset → word_from after other ≡ word_from bytes other
-  word_elsewhere other apart = search (rules, length_after, same_if, both_true, range_before, fits, length-word_bytes, range_after, parted)
+  word_elsewhere other apart = search (rules, length_after, same_if, and_parts, range_before, fits, length-word_bytes, range_after, parted)
 
 -- bytes put over bytes leave bytes
 pub bytes_put : (bytes : List ℕ) (offset : ℕ) (part : List ℕ) → are_bytes bytes ≡ true → are_bytes part ≡ true → are_bytes (with_bytes bytes offset part) ≡ true

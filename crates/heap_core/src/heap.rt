@@ -24,22 +24,16 @@ use dataspace_core::Memory;
 use region_map::RegionMap;
 use std::marker::Brand;
 use std::sync::ledger::Blank;
-use trade_base::{AccountId, PAGE, Refusal};
+use trade_base::{AccountId, BLOCK_HEADER, LEAST_LARGE, PAGE, Refusal};
 
 /// The most large blocks that a machine can hold at once.
 const MOST_LARGE: usize = 256;
-
-/// The least bytes of a large block.
-const LEAST_LARGE: u64 = 65536;
 
 /// The number that a large block's region keeps. A chunk's region keeps the chunk's number.
 pub(crate) const LARGE: u64 = 64;
 
 /// The pages of a heap's first chunk, unless a block needs more.
 pub(crate) const FIRST_GROWTH: u64 = 4;
-
-/// The bytes of a block's header. Its payload follows.
-const HEADER: u64 = 16;
 
 /// A heap of one account. It takes blocks of chunks, which are dataspaces, and grows by a chunk where no hole is large
 /// enough; a large block is a dataspace of its own.
@@ -204,9 +198,9 @@ impl Heap {
     fn clear_payload(&self, memory: &mut Memory, map: &RegionMap, block: BlockAddr) -> u64
         requires sound { IsSound self.now memory.old map.now }
         requires used { (n : ℕ) × IsUsed self.now memory.old block n }
-        ensures start { result ≡ (chunk_at self.now block.chunk).start + block.offset + HEADER }
+        ensures start { result ≡ (chunk_at self.now block.chunk).start + block.offset + BLOCK_HEADER }
         ensures cleared { (n : ℕ) → IsUsed self.now memory.old block n →
-            Clears self.now result (n - HEADER) memory.old memory.new map.now }
+            Clears self.now result (n - BLOCK_HEADER) memory.old memory.new map.now }
         ensures sound { IsSound self.now memory.new map.now }
         ensures around { around (keys_in self.now) memory.new
             ≡ around (keys_in self.now) memory.old }
@@ -215,8 +209,13 @@ impl Heap {
         let _ = map;
         let chunk = self.chunks[block.chunk];
         let size = memory.load_word(chunk.ds, block.offset);
-        clear(memory, chunk.ds, block.offset + HEADER, size - HEADER);
-        chunk.start + block.offset + HEADER
+        clear(
+            memory,
+            chunk.ds,
+            block.offset + BLOCK_HEADER,
+            size - BLOCK_HEADER,
+        );
+        chunk.start + block.offset + BLOCK_HEADER
     }
 
     // Takes the best hole for so many bytes, or answers `None` where no hole is large enough. Its payload is whatever stands there.

@@ -17,10 +17,7 @@ use dataspace_core::Memory;
 use region_map::RegionMap;
 use std::marker::Brand;
 use std::sync::ledger::Blank;
-use trade_base::{DsId, Refusal};
-
-/// The bytes of a block's header.
-const HEADER: u64 = 16;
+use trade_base::{BLOCK_HEADER, DsId, Refusal};
 
 impl Heap {
     /// Gives back the block whose payload starts at the address: a block of a chunk becomes a hole, and a large block goes,
@@ -132,12 +129,12 @@ impl Heap {
         // Contracts speak of the map and of the address; the allocator knows the block by its place in the chunk.
         let _ = map;
         let _ = address;
-        if at.offset < HEADER {
+        if at.offset < BLOCK_HEADER {
             return Err(Refusal::PageFault);
         }
         let block = BlockAddr {
             chunk: at.chunk,
-            offset: at.offset - HEADER,
+            offset: at.offset - BLOCK_HEADER,
         };
         let given = give::<Brand>(&mut self.fit, memory, &self.chunks, block, Blank::new(1));
         if given.is_none() {

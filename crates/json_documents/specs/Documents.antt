@@ -3,6 +3,7 @@ use Rattle.std.specs.Prelude.{ℕ, List, []}
 use Rattle.std.specs.Option.{option_map_or}
 use Rattle.std.specs.Str.Lossy.{utf8_lossy}
 use Rattle.serde_json.specs.Data.{Data, null, number, string, unsigned}
+use Rattle.serde_json.specs.View.{view}
 use Rattle.trade_base.specs.Amount.{number_of}
 use Rattle.json_documents.specs.declared.column.Column.{Column}
 use Rattle.json_documents.specs.declared.column.Column.TheVariants.{Text, Filled, Number}
@@ -24,9 +25,10 @@ cell_data (Text name) cell = string (utf8_lossy cell)
 cell_data (Filled name) cell = filled cell
 cell_data (Number name) cell = option_map_or (λ n. number (unsigned n)) (number_of cell) null
 
--- the value of a field: a word or a text, with a sign in place of what is no text; a number; nothing
+-- the value of a field: a word or a text, with a sign in place of what is no text; a number; nothing; a list of objects
 abbrev pub field_data : Field → Data
 field_data (field.Word word) = string (utf8_lossy word.now)
 field_data (field.Text text) = string (utf8_lossy text.now)
 field_data (field.Number n) = number (unsigned n)
 field_data field.Nothing = null
+field_data (field.List nested) = view nested.now.list

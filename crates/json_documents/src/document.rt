@@ -1,8 +1,8 @@
 //! A document: an object of JSON whose members are cells of a table.
-ghost use Rattle.std.specs.Prelude.{◌≡◌, Some, IfOk, OnOk};
-ghost use Rattle.serde_json.specs.Data.{depth, members_depth, no_members, object, put as with_member, string};
+ghost use Rattle.std.specs.Prelude.{◌≡◌, ◌≤◌, Some, IfOk, OnOk};
+ghost use Rattle.serde_json.specs.Data.{depth, no_members, object, put as with_member, string};
 ghost use Rattle.std.specs.Str.Lossy.{utf8_lossy};
-ghost use Rattle.serde_json.specs.Read.{read};
+ghost use Rattle.serde_json.specs.Read.{max_depth, read};
 ghost use Rattle.serde_json.specs.View.{members_view, view};
 ghost use Rattle.json_documents.specs.Documents.{cell_data, column_name, field_data};
 
@@ -16,7 +16,6 @@ use trade_base::read_number;
 #[derive(Drop)]
 pub(crate) struct Document {
     members: Map<String, Value>,
-    ghost flat: { members_depth (members_view members.entries) ≡ 0 },
 }
 
 impl Document {
@@ -30,7 +29,6 @@ impl Document {
     }
 
     /// The cell of a column as a member more.
-    #[tactic(auto, using(crate::proofs::DepthLemmas::cell_flat))]
     pub(crate) fn add(
         &mut self,
         alloc: Global,
@@ -45,7 +43,6 @@ impl Document {
     }
 
     /// A field as a member more.
-    #[tactic(auto, using(crate::proofs::DepthLemmas::field_flat))]
     pub(crate) fn add_field(
         &mut self,
         alloc: Global,
@@ -60,21 +57,27 @@ impl Document {
     }
 
     // A value as a member more.
-    #[tactic(auto, using(crate::proofs::DepthLemmas::put_flat))]
     fn put(&mut self, alloc: Global, name: &str, value: Value) -> Result<(), AllocError>
-        requires flat { depth (view value) ≡ 0 }
         ensures { OnOk result (members_view self.new.members.entries ≡ with_member
             name.now (view value) (members_view self.old.members.entries)) }
     {
         serde_json::put(&mut self.members, alloc, name, value)
     }
 
-    /// Its text: whoever reads it has the object.
+    /// Returns its text: whoever reads it has the object, unless members nest too deep.
     pub(crate) fn into_text(self, alloc: Global) -> Result<Vec<u8>, AllocError>
         ensures { IfOk result (λ text.
-            read text.items ≡ Some (object (members_view self.members.entries))) }
+            depth (object (members_view self.members.entries)) ≤ max_depth
+            → read text.items ≡ Some (object (members_view self.members.entries))) }
     {
-        Value::Object(self.members).to_vec(alloc)
+        self.into_value().to_vec(alloc)
+    }
+
+    /// Returns it as a value.
+    pub(crate) fn into_value(self) -> Value
+        ensures { view result ≡ object (members_view self.members.entries) }
+    {
+        Value::Object(self.members)
     }
 }
 
@@ -107,6 +110,7 @@ fn value_in(alloc: Global, field: Field<'_>) -> Result<Value, AllocError>
         Field::Text(text) => text_of(alloc, text),
         Field::Number(number) => Ok(Value::from(number)),
         Field::Nothing => Ok(Value::Null),
+        Field::List(nested) => nested.list.clone(),
     }
 }
 

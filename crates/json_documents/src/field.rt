@@ -1,4 +1,5 @@
 //! Values of a document's members.
+use crate::nested::Nested;
 
 /// A value of a member.
 #[derive(Clone, Copy)]
@@ -11,4 +12,6 @@ pub enum Field<'a> {
     Number(u64),
     /// Nothing.
     Nothing,
+    /// A list of objects.
+    List(&'a Nested),
 }

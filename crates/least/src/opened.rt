@@ -4,12 +4,11 @@ ghost use Rattle.calls.specs.Call.{IsWellFormed};
 use crate::donation::args_with;
 use crate::scene::Step;
 use budget_meter::{Budget, named_by};
-use calls::{Call, Reply};
+use calls::{Call, FileError, Outcome, Reply, ServiceOutcome};
 use init_core::boot;
 use pd_core::{Core, Router};
 use start_lists::{BootFault, StartList};
 use std::alloc::{AllocError, Global};
-use trade_base::read_number;
 
 /// The least donation with which a session opens.
 const LEAST_DONATION: Budget = Budget { ram: 4096, caps: 2 };
@@ -250,7 +249,7 @@ impl<R: Router + Drop> Client<'_, R> {
     {
         for _ in 0..MOST_UPGRADES {
             self.step(call);
-            let args = match lack_of(self.reply.text()) {
+            let args = match lack_of(self.reply.outcome()) {
                 Some(args) => args,
                 None => return,
             };
@@ -261,24 +260,28 @@ impl<R: Router + Drop> Client<'_, R> {
         }
     }
 
-    // Whether the last call is answered that it is done.
+    // Whether the last call is done.
     fn is_done(&self) -> bool {
-        self.reply.text() == b"ok".as_slice()
+        matches!(self.reply.outcome(), Outcome::Done)
     }
 
     // The selector that the last call is answered, if it is answered one.
     fn selector(&self) -> Option<u64> {
-        read_number(self.reply.text().strip_prefix(b"cap ")?)
+        match self.reply.outcome() {
+            Outcome::Selected(selector) => Some(u64::from(selector.0)),
+            _ => None,
+        }
     }
 }
 
-// What to donate more for a session that replies that its account lacks it.
-fn lack_of(reply: &[u8]) -> Option<&'static [u8]> {
-    if reply == b"ERR OUT_OF_RAM".as_slice() {
-        Some(b"ram_quota=256K".as_slice())
-    } else if reply == b"ERR OUT_OF_CAPS".as_slice() {
-        Some(b"cap_quota=16".as_slice())
-    } else {
-        None
+// What to donate more for a session whose account is short of quota.
+fn lack_of(outcome: Outcome) -> Option<&'static [u8]> {
+    let Outcome::Served(ServiceOutcome::Refused(error)) = outcome else {
+        return None;
+    };
+    match error {
+        FileError::OutOfRam => Some(b"ram_quota=256K".as_slice()),
+        FileError::OutOfCaps => Some(b"cap_quota=16".as_slice()),
+        _ => None,
     }
 }

@@ -13,13 +13,14 @@ ghost use Rattle.least.specs.Steps.{calls_of, calls_with, call_of};
 ghost use Rattle.least.specs.Run.{Begins, HasLeft};
 
 use crate::scene::Step;
-use crate::trial::{Refused, Shortage, Trial, is_told_by_limits};
+use crate::trial::{Refused, Shortage, Trial};
 use budget_meter::{AccountMeter, Budget, asked_by_call};
-use calls::{Call, Reply};
+use calls::{Call, Outcome, Reply};
 use init_core::boot;
 use pd_core::{Core, Router};
 use start_lists::{BootFault, StartList};
 use std::alloc::Global;
+use trade_base::Refusal;
 
 impl Trial {
     /// The run of a script's lines on the machine of a list, which gives it this budget.
@@ -156,12 +157,11 @@ impl<'a, R: Router + Drop> OwnRun<'a, R> {
     {
         self.core.step(self.component, call, &mut self.reply);
         let after = self.core.account(self.component);
-        if self.heard.follow(call, self.reply.text(), after) {
-            self.trial.refused = Some(refused_at(line, self.reply.text()));
+        if self.heard.follow(call, self.reply.answer(), after) {
+            self.trial.refused = Some(refused_at(line, self.reply.outcome()));
             return Ok(false);
         }
-        self.trial
-            .keep_reply(is_told_by_limits(call), self.reply.text())?;
+        self.trial.keep_reply(self.reply.answer())?;
         Ok(true)
     }
 }
@@ -172,12 +172,11 @@ fn is_exit(call: Call<'_>) -> bool
     matches!(call, Call::Exit)
 }
 
-// The refusal of a line in want, which is answered so.
-fn refused_at(line: u64, reply: &[u8]) -> Refused {
-    let shortage = if reply == Shortage::Ram.reply().as_bytes() {
-        Shortage::Ram
-    } else {
-        Shortage::Caps
+// The refusal of a line that falls short of quota.
+fn refused_at(line: u64, outcome: Outcome) -> Refused {
+    let shortage = match outcome {
+        Outcome::Refused(Refusal::OutOfRam) => Shortage::Ram,
+        _ => Shortage::Caps,
     };
     Refused { line, shortage }
 }

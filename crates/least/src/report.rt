@@ -7,7 +7,7 @@ use crate::script::Script;
 use crate::shown::Csv;
 use budget_meter::Budget;
 use calls::Call;
-use scenario_names::Known;
+use line_steps::Stand;
 use start_lists::{Binary, BootFault, Entry, StartList};
 use std::alloc::Global;
 use trade_base::PAGE;
@@ -33,10 +33,15 @@ pub struct Report {
 }
 
 impl Report {
-    /// The answer to a question, where names stand for what is given and what the run binds. An error is that of the start list, which may be none or not boot, or want of memory.
-    pub fn of(alloc: Global, question: Question<'_>, given: Known) -> Result<Report, BootFault> {
+    /// Returns the answer to a question, by the run from where it begins: names stand for what is given and what the run binds. An
+    /// error is that of the start list, which may be none or not boot, or that the host has no memory.
+    pub fn of(
+        alloc: Global,
+        question: Question<'_>,
+        start: Stand<'_>,
+    ) -> Result<Report, BootFault> {
         let list = StartList::read(alloc, question.machine)?;
-        let scene = Scene::read(alloc, &list, question.scenario, given)?;
+        let scene = Scene::read(alloc, &list, question.scenario, start)?;
         let mut report = Report {
             list,
             accounts: Vec::new(alloc),

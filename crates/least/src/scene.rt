@@ -8,8 +8,9 @@ use call_lines::{LONGEST_LINE, read_line};
 use calls::Call;
 use friendly_lines::{Fault, Line, Said, meets, read_friendly};
 use init_core::boot;
+use line_steps::Stand;
 use pd_core::{Core, Router};
-use scenario_names::{Directive, Filled, Known, NameFault, directive_of, fill, source_column};
+use scenario_names::{Filled, NameFault, directive_of, fill, source_column};
 use start_lists::{BootFault, StartList};
 use std::alloc::{AllocError, Global};
 use std::fmt;
@@ -137,8 +138,6 @@ pub struct Misread {
 pub(crate) struct Scene {
     pub(crate) steps: Vec<Vec<Step>>,
     pub(crate) misread: Vec<Misread>,
-    /// The number of the next line.
-    number: u64,
 }
 
 // Room for a line that is filled, and for one that is read.
@@ -154,10 +153,10 @@ impl Scene {
         alloc: Global,
         list: &StartList,
         text: &[u8],
-        given: Known,
+        start: Stand<'_>,
     ) -> Result<Scene, BootFault> {
         let mut core = boot(alloc, list)?;
-        Scene::on(alloc, list, &mut core, text, given)
+        Scene::on(alloc, list, &mut core, text, start)
     }
 
     // Those by the run on a machine that has just booted.
@@ -166,10 +165,10 @@ impl Scene {
         list: &StartList,
         core: &mut Core<R>,
         text: &[u8],
-        given: Known,
+        start: Stand<'_>,
     ) -> Result<Scene, BootFault> {
         let binds = find_byte(b'$', text).is_some();
-        let mut stage = Stage::new(alloc, core, given, binds)?;
+        let mut stage = Stage::new(alloc, core, start, binds)?;
         Scene::in_turn(alloc, list, &mut stage, text)
     }
 
@@ -177,7 +176,7 @@ impl Scene {
     fn in_turn<R: Router + Drop>(
         alloc: Global,
         list: &StartList,
-        stage: &mut Stage<'_, R>,
+        stage: &mut Stage<'_, '_, R>,
         text: &[u8],
     ) -> Result<Scene, BootFault> {
         let mut scene = Scene::empty(alloc, list.count())?;
@@ -194,7 +193,6 @@ impl Scene {
         Ok(Scene {
             steps,
             misread: Vec::new(alloc),
-            number: 1,
         })
     }
 
@@ -203,7 +201,7 @@ impl Scene {
         &mut self,
         alloc: Global,
         list: &StartList,
-        stage: &mut Stage<'_, R>,
+        stage: &mut Stage<'_, '_, R>,
         text: &[u8],
     ) -> Result<(), BootFault> {
         let mut rooms = Rooms {
@@ -211,11 +209,11 @@ impl Scene {
             read: Line::new(),
         };
         for line in text.split(|byte| *byte == b'\n') {
-            let number = self.number;
-            self.number = number.saturating_add(1);
+            let number = stage.stand.pass();
             if line.len() <= LONGEST_LINE {
                 self.add(alloc, list, stage, number, line, &mut rooms)?;
             }
+            stage.stand.arrive()?;
         }
         Ok(())
     }
@@ -225,18 +223,18 @@ impl Scene {
         &mut self,
         alloc: Global,
         list: &StartList,
-        stage: &mut Stage<'_, R>,
+        stage: &mut Stage<'_, '_, R>,
         number: u64,
         line: &[u8],
         rooms: &mut Rooms,
     ) -> Result<(), BootFault> {
-        let filled = match fill(line, &stage.known, &mut rooms.filled) {
+        let filled = match fill(line, stage.stand.known(), &mut rooms.filled) {
             Ok(filled) => filled,
             Err(fault) => return self.misread_at(number, Why::Name(fault)),
         };
         if let Some(directive) = directive_of(filled.line) {
-            self.follow(directive);
-            return stage.follow(directive);
+            stage.stand.follow(directive)?;
+            return Ok(());
         }
         match read_friendly(filled.line, &mut rooms.read) {
             Ok(
@@ -248,7 +246,7 @@ impl Scene {
             ) => self.add_call(alloc, list, stage, number, call, reply, &filled),
             Ok(_) => Ok(()),
             Err(fault) => {
-                let column = source_column(line, &stage.known, fault.column);
+                let column = source_column(line, stage.stand.known(), fault.column);
                 self.misread_at(number, Why::Line(Fault { column, ..fault }))
             }
         }
@@ -260,22 +258,12 @@ impl Scene {
         Ok(())
     }
 
-    // The number of the line behind a directive: a mark tells it, and has none itself.
-    fn follow(&mut self, directive: Directive<'_>) {
-        match directive {
-            Directive::Enter { line, .. }
-            | Directive::Again { line, .. }
-            | Directive::Leave { line } => self.number = line as u64,
-            Directive::Set(_) | Directive::Repeat | Directive::End | Directive::Unknown => (),
-        }
-    }
-
     // Adds a call under the name that it is said under.
     fn add_call<R: Router + Drop>(
         &mut self,
         alloc: Global,
         list: &StartList,
-        stage: &mut Stage<'_, R>,
+        stage: &mut Stage<'_, '_, R>,
         number: u64,
         line: &[u8],
         reply: Option<&[u8]>,

@@ -22,9 +22,9 @@ ghost use Rattle.least.specs.Steps.{call_said};
 use crate::donation::{args_with, donates};
 use crate::opened::Opened;
 use crate::scene::Step;
-use crate::trial::{Refused, Shortage, Trial, is_told_by_limits};
+use crate::trial::{Refused, Shortage, Trial};
 use budget_meter::{Budget, Meter, SessionMeter, named_by};
-use calls::{Call, Quotas, Reply};
+use calls::{Answer, Call, FileError, Outcome, Quotas, Reply, ServiceOutcome};
 use pd_core::{Core, Router};
 use start_lists::{BootFault, Field};
 use std::alloc::Global;
@@ -91,7 +91,7 @@ impl Reached<'_> {
         client.step(Call::Open { service, args });
         match client.account() {
             Some(account) => self.run(alloc, client, donation, account),
-            None => unopened(alloc, opening.number, client.reply.text(), donation),
+            None => unopened(alloc, opening.number, client.reply.answer(), donation),
         }
     }
 
@@ -130,13 +130,18 @@ impl Reached<'_> {
 }
 
 // The run of a session that isn't opened, since its donation is too small.
-fn unopened(alloc: Global, line: u64, reply: &[u8], donation: Budget) -> Result<Trial, BootFault>
-    ensures small { OnOk result (tells_small reply.now ≡ true) }
+fn unopened(
+    alloc: Global,
+    line: u64,
+    answer: Answer<'_>,
+    donation: Budget,
+) -> Result<Trial, BootFault>
+    ensures small { OnOk result (tells_small answer.entry.text.now ≡ true) }
     ensures refused { IfOk result (λ trial. is_some trial.refused ≡ true) }
     ensures shown { IfOk result (λ trial. shown_in trial.meter
         ≡ shown_by (amounts_of donation) (opening_need (amounts_of donation) ∷ [])) }
 {
-    let Some(shortage) = too_small(reply) else {
+    let Some(shortage) = too_small(answer) else {
         return Err(UNLIKE);
     };
     let mut trial = Trial::new(alloc, donation);
@@ -146,16 +151,14 @@ fn unopened(alloc: Global, line: u64, reply: &[u8], donation: Budget) -> Result<
 }
 
 // What a donation is too small in, where an opening is answered so.
-fn too_small(reply: &[u8]) -> Option<Shortage>
-    ensures { is_some result ≡ tells_small reply.now }
+fn too_small(answer: Answer<'_>) -> Option<Shortage>
+    ensures { is_some result ≡ tells_small answer.entry.text.now }
 {
-    if reply == Refusal::InsufficientRamQuota.name().as_bytes() {
-        return Some(Shortage::DonatedRam);
+    match answer.outcome {
+        Outcome::Refused(Refusal::InsufficientRamQuota) => Some(Shortage::DonatedRam),
+        Outcome::Refused(Refusal::InsufficientCapQuota) => Some(Shortage::DonatedCaps),
+        _ => None,
     }
-    if reply == Refusal::InsufficientCapQuota.name().as_bytes() {
-        return Some(Shortage::DonatedCaps);
-    }
-    None
 }
 
 // A session whose requests are heard.
@@ -345,20 +348,18 @@ impl<R: Router + Drop> Client<R> {
             run.leave_out(step.number, self.account(), request)?;
             return Ok(true);
         }
-        let call = Call::CallSession {
+        self.step(Call::CallSession {
             selector: FIRST,
             request,
-        };
-        self.step(call);
+        });
         let Some(after) = self.account() else {
             return Err(UNLIKE);
         };
-        if run.heard.follow(request, self.reply.text(), after)? {
-            run.trial.refused = Some(refused_at(step.number, self.reply.text()));
+        if run.heard.follow(request, self.reply.answer(), after)? {
+            run.trial.refused = Some(refused_at(step.number, self.reply.outcome()));
             return Ok(false);
         }
-        run.trial
-            .keep_reply(is_told_by_limits(call), self.reply.text())?;
+        run.trial.keep_reply(self.reply.answer())?;
         Ok(true)
     }
 
@@ -388,14 +389,14 @@ impl<R: Router + Drop> Client<R> {
             selector: FIRST,
             args,
         });
-        if !is_done(self.reply.text()) {
+        if !is_done(self.reply.answer()) {
             return Err(UNLIKE);
         }
         let Some(account) = self.account() else {
             return Err(UNLIKE);
         };
         run.heard.raise(account);
-        run.trial.keep_reply(false, self.reply.text())?;
+        run.trial.keep_reply(self.reply.answer())?;
         Ok(())
     }
 }
@@ -420,19 +421,18 @@ impl SessionRun {
     }
 }
 
-// Whether a donation is told as done.
-fn is_done(reply: &[u8]) -> bool
-    ensures { result ≡ bytes_eq reply.now (codes "ok") }
+// Whether a donation is done.
+fn is_done(answer: Answer<'_>) -> bool
+    ensures { result ≡ bytes_eq answer.entry.text.now (codes "ok") }
 {
-    reply == b"ok".as_slice()
+    matches!(answer.outcome, Outcome::Done)
 }
 
-// The refusal of a request in want, which is answered so.
-fn refused_at(line: u64, reply: &[u8]) -> Refused {
-    let shortage = if reply == Shortage::SessionRam.reply().as_bytes() {
-        Shortage::SessionRam
-    } else {
-        Shortage::SessionCaps
+// The refusal of a request for which the session's account is short of quota.
+fn refused_at(line: u64, outcome: Outcome) -> Refused {
+    let shortage = match outcome {
+        Outcome::Served(ServiceOutcome::Refused(FileError::OutOfRam)) => Shortage::SessionRam,
+        _ => Shortage::SessionCaps,
     };
     Refused { line, shortage }
 }

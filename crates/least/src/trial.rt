@@ -2,8 +2,7 @@
 ghost use Rattle.std.specs.Prelude.{◌≡◌, None};
 
 use budget_meter::{Budget, Meter};
-use calls::{Call, Quotas};
-use session_proto::FileRequest;
+use calls::{Answer, Outcome, Quotas, ServiceOutcome};
 use start_lists::BootFault;
 use std::alloc::Global;
 
@@ -83,11 +82,11 @@ impl Trial {
     }
 
     /// Keeps what was answered, but for what tells limits.
-    pub(crate) fn keep_reply(&mut self, is_limits: bool, reply: &[u8]) -> Result<(), BootFault>
+    pub(crate) fn keep_reply(&mut self, answer: Answer<'_>) -> Result<(), BootFault>
         ensures { self.new.refused ≡ self.old.refused }
     {
-        if !is_limits {
-            self.replies.extend_from_slice(reply)?;
+        if !has_limits(answer.outcome) {
+            self.replies.extend_from_slice(answer.text)?;
         }
         self.replies.push(b'\n')?;
         Ok(())
@@ -110,13 +109,10 @@ impl Trial {
     }
 }
 
-/// Whether what a call is answered tells limits.
-pub(crate) fn is_told_by_limits(call: Call<'_>) -> bool {
-    match call {
-        Call::Quota => true,
-        Call::CallSession { request, .. } => {
-            matches!(FileRequest::read(request), Some(FileRequest::Stat))
-        }
-        _ => false,
-    }
+// Whether an outcome has the limits of an account.
+fn has_limits(outcome: Outcome) -> bool {
+    matches!(
+        outcome,
+        Outcome::Quotas(_) | Outcome::Served(ServiceOutcome::Quotas(_))
+    )
 }

@@ -1,9 +1,10 @@
 //! Differences as documents for programs.
 use crate::fates::Change;
+use crate::label_sets::label_documents;
 use crate::reaches::Lead;
 use crate::texts::Differences;
-use json_documents::{Field, Listing};
-use reach::Reach;
+use json_documents::{Field, Listing, Nested};
+use reach::{Reach, Witnessed};
 use start_lists::{Entry, StartList};
 use std::alloc::{AllocError, Global};
 
@@ -39,7 +40,7 @@ impl Differences<'_> {
             self.add_change(alloc, listing, *change)?;
         }
         for lead in self.leads {
-            add_lead(listing, lead)?;
+            add_lead(alloc, listing, lead)?;
         }
         Ok(())
     }
@@ -110,8 +111,20 @@ fn with_entry<'a>(
     Ok(members)
 }
 
-// Adds who reaches whom otherwise.
-fn add_lead<'a>(listing: &mut Listing, lead: &Lead<'a>) -> Result<(), AllocError> {
+// Adds the labels that are routed to a server on one list alone.
+fn add_lead(alloc: Global, listing: &mut Listing, lead: &Lead<'_>) -> Result<(), AllocError> {
+    let gained = label_documents(alloc, &lead.gained.labels)?;
+    let lost = label_documents(alloc, &lead.lost.labels)?;
+    add_labels(listing, lead, &gained, &lost)
+}
+
+// Adds the same, by the documents of both sets of labels.
+fn add_labels<'a>(
+    listing: &mut Listing,
+    lead: &'a Lead<'a>,
+    gained: &'a Nested,
+    lost: &'a Nested,
+) -> Result<(), AllocError> {
     listing.add(&[
         ("kind", Field::Word("reach")),
         ("change", Field::Word("~")),
@@ -122,7 +135,19 @@ fn add_lead<'a>(listing: &mut Listing, lead: &Lead<'a>) -> Result<(), AllocError
         ("label", label_of(lead.now)),
         ("was_reach", word_of(lead.was)),
         ("was_label", label_of(lead.was)),
+        ("gained", Field::List(gained)),
+        ("gained_witness", witness_of(&lead.gained)),
+        ("lost", Field::List(lost)),
+        ("lost_witness", witness_of(&lead.lost)),
     ])
+}
+
+// One of the shortest labels, if there is a label.
+fn witness_of(found: &Witnessed) -> Field<'_> {
+    match &found.witness {
+        Some(label) => Field::Text(label.as_bytes()),
+        None => Field::Nothing,
+    }
 }
 
 // With how many labels.

@@ -1,6 +1,8 @@
-//! Who reaches whom, and didn't, or no longer does.
-use reach::{Cell, Reach};
-use start_lists::{Entry, StartList};
+//! Which labels of a script's requests are routed to a server after a change and weren't before, or were before and aren't after.
+ghost use Rattle.std.specs.Prelude.{◌<◌, length, IfSome};
+
+use reach::{Cell, Comparison, Reach, Wishes, Witnessed};
+use start_lists::{Binary, Entry, StartList};
 use std::alloc::{AllocError, Global};
 
 /// A start list with the cells of its table.
@@ -12,8 +14,8 @@ pub struct Side<'a> {
     pub cells: &'a [Cell],
 }
 
-/// With which labels a client's wishes for a service reach a server, where that isn't as it was.
-#[derive(Clone, Copy)]
+/// The labels of a client's requests for a service that are routed to a server on one of two start lists alone.
+#[derive(Drop)]
 pub struct Lead<'a> {
     /// The client.
     pub client: &'a Entry,
@@ -21,74 +23,227 @@ pub struct Lead<'a> {
     pub service: &'static str,
     /// The server.
     pub server: &'a Entry,
-    /// What was told of them before, if both were there.
+    /// With which labels the client reached the server before, if both were there.
     pub was: Option<&'a Reach>,
-    /// What is told of them after, if both are there.
+    /// With which labels the client reaches the server after, if both are there.
     pub now: Option<&'a Reach>,
+    /// The labels that are routed to the server after and weren't before.
+    pub gained: Witnessed,
+    /// The labels that were routed to the server before and aren't after.
+    pub lost: Witnessed,
 }
 
-/// What isn't as it was: of the cells before in order, and then of those for which there was none.
+/// Compares where requests are routed on two start lists: of each script, service and server, by their paths, that have a cell before,
+/// in order, and then of those that have one only after. Those without a difference are left out. An error is out of memory.
 pub fn leads<'a>(
     alloc: Global,
     before: Side<'a>,
     after: Side<'a>,
 ) -> Result<Vec<Lead<'a>>, AllocError> {
+    let olds = Places::of(alloc, before)?;
+    let news = Places::of(alloc, after)?;
     let mut found = Vec::new(alloc);
-    for cell in before.cells {
-        if let Some(lead) = before.lead(cell, after) {
-            if differs(lead.was, lead.now) {
-                found.push(lead)?;
-            }
+    for place in 0..before.cells.len() {
+        if is_first(before.cells, place) {
+            let cells = &before.cells[place..];
+            add_old(alloc, &mut found, before, after, &news, cells)?;
         }
     }
-    for cell in after.cells {
-        if let Some(lead) = after.lead(cell, before) {
-            if lead.now.is_none() && differs(lead.was, None) {
-                found.push(Lead {
-                    was: None,
-                    now: lead.was,
-                    ..lead
-                })?;
-            }
+    for place in 0..after.cells.len() {
+        if is_first(after.cells, place) {
+            let cells = &after.cells[place..];
+            add_new(alloc, &mut found, before, after, &olds, cells)?;
         }
     }
     Ok(found)
 }
 
-impl<'a> Side<'a> {
-    // What a cell of this side tells, and what the other side's of the same paths does.
-    fn lead(self, cell: &'a Cell, other: Side<'a>) -> Option<Lead<'a>> {
-        let entries = self.list.entries();
-        let client = entries.get(cell.client)?;
-        let server = entries.get(cell.server)?;
-        Some(Lead {
-            client,
-            service: cell.service,
-            server,
-            was: Some(&cell.reach),
-            now: other.reach(client, cell.service, server),
-        })
-    }
+// Where the cells of a client and a server are, by their numbers: a server provides one service.
+#[derive(Drop)]
+struct Places {
+    places: Vec<Vec<Option<usize>>>,
+}
 
-    // What is told of components of these paths.
-    fn reach(self, client: &Entry, service: &str, server: &Entry) -> Option<&'a Reach> {
-        let client = self.list.find(client.path())?;
-        let server = self.list.find(server.path())?;
-        for cell in self.cells {
-            if cell.client == client && cell.server == server && cell.service == service {
-                return Some(&cell.reach);
+impl Places {
+    // Those of a table.
+    fn of(alloc: Global, side: Side<'_>) -> Result<Places, AllocError> {
+        let entries = side.list.entries().len();
+        let mut places = Vec::new(alloc);
+        for _ in 0..entries {
+            let mut row = Vec::new(alloc);
+            for _ in 0..entries {
+                row.push(None)?;
+            }
+            places.push(row)?;
+        }
+        for (place, cell) in side.cells.iter().enumerate() {
+            if let Some(row) = places.get_mut(cell.client) {
+                set_at(row, cell.server, place);
             }
         }
-        None
+        Ok(Places { places })
+    }
+
+    // The cell of two paths of a table, if there is one.
+    fn cell<'a>(&self, side: Side<'a>, client: &Entry, server: &Entry) -> Option<&'a Cell> {
+        let client = side.list.find(client.path())?;
+        let server = side.list.find(server.path())?;
+        let row = self.places.as_slice().get(client)?;
+        match row.as_slice().get(server) {
+            Some(Some(place)) => side.cells.get(*place),
+            _ => None,
+        }
     }
 }
 
-// Whether something else is told; of who isn't there, nothing is reached.
-fn differs(was: Option<&Reach>, now: Option<&Reach>) -> bool {
-    match (was, now) {
-        (Some(Reach::Always), Some(Reach::Always)) => false,
-        (Some(Reach::By(was)), Some(Reach::By(now))) => was.as_bytes() != now.as_bytes(),
-        (None | Some(Reach::Never), None | Some(Reach::Never)) => false,
-        _ => true,
+// Notes a cell of a server.
+fn set_at(row: &mut Vec<Option<usize>>, server: usize, cell: usize) {
+    if let Some(place) = row.get_mut(server) {
+        *place = Some(cell);
     }
+}
+
+// Whether a cell is the first one of its client and service.
+fn is_first(cells: &[Cell], place: usize) -> bool
+    requires { place < length cells.now }
+{
+    place == 0 || !is_same(&cells[place - 1], &cells[place])
+}
+
+// Whether two cells have one client and one service.
+fn is_same(one: &Cell, other: &Cell) -> bool {
+    one.client == other.client && one.service == other.service
+}
+
+// The requests of a script of a list, by its path, for a service.
+fn wishes_of<'a>(list: &'a StartList, client: &Entry, service: &'static str) -> Option<Wishes<'a>>
+    ensures { IfSome result (λ wishes. wishes.client < length wishes.list.now.entries) }
+{
+    let client = list.find(client.path())?;
+    if list.entries()[client].binary() != Binary::Script {
+        return None;
+    }
+    Some(Wishes {
+        list,
+        client,
+        service: service.as_bytes(),
+    })
+}
+
+// Compares the requests of a script, by its path, for a service on both lists.
+fn comparison(
+    alloc: Global,
+    before: Side<'_>,
+    after: Side<'_>,
+    client: &Entry,
+    service: &'static str,
+) -> Result<Comparison, AllocError> {
+    let was = wishes_of(before.list, client, service);
+    let now = wishes_of(after.list, client, service);
+    Comparison::of(alloc, was, now)
+}
+
+// Adds the differences of the first cells before, which have one client and one service.
+fn add_old<'a>(
+    alloc: Global,
+    found: &mut Vec<Lead<'a>>,
+    before: Side<'a>,
+    after: Side<'a>,
+    news: &Places,
+    cells: &'a [Cell],
+) -> Result<(), AllocError> {
+    let Some((client, first)) = client_of(before, cells) else {
+        return Ok(());
+    };
+    let compared = comparison(alloc, before, after, client, first.service)?;
+    for cell in cells {
+        if !is_same(first, cell) {
+            return Ok(());
+        }
+        if let Some(server) = before.list.entries().get(cell.server) {
+            let now = match news.cell(after, client, server) {
+                Some(cell) => Some(&cell.reach),
+                None => None,
+            };
+            let numbers = (Some(cell.server), after.list.find(server.path()));
+            let reaches = (Some(&cell.reach), now);
+            add(
+                alloc,
+                found,
+                &compared,
+                (client, cell.service, server),
+                reaches,
+                numbers,
+            )?;
+        }
+    }
+    Ok(())
+}
+
+// Adds the differences of the first cells after, which have one client and one service, as far as there is no such cell before.
+fn add_new<'a>(
+    alloc: Global,
+    found: &mut Vec<Lead<'a>>,
+    before: Side<'a>,
+    after: Side<'a>,
+    olds: &Places,
+    cells: &'a [Cell],
+) -> Result<(), AllocError> {
+    let Some((client, first)) = client_of(after, cells) else {
+        return Ok(());
+    };
+    let compared = comparison(alloc, before, after, client, first.service)?;
+    for cell in cells {
+        if !is_same(first, cell) {
+            return Ok(());
+        }
+        if let Some(server) = after.list.entries().get(cell.server) {
+            if olds.cell(before, client, server).is_none() {
+                let numbers = (before.list.find(server.path()), Some(cell.server));
+                let reaches = (None, Some(&cell.reach));
+                add(
+                    alloc,
+                    found,
+                    &compared,
+                    (client, cell.service, server),
+                    reaches,
+                    numbers,
+                )?;
+            }
+        }
+    }
+    Ok(())
+}
+
+// The first cell, with its client.
+fn client_of<'a>(side: Side<'a>, cells: &'a [Cell]) -> Option<(&'a Entry, &'a Cell)> {
+    let first = cells.first()?;
+    let client = side.list.entries().get(first.client)?;
+    Some((client, first))
+}
+
+// Adds what a server, by its numbers before and after, gains and loses, if there is something.
+fn add<'a>(
+    alloc: Global,
+    found: &mut Vec<Lead<'a>>,
+    compared: &Comparison,
+    (client, service, server): (&'a Entry, &'static str, &'a Entry),
+    (was, now): (Option<&'a Reach>, Option<&'a Reach>),
+    (old, new): (Option<usize>, Option<usize>),
+) -> Result<(), AllocError> {
+    let gained = compared.gained(alloc, old, new)?;
+    let lost = compared.lost(alloc, old, new)?;
+    if gained.witness.is_none() && lost.witness.is_none() {
+        return Ok(());
+    }
+    found.push(Lead {
+        client,
+        service,
+        server,
+        was,
+        now,
+        gained,
+        lost,
+    })?;
+    Ok(())
 }

@@ -1,7 +1,7 @@
 //! Differences as people read them.
 use crate::fates::Change;
 use crate::reaches::Lead;
-use reach::Reach;
+use reach::Witnessed;
 use start_lists::{Entry, StartList};
 use std::fmt;
 
@@ -14,7 +14,7 @@ pub struct Differences<'a> {
     pub after: &'a StartList,
     /// What became of the entries.
     pub changes: &'a [Change],
-    /// Who reaches whom otherwise.
+    /// The labels that are routed to a server on one list alone.
     pub leads: &'a [Lead<'a>],
 }
 
@@ -107,21 +107,30 @@ fn show_means<W: fmt::Write>(f: &mut fmt::Formatter<W>, entry: &Entry) -> fmt::R
     }
 }
 
-// Who reaches whom otherwise.
+// The labels that are routed to a server on one list alone.
 fn show_lead<W: fmt::Write>(f: &mut fmt::Formatter<W>, lead: &Lead<'_>) -> fmt::Result {
     let (client, server) = (lead.client.to_path(), lead.server.to_path());
-    write!(f, "~ {client} {} {server}: ", lead.service)?;
-    show_reach(f, lead.now)?;
-    f.write_str(" (was: ")?;
-    show_reach(f, lead.was)?;
-    f.write_str(")\n")
+    write!(f, "~ {client} {} {server}:", lead.service)?;
+    show_labels(f, " gained", &lead.gained)?;
+    let is_both = lead.gained.witness.is_some() && lead.lost.witness.is_some();
+    show_labels(f, if is_both { ", lost" } else { " lost" }, &lead.lost)?;
+    f.write_str("\n")
 }
 
-// With which labels.
-fn show_reach<W: fmt::Write>(f: &mut fmt::Formatter<W>, reach: Option<&Reach>) -> fmt::Result {
-    match reach {
-        Some(Reach::Always) => f.write_str("always"),
-        Some(Reach::By(label)) => write!(f, "label \"{label}\""),
-        Some(Reach::Never) | None => f.write_str("never"),
+// Labels after a word, with one of the shortest unless there is one label; nothing if there is none.
+fn show_labels<W: fmt::Write>(
+    f: &mut fmt::Formatter<W>,
+    word: &str,
+    found: &Witnessed,
+) -> fmt::Result {
+    let Some(witness) = &found.witness else {
+        return Ok(());
+    };
+    f.write_str(word)?;
+    write!(f, " {}", found.labels)?;
+    if found.labels.is_one() {
+        Ok(())
+    } else {
+        write!(f, " (as \"{witness}\")")
     }
 }

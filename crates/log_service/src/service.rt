@@ -7,7 +7,6 @@ ghost use Rattle.log_service.specs.Session.{lines_text, as_kept, IsSession};
 ghost use Rattle.server_frame.proofs.LentLaws.{lends_nothing};
 ghost use Rattle.server_frame.specs.Session.{service_step};
 ghost use Rattle.sliced_heap.specs.Heap.{payer_of};
-ghost use Rattle.calls.specs.Told.{nothing_told};
 
 use crate::session::LogSession;
 use calls::Reply;
@@ -26,7 +25,7 @@ impl LogService {
     /// Answers a request of a session: `OK` and how many bytes were written, or `ERR BAD_REQUEST`. The lines that the
     /// bytes finish go to the reply, and what they leave of a line stays with the session.
     pub fn answer(&self, session: &mut LogSession, request: &[u8], reply: &mut Reply)
-        requires { reply.old ≡ nothing_told }
+        requires { reply.old.lines ≡ [] }
         ensures session { session.new
             ≡ record session.old {
               partial =

@@ -1,49 +1,19 @@
-//! The program for people: start lists are looked at, and scenarios in the friendly form are played and measured.
+//! The program for people: reads the arguments, calls the function of the command, and ends with the exit status that this returns.
 #![tactic(auto)]
 
-mod apart;
-mod changes;
-mod coloring;
-mod coverings;
-mod documents;
-mod ends;
-mod files;
-mod lines;
-mod listings;
-mod lists;
-mod machines;
-mod needs;
-mod plays;
-mod policies;
-mod recordings;
-mod replacing;
-mod reports;
-mod scenarios;
-mod settings;
-mod streams;
-mod tests;
-mod unfolding;
-mod views;
-
-use apart::{All, all_alone};
-use changes::diff;
 use clap::Error;
-use coloring::Coloring;
-use ends::{REFUSED, status_of};
-use listings::{check_documents, reach_documents, tree_document};
-use lists::{check, reach, route, tree};
-use needs::least;
-use plays::{Scene, play, play_transcript};
-use policies::hold;
-use recordings::record_scenario;
-use settings::Settings;
+use cli_base::{Coloring, REFUSED, Settings, status_of};
+use cli_budgets::least_budgets;
+use cli_lists::{check_list, compare_lists, show_reach, show_route, show_tree};
+use cli_runs::{
+    list_accounts, record_scenario, run_scenario, show_all_alone, show_alone, trace_scenario,
+};
+use cli_tests::run_tests;
 use std::process::ExitCode;
-use tests::{Wanted, test};
 use view_diagnostics::Form;
-use views::Viewing;
 use workbench_options::{
-    Alone, CALLS, Check, Command, Reach, Request, Run, Test, Tree, alone_takes_a_name_or_all,
-    color_is_one_of_three, needs_command, words_given,
+    Alone, CALLS, Command, Request, Run, Test, alone_takes_a_name_or_all, color_is_one_of_three,
+    needs_command, words_given,
 };
 
 fn main(rt: HostRuntime) -> ExitCode {
@@ -98,21 +68,15 @@ fn answer<'a>(rt: &HostRuntime, command: &'a Command<'a>, settings: Settings<'a>
     match command {
         Command::Run(asked) => answer_run(rt, asked, settings),
         Command::Record(asked) => record_scenario(rt, asked, settings),
-        Command::Check(asked) => answer_check(rt, asked, settings),
-        Command::Tree(asked) => answer_tree(rt, asked, settings),
-        Command::Reach(asked) => answer_reach(rt, asked, settings),
-        Command::Route(asked) => route(rt, asked, settings),
-        Command::Trace(asked) => {
-            let viewing = Viewing::Trace { json: asked.json };
-            play(rt, asked.machine, Scene::whole(asked, settings, viewing))
-        }
-        Command::Accounts(asked) => {
-            let viewing = Viewing::Accounts { json: asked.json };
-            play(rt, asked.machine, Scene::whole(asked, settings, viewing))
-        }
-        Command::Least(asked) => least(rt, asked, settings),
+        Command::Check(asked) => check_list(rt, asked, settings),
+        Command::Tree(asked) => show_tree(rt, asked, settings),
+        Command::Reach(asked) => show_reach(rt, asked, settings),
+        Command::Route(asked) => show_route(rt, asked, settings),
+        Command::Trace(asked) => trace_scenario(rt, asked, settings),
+        Command::Accounts(asked) => list_accounts(rt, asked, settings),
+        Command::Least(asked) => least_budgets(rt, asked, settings),
         Command::Alone(asked) => answer_alone(rt, asked, settings),
-        Command::Diff(asked) => diff(rt, asked, settings.form),
+        Command::Diff(asked) => compare_lists(rt, asked, settings.form),
         Command::Test(asked) => answer_test(rt, asked, settings),
         Command::Help(topic) => print_help(rt, *topic),
     }
@@ -138,62 +102,16 @@ fn print_help_of(rt: &HostRuntime, arguments: &[&str]) -> u8 {
 // Answers a scenario, and answers the exit status.
 fn answer_run<'a>(rt: &HostRuntime, asked: &'a Run<'a>, settings: Settings<'a>) -> u8 {
     match Coloring::asked(rt, asked.color) {
-        Some(coloring) => play_transcript(rt, asked, settings, coloring),
+        Some(coloring) => run_scenario(rt, asked, settings, coloring),
         None => refuse_words(rt, color_is_one_of_three(rt.alloc())),
-    }
-}
-
-// Tells what is wrong with a start list, and answers the exit status.
-fn answer_check(rt: &HostRuntime, asked: &Check<'_>, settings: Settings<'_>) -> u8 {
-    if asked.json {
-        return check_documents(rt, asked, settings);
-    }
-    match asked.policy {
-        Some(policy) => hold(rt, asked, settings, policy),
-        None => check(rt, asked.list, settings, asked.strict),
-    }
-}
-
-// Shows the components of a start list, and answers the exit status.
-fn answer_tree(rt: &HostRuntime, asked: &Tree<'_>, settings: Settings<'_>) -> u8 {
-    if asked.json {
-        tree_document(rt, asked.list, settings)
-    } else {
-        tree(rt, asked.list, settings, asked.dot)
-    }
-}
-
-// Tells which scripts reach which servers, and answers the exit status.
-fn answer_reach(rt: &HostRuntime, asked: &Reach<'_>, settings: Settings<'_>) -> u8 {
-    if asked.json {
-        reach_documents(rt, asked, settings)
-    } else {
-        reach(rt, asked, settings)
     }
 }
 
 // Shows what a component, or each, is told alone, and answers the exit status.
 fn answer_alone<'a>(rt: &HostRuntime, asked: &'a Alone<'a>, settings: Settings<'a>) -> u8 {
     match (asked.all, asked.scenario) {
-        (false, Some(scenario)) if !asked.summary => {
-            let scene = Scene {
-                scenario,
-                settings,
-                viewing: Viewing::Alone(asked.name.as_bytes()),
-                name: Some(asked.name),
-                errors: 0,
-            };
-            play(rt, asked.machine, scene)
-        }
-        (true, None) => {
-            let all = All {
-                machine: asked.machine,
-                scenario: asked.name,
-                summary: asked.summary,
-                settings,
-            };
-            all_alone(rt, all)
-        }
+        (false, Some(scenario)) if !asked.summary => show_alone(rt, asked, scenario, settings),
+        (true, None) => show_all_alone(rt, asked, settings),
         _ => refuse_words(rt, alone_takes_a_name_or_all(rt.alloc())),
     }
 }
@@ -201,14 +119,7 @@ fn answer_alone<'a>(rt: &HostRuntime, asked: &'a Alone<'a>, settings: Settings<'
 // Runs scenarios as tests, and answers the exit status.
 fn answer_test<'a>(rt: &HostRuntime, asked: &'a Test<'a>, settings: Settings<'a>) -> u8 {
     match Coloring::asked(rt, asked.color) {
-        Some(coloring) => {
-            let wanted = Wanted {
-                asked,
-                settings,
-                colored: coloring.out,
-            };
-            test(rt, wanted)
-        }
+        Some(coloring) => run_tests(rt, asked, settings, coloring.out),
         None => refuse_words(rt, color_is_one_of_three(rt.alloc())),
     }
 }

@@ -5,6 +5,7 @@ use Rattle.std.proofs.lemmas.Bool.Decides.{nat_tests}
 use Rattle.std.proofs.lemmas.Option.{none-some}
 use Rattle.std.specs.Prelude.{Option, None, is_some}
 use Rattle.std.specs.Option.{option_map}
+use Rattle.own_model.proofs.NatMapLemmas.{none_of}
 use Rattle.trade_base.specs.Bytes.{with_bytes}
 use Rattle.trade_base.specs.Page.{page_of, is_valid_size}
 use Rattle.trade_base.specs.declared.refusal.Refusal.{Refusal}
@@ -43,11 +44,6 @@ make_parts true true o accepted = absurd (none-some Exists (sym accepted))
 make_parts true false None accepted = (refl, refl, refl)
 make_parts true false (Some refusal) accepted = absurd (none-some (error_of refusal) (sym accepted))
 
--- what isn't there is none
-absent : (buffer : Option (List ℕ)) → is_some buffer ≡ false → buffer ≡ None
-absent None none = refl
-absent (Some bytes) none = cc
-
 -- what is taken from a list is no more than is asked
 pub taken_le : (count : ℕ) (bytes : List ℕ) → length (take count bytes) ≤ count
 taken_le count bytes = omega (arith, length-take count bytes)
@@ -63,7 +59,7 @@ module _ (P : Files → Account → Option (List ℕ) → Type 0) (files : Files
   made_kept : (n : ℕ) → Kept (buffer_served (Make n) buffer files account)
   made_kept n = unless_kept (make_refusal n buffer account) (made n files account) (λ accepted.
       let parts = make_parts (is_valid_size n) (is_some buffer) (shortage account (page_of n) 1) accepted in
-      keeps.makes n (absent buffer parts.1) parts.0 parts.2)
+      keeps.makes n (none_of buffer parts.1) parts.0 parts.2)
 
   given_back_kept : (o : Option (List ℕ)) → buffer ≡ o → Kept (given_back o files account)
   given_back_kept None is = subst (P files account) is stays

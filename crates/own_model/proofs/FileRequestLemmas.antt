@@ -3,8 +3,9 @@ use Rattle.std.proofs.lemmas.Bool.Decides.{nat_tests}
 use Rattle.std.proofs.Common.{arith, rules, ◌≡◌, ℕ, ◌+◌, ◌≤◌, Bool, true, false, cond, not, List, length, Some, refl, sym, subst, true≢false, slice_get, []}
 use Rattle.std.proofs.lemmas.Bool.{ltb-false}
 use Rattle.std.proofs.lemmas.Option.{none-some}
-use Rattle.std.specs.Prelude.{Option, None, is_some}
+use Rattle.std.specs.Prelude.{Option, None}
 use Rattle.std.specs.Option.{option_map, option_or}
+use Rattle.own_model.proofs.NatMapLemmas.{none_of}
 use Rattle.trade_base.specs.Bytes.{with_bytes}
 use Rattle.trade_base.specs.declared.refusal.Refusal.{Refusal}
 use Rattle.own_model.proofs.FileListLemmas.{named_is}
@@ -54,11 +55,6 @@ map_none : (o : Option Refusal) → option_map error_of o ≡ None → o ≡ Non
 map_none None none = refl
 map_none (Some refusal) none = absurd (none-some (error_of refusal) (sym none))
 
--- what isn't there is nothing
-pub not_there : {X : Type 0} (o : Option X) → is_some o ≡ false → o ≡ None
-not_there None h = refl
-not_there (Some x) h = absurd (true≢false h)
-
 -- a new file that is accepted has a name that no file has, and room
 create_parts : (a b : Bool) (x y : FileError) (o : Option Refusal) → cond (not a) (Some x) (cond b (Some y) (option_map error_of o)) ≡ None → (a ≡ true) × (b ≡ false) × (o ≡ None)
 create_parts false b x y o accepted = absurd (none-some x (sym accepted))
@@ -95,7 +91,7 @@ module _ (P : Files → Account → Type 0) (files : Files) (account : Account) 
   created_kept name None none name_is free accepted = keeps.grows name name_is free accepted
 
   create_kept : (name : List ℕ) → Kept (unless_refused (create_refusal name files account) files account (created name (hole_for node_size files.shape) files account))
-  create_kept name = search (rules, unless_kept, create_parts, created_kept, not_there)
+  create_kept name = search (rules, unless_kept, create_parts, created_kept, none_of)
 
   -- the file of a name is that of its own
   itself : (name : List ℕ) (file : File) → file_named name files ≡ Some file → file_named file.name files ≡ Some file

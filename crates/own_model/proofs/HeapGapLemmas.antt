@@ -1,6 +1,6 @@
 -- Why the heap window always has a gap: walked from its start, a region costs at most the pages sought and its own.
-use Rattle.std.proofs.Common.{rules, ◌≡◌, ℕ, ◌+◌, ◌*◌, ◌%◌, ◌<◌, ◌≤◌, ◌||◌, is_lt, Bool, true, false, true≢false, T, List, [], ◌∷◌, length, map, IsSome, Some, refl, sym, nat_cmp, inl, inr, arith, mul-add}
-use Rattle.std.proofs.lemmas.Bool.{cases_lt}
+use Rattle.std.proofs.Common.{rules, ◌≡◌, ℕ, ◌+◌, ◌*◌, ◌%◌, ◌<◌, ◌≤◌, is_lt, Bool, true, false, true≢false, T, List, [], ◌∷◌, length, map, IsSome, Some, refl, sym, nat_cmp, inl, inr, arith, mul-add}
+use Rattle.std.proofs.lemmas.Bool.{cases_lt, or_from}
 use Rattle.std.proofs.lemmas.Bool.Decides.{nat_tests}
 use Rattle.std.proofs.lemmas.Cmp.{ranked}
 use Rattle.std.proofs.lemmas.List.Sums.{sum_by-cons}
@@ -34,17 +34,13 @@ ends_before start others address pages h = grind (arith, nat_tests)
 pub starts_after : (start others address pages : ℕ) → start + others * 4096 ≤ address → overlap start others address pages ≡ false
 starts_after start others address pages h = grind (arith, nat_tests)
 
--- none of two where neither
-pub neither : (a b : Bool) → a ≡ false → b ≡ false → (a || b) ≡ false
-neither a b x y = cc
-
 -- pages that end where all regions start, or before, are clear of all
 clear_below : (pages address bound : ℕ) (es : List (ℕ × Region)) → address + pages * 4096 ≤ bound → T (below_all nat_cmp bound es) → list_any (overlap_at address pages) es ≡ false
 clear_below pages address bound [] end above = refl
 clear_below pages address bound (e ∷ es) end above =
     let parts : T (is_lt (nat_cmp bound e.0)) × T (below_all nat_cmp bound es) = both_parts _ _ above in
     let later : bound < e.0 = ranked bound e.0 _ (sym (is_less _ parts.0)) in
-    neither _ _ (ends_before e.0 e.1.pages address pages (omega arith)) (clear_below pages address bound es end parts.1)
+    or_from _ _ (ends_before e.0 e.1.pages address pages (omega arith)) (clear_below pages address bound es end parts.1)
 
 -- an address from another one on, at a multiple of a page and no more than so many pages later, at which pages are clear of all regions
 record Clear (es : List (ℕ × Region)) (pages low far : ℕ) : Type 0 where
@@ -70,14 +66,14 @@ clear_place pages low (e ∷ es) sorted aligned =
             aligned = rest.aligned;
             from_low = omega arith;
             near = omega arith;
-            free = neither _ _ (starts_after e.0 e.1.pages rest.address pages (omega arith)) rest.free;
+            free = or_from _ _ (starts_after e.0 e.1.pages rest.address pages (omega arith)) rest.free;
           }
       | inr after ↦ record {
         address = low;
         aligned = aligned;
         from_low = omega arith;
         near = omega arith;
-        free = neither _ _ (ends_before e.0 e.1.pages low pages after) (clear_below pages low e.0 es after parts.0);
+        free = or_from _ _ (ends_before e.0 e.1.pages low pages after) (clear_below pages low e.0 es after parts.0);
       }
     ]
 

@@ -25,6 +25,15 @@ pub all_append : {X : Type 0} (P : X → Type 0) (xs ys : List X) → AllByRecur
 all_append P [] ys each other = other
 all_append P (x ∷ xs) ys each other = (each.0, all_append P xs ys each.1 other)
 
+-- and of the first and of the second, where it holds of both
+pub all_left : {X : Type 0} (P : X → Type 0) (xs ys : List X) → AllByRecursion P (xs ++ ys) → AllByRecursion P xs
+all_left P [] ys each = tt
+all_left P (x ∷ xs) ys each = (each.0, all_left P xs ys each.1)
+
+pub all_right : {X : Type 0} (P : X → Type 0) (xs ys : List X) → AllByRecursion P (xs ++ ys) → AllByRecursion P ys
+all_right P [] ys each = each
+all_right P (x ∷ xs) ys each = all_right P xs ys each.1
+
 -- what follows from what holds of each
 pub all_then : {X : Type 0} (P Q : X → Type 0) (xs : List X) → ((x : X) → P x → Q x) → AllByRecursion P xs → AllByRecursion Q xs
 all_then P Q [] then each = tt

@@ -24,7 +24,7 @@ from_either None p x is = inr is
 from_either (Some y) p x is = inl is
 
 -- an option, or else nothing
-or_nothing : {X : Type 0} (o : Option X) → option_or o None ≡ o
+pub or_nothing : {X : Type 0} (o : Option X) → option_or o None ≡ o
 or_nothing None = refl
 or_nothing (Some x) = refl
 

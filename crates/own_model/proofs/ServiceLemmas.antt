@@ -1,10 +1,11 @@
 -- What is so of each service: all that lemmas say of one service and not of another.
-use Rattle.std.proofs.Common.{◌≡◌, ℕ, ◌+◌, ◌||◌, Bool, true, false, true≢false, List, length, codes, refl, sym, ap, ◌∙◌, arith, Some}
+use Rattle.std.proofs.Common.{◌≡◌, ℕ, ◌+◌, true, false, List, length, codes, refl, sym, ap, ◌∙◌, arith, Some}
 use Rattle.std.proofs.lemmas.List.Elements.{All-nil}
 use Rattle.std.proofs.lemmas.Option.{none-some}
 use Rattle.std.specs.List.{list_any}
 use Rattle.std.specs.Prelude.{Option, None}
 use Rattle.std.specs.Str.{bytes_eq}
+use Rattle.std.proofs.lemmas.Bool.{or_parts}
 use Rattle.trade_base.specs.Service.{binary_name, served_by_binary, service_name, services}
 use Rattle.trade_base.specs.declared.service.Service.{Service}
 use Rattle.trade_base.specs.declared.service.Service.TheVariants as service
@@ -27,18 +28,10 @@ use Rattle.own_model.specs.Use.{UsesItsCharge}
 
 -- ---- names
 
-first_false : (a b : Bool) → (a || b) ≡ false → a ≡ false
-first_false false b none = refl
-first_false true b none = none
-
-rest_false : (a b : Bool) → (a || b) ≡ false → b ≡ false
-rest_false false b none = none
-rest_false true b none = absurd (true≢false none)
-
 -- a name that none of the services has is not this one's
 pub none_named : (asked : List ℕ) (of : Service) → list_any (λ service. bytes_eq asked (service_name service)) services ≡ false → bytes_eq asked (service_name of) ≡ false
-none_named asked service.Log none = first_false (bytes_eq asked (service_name service.Log)) _ none
-none_named asked service.Files none = first_false (bytes_eq asked (service_name service.Files)) _ (rest_false (bytes_eq asked (service_name service.Log)) _ none)
+none_named asked service.Log none = (or_parts (bytes_eq asked (service_name service.Log)) _ none).0
+none_named asked service.Files none = (or_parts (bytes_eq asked (service_name service.Files)) _ (or_parts (bytes_eq asked (service_name service.Log)) _ none).1).0
 
 -- it is found again by its binary's name
 pub found_again : (of : Service) → served_by_binary (binary_name of) ≡ Some of

@@ -12,17 +12,13 @@ use Rattle.std.proofs.lemmas.Fmt.{decimal_nonempty, digits_decimal, digits_value
 use Rattle.std.proofs.lemmas.Str.Parse.{numerals_by_value, tells_all_ascii_digits}
 use Rattle.std.proofs.lemmas.List.{length-append, reverse-append, reverse-reverse, take_at, get_or-append-add}
 use Rattle.std.proofs.lemmas.List.Folds.{list_all-append}
+use Rattle.std.proofs.lemmas.Bool.{and_parts}
 use Rattle.trade_base.specs.Amount.{number_of, unit_of, amount_of}
 use Rattle.own_model.specs.Text.{is_name_byte}
 use Rattle.own_model.specs.SessionArgs.{is_equals, is_quotable, onto_first, pieces_of, skip_spaces, trimmed, Pair, is_key, inner, value_of, pair_of, each, Arguments, arguments_in, arguments_of, arguments_text, HasText}
 use Rattle.own_model.specs.SessionArgs.Value.{Bare, Quoted}
 
 -- ---- tests
-
--- each of two tests that pass
-pub both : (x y : Bool) → (x && y) ≡ true → (x ≡ true) × (y ≡ true)
-both true y e = (refl, e)
-both false y e = absurd (cc)
 
 -- each of three that fail
 pub none_of_three : (x y z : Bool) → (not x && (not y && not z)) ≡ true → (x ≡ false) × (y ≡ false) × (z ≡ false)
@@ -60,13 +56,13 @@ digit_no_unit b digit = grind (arith, nat_tests)
 -- what holds of digits holds of all bytes of a number
 of_digits : (p : ℕ → Bool) → ((b : ℕ) → is_ascii_digit b ≡ true → p b ≡ true) → (ds : List ℕ) → all_ascii_digits ds ≡ true → list_all p ds ≡ true
 of_digits p each [] digits = refl
-of_digits p each (b ∷ bs) digits = let parts = both _ _ digits in λ i. each b parts.0 i && of_digits p each bs parts.1 i
+of_digits p each (b ∷ bs) digits = let parts = and_parts _ _ digits in λ i. each b parts.0 i && of_digits p each bs parts.1 i
 
 -- each of digits is one
 digit_at : (ds : List ℕ) (i : ℕ) → i < length ds → all_ascii_digits ds ≡ true → is_ascii_digit (get_or ds i 0) ≡ true
 digit_at [] i within digits = absurd (omega arith)
-digit_at (b ∷ bs) zero within digits = (both _ _ digits).0
-digit_at (b ∷ bs) (suc i) within digits = digit_at bs i (omega arith) (both _ _ digits).1
+digit_at (b ∷ bs) zero within digits = (and_parts _ _ digits).0
+digit_at (b ∷ bs) (suc i) within digits = digit_at bs i (omega arith) (and_parts _ _ digits).1
 
 -- ---- pieces
 
@@ -74,7 +70,7 @@ digit_at (b ∷ bs) (suc i) within digits = digit_at bs i (omega arith) (both _ 
 pub pieces-plain : (xs rest : List ℕ) → list_all is_plain xs ≡ true → pieces_of false (xs ++ 44 ∷ rest) ≡ xs ∷ pieces_of false rest
 pieces-plain [] rest plain = refl
 pieces-plain (b ∷ bs) rest plain =
-    let parts = both _ _ plain in
+    let parts = and_parts _ _ plain in
     let tests = none_of_three _ _ _ parts.0 in
     (λ i. cond (tests.2 i && true) ([] ∷ pieces_of false (bs ++ 44 ∷ rest)) (onto_first b (pieces_of (cond (tests.1 i) true false) (bs ++ 44 ∷ rest))))
     ∙ ap (onto_first b) (pieces-plain bs rest parts.1)
@@ -83,8 +79,8 @@ pieces-plain (b ∷ bs) rest plain =
 pub pieces-quoted : (label : List ℕ) → list_all is_quotable label ≡ true → pieces_of true (label ++ 34 ∷ []) ≡ (label ++ 34 ∷ []) ∷ []
 pieces-quoted [] quotable = refl
 pieces-quoted (b ∷ bs) quotable =
-    let parts = both _ _ quotable in
-    let quote : nat_eq b 34 ≡ false = not_first _ _ (both _ _ parts.0).1 in
+    let parts = and_parts _ _ quotable in
+    let quote : nat_eq b 34 ≡ false = not_first _ _ (and_parts _ _ parts.0).1 in
     (λ i. cond (and-false (nat_eq b 44) i) ([] ∷ pieces_of true (bs ++ 34 ∷ [])) (onto_first b (pieces_of (cond (quote i) false true) (bs ++ 34 ∷ []))))
     ∙ ap (onto_first b) (pieces-quoted bs parts.1)
 
@@ -98,13 +94,13 @@ onto (b ∷ bs) pieces = onto_first b (onto bs pieces)
 -- bytes without a space have none to skip
 skip-plain : (xs : List ℕ) → list_all is_plain xs ≡ true → skip_spaces xs ≡ xs
 skip-plain [] plain = refl
-skip-plain (b ∷ bs) plain = ap (λ t. cond t (skip_spaces bs) (b ∷ bs)) (none_of_three _ _ _ (both _ _ plain).0).0
+skip-plain (b ∷ bs) plain = ap (λ t. cond t (skip_spaces bs) (b ∷ bs)) (none_of_three _ _ _ (and_parts _ _ plain).0).0
 
 -- nor have they backwards
 list_all-reverse : (p : ℕ → Bool) (xs : List ℕ) → list_all p xs ≡ true → list_all p (reverse xs) ≡ true
 list_all-reverse p [] all = refl
 list_all-reverse p (x ∷ xs) all =
-    let parts = both _ _ all in
+    let parts = and_parts _ _ all in
     ap (list_all p) (reverse-append (x ∷ []) xs) ∙ list_all-append p (reverse xs) (x ∷ []) ∙ (λ i. list_all-reverse p xs parts.1 i && (parts.0 i && true))
 
 -- so nothing is trimmed
@@ -120,7 +116,7 @@ trimmed-quote front = grind (arith, nat_tests, reverse-append, reverse-reverse)
 -- digits are a value as they stand
 value-digits : (ds : List ℕ) → 0 < length ds → all_ascii_digits ds ≡ true → value_of ds ≡ Some (Bare ds)
 value-digits [] some digits = absurd (omega arith)
-value-digits (b ∷ bs) some digits = grind (arith, nat_tests, of_digits, digit_named, none_of_three, digit_plain, both, not_quoted)
+value-digits (b ∷ bs) some digits = grind (arith, nat_tests, of_digits, digit_named, none_of_three, digit_plain, and_parts, not_quoted)
 
 -- what stands between quotes
 inner-quoted : (label : List ℕ) → inner (34 ∷ (label ++ 34 ∷ [])) ≡ label

@@ -1,12 +1,12 @@
 -- What calls leave of sessions.
 use Rattle.std.proofs.lemmas.Bool.Decides.{nat_tests}
-use Rattle.std.proofs.Common.{arith, rules, ◌≡◌, ℕ, ◌≤◌, Bool, true, false, cond, Some, refl, sym, ap, List, ◌∙◌}
+use Rattle.std.proofs.Common.{arith, rules, ◌≡◌, ℕ, ◌≤◌, Some, refl, sym, ap, List, ◌∙◌}
 use Rattle.std.proofs.lemmas.Option.{none-some, same_Some}
 use Rattle.std.specs.Prelude.{Option, None}
 use Rattle.std.specs.Option.{option_or}
 use Rattle.std.specs.FinMap.{get, insert}
 use Rattle.own_model.proofs.NatMapLemmas.{each_after_insert, before_remove, get-empty}
-use Rattle.own_model.proofs.StepLemmas.{KeptByEffects, KeptByReserve, KeptBySessions, covers}
+use Rattle.own_model.proofs.StepLemmas.{KeptByEffects, KeptByReserve, KeptBySessions, covers, neither}
 use Rattle.own_model.specs.Account.{Account, Fits}
 use Rattle.own_model.specs.NatMap.{NatMap}
 use Rattle.own_model.specs.OwnState.{OwnState, Object, NamedBuffer, EachSession, session_named, new_selector, object_with, buffer_of, bytes_of_buffer}
@@ -27,15 +27,9 @@ neither_of (Some refusal) p accepted = absurd (none-some refusal (sym accepted))
 pub donation_covered : (a : Account) (ram caps : ℕ) → donation_refusal a ram caps ≡ None → Fits a ram caps × (too_small ram caps ≡ None)
 donation_covered a ram caps accepted = grind (arith, nat_tests, neither_of, covers)
 
--- two tests that refuse nothing
-untold : (a b : Bool) (x y : Refusal) → cond a (Some x) (cond b (Some y) None) ≡ None → (a ≡ false) × (b ≡ false)
-untold true b x y accepted = absurd (none-some x (sym accepted))
-untold false true x y accepted = absurd (none-some y (sym accepted))
-untold false false x y accepted = (refl, refl)
-
 -- a donation that isn't too small has what a session is charged for
 pub large_enough : (ram caps : ℕ) → too_small ram caps ≡ None → (session_ram ≤ ram) × (session_caps ≤ caps)
-large_enough ram caps accepted = grind (arith, nat_tests, untold, ltb-false)
+large_enough ram caps accepted = grind (arith, nat_tests, neither, ltb-false)
 
 -- what names a session is that session
 pub named_there : (o : Option Object) (x : Session) → session_named o ≡ Some x → o ≡ Some (OpenSession x)

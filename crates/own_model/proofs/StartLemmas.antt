@@ -102,7 +102,7 @@ inits_unused inits (start ∷ starts) unused =
     (record { ram = refl; caps = refl }, tt))
 
 -- one more has a number with each that starts
-length-with_started : (inits : List Account) (start : StartEntry) → length (with_started inits start) ≡ length inits + 1
+pub length-with_started : (inits : List Account) (start : StartEntry) → length (with_started inits start) ≡ length inits + 1
 length-with_started inits start =
     let parted : Account = parted_with (init_at inits start.entry.home) (budget start).ram (budget start).caps in
     omega (arith, length-append (set inits start.entry.home parted) (init_account start ∷ []), length-set inits start.entry.home parted)

@@ -6,6 +6,7 @@ use Rattle.std.specs.Option.{option_and_then, option_map, unwrap_or}
 use Rattle.std.specs.Str.{bytes_eq}
 use Rattle.std.proofs.lemmas.Bool.Decides.{nat_tests}
 use Rattle.std.proofs.lemmas.Slice.Eq.{bytes_eq-Decides}
+use Rattle.std.proofs.Math.Bool.{and-false}
 use Rattle.trade_base.specs.Service.{service_name, services}
 use Rattle.trade_base.specs.declared.service.Service.{Service}
 use Rattle.own_model.proofs.ServiceLemmas.{none_named}
@@ -32,10 +33,6 @@ serves-none : (binary : Binary) (asked : List ℕ) → IsNone asked → serves b
 serves-none Script asked none = refl
 serves-none (Server service) asked none = none_named asked service none
 serves-none Init asked none = refl
-
-and-false : (b : Bool) → (b && false) ≡ false
-and-false true = refl
-and-false false = refl
 
 offers-none : (init : ℕ) (asked : List ℕ) (entry : ListedEntry) → IsNone asked → offers init asked entry ≡ false
 offers-none init asked entry none = rw (serves-none entry.binary asked none, and-false entry.provides) (and-false (entry.home == init))

@@ -80,7 +80,7 @@ pub record KeptBySessions (P : OwnState → Type 0) (s : OwnState) : Type 0 wher
   pub closes : (selector : ℕ) (session : Session) → get s.selectors selector ≡ Some (OpenSession session) → P (session_closed selector (Some session) s).next
 
 -- two tests in order refuse nothing where neither refuses
-neither : (a b : Bool) (x y : Refusal) → cond a (Some x) (cond b (Some y) None) ≡ None → (a ≡ false) × (b ≡ false)
+pub neither : (a b : Bool) (x y : Refusal) → cond a (Some x) (cond b (Some y) None) ≡ None → (a ≡ false) × (b ≡ false)
 neither true b x y accepted = absurd (none-some x (sym accepted))
 neither false true x y accepted = absurd (none-some y (sym accepted))
 neither false false x y accepted = (refl, refl)

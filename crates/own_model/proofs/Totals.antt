@@ -1,5 +1,5 @@
 -- Sums over what a map holds: after a change, compared, and by who pays.
-use Rattle.std.proofs.Common.{◌≡◌, ℕ, ◌+◌, ◌*◌, ◌≤◌, ◌≢◌, cond, eqb, List, [], ◌∷◌, map, length, IsSome, is_some, Some, unwrap_or, refl, sym, ap, ◌∙◌, true≢false, nat_cmp, is_eq, Less, Equal, Greater, arith, add-zero, add-mul}
+use Rattle.std.proofs.Common.{◌≡◌, ℕ, ◌+◌, ◌*◌, ◌≤◌, ◌≢◌, cond, eqb, List, [], ◌∷◌, map, IsSome, is_some, Some, unwrap_or, refl, sym, ap, ◌∙◌, true≢false, nat_cmp, is_eq, Less, Equal, Greater, arith, add-zero, add-mul}
 use Rattle.std.proofs.lemmas.Bool.Decides.{nat_tests}
 use Rattle.std.proofs.lemmas.List.Sums.{sum_by-cons}
 use Rattle.std.proofs.lemmas.Option.{none-some}
@@ -8,15 +8,11 @@ use Rattle.std.specs.Option.{option_map}
 use Rattle.std.specs.Cmp.{nat_cmp_total}
 use Rattle.std.specs.FinMap.{get, insert, remove, empty, entries, len, len-empty, len-entries, len-insert, len-remove, get-entries, entries-insert, find}
 use Rattle.std.specs.FinMap.Entries.{put, by_order}
+use Rattle.std.proofs.lemmas.List.{nil_from_length}
 use Rattle.own_model.specs.NatMap.{NatMap, total, picked, owed}
 use Rattle.own_model.proofs.NatMapLemmas.{natmaps, get-empty, get-insert, get-insert_same, get-insert_other, get-remove_same, insert-remove, insert_back, apart_from_free, before_remove, by_insertions, picked-empty, picked-insert_some, picked-insert_hidden, get-picked_none}
 
 -- ---- after a change
-
--- a list of length 0 is empty
-no_entries : {X : Type 0} (es : List X) → length es ≡ 0 → es ≡ []
-no_entries [] e = refl
-no_entries (x ∷ es) e = absurd (omega arith)
 
 -- the first of three numbers may be added last
 swapped : (a b c : ℕ) → a + (b + c) ≡ (b + c) + a
@@ -41,7 +37,7 @@ module _ {X : Type 0} where
   -- the sum over the empty map is 0
   pub total-empty : (f : X → ℕ) → total f (empty {R = nat_cmp}) ≡ 0
   unfolding total
-  total-empty f = ap (λ es. sum_by f (map (λ e. e.1) es)) (no_entries (entries (empty {R = nat_cmp})) (sym (len-entries empty) ∙ len-empty nat_cmp X))
+  total-empty f = ap (λ es. sum_by f (map (λ e. e.1) es)) (nil_from_length (entries (empty {R = nat_cmp})) (sym (len-entries empty) ∙ len-empty nat_cmp X))
 
   -- a value under a free key adds its own
   pub total-insert_new : (f : X → ℕ) (m : NatMap X) (k : ℕ) (v : X) → get m k ≡ None → total f (insert m k v) ≡ total f m + f v

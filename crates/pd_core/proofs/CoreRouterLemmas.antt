@@ -1,9 +1,10 @@
 -- Where the routes of components lead.
-use Rattle.std.proofs.Common.{◌≡◌, ℕ, ◌<◌, List, Option, None, Some, Err, length, map, get_or, refl, sym, ap, ◌∙◌, inl, inr, arith}
+use Rattle.std.proofs.Common.{◌≡◌, ℕ, ◌<◌, List, Option, None, Some, Err, length, map, get_or, sym, ap, ◌∙◌, inl, inr, arith}
 use Rattle.std.proofs.lemmas.Bool.{cases_lt}
 use Rattle.std.proofs.lemmas.Option.{none-some, same_Some}
 use Rattle.std.proofs.lemmas.List.{get_or-map, get_or_past, length-map}
 use Rattle.std.specs.Option.{option_map}
+use Rattle.own_model.proofs.NatMapLemmas.{nothing_from}
 use Rattle.trade_base.specs.declared.refusal.Refusal.TheVariants.{ServiceDenied}
 use Rattle.trade_base.specs.declared.service.Service.{Service}
 use Rattle.own_model.specs.Routes.{ServerAt, provider}
@@ -41,11 +42,6 @@ server_at components place kind is = elim (cases_lt place (length components)) [
   | inr past ↦ absurd (none-some kind (sym (get_or_past (map service_of components) place None (omega (arith, past, length-map components service_of))) ∙ is))
 ]
 
--- nothing is led where nothing is found
-nowhere : {X Y : Type 0} (f : X → Y) (o : Option X) → option_map f o ≡ None → o ≡ None
-nowhere f None none = refl
-nowhere f (Some x) none = absurd (none-some (f x) (sym none))
-
 module _ (places : Places) (leads : Leads) (store : Store) (components : List Component) (i : ℕ) (service label : List ℕ) (agrees : Agrees places leads store components) (here : i < length components) where
   -- where a component is led to a place, a server stands there of the service that its places lead to
   pub led_to_service : (place : ℕ) → leads i service label ≡ Some place →
@@ -58,7 +54,7 @@ module _ (places : Places) (leads : Leads) (store : Store) (components : List Co
 
   -- where it is led to none, its places lead to none
   pub led_to_none : leads i service label ≡ None → provider (places i).routes service label ≡ None
-  led_to_none led = nowhere Some (provider (places i).routes service label) (sym (agrees.each i service label here) ∙ ap (option_map (server_there components)) led)
+  led_to_none led = nothing_from Some (provider (places i).routes service label) (sym (agrees.each i service label here) ∙ ap (option_map (server_there components)) led)
 
   -- so its wish is denied
   pub denied_wish : (client text : List ℕ) (args : Arguments) → arguments_of text ≡ Some args → label ≡ args.label → leads i service label ≡ None →

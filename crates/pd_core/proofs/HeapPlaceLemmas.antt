@@ -5,6 +5,7 @@ use Rattle.std.proofs.lemmas.Option.{same_Some}
 use Rattle.std.specs.Prelude.{None}
 use Rattle.std.specs.Option.{option_map, option_and_then}
 use Rattle.std.specs.FinMap.{get, len}
+use Rattle.own_model.proofs.NatMapLemmas.{mapped_from}
 use Rattle.trade_base.specs.Bytes.{with_bytes}
 use Rattle.own_model.specs.Call.Call.{Peek, Poke}
 use Rattle.own_model.specs.HeapWindow.{heap_high, largest_machine}
@@ -18,7 +19,6 @@ use Rattle.own_model.proofs.StepBytesLemmas.{found_block, peeks_block, pokes_blo
 use Rattle.own_model.proofs.HeapStepLemmas.{not_both, payload_some, payload_within_range, heap_lies}
 use Rattle.own_model.proofs.Totals.{len-insert_at}
 use Rattle.cap_space.specs.Space.{Space}
-use Rattle.region_map.proofs.FoundLaws.{told_from}
 use Rattle.region_map.specs.Regions.{Regions}
 use Rattle.dataspace_core.specs.Store.{Store, Part, part, account_of, bytes_of, part_with_bytes, PartBecomes}
 use Rattle.dataspace_core.specs.Share.{share_in}
@@ -84,7 +84,7 @@ module _ {store : Store} {space : Space} {regions : Regions} {heap : Heap} (o : 
       let high = heap_high largest_machine in
       let within = payload_within_range high s.heap h.heap_parts (heap_lies s h) held.at held.payload held.starts in
       let long = payload_some high s.heap h.heap_parts (heap_lies s h) held.at held.payload held.starts in
-      let block = told_from (λ (e : Region × ℕ). record { of = 0; pages = e.0.pages }) (block_region (share_at a store regions) within.0) within.1.range
+      let block = mapped_from (λ (e : Region × ℕ). record { of = 0; pages = e.0.pages }) (block_region (share_at a store regions) within.0) within.1.range
       (sym (heap_blocks_are_regions heap store regions o.sound within.0) ∙ within.1.there) in
       let shared = region_of_block (share_at a store regions) within.0 block.0 block.1 in
       let low = low_tag (get (share_at a store regions).heap within.0) (get (share_at a store regions).tags within.0) (ap is_some block.1) in

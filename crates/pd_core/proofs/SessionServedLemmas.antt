@@ -1,5 +1,6 @@
 -- A request of a session that a selector names, by what it does to the session's buffer: that it goes as the model's.
-use Rattle.std.proofs.Common.{◌≡◌, ◌≢◌, ℕ, ◌+◌, ◌<◌, ◌≤◌, ◌++◌, List, Option, None, Some, length, get_or, set, codes, decimal, refl, sym, ap, subst, ◌∙◌, arith}
+use Rattle.std.proofs.Common.{◌≡◌, ◌≢◌, ℕ, ◌+◌, ◌<◌, ◌≤◌, ◌++◌, List, Option, None, Some, length, take, get_or, set, codes, decimal, refl, sym, ap, subst, ◌∙◌, arith}
+use Rattle.std.proofs.Math.Seq.{take-append_seam}
 use Rattle.std.proofs.lemmas.List.{get_or-set_other, get_or_default, length-append}
 use Rattle.std.specs.Prelude.{false}
 use Rattle.std.specs.FinMap.{get, insert, empty}
@@ -103,10 +104,13 @@ module _ (x : AnOpenSession) (request bytes : List ℕ) (makes : (served None x 
   is_told : reply_text (script_step (CallSession 1 request) state).reply ≡ codes "OK cap " ++ decimal (new_selector alone)
   is_told = ap reply_text ((requests_served state 1 x request no_lent has_it).made bytes none_found (ap (λ b. (served (bytes_of_buffer b) x request).buffer) none_found ∙ makes)).1
 
-  pub short_reply : length (served None x request).reply ≡ 7
-  short_reply =
-      let same = ap length (sym whole ∙ is_told) in
-      omega (arith, same, length-append (served None x request).reply (decimal (new_selector alone)), length-append (codes "OK cap ") (decimal (new_selector alone)))
+  pub lent_reply : (served None x request).reply ≡ codes "OK cap "
+  lent_reply =
+      let reply = (served None x request).reply in
+      let selector = decimal (new_selector alone) in
+      let same = sym whole ∙ is_told in
+      let long : length reply ≡ 7 = (let both = ap length same in omega (arith, both, length-append reply selector, length-append (codes "OK cap ") selector)) in
+      sym (take-append_seam reply selector) ∙ ap (λ n. take n (reply ++ selector)) long ∙ ap (take 7) same
 
 -- ---- a component that is another script
 
@@ -237,14 +241,13 @@ module _ {store : Store} (components : List Component) {i s : ℕ} {script : Scr
             let within = (sound.own.lawful all_sessions (λ q server session there. refl)).within.caps in
             subst HasSelectorLeft (sym same_role) (let placed = placed_more in omega (arith, placed, within, sound.own.paid.named))
 
-        -- the reply has room for its selector
-        pub has_room : (told : Told) → ((one : Row Labelled) → get (rows_of store host) session.0 ≡ Some one → told.text ≡ (row_served service_step request store one).text) → length told.text + 20 ≤ 2100
-        has_room told text =
+        -- the reply waits for its selector
+        pub is_lent : (told : Told) → ((one : Row Labelled) → get (rows_of store host) session.0 ≡ Some one → told.text ≡ (row_served service_step request store one).text) → told.text ≡ codes "OK cap "
+        is_lent told text =
             let bytes : (served None (row_session 0 its_row) request).buffer ≡ Some (lent_in store' space.0)
             = ap (λ b. (served (option_map (lent_in store) b) (row_session 0 its_row) request).buffer) (sym made.0) ∙ sym serves.bytes ∙ ap (option_map (lent_in store')) made.1 in
-            let is : told.text ≡ (served None (row_session 0 its_row) request).reply
-            = text its_row (there components two d host host_is q session names) ∙ ap (λ b. (served (option_map (lent_in store) b) (row_session 0 its_row) request).reply) made.0 in
-            omega (arith, ap length is, short_reply (row_session 0 its_row) request (lent_in store' space.0) bytes)
+            text its_row (there components two d host host_is q session names) ∙ ap (λ b. (served (option_map (lent_in store) b) (row_session 0 its_row) request).reply) made.0
+            ∙ lent_reply (row_session 0 its_row) request (lent_in store' space.0) bytes
 
         pub made_goes : (by : Selector) → by.0 ≡ q → (selector : Selector) (kept : Component) → selector.0 ≡ new_selector (caps_of (get_or (set components s host') i d')) →
             kept ≡ record (get_or (set components s host') i d') { role = with_buffer (get_or (set components s host') i d').role selector.0 space by } →

@@ -21,9 +21,8 @@ use Rattle.own_model.specs.Reply.Reply.{Attached, Done}
 use Rattle.own_model.specs.Sliced.{sliced_header, sliced_size, sliced_refusal, block_size, block_pages, ranges_of_blocks}
 use Rattle.own_model.specs.Sound.{LieApart}
 use Rattle.own_model.proofs.HeapRangeLemmas.{new_page, range_at}
-use Rattle.own_model.proofs.NatMapLemmas.{after_insert, before_remove, apart_from_free, get-insert_same, get-insert_other, get-remove_same, get-remove_other, some_of}
+use Rattle.own_model.proofs.NatMapLemmas.{after_insert, before_remove, apart_from_free, get-insert_same, get-insert_other, get-remove_same, get-remove_other, some_of, mapped_from}
 use Rattle.own_model.proofs.RegionLemmas.{first_gap_alike}
-use Rattle.region_map.proofs.FoundLaws.{told_from}
 use Rattle.region_map.specs.Regions.{Regions}
 use Rattle.cap_space.specs.declared.cap.Cap.TheVariants.{Dataspace}
 use Rattle.dataspace_core.specs.Store.{Store, part, account_in, account_of, space_at, root_in, parents_in, room_in, IsOpenIn}
@@ -316,7 +315,7 @@ module _ (store : Store) (script : Script) (sound : IsSoundScript store script) 
       tag =
           let payload : get (sliced_at store script) (given.start + sliced_header) ≡ Some given.payload = ap (get (sliced_at store script)) (sym given.at) ∙ given.was in
           let range = sym (same_ranges given.start) ∙ range_at (sliced_at store script) given.start given.payload payload in
-          let one = told_from (λ (r : Region). record { of = 0; pages = r.pages }) (get (block_regions (share_at script.account.0 store script.regions)) given.start) _ range in
+          let one = mapped_from (λ (r : Region). record { of = 0; pages = r.pages }) (get (block_regions (share_at script.account.0 store script.regions)) given.start) _ range in
           (shown_block script.account.0 store script.regions given.start one.0 one.1).tag
 
       -- the account is credited

@@ -9,6 +9,7 @@ use Rattle.own_model.specs.Reply.{Reply as Modelled, reply_text, log_text}
 use Rattle.own_model.specs.Reply.Reply.{Selected as ModelledSelected, Attached as ModelledAttached, Done as ModelledDone, Quotas as ModelledQuotas, Reserved as ModelledReserved, Refused as ModelledRefused}
 pub use Rattle.calls.specs.Quotas.{quotas_account, reserve_amounts}
 use Rattle.calls.specs.Told.{Told as Written}
+pub use Rattle.calls.specs.Told.{told_alone}
 use Rattle.pd_core.specs.declared.answer.Granted.{Granted}
 use Rattle.pd_core.specs.declared.answer.Granted.TheVariants.{Selected, Attached, Done, Quotas, Reserved}
 
@@ -42,10 +43,6 @@ told_of outcome = record { text = reply_text outcome.reply; lines = flat_map log
 -- a call that writes this reply and leaves this own state
 abbrev pub told : Written → OwnState → Told
 told reply next = record { text = reply.text; lines = reply.lines; next = next }
-
--- a reply of this text, without log lines
-abbrev pub told_alone : List ℕ → Written
-told_alone text = record { lines = []; text = text }
 
 -- the limits of the account that is told of a component are those of its account among inits' and of its own state's together: of
 -- an init its own state has none, and who is no init has none among inits'

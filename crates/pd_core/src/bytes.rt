@@ -6,7 +6,6 @@ ghost use Rattle.own_model.specs.Text.{bytes_of_hex, hex_bytes};
 ghost use Rattle.pd_core.specs.Bytes.{PutsBytes};
 ghost use Rattle.pd_core.specs.Answer.{told_alone};
 
-use crate::answer::tell_text;
 use calls::Reply;
 use dataspace_core::Memory;
 use text_codec::decode_hex;
@@ -52,7 +51,7 @@ fn tell_by<const N: usize>(
     let mut buffer = [0; N];
     let bytes = &mut buffer[..count];
     memory.read(space, offset, bytes);
-    tell_bytes(reply, bytes);
+    reply.write_bytes(bytes);
 }
 
 /// Puts the bytes that a text of hexadecimal digits stands for into a dataspace from an offset on.
@@ -85,13 +84,4 @@ fn put_by<const N: usize>(memory: &mut Memory, space: DsId, offset: u64, hex: &[
     let bytes = &mut buffer[..hex.len() / 2];
     decode_hex(hex, bytes);
     memory.write(space, offset, bytes);
-}
-
-/// Writes bytes in hexadecimal digits in place of what the reply was.
-fn tell_bytes(reply: &mut Reply, bytes: &[u8])
-    requires { length bytes.now ≤ MOST_BYTES }
-    ensures { reply.new ≡ told_alone (codes "data " ++ hex_text bytes.now) }
-{
-    tell_text(b"data ", reply);
-    reply.add_hex(bytes);
 }

@@ -1,7 +1,6 @@
 //! A component: what it is, and what its calls do.
 ghost use Rattle.std.specs.Prelude.{◌≡◌, ◌≤◌, length};
 
-use crate::answer::refuse;
 use crate::script::Script;
 use arrayvec::ArrayVec;
 use calls::{Call, LONGEST_CLIENT, Reply};
@@ -328,8 +327,8 @@ impl Component {
     {
         match &mut self.role {
             Role::Script(script) => script.step(memory, call, reply),
-            Role::Server(..) | Role::Init(_) => refuse(Refusal::NotAScript, reply),
-            Role::Gone => refuse(Refusal::Gone, reply),
+            Role::Server(..) | Role::Init(_) => reply.write_refusal(Refusal::NotAScript),
+            Role::Gone => reply.write_refusal(Refusal::Gone),
         }
     }
 }

@@ -70,7 +70,8 @@ impl<R: Router + Drop> Core<R> {
     }
 
     /// Carries a call out, and writes the log lines that it finishes and what it is answered in place of what the
-    /// reply was. Every other component's own state stays.
+    /// reply was: the text, and the outcome of which it is the rendering (`Reply::outcome`). Every other component's own state
+    /// stays.
     pub fn step(&mut self, component: usize, call: Call<'_>, reply: &mut Reply)
         requires component { component < length self.old.entries }
         requires call { IsWellFormed call }

@@ -5,7 +5,7 @@ ghost use Rattle.std.specs.Option.{option_map};
 ghost use Rattle.own_model.specs.Region.{resolved};
 
 use crate::accounts::quotas_of;
-use crate::answer::{Granted, refuse, tell};
+use crate::answer::{Granted, tell};
 use crate::bytes::{MOST_BYTES, put_hex, tell_range};
 use calls::{Call, Quotas, Reply};
 use cap_space::{Cap, CapSpace};
@@ -167,7 +167,7 @@ impl Script {
     {
         match self.range(memory, address, count) {
             Ok((space, offset)) => tell_range(reply, memory, space, offset, count as usize),
-            Err(refusal) => refuse(refusal, reply),
+            Err(refusal) => reply.write_refusal(refusal),
         }
     }
 

@@ -4,7 +4,7 @@ ghost use Rattle.own_model.specs.Call.Call.{CallSession as ModelledCallSession, 
 ghost use Rattle.pd_core.specs.Core.{Places, IsCoreAt};
 ghost use Rattle.pd_core.specs.SessionCalls.{Agrees, Goes, GoesWith};
 
-use crate::answer::{Granted, refuse};
+use crate::answer::Granted;
 use crate::component::{Component, Role};
 use crate::router::Router;
 use calls::{Reply, label_of};
@@ -81,9 +81,9 @@ pub(crate) fn call(
 {
     let (entry, session) = match components[caller].session(selector) {
         Ok(named) => named,
-        Err(refusal) => return refuse(refusal, reply),
+        Err(refusal) => return reply.write_refusal(refusal),
     };
-    reply.clear();
+    reply.clear_lines();
     let Role::Server(_, host) = &mut components[entry].role else {
         unreachable!()
     };
@@ -91,7 +91,7 @@ pub(crate) fn call(
         Effect::Nothing => {}
         Effect::Buffer(space) => {
             let kept = components[caller].keep_buffer(space, Selector(selector as u32));
-            reply.add_number(kept.0 as u64);
+            reply.add_selector(kept);
         }
         Effect::Gone(space) => components[caller].drop_buffer(space),
     }

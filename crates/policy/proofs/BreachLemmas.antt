@@ -1,9 +1,11 @@
 -- What the reach of a server says of a demand.
-use Rattle.std.proofs.Common.{◌≡◌, ℕ, ◌<◌, ◌≤◌, ◌+◌, zero, suc, Bool, true, false, List, [], Option, Some, None, refl, sym, subst, ap, ◌∙◌, arith, ◌⊎◌, inl, inr}
-use Rattle.std.specs.Prelude.{MatchOption}
+use Rattle.std.proofs.Common.{◌≡◌, ℕ, ◌+◌, suc, List, [], ◌++◌, Option, refl, sym, subst, arith}
 use Rattle.own_model.specs.Listed.{Listed}
 use Rattle.reach.specs.Reach.{AllLead, IsGiven, IsShortest}
-use Rattle.policy.specs.Demand.{LeadsThere}
+use Rattle.std.specs.Option.{option_to_list}
+use Rattle.policy.specs.Demand.{FindsAt, FindsBelow, FindsFor, FindsOne, LeadsThere}
+use Rattle.policy.specs.Reading.{LineAt}
+use Rattle.policy.specs.declared.breach.Breach.{Breach}
 
 given_nothing : IsGiven []
 given_nothing = record { short = omega arith; plain = refl }
@@ -17,18 +19,27 @@ pub some_there : (list : Listed) (client : ℕ) (service : List ℕ) (server : �
     → IsShortest list client service server label → LeadsThere list client service server label
 some_there list client service server label is = record { given = is.given; leads = is.leads }
 
-below_or_at : (n most : ℕ) → n < most + 1 → (n < most) ⊎ (n ≡ most)
-below_or_at zero zero within = inr refl
-below_or_at zero (suc most) within = inl (omega arith)
-below_or_at (suc n) zero within = absurd (omega arith)
-below_or_at (suc n) (suc most) within = elim (below_or_at n most (omega arith)) [ inl less ↦ inl (omega arith) | inr same ↦ inr (ap suc same) ]
+next : (n : ℕ) → suc n ≡ n + 1
+next n = omega arith
 
--- what holds below a bound and at it holds below the next
-pub one_more : (P : ℕ → Type 0) (place : ℕ) → ((n : ℕ) → n < place → P n) → P place → (n : ℕ) → n < place + 1 → P n
-one_more P place before here n less =
-    elim (below_or_at n place less) [ inl below ↦ before n below | inr same ↦ subst P (sym same) here ]
+-- what is found at one number more comes after what was found
+pub below_more : (finds : ℕ → List Breach → Type 0) (n : ℕ) (front last : List Breach) → FindsBelow finds n front → finds n last
+    → FindsBelow finds (n + 1) (front ++ last)
+below_more finds n front last before here =
+    subst (λ (m : ℕ). FindsBelow finds m (front ++ last)) (next n) (front, last, refl, before, here)
 
--- what is promised where nothing is given
-pub none_given : {T : Type 0} → (P : Type 0) (Q : T → Type 0) (o : Option T) → o ≡ None → MatchOption o P Q → P
-none_given P Q None is holds = holds
-none_given P Q (Some x) is holds = cc
+-- the same of a client and a server
+pub pair_more : (list : Listed) (line : LineAt) (client n : ℕ) (front found : List Breach) (one : Option Breach)
+    → FindsBelow (FindsOne list line client) n front → FindsAt list line client n one → found ≡ front ++ option_to_list one
+    → FindsBelow (FindsOne list line client) (n + 1) found
+pair_more list line client n front found one before here is =
+    subst (λ (all : List Breach). FindsBelow (FindsOne list line client) (n + 1) all) (sym is)
+    (below_more (FindsOne list line client) n front (option_to_list one) before (one, refl, here))
+
+-- the same of a client and each server
+pub client_more : (list : Listed) (line : LineAt) (n : ℕ) (front last found : List Breach)
+    → FindsBelow (FindsFor list line) n front → FindsFor list line n last → found ≡ front ++ last
+    → FindsBelow (FindsFor list line) (n + 1) found
+client_more list line n front last found before here is =
+    subst (λ (all : List Breach). FindsBelow (FindsFor list line) (n + 1) all) (sym is)
+    (below_more (FindsFor list line) n front last before here)

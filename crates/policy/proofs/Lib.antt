@@ -1,1 +1,2 @@
 pub mod BreachLemmas
+pub mod ReadingLemmas

@@ -1,1 +1,4 @@
+pub mod Reading
 pub mod Demand
+pub mod Status
+pub mod Claims

@@ -2,20 +2,23 @@
 ghost use Rattle.std.specs.Prelude.{◌≡◌};
 ghost use Rattle.std.specs.List.{list_any};
 ghost use Rattle.policy.specs.Demand.{concerns, is_only, is_script, names, same_number};
+ghost use Rattle.policy.specs.Reading.{line_at};
 
 use reach::Label;
 use start_lists::{Binary, StartList};
 
-/// What is demanded of the wishes of scripts for a server.
+/// What is demanded of the requests of scripts to a server.
 #[derive(Drop)]
 pub enum Demand {
-    /// No label leads them there.
+    /// No label is routed there.
     Deny,
-    /// Some label leads them there.
+    /// This one isn't.
+    DenyWith(Label),
+    /// Some label is routed there.
     Allow,
-    /// This one does.
+    /// This one is.
     AllowWith(Label),
-    /// No label leads any other script there.
+    /// No label of any other script is routed there.
     Only,
 }
 
@@ -32,10 +35,9 @@ pub struct Line {
     pub to: Vec<usize>,
 }
 
-// Whether a line is about the wishes of a component for a server: `only` is about those of all scripts that it doesn't name.
+// Whether a line is about the requests of a component to a server: `only` is about those of all scripts that it doesn't name.
 pub(crate) fn concerns(list: &StartList, line: &Line, client: usize, server: usize) -> bool
-    ensures { result ≡ concerns list.now line.now.demand line.now.from.items line.now.to.items
-        client server }
+    ensures { result ≡ concerns list.now (line_at line.now) client server }
 {
     if !names(line.to.as_slice(), server) {
         return false;
@@ -52,7 +54,7 @@ fn is_only(demand: &Demand) -> bool
     ensures { result ≡ is_only demand.now }
 {
     match demand {
-        Demand::Deny | Demand::Allow | Demand::AllowWith(_) => false,
+        Demand::Deny | Demand::DenyWith(_) | Demand::Allow | Demand::AllowWith(_) => false,
         Demand::Only => true,
     }
 }

@@ -13,10 +13,8 @@ pub enum Flaw<'a> {
     TooMuch,
     /// The label can't be given, or isn't between quotes.
     BadLabel,
-    /// A path stands for nobody who is sought.
+    /// A path denotes nobody who is sought.
     Unnamed(Unnamed<'a>),
-    /// The host has no room.
-    NoMemory,
 }
 
 impl fmt::Display for Flaw<'_> {
@@ -25,11 +23,10 @@ impl fmt::Display for Flaw<'_> {
             Flaw::NoDemand => f.write_str("expected `deny`, `allow` or `only` and a component"),
             Flaw::NoArrow => f.write_str("expected `->` after the clients"),
             Flaw::TooMuch => f.write_str(
-                "unexpected text after the servers; only `allow` takes `with label \"..\"`",
+                "unexpected text after the servers; `deny` and `allow` take `with label \"..\"`",
             ),
             Flaw::BadLabel => f.write_str("expected a label in quotes that a client can give"),
             Flaw::Unnamed(fault) => write!(f, "{fault}"),
-            Flaw::NoMemory => f.write_str("out of memory"),
         }
     }
 }

@@ -1,164 +1,278 @@
 //! The text of a policy, line by line.
+ghost use Rattle.std.specs.Prelude.{◌≡◌, ◌+◌, ◌++◌, map, Err, IsSome, IfOk, OnOk};
+ghost use Rattle.std.specs.Option.{option_copied};
+ghost use Rattle.std.specs.Result.{result_map_both};
+ghost use Rattle.reach.specs.Paths.{fault_of};
+ghost use Rattle.policy.specs.Reading.{HasBadPath, Reads, before_end, demand_of, denied, allowed, ending_at, ending_of, fault_at, faults_said, flaw_at, front, head_of, label_of, line_at, line_from, line_of, lines_said, only_allowed, parts_at, parts_of, quoted_of, rest, said};
+
 use crate::demand::{Demand, Line};
 use crate::fault::{Flaw, PolicyFault};
-use reach::{Label, Sought, numbers};
+use reach::{Label, Sought, Unnamed, numbers, pieces, trimmed};
 use start_lists::StartList;
-use std::alloc::Global;
+use std::alloc::{AllocError, Global};
+use text_codec::find_byte;
 
-/// A policy: its lines in order.
+/// A policy: its lines in order, and what is wrong with its other lines.
 #[derive(Drop)]
-pub struct Policy {
+pub struct Policy<'a> {
     lines: Vec<Line>,
+    faults: Vec<PolicyFault<'a>>,
 }
 
-impl Policy {
-    /// The policy that a text is for a start list, or why it is none.
-    pub fn read<'a>(
-        alloc: Global,
-        list: &StartList,
-        text: &'a str,
-    ) -> Result<Policy, PolicyFault<'a>> {
-        let mut lines = Vec::new(alloc);
-        let mut number: usize = 0;
-        for line in text.split('\n') {
-            number = number.saturating_add(1);
-            let told = without_comment(line);
-            if told.is_empty() {
-                continue;
-            }
-            if let Err(flaw) = add_line(alloc, list, &mut lines, number, told) {
-                return Err(PolicyFault { line: number, flaw });
-            }
+impl<'a> Policy<'a> {
+    /// Reads the policy that a text is for a start list. An error is a lack of memory.
+    pub fn read(alloc: Global, list: &StartList, text: &'a [u8]) -> Result<Policy<'a>, AllocError>
+        ensures { IfOk result (Reads list.now text.now) }
+    {
+        let texts = pieces(alloc, text, b'\n')?;
+        let mut policy = Policy {
+            lines: Vec::new(alloc),
+            faults: Vec::new(alloc),
+        };
+        for place in 0..texts.len() {
+            policy.add(alloc, list, place + 1, texts[place])?;
         }
-        Ok(Policy { lines })
+        Ok(policy)
     }
 
-    /// Its lines.
-    pub fn lines(&self) -> &[Line] {
+    /// Returns its lines.
+    pub fn lines(&self) -> &[Line]
+        ensures { result.now ≡ self.now.lines.items }
+    {
         self.lines.as_slice()
     }
-}
 
-// Adds the line of a text.
-fn add_line<'a>(
-    alloc: Global,
-    list: &StartList,
-    lines: &mut Vec<Line>,
-    number: usize,
-    text: &'a str,
-) -> Result<(), Flaw<'a>> {
-    let line = read_line(alloc, list, number, text)?;
-    match lines.push(line) {
-        Ok(()) => Ok(()),
-        Err(_) => Err(Flaw::NoMemory),
+    /// Returns what is wrong with its other lines.
+    pub fn faults(&self) -> &[PolicyFault<'a>]
+        ensures { result.now ≡ self.now.faults.items }
+    {
+        self.faults.as_slice()
+    }
+
+    // Adds what a line of a number says, or what is wrong with it.
+    fn add(
+        &mut self,
+        alloc: Global,
+        list: &StartList,
+        number: usize,
+        text: &'a [u8],
+    ) -> Result<(), AllocError>
+        ensures lines { OnOk result (map line_at self.new.lines.items
+            ≡ map line_at self.old.lines.items ++ lines_said (said list.now number text.now)) }
+        ensures faults { OnOk result (map fault_at self.new.faults.items
+            ≡ map fault_at self.old.faults.items ++ faults_said number (said list.now number text.now)) }
+    {
+        let (head, quoted) = parted(text);
+        if head.is_empty() && quoted.is_none() {
+            return Ok(());
+        }
+        match read_line(alloc, list, number, head, quoted)? {
+            Ok(line) => self.lines.push(line)?,
+            Err(flaw) => self.faults.push(PolicyFault { line: number, flaw })?,
+        }
+        Ok(())
     }
 }
 
-// A line without its comment, and without blanks around it. A `#` between quotes begins none.
-fn without_comment(line: &str) -> &str {
-    let told = match line.split_once('"') {
-        Some((front, _)) if front.contains('#') => front_of(line),
-        Some((_, rest)) => match rest.split_once('"') {
-            Some((_, end)) => before(line, comment_length(end)),
-            None => line,
-        },
-        None => front_of(line),
-    };
-    told.trim_ascii()
+// What is demanded, and the paths of scripts and servers.
+#[derive(Drop)]
+struct Parts<'a> {
+    demand: Demand,
+    from: &'a [u8],
+    to: &'a [u8],
 }
 
-// A text up to its first `#`.
-fn front_of(text: &str) -> &str {
-    match text.split_once('#') {
-        Some((front, _)) => front,
-        None => text,
-    }
-}
-
-// How many bytes the first `#` of a text and what stands behind it take.
-fn comment_length(text: &str) -> usize {
-    match text.split_once('#') {
-        Some((_, comment)) => comment.len().saturating_add(1),
-        None => 0,
-    }
-}
-
-// A text without so many bytes at its end.
-fn before(text: &str, bytes: usize) -> &str {
-    match text.split_at_checked(text.len().saturating_sub(bytes)) {
-        Some((front, _)) => front,
-        None => text,
-    }
-}
-
-// The line of a text that has neither a comment nor blanks around it.
+// The line of a head and what comes after its quote.
 fn read_line<'a>(
     alloc: Global,
     list: &StartList,
     number: usize,
-    text: &'a str,
-) -> Result<Line, Flaw<'a>> {
-    let Some((verb, rest)) = text.split_once(' ') else {
-        return Err(Flaw::NoDemand);
+    head: &'a [u8],
+    quoted: Option<&'a [u8]>,
+) -> Result<Result<Line, Flaw<'a>>, AllocError>
+    ensures { IfOk result (λ read. result_map_both line_at flaw_at read
+        ≡ line_from list.now number head.now (option_copied quoted.entry)) }
+{
+    match parts_of(head, quoted) {
+        Ok(parts) => line_of(alloc, list, number, parts),
+        Err(flaw) => Ok(Err(flaw)),
+    }
+}
+
+// The line of parts, with the numbers of all that their paths denote.
+#[tactic(auto, using(crate::proofs::ReadingLemmas::path_flaw))]
+fn line_of<'a>(
+    alloc: Global,
+    list: &StartList,
+    number: usize,
+    parts: Parts<'a>,
+) -> Result<Result<Line, Flaw<'a>>, AllocError>
+    ensures { IfOk result (λ read. result_map_both line_at flaw_at read
+        ≡ line_of list.now number (parts_at parts.entry)) }
+{
+    let Parts { demand, from, to } = parts;
+    let from = match numbers(alloc, list, from, Sought::Script) {
+        Ok(from) => from,
+        Err(fault) => return bad_path(fault),
     };
-    let Some((from, rest)) = rest.split_once("->") else {
-        return Err(Flaw::NoArrow);
+    let to = match numbers(alloc, list, to, Sought::Server) {
+        Ok(to) => to,
+        Err(fault) => return bad_path(fault),
     };
-    let (to, more) = parted(rest.trim_ascii());
-    let demand = demand_of(verb, more)?;
-    let from = named(alloc, list, from, Sought::Script)?;
-    let to = named(alloc, list, to, Sought::Server)?;
-    Ok(Line {
+    Ok(Ok(Line {
         number,
         demand,
         from,
         to,
-    })
+    }))
 }
 
-// The numbers of all that paths stand for.
-fn named<'a>(
-    alloc: Global,
-    list: &StartList,
-    paths: &'a str,
-    sought: Sought,
-) -> Result<Vec<usize>, Flaw<'a>> {
-    match numbers(alloc, list, paths, sought) {
-        Ok(found) => Ok(found),
-        Err(fault) => Err(Flaw::Unnamed(fault)),
+// The flaw of a path that denotes nobody, unless the host is out of memory.
+fn bad_path<'a>(fault: Unnamed<'a>) -> Result<Result<Line, Flaw<'a>>, AllocError>
+    ensures path { IfOk result (λ _. IsSome (fault_of fault.entry)) }
+    ensures flaw { IfOk result (λ read. result_map_both line_at flaw_at read
+        ≡ Err (HasBadPath (fault_of fault.entry))) }
+{
+    match fault {
+        Unnamed::NoMemory => Err(AllocError),
+        Unnamed::Nobody(path, near) => Ok(Err(Flaw::Unnamed(Unnamed::Nobody(path, near)))),
+        Unnamed::NoScript(path) => Ok(Err(Flaw::Unnamed(Unnamed::NoScript(path)))),
+        Unnamed::NoServer(path) => Ok(Err(Flaw::Unnamed(Unnamed::NoServer(path)))),
     }
 }
 
-// A text up to its first space, and what stands behind that.
-fn parted(text: &str) -> (&str, Option<&str>) {
-    match text.split_once(' ') {
-        Some((word, more)) => (word, Some(more.trim_ascii())),
+// A line up to its label or its comment, and what comes after the quote of its label.
+fn parted(line: &[u8]) -> (&[u8], Option<&[u8]>)
+    ensures head { result.0.now ≡ head_of line.now }
+    ensures quoted { option_copied result.1 ≡ quoted_of line.now }
+{
+    let (start, quoted) = cut(b'"', line);
+    let (head, comment) = cut(b'#', start);
+    match comment {
+        Some(_) => (trimmed(head), None),
+        None => (trimmed(head), quoted),
+    }
+}
+
+// The demand and the paths of a head and what comes after its quote.
+fn parts_of<'a>(head: &'a [u8], quoted: Option<&'a [u8]>) -> Result<Parts<'a>, Flaw<'a>>
+    ensures { result_map_both parts_at flaw_at result ≡ parts_of head.now (option_copied quoted.entry) }
+{
+    let (verb, Some(paths)) = cut(b' ', head) else {
+        return Err(Flaw::NoDemand);
+    };
+    let (from, Some(to)) = cut(b'>', paths) else {
+        return Err(Flaw::NoArrow);
+    };
+    let Some(from) = before_end(b"-", from) else {
+        return Err(Flaw::NoArrow);
+    };
+    let Ending { to, label } = ending_of(to, quoted)?;
+    let demand = demand_of(verb, label)?;
+    Ok(Parts { demand, from, to })
+}
+
+// The paths of servers, and the label, if there is one.
+#[derive(Drop)]
+struct Ending<'a> {
+    to: &'a [u8],
+    label: Option<Label>,
+}
+
+// What comes after an arrow: paths, and then, if there is a quote, a label.
+fn ending_of<'a>(to: &'a [u8], quoted: Option<&'a [u8]>) -> Result<Ending<'a>, Flaw<'a>>
+    ensures { result_map_both ending_at flaw_at result ≡ ending_of to.now (option_copied quoted.entry) }
+{
+    let Some(quoted) = quoted else {
+        return Ok(Ending { to, label: None });
+    };
+    let Some(to) = before_end(b" with label", to) else {
+        return Err(Flaw::TooMuch);
+    };
+    let label = Some(label_of(quoted)?);
+    Ok(Ending { to, label })
+}
+
+// The label up to a second quote, if only a comment follows.
+fn label_of<'a>(quoted: &'a [u8]) -> Result<Label, Flaw<'a>>
+    ensures { result_map_both (λ label. label) flaw_at result ≡ label_of quoted.now }
+{
+    let (text, Some(behind)) = cut(b'"', quoted) else {
+        return Err(Flaw::BadLabel);
+    };
+    let (behind, _) = cut(b'#', behind);
+    if !trimmed(behind).is_empty() {
+        return Err(Flaw::BadLabel);
+    }
+    match Label::read(text) {
+        Some(label) => Ok(label),
+        None => Err(Flaw::BadLabel),
+    }
+}
+
+// The demand of a word, with a label, if there is one.
+fn demand_of<'a>(verb: &[u8], label: Option<Label>) -> Result<Demand, Flaw<'a>>
+    ensures { result_map_both (λ demand. demand) flaw_at result ≡ demand_of verb.now label }
+{
+    if verb == b"deny".as_slice() {
+        Ok(denied(label))
+    } else if verb == b"allow".as_slice() {
+        Ok(allowed(label))
+    } else if verb == b"only".as_slice() {
+        only_allowed(label)
+    } else {
+        Err(Flaw::NoDemand)
+    }
+}
+
+// That no label is let through, or that this one isn't.
+fn denied(label: Option<Label>) -> Demand
+    ensures { result ≡ denied label }
+{
+    match label {
+        Some(label) => Demand::DenyWith(label),
+        None => Demand::Deny,
+    }
+}
+
+// That some label is let through, or that this one is.
+fn allowed(label: Option<Label>) -> Demand
+    ensures { result ≡ allowed label }
+{
+    match label {
+        Some(label) => Demand::AllowWith(label),
+        None => Demand::Allow,
+    }
+}
+
+// That no other script's label is let through, unless a label is named.
+fn only_allowed<'a>(label: Option<Label>) -> Result<Demand, Flaw<'a>>
+    ensures { result_map_both (λ demand. demand) flaw_at result ≡ only_allowed label }
+{
+    match label {
+        Some(_) => Err(Flaw::TooMuch),
+        None => Ok(Demand::Only),
+    }
+}
+
+// A text before the first byte of a value, all of it if there is none, and what comes after that byte.
+fn cut(byte: u8, text: &[u8]) -> (&[u8], Option<&[u8]>)
+    ensures before { result.0.now ≡ front byte text.now }
+    ensures after { option_copied result.1 ≡ rest byte text.now }
+{
+    match find_byte(byte, text) {
+        Some(at) => (&text[..at], Some(&text[at + 1..])),
         None => (text, None),
     }
 }
 
-// The demand of a word, with what stands behind the paths.
-fn demand_of<'a>(verb: &str, more: Option<&str>) -> Result<Demand, Flaw<'a>> {
-    match (verb, more) {
-        ("deny", None) => Ok(Demand::Deny),
-        ("allow", None) => Ok(Demand::Allow),
-        ("allow", Some(more)) => Ok(Demand::AllowWith(label_of(more)?)),
-        ("only", None) => Ok(Demand::Only),
-        ("deny", Some(_)) | ("only", Some(_)) => Err(Flaw::TooMuch),
-        _ => Err(Flaw::NoDemand),
-    }
-}
-
-// The label of `with label ".."`.
-fn label_of<'a>(text: &str) -> Result<Label, Flaw<'a>> {
-    let Some(quoted) = text.strip_prefix("with label \"") else {
-        return Err(Flaw::TooMuch);
-    };
-    let Some(label) = quoted.strip_suffix('"') else {
-        return Err(Flaw::BadLabel);
-    };
-    match Label::read(label.as_bytes()) {
-        Some(label) => Ok(label),
-        None => Err(Flaw::BadLabel),
+// A text without its end, if it ends so.
+fn before_end<'a>(end: &[u8], text: &'a [u8]) -> Option<&'a [u8]>
+    ensures { option_copied result ≡ before_end end.now text.now }
+{
+    if text.ends_with(end) {
+        Some(&text[..text.len() - end.len()])
+    } else {
+        None
     }
 }

@@ -6,6 +6,7 @@ use Rattle.std.proofs.lemmas.Option.{none-some}
 use Rattle.std.specs.Prelude.{Option, None}
 use Rattle.std.specs.Option.{option_map}
 use Rattle.std.specs.FinMap.{get, insert, remove, empty, len}
+use Rattle.std.proofs.lemmas.Iterator.Adapters.{option_map_id}
 use Rattle.slab.specs.Slab.{Slab, Updates, slab_len}
 use Rattle.slab.specs.Slab as slab
 use Rattle.slab.proofs.SlabLemmas.{ContainsKey-within, Updates-with_value}
@@ -102,14 +103,9 @@ module _ {T : Type 0} where
         | inr there ↦ ap is_some (updates.others other there) ∙ present
       ]
 
-  -- what is read as it is stays
-  option_map-same : (o : Option T) → option_map (λ x. x) o ≡ o
-  option_map-same None = refl
-  option_map-same (Some x) = refl
-
   -- the map of the values as they are answers what the slab has
   pub get-map_of_same : (s : Slab T) (k : ℕ) → get (map_of (λ x. x) s) k ≡ slab.get s k
-  get-map_of_same s k = get-map_of (λ x. x) s k ∙ option_map-same (slab.get s k)
+  get-map_of_same s k = get-map_of (λ x. x) s k ∙ option_map_id (slab.get s k)
 
 -- what `grind` is told of a slab and its map
 pub ruleset slab_maps = (get-map_of, get-map_of_same, len-map_of, map_of-empty, map_of-insert, map_of-remove, map_of-with_value)

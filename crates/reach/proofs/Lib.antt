@@ -11,3 +11,5 @@ pub mod CandidateLemmas
 pub mod WishLemmas
 pub mod HeldLemmas
 pub mod LongerLemmas
+mod NamedLemmas
+pub mod ComparisonLemmas

@@ -9,3 +9,5 @@ pub mod Paths
 pub mod WishLaws
 pub mod Deciding
 pub mod Trails
+pub mod LabelSets
+pub mod Comparisons

@@ -64,7 +64,7 @@ fn all_named<'a>(
 ) -> Result<Vec<usize>, Unnamed<'a>> {
     let mut found = Vec::new(alloc);
     for paths in texts {
-        add_paths(alloc, list, &mut found, *paths, sought)?;
+        add_paths(alloc, list, &mut found, paths.as_bytes(), sought)?;
     }
     Ok(found)
 }

@@ -1,9 +1,13 @@
 //! Scripts and servers by the paths that people write.
+ghost use Rattle.std.specs.Prelude.{◌≡◌, Ok, IfErr, IfOk, IfSome};
+ghost use Rattle.reach.specs.Paths.{TellsWhy, denotes, denotes_at, fault_of, is_sought, numbers_for, numbers_of, numbers_of_path, why_unnamed};
+ghost use Rattle.reach.specs.declared.named.Unnamed.TheVariants.{NoMemory as NoRoom};
+
 use crate::near::near_path;
-use crate::paths::selects;
+use crate::paths::{pieces, selects, trimmed};
 use start_lists::{Binary, Entry, Path, StartList};
-use std::alloc::Global;
-use std::fmt;
+use std::alloc::{AllocError, Global};
+use std::{fmt, str};
 
 /// Who is sought by a path.
 #[derive(Clone, Copy)]
@@ -14,102 +18,160 @@ pub enum Sought {
     Server,
 }
 
-/// Why a path stands for nobody who is sought.
+/// Why a path denotes nobody who is sought.
 #[derive(Drop)]
 pub enum Unnamed<'a> {
     /// Nobody has this path; somebody has the other one, which is near.
-    Nobody(&'a str, Option<Path>),
+    Nobody(&'a [u8], Option<Path>),
     /// Who has this path is no script.
-    NoScript(&'a str),
+    NoScript(&'a [u8]),
     /// Who has this path is no server that provides its service.
-    NoServer(&'a str),
-    /// The host has no room.
+    NoServer(&'a [u8]),
+    /// The host is out of memory.
     NoMemory,
 }
 
 impl fmt::Display for Unnamed<'_> {
     fn fmt<W: fmt::Write>(&self, f: &mut fmt::Formatter<W>) -> fmt::Result {
         match self {
-            Unnamed::Nobody(path, Some(near)) => write!(
-                f,
-                "unknown component `{path}`; did you mean `{near}`?"
-            ),
-            Unnamed::Nobody(path, None) => write!(f, "unknown component `{path}`"),
-            Unnamed::NoScript(path) => write!(f, "expected a script, found `{path}`"),
-            Unnamed::NoServer(path) => {
-                write!(
-                    f,
-                    "expected a server that provides its service, found `{path}`"
-                )
+            Unnamed::Nobody(path, near) => {
+                write!(f, "unknown component `{}`", as_text(*path))?;
+                match near {
+                    Some(near) => write!(f, "; did you mean `{near}`?"),
+                    None => Ok(()),
+                }
             }
+            Unnamed::NoScript(path) => write!(f, "expected a script, found `{}`", as_text(*path)),
+            Unnamed::NoServer(path) => write!(
+                f,
+                "expected a server that provides its service, found `{}`",
+                as_text(*path)
+            ),
             Unnamed::NoMemory => f.write_str("out of memory"),
         }
     }
 }
 
-/// The numbers of all that paths stand for, which are parted by commas.
+impl<'a> From<AllocError> for Unnamed<'a> {
+    ghost from_gives = { λ _ fault. fault ≡ NoRoom };
+
+    fn from(_fault: AllocError) -> Unnamed<'a> {
+        Unnamed::NoMemory
+    }
+}
+
+// A path as text, if it is UTF-8.
+fn as_text(path: &[u8]) -> &str {
+    match str::from_utf8(path) {
+        Ok(text) => text,
+        Err(_) => "",
+    }
+}
+
+/// Returns the numbers of all that paths denote, which are parted by commas. Errors in order: the first path that denotes nobody
+/// who is sought; a lack of memory.
 pub fn numbers<'a>(
     alloc: Global,
     list: &StartList,
-    paths: &'a str,
+    paths: &'a [u8],
     sought: Sought,
-) -> Result<Vec<usize>, Unnamed<'a>> {
+) -> Result<Vec<usize>, Unnamed<'a>>
+    ensures found { IfOk result (λ found. numbers_of list.now sought paths.now ≡ Ok found.items) }
+    ensures fault { IfErr result (TellsWhy (numbers_of list.now sought paths.now)) }
+{
+    let pieces = pieces(alloc, paths, b',')?;
     let mut found = Vec::new(alloc);
-    add_paths(alloc, list, &mut found, paths, sought)?;
+    for place in 0..pieces.len() {
+        let more = numbers_of_path(alloc, list, trimmed(pieces[place]), sought)?;
+        found.extend_from_slice(more.as_slice())?;
+    }
     Ok(found)
 }
 
-/// Adds the numbers of all that paths stand for, which are parted by commas.
+/// Adds the numbers of all that paths denote, which are parted by commas.
 pub(crate) fn add_paths<'a>(
     alloc: Global,
     list: &StartList,
     found: &mut Vec<usize>,
-    paths: &'a str,
+    paths: &'a [u8],
     sought: Sought,
 ) -> Result<(), Unnamed<'a>> {
-    for path in paths.split(',') {
-        add_path(alloc, list, found, path.trim_ascii(), sought)?;
-    }
+    let more = numbers(alloc, list, paths, sought)?;
+    found.extend_from_slice(more.as_slice())?;
     Ok(())
 }
 
-// Adds the numbers of all that a path stands for.
-fn add_path<'a>(
+// The numbers of all that a path denotes.
+fn numbers_of_path<'a>(
     alloc: Global,
     list: &StartList,
-    found: &mut Vec<usize>,
-    path: &'a str,
+    path: &'a [u8],
     sought: Sought,
-) -> Result<(), Unnamed<'a>> {
-    let before = found.len();
-    for (number, entry) in list.entries().iter().enumerate() {
-        if selects(path.as_bytes(), entry.path()) && is_sought(entry, sought) {
-            if let Err(_) = found.push(number) {
-                return Err(Unnamed::NoMemory);
-            }
-        }
-    }
-    if before < found.len() {
-        Ok(())
-    } else {
+) -> Result<Vec<usize>, Unnamed<'a>>
+    ensures found { IfOk result (λ found. numbers_of_path list.now sought path.now ≡ Ok found.items) }
+    ensures fault { IfErr result (TellsWhy (numbers_of_path list.now sought path.now)) }
+{
+    let found = numbers_for(alloc, list, path, sought)?;
+    if found.is_empty() {
         Err(why_unnamed(alloc, list, path, sought))
+    } else {
+        Ok(found)
     }
 }
 
-// Why a path stands for nobody who is sought.
-fn why_unnamed<'a>(alloc: Global, list: &StartList, path: &'a str, sought: Sought) -> Unnamed<'a> {
-    match (list.find(path.as_bytes()), sought) {
+// The numbers of all that a path denotes, none if it denotes nobody who is sought.
+fn numbers_for(
+    alloc: Global,
+    list: &StartList,
+    path: &[u8],
+    sought: Sought,
+) -> Result<Vec<usize>, AllocError>
+    ensures { IfOk result (λ found. found.items ≡ numbers_for list.now sought path.now) }
+{
+    let mut found = Vec::new(alloc);
+    for number in 0..list.entries().len() {
+        if denotes_at(list, sought, path, number) {
+            found.push(number)?;
+        }
+    }
+    Ok(found)
+}
+
+// Whether a path denotes the component of a number, which is sought.
+fn denotes_at(list: &StartList, sought: Sought, path: &[u8], number: usize) -> bool
+    ensures { result ≡ denotes_at list.now sought path.now number }
+{
+    match list.entries().get(number) {
+        Some(entry) => denotes(sought, path, entry),
+        None => false,
+    }
+}
+
+// Whether a path denotes an entry that is sought.
+fn denotes(sought: Sought, path: &[u8], entry: &Entry) -> bool
+    ensures { result ≡ denotes sought path.now entry.now }
+{
+    selects(path, entry.path()) && is_sought(entry, sought)
+}
+
+// Why a path denotes nobody who is sought.
+fn why_unnamed<'a>(alloc: Global, list: &StartList, path: &'a [u8], sought: Sought) -> Unnamed<'a>
+    ensures { IfSome (fault_of result) (λ why. why ≡ why_unnamed list.now sought path.now) }
+{
+    match (list.find(path), sought) {
         (Some(_), Sought::Script) => Unnamed::NoScript(path),
         (Some(_), Sought::Server) => Unnamed::NoServer(path),
-        (None, _) => match near_path(alloc, list, path, sought) {
+        (None, _) => match near_path(alloc, list, as_text(path), sought) {
             Ok(near) => Unnamed::Nobody(path, near),
             Err(_) => Unnamed::NoMemory,
         },
     }
 }
 
-/// Whether an entry is of those that are sought.
-pub(crate) fn is_sought(entry: &Entry, sought: Sought) -> bool {
+/// Returns whether an entry is one of those that are sought.
+pub(crate) fn is_sought(entry: &Entry, sought: Sought) -> bool
+    ensures { result ≡ is_sought entry.now sought }
+{
     match (entry.binary(), sought) {
         (Binary::Script, Sought::Script) => true,
         (Binary::Server(_), Sought::Server) => entry.provides(),

@@ -1,16 +1,43 @@
-//! Which components a path stands for.
-ghost use Rattle.std.specs.Prelude.{◌≡◌, ◌<◌, length, true};
+//! Which components a path denotes.
+ghost use Rattle.std.specs.Prelude.{◌≡◌, ◌<◌, length, map, true, IfOk};
 ghost use Rattle.std.specs.List.{list_any};
-ghost use Rattle.reach.specs.Paths.{is_slash, is_within, selects, stands_for_all};
+ghost use Rattle.reach.specs.Paths.{denotes_tree, is_slash, is_within, pieces, selects, stands_for_all, trimmed};
 
-/// Whether a path stands for the component of a path: it is the same, or its last name is `*` and the component is of that list.
+use std::alloc::{AllocError, Global};
+
+/// Returns whether a path denotes the component of a path. A last name `*` denotes all of that list, and `**` all of that list and
+/// of the lists within it.
 pub fn selects(asked: &[u8], path: &[u8]) -> bool
     ensures { result ≡ selects asked.now path.now }
 {
+    if 2 <= asked.len() && denotes_tree(asked) {
+        return path.starts_with(&asked[..asked.len() - 2]);
+    }
     if asked.is_empty() || !stands_for_all(asked) {
         return asked == path;
     }
     is_within(&asked[..asked.len() - 1], path)
+}
+
+/// Returns the parts of a text between bytes of one value. An error is a lack of memory.
+pub fn pieces(alloc: Global, text: &[u8], byte: u8) -> Result<Vec<&[u8]>, AllocError>
+    ensures { IfOk result (λ found. map (λ piece. piece.now) found.items ≡ pieces byte text.now) }
+{
+    text.split(|b| *b == byte).collect(alloc)
+}
+
+/// Returns a text without the blanks at its front and at its end.
+pub fn trimmed(text: &[u8]) -> &[u8]
+    ensures { result.now ≡ trimmed text.now }
+{
+    text.trim_ascii()
+}
+
+// Whether the last name of a path is `**`.
+fn denotes_tree(asked: &[u8]) -> bool
+    ensures { result ≡ denotes_tree asked.now }
+{
+    asked == b"**".as_slice() || asked.ends_with(b"/**")
 }
 
 // Whether the last name of a path is `*`.

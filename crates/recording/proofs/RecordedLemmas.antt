@@ -2,6 +2,7 @@
 use Rattle.std.proofs.Common.{◌≡◌, ℕ, ◌<◌, ◌≤◌, nat_le, nat_lt, cond, not, ◌&&◌, Bool, true, false, is_some, List, [], ◌∷◌, length, Option, Some, None, Result, Ok, Err, IfOk, OnOk, arith, ap, refl, subst, sym, ◌∙◌}
 use Rattle.std.specs.List.{flat_map}
 use Rattle.std.proofs.lemmas.Bool.Decides.{nat_tests}
+use Rattle.line_steps.specs.Stand.{Stand, arrived, passed}
 use Rattle.own_model.specs.Listed.{Listed, start_list_of}
 use Rattle.own_model.specs.Reply.{log_text}
 use Rattle.own_model.specs.StartList.{Boots}
@@ -18,25 +19,24 @@ use Rattle.scenario_names.specs.Filling.{Filled, filled}
 use Rattle.scenario_names.specs.Known.{Known}
 use Rattle.scenario_names.specs.declared.fault.NameFault.{NameFault}
 use Rattle.recording.specs.Marked.{TurnsTo, all_marked, marks_after, unmarked}
-use Rattle.recording.specs.Played.{Deed, Hearing, Stage, deed_by, deed_filled, deed_of, deed_said, events, first_stage, hearing_of, met_in, number_behind, passed, reply_in, stage_after, stage_behind}
+use Rattle.recording.specs.Played.{Deed, Hearing, Stage, deed_by, deed_filled, deed_of, deed_said, events, first_stage, hearing_of, line_passed, met_in, reply_in, rounds_passed, stage_after, stage_behind}
 use Rattle.recording.specs.Played.Deed.{Passes, Follows, Awaits, Calls}
 use Rattle.recording.specs.Played.Meeting.{Hears}
 use Rattle.recording.specs.Recorded.{IsRecorded, Mark, pieces_of, recorded, without_last, written_lines}
 use Rattle.recording.specs.Views.{hearing_view, stage_in}
 use Rattle.recording.specs.declared.hearing.Hearing.{Hearing as Heard}
 use Rattle.recording.specs.declared.recording.Recording.{Recording}
-use Rattle.recording.specs.declared.stand.Stand.{Stand}
 use Rattle.recording.proofs.MarkLemmas.{marked_on, marks_in_all}
 
 -- no line changes who is there
-entries_by : (stage : Stage) (deed : Deed) → (stage_after (passed stage) deed).world.entries ≡ stage.world.entries
+entries_by : (stage : Stage) (deed : Deed) → (stage_after (line_passed stage) deed).world.entries ≡ stage.world.entries
 entries_by stage Passes = refl
 entries_by stage (Follows directive) = refl
 entries_by stage Awaits = refl
 entries_by stage (Calls filled call reply) = refl
 
 pub entries_behind : (stage : Stage) (line : List ℕ) → (stage_behind stage line).world.entries ≡ stage.world.entries
-entries_behind stage line = entries_by stage (deed_of stage.known line)
+entries_behind stage line = entries_by stage (deed_of stage.stand.known line)
 
 -- ---- the turn of a line
 
@@ -93,7 +93,7 @@ turned_over (Err fault) all number deed old new before after is stays same = tt
 
 -- a call as it was heard
 pub heard_is : (all : Bool) (stage : Stage) (made : Filled) (call : List ℕ) (expected : Option (List ℕ)) (heard : Heard) (reply lines : List ℕ) →
-    heard.known.now ≡ stage.known → heard.binds ≡ nat_lt 0 (length made.holes) → heard.expects ≡ is_some expected → heard.call.now ≡ call →
+    heard.known.now ≡ stage.stand.known → heard.binds ≡ nat_lt 0 (length made.holes) → heard.expects ≡ is_some expected → heard.call.now ≡ call →
     heard.reply.now ≡ reply → heard.lines.now ≡ cond (stage.awaits && not all) [] lines → reply ≡ reply_in stage.world call →
     lines ≡ flat_map log_text (finished_lines stage.world (heard_call stage.world.entries call)) →
     hearing_view heard ≡ hearing_of all stage made call expected
@@ -111,56 +111,63 @@ called {number = number} {before = before} h is next_is after_is = record {
 
 -- ---- a line is passed, and then played
 
-pub passed_in : (old new : Stand) (world : World) → new.number ≡ number_behind old.number → new.known ≡ old.known → new.awaits ≡ old.awaits →
-    stage_in new world ≡ passed (stage_in old world)
-passed_in old new world number known awaits = rw (number, known, awaits) refl
+pub same_stage : (world : World) {old new : Stand} {awaits now_awaits : Bool} → new ≡ old → now_awaits ≡ awaits →
+    stage_in new now_awaits world ≡ stage_in old awaits world
+same_stage world stands same = λ i. record { stand = stands i; world = world; awaits = same i }
 
-met_passed : (all : Bool) (number : ℕ) (stage : Stage) (deed : Deed) → met_in all number (passed stage) deed ≡ met_in all number stage deed
+pub passed_in : (old new : Stand) (awaits : Bool) (world : World) → new ≡ passed old → stage_in new awaits world ≡ line_passed (stage_in old awaits world)
+passed_in old new awaits world is = ap (λ s. stage_in s awaits world) is
+
+met_passed : (all : Bool) (number : ℕ) (stage : Stage) (deed : Deed) → met_in all number (line_passed stage) deed ≡ met_in all number stage deed
 met_passed all number stage Passes = refl
 met_passed all number stage (Follows directive) = refl
 met_passed all number stage Awaits = refl
 met_passed all number stage (Calls filled call reply) = refl
 
-pub played_stage : {E : Type 0} (r : Result Unit E) (all : Bool) (number : ℕ) (line : List ℕ) (old stage new : Stage) (before after : List Mark)
-    (known : Known) → stage ≡ passed old → known ≡ old.known → OnOk r (TurnsTo all number (deed_of known line) stage new before after) →
-    OnOk r (new ≡ stage_behind old line)
-played_stage (Ok done) all number line old stage new before after known is same turned =
-    turned.stage ∙ ap (λ s. stage_after s (deed_of known line)) is ∙ ap (λ k. stage_after (passed old) (deed_of k line)) same
-played_stage (Err fault) all number line old stage new before after known is same turned = tt
+on_ok : {E : Type 0} (r : Result Unit E) {P : Type 0} → P → OnOk r P
+on_ok (Ok done) p = p
+on_ok (Err fault) p = tt
 
-pub played_marks : {E : Type 0} (r : Result Unit E) (all : Bool) (line : List ℕ) (old stage new : Stage) (before after : List Mark)
-    (number : ℕ) (known : Known) → stage ≡ passed old → known ≡ old.known → number ≡ old.number →
-    OnOk r (TurnsTo all number (deed_of known line) stage new before after) →
-    OnOk r (after ≡ all_marked (met_in all old.number old (deed_of old.known line)) before)
-played_marks (Ok done) all line old stage new before after number known is same numbered turned =
-    turned.marks
-    ∙ ap (λ s. all_marked (met_in all number s (deed_of known line)) before) is
-    ∙ ap (λ es. all_marked es before) (met_passed all number old (deed_of known line))
-    ∙ rw (same, numbered) refl
-played_marks (Err fault) all line old stage new before after number known is same numbered turned = tt
+pub played_stage : {E : Type 0} (r : Result Unit E) (all : Bool) (number : ℕ) (line : List ℕ) (old stage mid : Stage) (before after : List Mark)
+    (next : Stand) → stage ≡ line_passed old → TurnsTo all number (deed_of stage.stand.known line) stage mid before after → OnOk r (next ≡ arrived mid.stand) →
+    OnOk r (stage_in next mid.awaits mid.world ≡ stage_behind old line)
+played_stage (Ok done) all number line old stage mid before after next is turned arrives =
+    ap (λ s. stage_in s mid.awaits mid.world) arrives
+    ∙ ap rounds_passed (turned.stage ∙ ap (λ (s : Stage). stage_after s (deed_of s.stand.known line)) is)
+played_stage (Err fault) all number line old stage mid before after next is turned arrives = tt
+
+pub played_marks : {E : Type 0} (r : Result Unit E) (all : Bool) (line : List ℕ) (old stage mid : Stage) (before after : List Mark)
+    (number : ℕ) → stage ≡ line_passed old → number ≡ old.stand.number →
+    TurnsTo all number (deed_of stage.stand.known line) stage mid before after →
+    OnOk r (after ≡ all_marked (met_in all old.stand.number old (deed_of old.stand.known line)) before)
+played_marks r all line old stage mid before after number is numbered turned =
+    on_ok r
+    (turned.marks
+    ∙ ap (λ (s : Stage). all_marked (met_in all number s (deed_of s.stand.known line)) before) is
+    ∙ ap (λ es. all_marked es before) (met_passed all number old (deed_of old.stand.known line))
+    ∙ ap (λ n. all_marked (met_in all n old (deed_of old.stand.known line)) before) numbered)
 
 -- a line more is played
 pub one_more : (whole marks now : List Mark) (all all' : Bool) (stage next : Stage) (text line : List ℕ) (behind : List (List ℕ)) →
     whole ≡ all_marked (events all stage (pieces_of text)) marks → pieces_of text ≡ line ∷ behind →
-    now ≡ all_marked (met_in all stage.number stage (deed_of stage.known line)) marks → all' ≡ all → next ≡ stage_behind stage line →
+    now ≡ all_marked (met_in all stage.stand.number stage (deed_of stage.stand.known line)) marks → all' ≡ all → next ≡ stage_behind stage line →
     whole ≡ all_marked (events all' next behind) now
 one_more whole marks now all all' stage next text line behind so pieces now_is all_is next_is =
     rw (now_is, all_is, next_is)
     (so ∙ ap (λ ps. all_marked (events all stage ps) marks) pieces
-    ∙ marked_on (met_in all stage.number stage (deed_of stage.known line)) (events all (stage_behind stage line) behind) marks)
+    ∙ marked_on (met_in all stage.stand.number stage (deed_of stage.stand.known line)) (events all (stage_behind stage line) behind) marks)
 
 -- a play begins
-pub first_in : (stand : Stand) (world : World) (given : Known) → stand.number ≡ 1 → stand.known ≡ given → stand.awaits ≡ false →
-    stage_in stand world ≡ first_stage world given
-first_in stand world given number known awaits = rw (number, known, awaits) refl
+pub first_in : (stand : Stand) (awaits : Bool) (world : World) (start : Stand) → stand ≡ start → awaits ≡ false → stage_in stand awaits world ≡ first_stage world start
+first_in stand awaits world start is none = rw (is, none) refl
 
 -- the whole text
-pub whole_recorded : (all made_all : Bool) (given : Known) (played scenario : List ℕ) (world : World)
+pub whole_recorded : (all made_all : Bool) (start : Stand) (played scenario : List ℕ) (world : World)
     (stage : Stage) (first marks : List Mark) (text : List ℕ) →
-    made_all ≡ all → stage ≡ first_stage world given → first ≡ unmarked (pieces_of scenario) →
+    made_all ≡ all → stage ≡ first_stage world start → first ≡ unmarked (pieces_of scenario) →
     marks ≡ all_marked (events made_all stage (pieces_of played)) first → text ≡ without_last (written_lines made_all marks) →
-    text ≡ recorded all world given played scenario
-whole_recorded all made_all given played scenario world stage first marks text all_is stage_is first_is marks_is text_is =
+    text ≡ recorded all world start played scenario
+whole_recorded all made_all start played scenario world stage first marks text all_is stage_is first_is marks_is text_is =
     text_is
     ∙ ap (λ ms. without_last (written_lines made_all ms))
     (marks_is ∙ ap (all_marked (events made_all stage (pieces_of played))) first_is
@@ -168,16 +175,16 @@ whole_recorded all made_all given played scenario world stage first marks text a
     ∙ rw (stage_is, all_is) refl
 
 -- and on the machine of a list
-pub recorded_there : (machine : List ℕ) (all : Bool) (given : Known) (played scenario : List ℕ) (listed : Listed) (world : World)
+pub recorded_there : (machine : List ℕ) (all : Bool) (start : Stand) (played scenario : List ℕ) (listed : Listed) (world : World)
     (made : Result Recording BootFault) →
     list_in machine ≡ Ok listed → Boots (start_list_of listed) → world ≡ start_world (start_list_of listed) →
-    IfOk made (λ recording. recording.text.items ≡ recorded all world given played scenario) →
-    IfOk made (λ recording. IsRecorded machine all given played scenario recording.text.items)
-recorded_there machine all given played scenario listed world (Ok recording) reads boots starts is = record {
+    IfOk made (λ recording. recording.text.items ≡ recorded all world start played scenario) →
+    IfOk made (λ recording. IsRecorded machine all start played scenario recording.text.items)
+recorded_there machine all start played scenario listed world (Ok recording) reads boots starts is = record {
   listed = listed;
   boots = record { reads = reads; boots = boots };
-  is = is ∙ ap (λ w. recorded all w given played scenario) starts;
+  is = is ∙ ap (λ w. recorded all w start played scenario) starts;
 }
-recorded_there machine all given played scenario listed world (Err fault) reads boots starts none = tt
+recorded_there machine all start played scenario listed world (Err fault) reads boots starts none = tt
 
 pub ruleset unbooted = (fault_of_list, fault_of_text)

@@ -1,17 +1,16 @@
 -- What the calls of a scenario are answered, each when the turn of its line comes.
-use Rattle.std.specs.Prelude.{ℕ, ◌+◌, ◌&&◌, not, Bool, true, false, is_some, List, [], ◌∷◌, ◌++◌, length, min, nat_le, nat_lt, if◌then◌else◌, Option, Some, None, Result, Ok, Err}
+use Rattle.std.specs.Prelude.{ℕ, ◌&&◌, not, Bool, true, false, is_some, List, [], ◌∷◌, ◌++◌, length, nat_le, nat_lt, if◌then◌else◌, Option, Some, None, Result, Ok, Err}
 use Rattle.std.specs.List.{flat_map}
-use Rattle.std.specs.Option.{unwrap_or}
 use Rattle.own_model.specs.Reply.{log_text, reply_text}
 use Rattle.own_model.specs.Transcript.{heard, longest_line}
 use Rattle.own_model.specs.World.{World}
 use Rattle.friendly_lines.specs.Friendly.{Said, said_of}
 use Rattle.friendly_lines.specs.Friendly.Said.{Nothing, Log, Call}
 use Rattle.friendly_lines.specs.declared.fault.Fault.{Fault}
+use Rattle.line_steps.specs.Stand.{Stand, arrived, followed_by, passed}
 use Rattle.scenario_lines.specs.Answer.{answered_reply, finished_lines}
 use Rattle.scenario_lines.specs.Answered.{after_all}
-use Rattle.scenario_names.specs.Directives.{Directive, directive_of, followed}
-use Rattle.scenario_names.specs.Directives.Directive.{Set, Enter, Again, Leave, Repeat, End, Unknown}
+use Rattle.scenario_names.specs.Directives.{Directive, directive_of}
 use Rattle.scenario_names.specs.Filling.{Filled, filled}
 use Rattle.scenario_names.specs.Known.{Known}
 use Rattle.scenario_names.specs.Learning.{learnt}
@@ -47,16 +46,15 @@ deed_of known line = if nat_le (length line) longest_line then deed_filled (fill
 
 -- ---- a play
 
--- where it is: the number of the next line, what names stand for, the world, and whether log lines are expected of the next call
+-- where it is in the scenario, the world, and whether log lines are expected of the next call
 pub record Stage : Type 0 where
-  pub number : ℕ
-  pub known : Known
+  pub stand : Stand
   pub world : World
   pub awaits : Bool
 
 -- before the first line
-abbrev pub first_stage : World → Known → Stage
-first_stage world given = record { number = 1; known = given; world = world; awaits = false }
+abbrev pub first_stage : World → Stand → Stage
+first_stage world start = record { stand = start; world = world; awaits = false }
 
 abbrev pub reply_in : World → List ℕ → List ℕ
 reply_in world call = reply_text (answered_reply world (heard world.entries call))
@@ -66,35 +64,17 @@ abbrev pub lines_for : Bool → World → List ℕ → List ℕ
 lines_for awaits world call =
     if awaits then [] else flat_map log_text (finished_lines world (heard world.entries call))
 
--- the number behind one, of 64 bits
-abbrev pub number_behind : ℕ → ℕ
-number_behind n = min (n + 1) 18446744073709551615
-
--- the number of the next line, where a directive tells it
-abbrev pub line_told : Directive → Option ℕ
-line_told (Set binding) = None
-line_told (Enter line counter) = Some line
-line_told (Again line counter) = Some line
-line_told (Leave line) = Some line
-line_told Repeat = None
-line_told End = None
-line_told Unknown = None
-
 -- a line was passed
-abbrev pub passed : Stage → Stage
-passed stage = record stage { number = number_behind stage.number }
+abbrev pub line_passed : Stage → Stage
+line_passed stage = record stage { stand = passed stage.stand }
 
 -- and was played
 abbrev pub stage_after : Stage → Deed → Stage
 stage_after stage Passes = stage
-stage_after stage (Follows directive) = record stage {
-  number = unwrap_or (line_told directive) stage.number;
-  known = followed stage.known directive;
-}
+stage_after stage (Follows directive) = record stage { stand = followed_by stage.stand directive }
 stage_after stage Awaits = record stage { awaits = true }
 stage_after stage (Calls filled call reply) = record {
-  number = stage.number;
-  known = learnt stage.known filled (reply_in stage.world call);
+  stand = record stage.stand { known = learnt stage.stand.known filled (reply_in stage.world call) };
   world = after_all None stage.world (call ∷ []);
   awaits = false;
 }
@@ -122,7 +102,7 @@ pub record Event : Type 0 where
 -- with `all` it doesn't count that log lines are expected already
 abbrev pub hearing_of : Bool → Stage → Filled → List ℕ → Option (List ℕ) → Hearing
 hearing_of all stage filled call reply = record {
-  known = stage.known;
+  known = stage.stand.known;
   binds = nat_lt 0 (length filled.holes);
   expects = is_some reply;
   call = call;
@@ -138,12 +118,16 @@ met_in all number stage Awaits = record { number = number; meeting = Logs } ∷ 
 met_in all number stage (Calls filled call reply) =
     record { number = number; meeting = Hears (hearing_of all stage filled call reply) } ∷ []
 
+-- rounds begin or end there
+abbrev pub rounds_passed : Stage → Stage
+rounds_passed stage = record stage { stand = arrived stage.stand }
+
 -- behind a line as it stands in the scenario
 abbrev pub stage_behind : Stage → List ℕ → Stage
-stage_behind stage line = stage_after (passed stage) (deed_of stage.known line)
+stage_behind stage line = rounds_passed (stage_after (line_passed stage) (deed_of stage.stand.known line))
 
 -- all that is met in lines from a stage on
 abbrev pub events : Bool → Stage → List (List ℕ) → List Event
 events all stage [] = []
 events all stage (line ∷ lines) =
-    met_in all stage.number stage (deed_of stage.known line) ++ events all (stage_behind stage line) lines
+    met_in all stage.stand.number stage (deed_of stage.stand.known line) ++ events all (stage_behind stage line) lines

@@ -3,6 +3,7 @@ use Rattle.std.specs.Prelude.{◌≡◌, ℕ, ◌+◌, ◌-◌, ◌==◌, ◌&&�
 use Rattle.std.specs.List.{flat_map, list_all, list_any, slice_split}
 use Rattle.std.specs.Option.{unwrap_or}
 use Rattle.std.specs.Str.{bytes_eq}
+use Rattle.line_steps.specs.Stand.{Stand}
 use Rattle.own_model.specs.Listed.{Listed}
 use Rattle.own_model.specs.Transcript.{longest_line}
 use Rattle.own_model.specs.World.{World}
@@ -12,7 +13,6 @@ use Rattle.friendly_lines.specs.Friendly.Said.{Nothing, Log, Call}
 use Rattle.friendly_lines.specs.declared.fault.Fault.{Fault}
 use Rattle.scenario_lines.specs.Machine.{IsMachine, world_of}
 use Rattle.scenario_names.specs.Filling.{Filled, filled, is_dollar}
-use Rattle.scenario_names.specs.Known.{Known}
 use Rattle.scenario_names.specs.declared.fault.NameFault.{NameFault}
 use Rattle.recording.specs.Played.{Event, Hearing, Meeting, events, first_stage}
 use Rattle.recording.specs.Played.Meeting.{Logs, Hears}
@@ -188,17 +188,17 @@ pieces_of text = slice_split (λ b. b == 10) text
 abbrev pub without_last : List ℕ → List ℕ
 without_last text = take (length text - 1) text
 
--- all that is met in a text that is played
-abbrev pub met : Bool → World → Known → List ℕ → List Event
-met all world given played = events all (first_stage world given) (pieces_of played)
+-- all that is met in a text that is played from where it begins
+abbrev pub met : Bool → World → Stand → List ℕ → List Event
+met all world start played = events all (first_stage world start) (pieces_of played)
 
 -- a scenario as it is recorded, played so from a world on; its last line has a newline only if it had one
-abbrev pub recorded : Bool → World → Known → List ℕ → List ℕ → List ℕ
-recorded all world given played text =
-    without_last (written_lines all (marks_of 1 (met all world given played) (pieces_of text)))
+abbrev pub recorded : Bool → World → Stand → List ℕ → List ℕ → List ℕ
+recorded all world start played text =
+    without_last (written_lines all (marks_of 1 (met all world start played) (pieces_of text)))
 
 -- on the machine of a start list's text this is a scenario with its replies, played as `played` has its rounds
-pub record IsRecorded (machine : List ℕ) (all : Bool) (given : Known) (played scenario text : List ℕ) : Type 0 where
+pub record IsRecorded (machine : List ℕ) (all : Bool) (start : Stand) (played scenario text : List ℕ) : Type 0 where
   pub listed : Listed
   pub boots : IsMachine machine listed
-  pub is : text ≡ recorded all (world_of listed) given played scenario
+  pub is : text ≡ recorded all (world_of listed) start played scenario

@@ -1,6 +1,7 @@
 -- What contracts see of hearings, notes and marks.
 use Rattle.std.specs.Prelude.{ℕ, Bool, List, ◌++◌, map, if◌then◌else◌, Option, Some, None}
 use Rattle.std.specs.Option.{option_map}
+use Rattle.line_steps.specs.Stand.{Stand}
 use Rattle.own_model.specs.World.{World}
 use Rattle.recording.specs.Played.{Hearing, Stage}
 use Rattle.recording.specs.Recorded.{Mark, Note, expecting, verdict}
@@ -10,7 +11,6 @@ use Rattle.recording.specs.declared.note.Note.{Note as Noted}
 use Rattle.recording.specs.declared.note.Form.{Form}
 use Rattle.recording.specs.declared.note.Form.TheVariants.{Stays, Own, Exact, Told}
 use Rattle.recording.specs.declared.sheet.Sheet.{Sheet}
-use Rattle.recording.specs.declared.stand.Stand.{Stand}
 
 abbrev pub hearing_view : Heard → Hearing
 hearing_view heard = record {
@@ -44,13 +44,8 @@ abbrev pub marks_view : List Marked → List Mark
 marks_view marks = map mark_view marks
 
 -- where a play stands, in a world
-abbrev pub stage_in : Stand → World → Stage
-stage_in stand world = record {
-  number = stand.number;
-  known = stand.known;
-  world = world;
-  awaits = stand.awaits;
-}
+abbrev pub stage_in : Stand → Bool → World → Stage
+stage_in stand awaits world = record { stand = stand; world = world; awaits = awaits }
 
 -- the line that is written by a form, if it isn't the one that it was
 abbrev pub line_by : List ℕ → Note → Form → Option (List ℕ)

@@ -27,9 +27,9 @@ impl Rooms {
 
 /// A call that was heard in its line's turn.
 #[derive(Clone, Copy)]
-pub(crate) struct Hearing<'a> {
+pub(crate) struct Hearing<'k, 'a> {
     /// What names stood for.
-    pub known: &'a Known,
+    pub known: &'k Known,
     /// Whether its reply binds some.
     pub binds: bool,
     /// Whether a reply is expected of it.
@@ -41,7 +41,7 @@ pub(crate) struct Hearing<'a> {
     pub lines: &'a [u8],
 }
 
-impl Hearing<'_> {
+impl Hearing<'_, '_> {
     /// Whether a line in its place is met, as names stood then, and these log lines before it.
     #[tactic(auto, unfolding(crate::specs::Recorded::holds))]
     pub(crate) fn holds(&self, lines: &[u8], line: &[u8], rooms: &mut Rooms) -> bool

@@ -8,7 +8,6 @@ mod pieces;
 mod player;
 mod recording;
 mod sheet;
-mod stand;
 mod unread;
 mod writing;
 

@@ -70,7 +70,7 @@ impl<'a> Marks<'a> {
     }
 
     /// The line of a number is a call.
-    pub(crate) fn hear(&mut self, number: u64, hearing: &Hearing<'_>) -> Result<(), AllocError>
+    pub(crate) fn hear(&mut self, number: u64, hearing: &Hearing<'_, '_>) -> Result<(), AllocError>
         ensures { OnOk result (marks_view self.new.marks.items ≡ marks_after 1 (record {
           number = number;
           meeting = Hears (hearing_view hearing.now);
@@ -103,7 +103,7 @@ impl Mark<'_> {
     fn hear(
         &mut self,
         alloc: Global,
-        hearing: &Hearing<'_>,
+        hearing: &Hearing<'_, '_>,
         rooms: &mut Rooms,
     ) -> Result<(), AllocError>
         ensures { OnOk result (mark_view self.new

@@ -40,7 +40,7 @@ pub(crate) enum Form {
 
 impl Note {
     /// Of a line that is first heard so: what is said of all turns holds of none.
-    pub(crate) fn new(alloc: Global, hearing: &Hearing<'_>) -> Result<Note, AllocError>
+    pub(crate) fn new(alloc: Global, hearing: &Hearing<'_, '_>) -> Result<Note, AllocError>
         ensures { IfOk result (λ note. note_view note ≡ heard_first (hearing_view hearing.now)) }
     {
         Ok(Note {
@@ -59,7 +59,7 @@ impl Note {
         &mut self,
         alloc: Global,
         line: &[u8],
-        hearing: &Hearing<'_>,
+        hearing: &Hearing<'_, '_>,
         rooms: &mut Rooms,
     ) -> Result<(), AllocError>
         ensures { OnOk result (note_view self.new

@@ -10,8 +10,8 @@ use crate::marks::Marks;
 use crate::player::Player;
 use crate::unread::Unread;
 use init_core::boot;
+use line_steps::Stand;
 use pd_core::{Core, Router};
-use scenario_names::Known;
 use start_lists::{BootFault, StartList};
 use std::alloc::Global;
 
@@ -33,7 +33,7 @@ pub struct Recording {
     pub unread: Vec<Unread>,
 }
 
-/// Plays a scenario with what names stand for, and writes its own lines with the reply of each call behind it, and before
+/// Plays a scenario from where its run begins, and writes its own lines with the reply of each call behind it, and before
 /// it the log lines that the call finishes, as what is expected of it: of each call of which no reply is expected yet, or
 /// with `all` of each anew, whatever is expected of it. A line within rounds expects what holds in all of them: its reply,
 /// or where that is another one from round to round whether it refuses. Where a reply binds a name, what is expected stays
@@ -44,17 +44,17 @@ pub fn record(
     alloc: Global,
     machine: &[u8],
     scenario: Scenario<'_>,
-    given: Known,
+    start: Stand<'_>,
     all: bool,
 ) -> Result<Recording, BootFault>
-    ensures recorded { IfOk result (λ recording. IsRecorded machine.now all given
+    ensures recorded { IfOk result (λ recording. IsRecorded machine.now all start.entry
         scenario.entry.unfolded.now scenario.entry.text.now recording.text.items) }
     ensures unbooted { IfErr result (λ fault. fault ≢ NoMemory →
         boot_fault machine.now ≡ Some fault) }
 {
     let list = StartList::read(alloc, machine)?;
     let mut core = boot(alloc, &list)?;
-    record_on(alloc, &list, &mut core, scenario, given, all)
+    record_on(alloc, &list, &mut core, scenario, start, all)
 }
 
 // Records a scenario on the machine of a list, which has just booted.
@@ -63,16 +63,16 @@ fn record_on<R: Router + Drop>(
     list: &StartList,
     core: &mut Core<R>,
     scenario: Scenario<'_>,
-    given: Known,
+    start: Stand<'_>,
     all: bool,
 ) -> Result<Recording, BootFault>
     requires listed { core.old.entries ≡ entries_of (start_list_of list.now) }
-    ensures recorded { IfOk result (λ recording. recording.text.items ≡ recorded all core.old given
+    ensures recorded { IfOk result (λ recording. recording.text.items ≡ recorded all core.old start.entry
         scenario.entry.unfolded.now scenario.entry.text.now) }
     ensures fault { IfErr result (λ fault. fault ≡ NoMemory) }
 {
     let marks = Marks::new(alloc, scenario.text)?;
-    let mut player = Player::new(alloc, marks, given, all)?;
+    let mut player = Player::new(alloc, marks, start, all)?;
     player.play_all(list, core, scenario.unfolded)?;
     Ok(player.into_recording()?)
 }

@@ -2,20 +2,15 @@
 use Rattle.std.proofs.Common.{◌≡◌, ◌≢◌, ℕ, true, false, Some, is_some, refl, sym, ap, ◌∙◌, ⊎_elim, true≢false, arith}
 use Rattle.std.proofs.lemmas.Bool.{cases_eq}
 use Rattle.std.proofs.lemmas.Bool.Decides.{nat_tests}
-use Rattle.std.proofs.lemmas.Option.{none-some, same_Some}
+use Rattle.std.proofs.lemmas.Option.{none-some}
 use Rattle.std.specs.Prelude.{Option, None}
 use Rattle.std.specs.Option.{option_map, option_and_then}
 use Rattle.std.specs.FinMap.{get}
 use Rattle.own_model.specs.NatMap.{NatMap}
 use Rattle.own_model.specs.Region.{Region, holds, region_at}
-use Rattle.own_model.proofs.NatMapLemmas.{and_then_from, some_of}
+use Rattle.own_model.proofs.NatMapLemmas.{and_then_from, some_of, mapped_from}
 use Rattle.own_model.proofs.EntryLemmas.{found_in_map, not_found_in_map}
 use Rattle.region_map.specs.Regions.{Regions, AreSound, heap_found}
-
--- what is told of an option is told of what it has
-pub told_from : {X Y : Type 0} (f : X → Y) (o : Option X) (y : Y) → option_map f o ≡ Some y → (x : X) × (o ≡ Some x) × (f x ≡ y)
-told_from f None y h = absurd (none-some y h)
-told_from f (Some x) y h = (x, refl, same_Some _ _ h)
 
 -- what is told of a region with its number
 abbrev told_of : NatMap ℕ → ℕ × Region → Option (ℕ × ℕ × ℕ)
@@ -27,7 +22,7 @@ pub found_parts : (regions : Regions) (address start of tag : ℕ) → heap_foun
 found_parts regions address start of tag h =
     let from = and_then_from (told_of regions.tags) (region_at regions.heap address 1) (start, of, tag) h in
     let e = from.0 in
-    let told = told_from (λ (t : ℕ). (e.0, e.1.of, t)) (get regions.tags e.0) (start, of, tag) from.2 in
+    let told = mapped_from (λ (t : ℕ). (e.0, e.1.of, t)) (get regions.tags e.0) (start, of, tag) from.2 in
     let there = found_in_map (holds address 1) regions.heap e from.1 in
     let at : e.0 ≡ start = ap (λ (x : ℕ × ℕ × ℕ). x.0) told.2 in (
       e.1,

@@ -1,15 +1,15 @@
 -- The first gap between rows in order is the first gap of the window.
-use Rattle.std.proofs.Common.{◌≡◌, ℕ, suc, zero, ◌+◌, ◌*◌, ◌%◌, ◌<◌, ◌≤◌, true, false, cond, List, [], ◌∷◌, length, get_or, drop, drop-cons, add-one, map, Some, refl, sym, ap, ◌∙◌, nat_le, arith}
-use Rattle.std.proofs.lemmas.Bool.{le-leb, lt-leb, leb-true, leb-false}
+use Rattle.std.proofs.Common.{◌≡◌, ℕ, suc, ◌+◌, ◌*◌, ◌%◌, ◌<◌, ◌≤◌, true, false, cond, List, [], ◌∷◌, length, get_or, drop, drop-cons, add-one, map, Some, refl, sym, ap, ◌∙◌, nat_le, arith}
+use Rattle.std.proofs.lemmas.Bool.{le-leb, lt-leb, leb-true, leb-false, or_from, or_parts}
 use Rattle.std.proofs.lemmas.Bool.Decides.{nat_tests}
 use Rattle.std.specs.Prelude.{Option, None}
 use Rattle.std.specs.List.{list_any}
 use Rattle.own_model.specs.Region.{overlap, first_gap, IsPlace, IsFirstGap}
-use Rattle.own_model.proofs.HeapGapLemmas.{ends_before, starts_after, neither}
+use Rattle.own_model.proofs.HeapGapLemmas.{ends_before, starts_after}
 use Rattle.own_model.proofs.RegionLemmas.{meets_none, clear_of_all, first_gap_is}
 use Rattle.region_map.specs.declared.row.Row.{Row}
 use Rattle.region_map.specs.Rows.{region_of, end_of, map_of, AreInOrder, gap_from, IsTable}
-use Rattle.region_map.proofs.RowLemmas.{entry, entries-map_of, each_fails}
+use Rattle.region_map.proofs.RowLemmas.{entry, entries-map_of}
 use Rattle.region_map.proofs.SearchLemmas.{overlap_at}
 
 -- rows in order end where they may
@@ -25,7 +25,7 @@ clear_of_rows : (address pages low high : ℕ) (rows : List Row) → address + p
 clear_of_rows address pages low high [] h is = refl
 clear_of_rows address pages low high (row ∷ rows) h is =
     let from = is.0 in
-    neither _ _ (ends_before row.start row.pages address pages (omega arith)) (clear_of_rows address pages (end_of row) high rows (omega arith) is.1)
+    or_from _ _ (ends_before row.start row.pages address pages (omega arith)) (clear_of_rows address pages (end_of row) high rows (omega arith) is.1)
 
 -- so many pages can stand at an address between rows
 record Stands (low high pages : ℕ) (rows : List Row) (address : ℕ) : Type 0 where
@@ -47,7 +47,7 @@ stands_behind low high pages row rows address from at =
       aligned = at.aligned;
       from_low = omega arith;
       to_high = at.to_high;
-      clear = neither _ _ (starts_after row.start row.pages address pages past) at.clear;
+      clear = or_from _ _ (starts_after row.start row.pages address pages past) at.clear;
     }
 
 -- what doesn't overlap a row, and has no room in front of it, starts behind it
@@ -57,7 +57,7 @@ behind low start others address pages no_room from clear = grind (arith, nat_tes
 -- where there is no room in front of a row, pages stand behind it
 only_behind : (low high pages : ℕ) (row : Row) (rows : List Row) (address : ℕ) → row.start < low + pages * 4096 → Stands low high pages (row ∷ rows) address → Stands (end_of row) high pages rows address
 only_behind low high pages row rows address no_room at =
-    let parts = each_fails (overlap row.start row.pages address pages) (list_any (overlap_at address pages) (map (entry region_of) rows)) at.clear in
+    let parts = or_parts (overlap row.start row.pages address pages) (list_any (overlap_at address pages) (map (entry region_of) rows)) at.clear in
     record {
       aligned = at.aligned;
       from_low = behind low row.start row.pages address pages no_room at.from_low parts.0;
@@ -75,13 +75,6 @@ first_behind low high pages row rows (Some a) from no_room is = (stands_behind l
 -- the rows from one on are that one and those after it
 pub drop-row : (i : ℕ) (rows : List Row) (row : Row) → i < length rows → row ≡ get_or rows i row → drop i rows ≡ row ∷ drop (i + 1) rows
 drop-row i rows row h is = rw add-one (drop-cons rows i row h ∙ ap (λ r. r ∷ drop (suc i) rows) (sym is))
-
--- past the last one there are none
-pub drop-all : (i : ℕ) (rows : List Row) → length rows ≤ i → drop i rows ≡ []
-drop-all zero [] h = refl
-drop-all (suc i) [] h = refl
-drop-all zero (row ∷ rows) h = absurd (omega arith)
-drop-all (suc i) (row ∷ rows) h = drop-all i rows (omega arith)
 
 -- where there is room in front of a row, the gap is there
 pub gap_in_front : (address high pages : ℕ) (row : Row) (rows : List Row) → address + pages * 4096 ≤ row.start → gap_from address high (row ∷ rows) pages ≡ Some address

@@ -4,7 +4,7 @@ use Rattle.std.proofs.Math.Path.{PathP, to_path_p}
 use Rattle.std.proofs.Props.{props}
 use Rattle.std.proofs.lemmas.Bool.Decides.{nat_tests}
 use Rattle.std.proofs.lemmas.Bool.{cases_lt}
-use Rattle.std.proofs.lemmas.List.{length-map, length_push, get_or-map, get_or_read}
+use Rattle.std.proofs.lemmas.List.{length-map, length_push, get_or-map, get_or_read, drop_all}
 use Rattle.std.proofs.lemmas.List.Sums.{sum_by_push, sum_by-cons}
 use Rattle.std.specs.List.{filter, insert as insert_at, remove as remove_at}
 use Rattle.std.specs.List.Sorted.{IsNonDecreasingBy, IsPartitionPoint}
@@ -12,7 +12,6 @@ use Rattle.region_map.specs.declared.place.Place.{Place}
 use Rattle.region_map.specs.declared.row.Row.{Row}
 use Rattle.region_map.specs.declared.rows.Kept.{Kept}
 use Rattle.region_map.specs.Rows.{count_to}
-use Rattle.region_map.proofs.GapLemmas.{drop-all}
 use Rattle.region_map.specs.Places.{start_in, no_row, kept_in, row_at, rows_of, is_slot, times, named, IsSlot, AreStored}
 
 -- proofs of one fact of two equal things are the same, where the fact has one proof at most
@@ -67,7 +66,7 @@ rows-next kept places at place h is =
 
 -- past the last there is none
 pub rows-end : (kept : List Kept) (places : List Place) (at : ℕ) → length places ≤ at → rows_of kept (drop at places) ≡ []
-rows-end kept places at h = drop-rows kept places at ∙ drop-all at (rows_of kept places) (rw (length-rows kept places) h)
+rows-end kept places at h = drop-rows kept places at ∙ drop_all at (rows_of kept places) (rw (length-rows kept places) h)
 
 -- what parts the places by where they start is the count of the rows
 pub count_is : (kept : List Kept) (address i : ℕ) (places : List Place) → i ≤ length places → IsPartitionPoint (λ place. nat_le (start_in place) address ≡ true) (λ place. nat_le (start_in place) address ≡ false) places i → i ≡ count_to address (rows_of kept places)

@@ -1,5 +1,5 @@
 -- Rows in order as maps: what the maps have, and what stays when a row comes or rows go.
-use Rattle.std.proofs.Common.{◌≡◌, ℕ, suc, zero, ◌+◌, ◌*◌, ◌<◌, ◌≤◌, ◌&&◌, ◌==◌, ◌||◌, Bool, true, false, cond, not, eqb, T, is_lt, List, [], ◌∷◌, map, length, Some, refl, sym, ap, subst, ◌∙◌, true≢false, nat_cmp, nat_le, arith}
+use Rattle.std.proofs.Common.{◌≡◌, ℕ, suc, zero, ◌+◌, ◌*◌, ◌<◌, ◌≤◌, ◌&&◌, ◌==◌, Bool, true, false, cond, not, eqb, T, is_lt, List, [], ◌∷◌, map, length, Some, refl, sym, ap, subst, ◌∙◌, nat_cmp, nat_le, arith}
 use Rattle.std.proofs.lemmas.Bool.Decides.{nat_tests}
 use Rattle.std.proofs.lemmas.List.{length-map}
 use Rattle.std.specs.Prelude.{Option, None}
@@ -8,6 +8,7 @@ use Rattle.std.specs.Option.{option_map}
 use Rattle.std.specs.List.{list_any, insert as insert_at, remove as remove_at, filter, filter_map, cons_option}
 use Rattle.std.specs.FinMap.{get, insert, remove, entries, entries_sorted, get-entries, get-from_entries, from_entries, len, len-entries, is_sorted, nat_cmp-IsAntisymmetric}
 use Rattle.std.specs.FinMap.Entries.{below_all, same_entries}
+use Rattle.std.proofs.lemmas.Bool.{or_parts}
 use Rattle.own_model.specs.NatMap.{picked}
 use Rattle.own_model.specs.Region.{Region, overlap, without}
 use Rattle.own_model.proofs.NatMapLemmas.{same, natmaps, get-insert}
@@ -121,17 +122,12 @@ after_end start others address pages some before h = grind (arith, nat_tests)
 before_start : (start others address pages : ℕ) → 1 ≤ others → address < start → overlap start others address pages ≡ false → address + pages * 4096 ≤ start
 before_start start others address pages some after h = grind (arith, nat_tests)
 
--- of two tests of which none passes each fails
-pub each_fails : (a b : Bool) → (a || b) ≡ false → (a ≡ false) × (b ≡ false)
-each_fails true b h = absurd (true≢false h)
-each_fails false b h = (refl, h)
-
 -- a row that overlaps none of those in order stands among them where the binary search says
 pub AreInOrder-insert : (low high : ℕ) (rows : List Row) (row : Row) → AreInOrder low high rows → low ≤ row.start → end_of row ≤ high → list_any (λ e. overlap e.0 e.1.pages row.start row.pages) (map (entry region_of) rows) ≡ false → AreInOrder low high (insert_at rows (count_to row.start rows) row)
 unfolding count_to
 AreInOrder-insert low high [] row is from to clear = (from, to)
 AreInOrder-insert low high (r ∷ rows) row is from to clear =
-    let parts = each_fails (overlap r.start r.pages row.start row.pages) (list_any (λ e. overlap e.0 e.1.pages row.start row.pages) (map (entry region_of) rows)) clear in
+    let parts = or_parts (overlap r.start r.pages row.start row.pages) (list_any (λ e. overlap e.0 e.1.pages row.start row.pages) (map (entry region_of) rows)) clear in
     elim (nat_le r.start row.start) as (λ b. nat_le r.start row.start ≡ b → AreInOrder low high (insert_at (r ∷ rows) (cond b (suc (count_to row.start rows)) 0) row)) [
       | true ↦ λ t.
           let before : r.start ≤ row.start = grind (arith, nat_tests) in

@@ -6,9 +6,10 @@ use Rattle.std.specs.Borrow.{Bor}
 use Rattle.own_model.specs.Text.{lines_of}
 use Rattle.scenario_lines.specs.Lines.{after_line, line_of}
 use Rattle.scenario_lines.proofs.LineLemmas.{lines_of-cons}
+use Rattle.scenario_names.specs.RoundMarks.{RoundMark}
 use Rattle.scenario_names.specs.Sums.{and_then}
 use Rattle.rounds.specs.Structure.{body_length, kind_of}
-use Rattle.rounds.specs.Unfolding.{Head, Inner, Made, lines_from, mark_of, owned, rounds_from, step_of, with_mark, within}
+use Rattle.rounds.specs.Unfolding.{Head, Inner, Made, lines_from, mark_of, owned, round_counted, rounds_from, step_of, with_mark, within}
 use Rattle.rounds.specs.Views.{Makes, texts}
 use Rattle.rounds.specs.declared.fault.Place.{Place}
 use Rattle.rounds.specs.declared.fault.RoundsFault.{RoundsFault}
@@ -21,6 +22,9 @@ pub texts_of_first : (n : ℕ) (lines : List (Bor (List ℕ))) → texts (take n
 texts_of_first zero lines = refl
 texts_of_first (suc n) [] = refl
 texts_of_first (suc n) (line ∷ lines) = ap (λ rest. line.now ∷ rest) (texts_of_first n lines)
+
+pub texts_length : (lines : List (Bor (List ℕ))) → length lines ≡ length (texts lines)
+texts_length lines = sym (length-map lines (λ (l : Bor (List ℕ)). l.now))
 
 -- the line at a place, and those behind it
 pub line_at : (lines : List (Bor (List ℕ))) (at : ℕ) (d : Bor (List ℕ)) → at < length lines
@@ -122,19 +126,40 @@ pub line_fails : (A D : Type 0) (why : Unfit) (inner : Inner) (number : ℕ) (ma
 line_fails A D why inner number made then now line lines is =
     fails A D why (step_of inner number made line lines (kind_of line)) (λ more. lines_from inner (owned (kind_of line) lines) (number + 1) more lines) then now is
 
+-- the mark of a round is there
+pub marks_at : (made marked : Made) (mark : RoundMark) (head : Head) (line size k : ℕ) (body : List (List ℕ)) → marked ≡ with_mark made mark
+    → mark ≡ mark_of head line size k → size ≡ length body → marked ≡ with_mark made (mark_of head line (length body) k)
+marks_at made marked mark head line size k body is marks sized =
+    is ∙ ap (with_mark made) marks ∙ ap (λ n. with_mark made (mark_of head line n k)) sized
+
 -- a round is unfolded, and then the others
-pub round_more : (inner : Inner) (place : Place) (head : Head) (k left : ℕ) (made marked more : Made) (body : List (List ℕ))
-    → with_mark place made (mark_of head place.line k) ≡ Ok marked → inner (place.line + 1) marked body ≡ Ok more
-    → rounds_from inner place head k (suc left) made body ≡ rounds_from inner place head (k + 1) left more body
-round_more inner place head k left made marked more body marks goes =
-    ap (λ told. and_then told (λ m. and_then (inner (place.line + 1) m body) (λ m'. rounds_from inner place head (k + 1) left m' body))) marks
-    ∙ ap (λ told. and_then told (λ m'. rounds_from inner place head (k + 1) left m' body)) goes
+pub round_more : (inner : Inner) (place : Place) (head : Head) (k left : ℕ) (made marked more next : Made) (body : List (List ℕ))
+    → marked ≡ with_mark made (mark_of head place.line (length body) k) → inner (place.line + 1) marked body ≡ Ok more
+    → round_counted place made.count more ≡ Ok next
+    → rounds_from inner place head k (suc left) made body ≡ rounds_from inner place head (k + 1) left next body
+round_more inner place head k left made marked more next body marks goes counts =
+    ap (λ told. and_then told (λ m. and_then (round_counted place made.count m) (λ m'. rounds_from inner place head (k + 1) left m' body)))
+    (ap (λ m. inner (place.line + 1) m body) (sym marks) ∙ goes)
+    ∙ ap (λ told. and_then told (λ m'. rounds_from inner place head (k + 1) left m' body)) counts
 
 -- a round less is left
-pub round_next : (inner : Inner) (place : Place) (head : Head) (k : ℕ) (made marked more : Made) (body : List (List ℕ)) → k < head.count
-    → with_mark place made (mark_of head place.line k) ≡ Ok marked → inner (place.line + 1) marked body ≡ Ok more
-    → rounds_from inner place head (k + 1) (head.count - (k + 1)) more body ≡ rounds_from inner place head k (head.count - k) made body
-round_next inner place head k made marked more body within marks goes =
+pub round_next : (inner : Inner) (place : Place) (head : Head) (k : ℕ) (made marked more next : Made) (body : List (List ℕ)) → k < head.count
+    → marked ≡ with_mark made (mark_of head place.line (length body) k) → inner (place.line + 1) marked body ≡ Ok more
+    → round_counted place made.count more ≡ Ok next
+    → rounds_from inner place head (k + 1) (head.count - (k + 1)) next body ≡ rounds_from inner place head k (head.count - k) made body
+round_next inner place head k made marked more next body within marks goes counts =
     let left : head.count - k ≡ suc (head.count - (k + 1)) = omega (arith, within) in
     sym (ap (λ n. rounds_from inner place head k n made body) left
-    ∙ round_more inner place head k (head.count - (k + 1)) made marked more body marks goes)
+    ∙ round_more inner place head k (head.count - (k + 1)) made marked more next body marks goes counts)
+
+-- a round that is too many is the fault of all
+pub count_fails : (A D : Type 0) (why : Unfit) (inner : Inner) (place : Place) (head : Head) (k : ℕ) (made marked more then now : Made) (body : List (List ℕ))
+    → k < head.count → marked ≡ with_mark made (mark_of head place.line (length body) k) → inner (place.line + 1) marked body ≡ Ok more
+    → Makes {A = A} (Err why) (round_counted place made.count more) then → Makes {A = D} (Err why) (rounds_from inner place head k (head.count - k) made body) now
+count_fails A D (Fault fault) inner place head k made marked more then now body within marks goes is =
+    let left : head.count - k ≡ suc (head.count - (k + 1)) = omega (arith, within) in
+    ap (λ n. rounds_from inner place head k n made body) left
+    ∙ ap (λ told. and_then told (λ m. and_then (round_counted place made.count m) (λ m'. rounds_from inner place head (k + 1) (head.count - (k + 1)) m' body)))
+    (ap (λ m. inner (place.line + 1) m body) (sym marks) ∙ goes)
+    ∙ ap (λ told. and_then told (λ m'. rounds_from inner place head (k + 1) (head.count - (k + 1)) m' body)) is
+count_fails A D NoMemory inner place head k made marked more then now body within marks goes is = tt

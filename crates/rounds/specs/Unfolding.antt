@@ -1,5 +1,5 @@
 -- A scenario's lines with their rounds unfolded.
-use Rattle.std.specs.Prelude.{ℕ, ◌+◌, ◌&&◌, not, Bool, true, false, zero, suc, List, [], ◌∷◌, ◌++◌, length, take, codes, decimal, nat_eq, nat_lt, if◌then◌else◌, Option, Some, None, Result, Ok, Err}
+use Rattle.std.specs.Prelude.{ℕ, ◌+◌, ◌&&◌, not, Bool, true, false, zero, suc, List, [], ◌∷◌, ◌++◌, length, take, codes, nat_eq, nat_lt, if◌then◌else◌, Option, Some, None, Result, Ok, Err}
 use Rattle.std.specs.List.{list_any}
 use Rattle.std.specs.Option.{option_and_then, option_map}
 use Rattle.std.specs.Str.{bytes_eq}
@@ -7,12 +7,14 @@ use Rattle.own_model.specs.Text.{lines_of}
 use Rattle.trade_base.specs.Amount.{number_of}
 use Rattle.friendly_lines.specs.Words.{next_word, skip_blanks}
 use Rattle.scenario_names.specs.Directives.{Directive, directive_of, followed}
-use Rattle.scenario_names.specs.Directives.Directive.{Set, Enter, Again, Leave, Repeat, End, Unknown}
+use Rattle.scenario_names.specs.Directives.Directive.{Set, Repeat, End, Unknown}
 use Rattle.scenario_names.specs.Filling.{Filled, filled, is_directive}
-use Rattle.scenario_names.specs.Known.{Binding, Known, with_bound}
+use Rattle.scenario_names.specs.Known.{Known}
 use Rattle.scenario_names.specs.Names.{is_name}
+use Rattle.scenario_names.specs.RoundMarks.{RoundCounter, RoundMark, crossed}
 use Rattle.scenario_names.specs.Sums.{and_then, map_ok}
 use Rattle.scenario_names.specs.declared.fault.NameFault.{NameFault}
+use Rattle.scenario_names.specs.declared.round_mark.Border.TheVariants.{Enter, Again, Leave}
 use Rattle.rounds.specs.Structure.{body_length, kind_of, opens_from, place_of, words_of}
 use Rattle.rounds.specs.declared.fault.Place.{Place}
 use Rattle.rounds.specs.declared.fault.Reason.TheVariants.{Name, NoCount, TooDeep, TooMany}
@@ -20,13 +22,20 @@ use Rattle.rounds.specs.declared.fault.RoundsFault.{RoundsFault}
 use Rattle.rounds.specs.declared.lines.Kind.{Kind}
 use Rattle.rounds.specs.declared.lines.Kind.TheVariants.{Repeats, Ends, Plain}
 
--- what was made so far: a text, how many lines it has, and what names stand for behind it
+-- a scenario whose rounds are unfolded: the text of the lines that are run, and where rounds begin and end between them
+pub record Unfolded : Type 0 where
+  pub text : List ℕ
+  pub marks : List RoundMark
+
+-- what was made so far: a text, how many lines and rounds without lines it has, the marks in it, and what names stand for behind
+-- it
 pub record Made : Type 0 where
   pub text : List ℕ
   pub count : ℕ
+  pub marks : List RoundMark
   pub known : Known
 
--- so many lines are played at most
+-- so many lines are run at most, with one for each round that has none
 abbrev pub most_lines : ℕ
 most_lines = 1000000
 
@@ -38,25 +47,16 @@ counted place n = if nat_lt n most_lines then Ok (n + 1) else Err (record { at =
 
 abbrev pub with_text : Place → Made → List ℕ → Result Made RoundsFault
 with_text place made line =
-    map_ok (λ n. record { text = made.text ++ line ++ 10 ∷ []; count = n; known = made.known }) (counted place made.count)
+    map_ok (λ n. record made { text = made.text ++ line ++ 10 ∷ []; count = n }) (counted place made.count)
 
 -- what names stand for behind it; a name that is set to what is told in the play alone stands for nothing before it
 abbrev pub set_by : Known → Option Directive → Known
 set_by known None = known
-set_by known (Some (Set binding)) = with_bound known binding.name binding.value
-set_by known (Some (Enter n counter)) = known
-set_by known (Some (Again n counter)) = known
-set_by known (Some (Leave n)) = known
-set_by known (Some Repeat) = known
-set_by known (Some End) = known
-set_by known (Some Unknown) = known
+set_by known (Some directive) = followed known directive
 
 abbrev pub without_value : Option Directive → Option Directive
 without_value None = None
 without_value (Some (Set binding)) = Some (Set (record { name = binding.name; value = [] }))
-without_value (Some (Enter n counter)) = None
-without_value (Some (Again n counter)) = None
-without_value (Some (Leave n)) = None
 without_value (Some Repeat) = None
 without_value (Some End) = None
 without_value (Some Unknown) = None
@@ -74,23 +74,9 @@ with_line place made line =
 
 -- ---- marks
 
-abbrev pub counter_text : Option Binding → List ℕ
-counter_text None = []
-counter_text (Some counter) = 32 ∷ counter.name ++ 32 ∷ counter.value
-
--- a mark, as a line
-abbrev pub mark_text : Directive → List ℕ
-mark_text (Enter n counter) = codes "@enter " ++ decimal n ++ counter_text counter
-mark_text (Again n counter) = codes "@again " ++ decimal n ++ counter_text counter
-mark_text (Leave n) = codes "@leave " ++ decimal n
-mark_text (Set binding) = []
-mark_text Repeat = []
-mark_text End = []
-mark_text Unknown = []
-
-abbrev pub with_mark : Place → Made → Directive → Result Made RoundsFault
-with_mark place made mark =
-    map_ok (λ (more : Made). record more { known = followed more.known mark }) (with_text place made (mark_text mark))
+-- a mark more
+abbrev pub with_mark : Made → RoundMark → Made
+with_mark made mark = record made { marks = made.marks ++ mark ∷ []; known = crossed made.known mark }
 
 -- ---- the line of `@repeat`
 
@@ -134,31 +120,52 @@ head_of known number line = head_in number line (filled known line)
 abbrev pub Inner : Type 0
 Inner = ℕ → Made → List (List ℕ) → Result Made RoundsFault
 
-abbrev pub counter_of : Head → ℕ → Option Binding
-counter_of head k = option_map (λ name. record { name = name; value = decimal k }) head.counter
+abbrev pub counter_of : Head → ℕ → Option RoundCounter
+counter_of head k = option_map (λ name. record { name = name; count = k }) head.counter
 
--- the mark before a round
-abbrev pub mark_of : Head → ℕ → ℕ → Directive
-mark_of head number k =
-    if nat_eq k 0 then Enter (number + 1) (counter_of head k) else Again (number + 1) (counter_of head k)
+-- the number of the line of `@end`, of rounds that begin in a line of this number and have so many lines
+abbrev pub end_line : ℕ → ℕ → ℕ
+end_line number size = number + size + 1
+
+-- the mark before a round: the first is entered at the line of `@repeat`, and each further one at that of `@end`
+abbrev pub round_border : ℕ → ℕ → ℕ → RoundMark
+round_border number size k =
+    if nat_eq k 0 then record { at = number; border = Enter; next = number + 1; counter = None }
+    else record { at = end_line number size; border = Again; next = number + 1; counter = None }
+
+-- with the round's counter
+abbrev pub mark_of : Head → ℕ → ℕ → ℕ → RoundMark
+mark_of head number size k = record (round_border number size k) { counter = counter_of head k }
+
+-- a round that has no line counts as one
+abbrev pub round_counted : Place → ℕ → Made → Result Made RoundsFault
+round_counted place before made =
+    if nat_eq made.count before then map_ok (λ n. record made { count = n }) (counted place made.count) else Ok made
 
 -- so many rounds from one on, of rounds that begin in a line of this number
 abbrev pub rounds_from : Inner → Place → Head → ℕ → ℕ → Made → List (List ℕ) → Result Made RoundsFault
 rounds_from inner place head k zero made body = Ok made
 rounds_from inner place head k (suc left) made body =
-    and_then (with_mark place made (mark_of head place.line k))
-    (λ marked. and_then (inner (place.line + 1) marked body)
-    (λ more. rounds_from inner place head (k + 1) left more body))
+    and_then (inner (place.line + 1) (with_mark made (mark_of head place.line (length body) k)) body)
+    (λ more. and_then (round_counted place made.count more)
+    (λ next. rounds_from inner place head (k + 1) left next body))
 
--- where there is no round, they begin and end all the same
-abbrev pub begun : Place → Head → Made → Result Made RoundsFault
-begun place head made = if nat_eq head.count 0 then with_mark place made (Enter (place.line + 1) None) else Ok made
+-- where there is no round, they begin at their end
+abbrev pub mark_at_end : ℕ → ℕ → RoundMark
+mark_at_end number size = record { at = number; border = Enter; next = end_line number size; counter = None }
+
+abbrev pub begun : ℕ → ℕ → Head → Made → Made
+begun number size head made = if nat_eq head.count 0 then with_mark made (mark_at_end number size) else made
+
+-- the mark behind the last round
+abbrev pub last_mark : ℕ → ℕ → RoundMark
+last_mark number size =
+    record { at = end_line number size; border = Leave; next = end_line number size + 1; counter = None }
 
 abbrev pub rounds_by : Inner → Place → Made → List (List ℕ) → Head → Result Made RoundsFault
 rounds_by inner place made body head =
-    and_then (begun place head made)
-    (λ more. and_then (rounds_from inner place head 0 head.count more body)
-    (λ all. with_mark place all (Leave (place.line + length body + 2))))
+    map_ok (λ (all : Made). with_mark all (last_mark place.line (length body)))
+    (rounds_from inner place head 0 head.count (begun place.line (length body) head made) body)
 
 abbrev pub rounds_of : Inner → ℕ → Made → List ℕ → List (List ℕ) → Result Made RoundsFault
 rounds_of inner number made line body =
@@ -211,15 +218,16 @@ all_ended (first ∷ more) = Err first
 abbrev pub is_whole : List (List ℕ) → Result Unit RoundsFault
 is_whole lines = and_then (opens_from 1 [] lines) all_ended
 
--- the text of a scenario with its rounds unfolded, by what is given from outside
-abbrev pub unfolded_lines : Known → List (List ℕ) → Result (List ℕ) RoundsFault
+-- a scenario with its rounds unfolded, by what is given from outside
+abbrev pub unfolded_lines : Known → List (List ℕ) → Result Unfolded RoundsFault
 unfolded_lines given lines =
     and_then (is_whole lines)
-    (λ _. map_ok (λ (made : Made). made.text) (within 5 1 (record { text = []; count = 0; known = given }) lines))
+    (λ _. map_ok (λ (made : Made). record { text = made.text; marks = made.marks })
+    (within 5 1 (record { text = []; count = 0; marks = []; known = given }) lines))
 
-abbrev pub unfolded : Known → List ℕ → Result (List ℕ) RoundsFault
+abbrev pub unfolded : Known → List ℕ → Result Unfolded RoundsFault
 unfolded given text =
-    if not (has_rounds (lines_of text)) then Ok text
+    if not (has_rounds (lines_of text)) then Ok (record { text = text; marks = [] })
     else (if nat_lt most_lines (length (lines_of text))
     then Err (record { at = record { line = most_lines + 1; column = 1 }; reason = TooMany })
     else unfolded_lines given (lines_of text))

@@ -20,7 +20,7 @@ pub enum Reason {
     TooDeep,
     /// What stands behind `@repeat` is no count, or more than one and a counter.
     NoCount,
-    /// The lines of all rounds are too many.
+    /// The lines of all rounds are too many, with the rounds that have none.
     TooMany,
     /// A name in the line of `@repeat` stands for nothing that is known before the play.
     Name(NameReason),

@@ -1,10 +1,7 @@
 //! Lines that are unfolded one after another.
-ghost use Rattle.std.specs.Prelude.{◌≡◌, ◌+◌, ◌≤◌, ◌++◌, length, decimal, nat_eq, if◌then◌else◌, IfOk, OnOk};
-ghost use Rattle.std.specs.Option.{option_map};
-ghost use Rattle.scenario_names.specs.Directives.Directive.{Enter, Again};
-ghost use Rattle.scenario_names.specs.Views.{counter_view, directive_view};
+ghost use Rattle.std.specs.Prelude.{◌≡◌, ◌+◌, ◌≤◌, length, IfOk, None, OnOk};
 ghost use Rattle.rounds.specs.Structure.{kind_of};
-ghost use Rattle.rounds.specs.Unfolding.{begun, counted, counter_text, known_after, mark_of as mark_before, mark_text, most_lines, owned, rounds_from, rounds_of, step_of, with_line, with_mark, within};
+ghost use Rattle.rounds.specs.Unfolding.{begun, counted, known_after, last_mark, mark_at_end, mark_of, most_lines, owned, round_border, round_counted, rounds_from, rounds_of, step_of, with_line, with_mark, within};
 ghost use Rattle.rounds.specs.Views.{Makes, head_view, made_of, texts};
 
 use crate::fault::{Place, Reason, RoundsFault, Unfit};
@@ -12,18 +9,20 @@ use crate::head::{Head, head_of};
 use crate::lines::{Kind, kind_of};
 use crate::structure::{body_of, place_of};
 use friendly_lines::{Line, signs_of};
-use itoa::Buffer;
-use scenario_names::{Counter, Directive, Known, directive_of, fill};
-use std::alloc::AllocError;
+use scenario_names::{Border, Directive, Known, RoundMark, directive_of, fill};
+use std::alloc::{AllocError, Global};
 
-/// How many lines are played at most.
+/// How many lines are run at most.
 pub(crate) const MOST_LINES: usize = 1_000_000;
 
-/// What was made so far: a text, how many lines it has, and what names stand for behind it.
+/// What was made so far: a text, how many lines and rounds without lines it has, the marks in it, and what names stand for behind
+/// it.
 #[derive(Drop)]
 pub(crate) struct Unfolding {
+    pub alloc: Global,
     pub text: Vec<u8>,
     pub count: usize,
+    pub marks: Vec<RoundMark>,
     pub known: Known,
 }
 
@@ -105,10 +104,11 @@ impl Unfolding {
         let mut room = Line::new();
         let place = place_of(number, line);
         let head = head_of(&self.known, number, line, &mut room)?;
-        self.put_none(place, head)?;
+        let size = size_of(body);
+        self.put_none(number, head, size)?;
         self.put_each(deep, place, head, body)?;
-        let line = number + body.len() + 2;
-        self.put_mark(place, Directive::Leave { line })
+        self.put_mark(last_mark(number, size))?;
+        Ok(())
     }
 
     // Unfolds each of these rounds.
@@ -126,53 +126,46 @@ impl Unfolding {
             (made_of self.old) (texts body.now))
             (made_of self.new) }
     {
+        let size = size_of(body);
         for k in 0..head.count {
-            self.put_begin(place, head, k)?;
+            let mark = mark_of(self.alloc, head, place.line, size, k)?;
+            let before = self.count;
+            self.put_mark(mark)?;
             self.put_lines(deep, place.line + 1, body)?;
+            self.count_round(place, before)?;
         }
         Ok(())
     }
 
-    // Begins rounds of which there are none.
-    fn put_none(&mut self, place: Place, head: Head<'_>) -> Result<(), Unfit>
-        requires { place.line ≤ most_lines }
-        ensures { Makes result (begun place (head_view head.entry) (made_of self.old))
-            (made_of self.new) }
+    // Begins rounds of so many lines, if there are none, at their end.
+    fn put_none(&mut self, line: usize, head: Head<'_>, size: usize) -> Result<(), AllocError>
+        requires { line + size ≤ most_lines }
+        ensures { OnOk result (made_of self.new
+            ≡ begun line size (head_view head.entry) (made_of self.old)) }
     {
         if head.count > 0 {
             return Ok(());
         }
-        let line = place.line + 1;
-        self.put_mark(
-            place,
-            Directive::Enter {
-                line,
-                counter: None,
-            },
-        )
-    }
-
-    // Puts the mark before a round.
-    fn put_begin(&mut self, place: Place, head: Head<'_>, k: u64) -> Result<(), Unfit>
-        requires { place.line ≤ most_lines }
-        ensures { Makes result
-            (with_mark place (made_of self.old) (mark_before (head_view head.entry) place.line k))
-            (made_of self.new) }
-    {
-        let mut digits = Buffer::new();
-        let counter = counter_of(head, digits.format(k).as_bytes());
-        self.put_mark(place, mark_of(place.line + 1, k, counter))
+        self.put_mark(mark_at_end(line, size))
     }
 
     // Puts a mark.
-    fn put_mark(&mut self, place: Place, mark: Directive<'_>) -> Result<(), Unfit>
-        ensures { Makes result (with_mark place (made_of self.old) (directive_view mark.entry))
+    fn put_mark(&mut self, mark: RoundMark) -> Result<(), AllocError>
+        ensures { OnOk result (made_of self.new ≡ with_mark (made_of self.old) mark) }
+    {
+        self.known.cross(&mark)?;
+        self.marks.push(mark)?;
+        Ok(())
+    }
+
+    // Counts a round that has no line: there were so many lines before it.
+    fn count_round(&mut self, place: Place, before: usize) -> Result<(), Unfit>
+        ensures { Makes result (round_counted place before (made_of self.old))
             (made_of self.new) }
     {
-        self.count = counted(place, self.count)?;
-        put_mark_text(&mut self.text, mark)?;
-        self.text.push(b'\n')?;
-        self.known.follow(mark)?;
+        if self.count == before {
+            self.count = counted(place, self.count)?;
+        }
         Ok(())
     }
 
@@ -188,29 +181,61 @@ impl Unfolding {
     }
 }
 
-// The counter of a round, if it has one, by its digits.
-fn counter_of<'a>(head: Head<'a>, digits: &'a [u8]) -> Option<Counter<'a>>
-    ensures { counter_view result ≡ option_map (λ name. record {
-      name = name;
-      value = digits.now;
-    }) (head_view head.entry).counter }
+// How many lines there are.
+#[tactic(auto, using(crate::proofs::RoundLemmas::texts_length))]
+fn size_of(lines: &[&[u8]]) -> usize
+    ensures value { result ≡ length (texts lines.now) }
+    ensures count { result ≡ length lines.now }
 {
-    let name = head.counter?;
-    Some(Counter {
-        name,
-        value: digits,
-    })
+    lines.len()
 }
 
-// The mark before a round whose first line has this number.
-fn mark_of<'a>(line: usize, k: u64, counter: Option<Counter<'a>>) -> Directive<'a>
-    ensures { directive_view result ≡ (if nat_eq k 0 then Enter line (counter_view counter.entry)
-        else Again line (counter_view counter.entry)) }
+// The mark at which rounds of so many lines begin of which there are none.
+fn mark_at_end(line: usize, size: usize) -> RoundMark
+    requires { line + size ≤ most_lines }
+    ensures { result ≡ mark_at_end line size }
 {
+    RoundMark::new(line as u64, Border::Enter, (line + size + 1) as u64)
+}
+
+// The mark behind the last of rounds of so many lines.
+fn last_mark(line: usize, size: usize) -> RoundMark
+    requires { line + size ≤ most_lines }
+    ensures { result ≡ last_mark line size }
+{
+    let end = (line + size + 1) as u64;
+    RoundMark::new(end, Border::Leave, end + 1)
+}
+
+// The mark before a round, of rounds that begin in a line of this number and have so many lines.
+fn mark_of(
+    alloc: Global,
+    head: Head<'_>,
+    line: usize,
+    size: usize,
+    k: u64,
+) -> Result<RoundMark, AllocError>
+    requires { line + size ≤ most_lines }
+    ensures { IfOk result (λ mark. mark ≡ mark_of (head_view head.entry) line size k) }
+{
+    let mark = round_border(line, size, k);
+    match head.counter {
+        Some(name) => mark.counting(alloc, name, k),
+        None => Ok(mark),
+    }
+}
+
+// The same without a counter.
+fn round_border(line: usize, size: usize, k: u64) -> RoundMark
+    requires { line + size ≤ most_lines }
+    ensures mark { result ≡ round_border line size k }
+    ensures bare { result.counter ≡ None }
+{
+    let first = (line + 1) as u64;
     if k == 0 {
-        Directive::Enter { line, counter }
+        RoundMark::new(line as u64, Border::Enter, first)
     } else {
-        Directive::Again { line, counter }
+        RoundMark::new((line + size + 1) as u64, Border::Again, first)
     }
 }
 
@@ -247,47 +272,4 @@ fn set_names(known: &mut Known, line: &[u8]) -> Result<(), AllocError>
             _ => Ok(()),
         },
     }
-}
-
-// Writes a mark.
-fn put_mark_text(text: &mut Vec<u8>, mark: Directive<'_>) -> Result<(), AllocError>
-    ensures { OnOk result (text.new.items
-        ≡ text.old.items ++ mark_text (directive_view mark.entry)) }
-{
-    match mark {
-        Directive::Enter { line, counter } => put_round(text, b"@enter ", line, counter),
-        Directive::Again { line, counter } => put_round(text, b"@again ", line, counter),
-        Directive::Leave { line } => put_round(text, b"@leave ", line, None),
-        Directive::Set(_) | Directive::Repeat | Directive::End | Directive::Unknown => Ok(()),
-    }
-}
-
-// Writes a mark's word, the number of the next line, and a counter, if there is one.
-fn put_round(
-    text: &mut Vec<u8>,
-    word: &[u8],
-    line: usize,
-    counter: Option<Counter<'_>>,
-) -> Result<(), AllocError>
-    ensures { OnOk result (text.new.items
-        ≡ text.old.items ++ word.now ++ decimal line ++ counter_text (counter_view counter.entry)) }
-{
-    let mut digits = Buffer::new();
-    text.extend_from_slice(word)?;
-    text.extend_from_slice(digits.format(line).as_bytes())?;
-    put_counter(text, counter)
-}
-
-// Writes a counter, if there is one.
-fn put_counter(text: &mut Vec<u8>, counter: Option<Counter<'_>>) -> Result<(), AllocError>
-    ensures { OnOk result (text.new.items
-        ≡ text.old.items ++ counter_text (counter_view counter.entry)) }
-{
-    let Some(counter) = counter else {
-        return Ok(());
-    };
-    text.push(b' ')?;
-    text.extend_from_slice(counter.name)?;
-    text.push(b' ')?;
-    text.extend_from_slice(counter.value)
 }

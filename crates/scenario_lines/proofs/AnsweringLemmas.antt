@@ -21,7 +21,7 @@ use Rattle.own_model.specs.World.{World, outcome_at, with_state, world_after_hea
 use Rattle.scenario_lines.specs.Answer.{AnswersLine, IsAnswer, IsRefusal, answer_text}
 use Rattle.call_lines.specs.Read.{IsNoCall}
 use Rattle.scenario_lines.specs.Answered.{BeginsWithName, IsUnsaid, after_all, hears, is_meant, told_of_all}
-use Rattle.scenario_lines.specs.declared.answering.LineAnswer.{LineAnswer}
+use Rattle.scenario_lines.specs.declared.line_answer.LineAnswer.{LineAnswer}
 use Rattle.own_model.specs.Running.{told_now}
 
 -- a line that isn't too long is heard as what it says

@@ -12,7 +12,7 @@ use Rattle.own_model.specs.Transcript.{Heard, entry_at, heard}
 use Rattle.own_model.specs.Transcript.Heard.{NoCall, Stranger, Caller}
 use Rattle.own_model.specs.World.{World}
 use Rattle.scenario_lines.specs.Gathered.{line_with}
-use Rattle.scenario_lines.specs.declared.answering.LineAnswer.{LineAnswer}
+use Rattle.scenario_lines.specs.declared.line_answer.LineAnswer.{LineAnswer}
 
 -- under which name what was heard is answered
 abbrev pub answered_name : World → Heard → List ℕ

@@ -11,25 +11,15 @@ ghost use Rattle.scenario_lines.specs.Answer.{AnswersLine, IsAnswer, IsRefusal};
 ghost use Rattle.scenario_lines.specs.Answered.{BeginsAsSaid, BeginsWithName, IsUnsaid, after_all, hears, is_meant};
 ghost use Rattle.call_lines.specs.Read.{IsNoCall, IsReadAs, Reads};
 
+use crate::line_answer::LineAnswer;
 use call_lines::{LONGEST_LINE, NamedCall, read_named};
-use calls::{Call, Reply};
+use calls::{Call, Outcome, Reply};
 use pd_core::{Core, Router};
 use start_lists::StartList;
 use trade_base::Refusal;
 
 /// The name before the reply to what is no call.
 const NOBODY: &[u8] = b"?";
-
-/// What a line is answered.
-#[derive(Clone, Copy, PartialEq, Eq)]
-pub struct LineAnswer<'a> {
-    /// The log lines that its call finished, each as it is printed, with its newline.
-    pub lines: &'a [u8],
-    /// The caller's name, or `?` where the line is no call.
-    pub name: &'a [u8],
-    /// The text of the reply.
-    pub reply: &'a [u8],
-}
 
 /// A run from one line to the next: who is called by which name, and whose lines are answered.
 #[derive(Clone, Copy)]
@@ -179,6 +169,7 @@ impl<'a> Run<'a> {
             lines: reply.lines(),
             name: self.list.name(component),
             reply: reply.text(),
+            outcome: reply.outcome(),
         }
     }
 }
@@ -192,6 +183,7 @@ fn refused(name: &[u8], refusal: Refusal) -> LineAnswer<'_>
         lines: b"",
         name,
         reply: refusal.name().as_bytes(),
+        outcome: Outcome::Refused(refusal),
     }
 }
 

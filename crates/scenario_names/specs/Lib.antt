@@ -8,4 +8,5 @@ pub mod Directives
 pub mod Views
 pub mod Laws
 pub mod Misplaced
+pub mod RoundMarks
 pub mod Tokens

@@ -1,14 +1,13 @@
 -- What contracts see of pieces, lines and directives, by their bytes.
 use Rattle.std.specs.Prelude.{ℕ, List, map, Option, Some, None, Result, Ok, Err}
 use Rattle.std.specs.Option.{option_copied}
-use Rattle.scenario_names.specs.Directives.{Directive, Round}
-use Rattle.scenario_names.specs.Directives.Directive.{Set, Enter, Again, Leave, Repeat, End, Unknown}
+use Rattle.scenario_names.specs.Directives.{Directive}
+use Rattle.scenario_names.specs.Directives.Directive.{Set, Repeat, End, Unknown}
 use Rattle.scenario_names.specs.Filling.{Filled, Hole, Made, Piece, Zone}
 use Rattle.scenario_names.specs.Known.{Binding}
 use Rattle.scenario_names.specs.Names.{Sign}
 use Rattle.scenario_names.specs.Names.Sign.{Alone, Doubled, Named, Broken}
-use Rattle.scenario_names.specs.declared.directives.Counter.{Counter}
-use Rattle.scenario_names.specs.declared.directives.Round.{Round as Turn}
+use Rattle.scenario_names.specs.declared.directives.NameValue.{NameValue}
 use Rattle.scenario_names.specs.declared.directives.Directive.{Directive as Told}
 use Rattle.scenario_names.specs.declared.directives.Directive.TheVariants as told
 use Rattle.scenario_names.specs.declared.fault.NameFault.{NameFault}
@@ -23,18 +22,15 @@ use Rattle.scenario_names.specs.declared.pieces.Text.{Text}
 use Rattle.scenario_names.specs.declared.pieces.Text.TheVariants as text
 use Rattle.scenario_names.specs.declared.sums.Total.{Total}
 
-abbrev pub binding_view : Counter → Binding
-binding_view counter = record { name = counter.name.now; value = counter.value.now }
+abbrev pub binding_view : NameValue → Binding
+binding_view binding = record { name = binding.name.now; value = binding.value.now }
 
-abbrev pub counter_view : Option Counter → Option Binding
-counter_view None = None
-counter_view (Some counter) = Some (binding_view counter)
+abbrev pub binding_seen : Option NameValue → Option Binding
+binding_seen None = None
+binding_seen (Some binding) = Some (binding_view binding)
 
 abbrev pub directive_view : Told → Directive
 directive_view (told.Set binding) = Set (binding_view binding)
-directive_view (told.Enter line counter) = Enter line (counter_view counter)
-directive_view (told.Again line counter) = Again line (counter_view counter)
-directive_view (told.Leave line) = Leave line
 directive_view told.Repeat = Repeat
 directive_view told.End = End
 directive_view told.Unknown = Unknown
@@ -108,7 +104,3 @@ done_seen (Err reason) line holes = Err reason
 abbrev pub step_seen : Result ℕ NameReason → Option (List ℕ) → List Star → Result Made NameReason
 step_seen (Ok size) line holes = Ok (made_view line holes)
 step_seen (Err reason) line holes = Err reason
-
-abbrev pub round_view : Option Turn → Option Round
-round_view None = None
-round_view (Some round) = Some (record { line = round.line; counter = counter_view round.counter })

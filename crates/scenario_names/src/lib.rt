@@ -13,11 +13,12 @@ mod learning;
 mod misplaced;
 mod names;
 mod pieces;
+mod round_mark;
 mod sums;
 mod texts;
 mod tokens;
 
-pub use directives::{Counter, Directive, directive_of};
+pub use directives::{Directive, NameValue, directive_of};
 pub use fault::{NameFault, NameMessage, NameReason};
 pub use filling::{Filled, fill, source_column};
 pub use holes::Hole;
@@ -27,4 +28,5 @@ pub use laws::{
 };
 pub use misplaced::Misplaced;
 pub use names::is_name;
+pub use round_mark::{Border, RoundMark};
 pub use tokens::token_at;

@@ -15,7 +15,7 @@ use Rattle.own_model.specs.OwnState.{zeros}
 use Rattle.region_map.specs.Regions.{Regions}
 use Rattle.dataspace_core.specs.Store.{Store, Part, part, parted_part, raised_part, charged_part, credited_part, account_of, accounts_in, account_in, parents_in, parent_in, root_in, room_in, IsOpenIn, IsLeafIn, with_child_in, with_account_in, without_account_in, AreRelatedIn, ram_limits_in, PartBecomes, OpensPart, ClosesPart}
 use Rattle.dataspace_core.specs.Share.{share_in}
-use Rattle.dataspace_core.proofs.PartLaws.{account_of-part, open_in_part}
+use Rattle.dataspace_core.proofs.PartLaws.{account_of-part, open_in_part, account_by}
 use Rattle.dataspace_core.proofs.LimitLaws.{limits_after}
 use Rattle.sliced_heap.specs.Sliced.{sliced_of}
 use Rattle.sliced_heap.specs.Heap.{payer_of, share_at, blocks_at, MapsMemory, IsSound, HasNoBlocks, TakesBlock, GivesAll, KeepsOthers}
@@ -31,10 +31,6 @@ enough_ram ram caps enough = grind (arith, nat_tests)
 
 pub enough_caps : (ram caps : ℕ) → too_small ram caps ≡ None → session_caps ≤ caps
 enough_caps ram caps enough = grind (arith, nat_tests)
-
--- the account of a part is what the memory has
-account_is : (account : ℕ) (store : Store) (a : Account) → (part account store).account ≡ Some a → account_in store account ≡ a
-account_is account store a is = sym (account_of-part account store) ∙ ap (λ o. unwrap_or o (opened 0 0)) is
 
 -- ---- a session's account is opened, and charged for the session
 
@@ -55,7 +51,7 @@ module _ (client account ram caps : ℕ) (old mid : Store) (regions : Regions) (
     (fresh : get (accounts_in old) account ≡ None) (client_open : IsOpenIn old client) (leaf : IsLeafIn mid account) (is : mid ≡ with_child_in old client account ram caps) (opens : OpensPart client account ram caps old mid) (ram_moved : ram_limits_in mid ≡ ram_limits_in old) where
   -- the account has what was donated
   opened_account : account_in mid account ≡ opened ram caps
-  opened_account = account_is account mid (opened ram caps) (ap (λ (p : Part). p.account) opens.opened_one)
+  opened_account = account_by account mid (opened ram caps) (ap (λ (p : Part). p.account) opens.opened_one)
 
   -- so it is open
   pub account_open : IsOpenIn mid account
@@ -97,7 +93,7 @@ module _ (client account ram caps : ℕ) (old mid : Store) (regions : Regions) (
       (sound : IsSound taken new after) (others : KeepsOthers account mid new regions after) (apart : client ≢ account) where
     -- the account uses what a new session uses
     charge : (part account new).account ≡ Some (session_account ram caps)
-    charge = took.charge ∙ ap (λ a. Some (charged a session_ram 1)) (account_is account mid _ ready.charge)
+    charge = took.charge ∙ ap (λ a. Some (charged a session_ram 1)) (account_by account mid _ ready.charge)
 
     -- and has one dataspace
     one : len (part account new).spaces ≡ 1
@@ -113,7 +109,7 @@ module _ (client account ram caps : ℕ) (old mid : Store) (regions : Regions) (
     is_session_heap = record {
       sound = sound;
       pays = subst (λ k. (account_in new k).caps_used ≡ len (part k new).spaces + 1) (sym payer)
-          (ap (λ (a : Account). a.caps_used) (account_is account new _ charge) ∙ ap (λ n. n + 1) (sym one));
+          (ap (λ (a : Account). a.caps_used) (account_by account new _ charge) ∙ ap (λ n. n + 1) (sym one));
     }
 
     is_alone : HasBlocksAlone (holding_of taken new after)
@@ -140,7 +136,7 @@ module _ (client account ram caps : ℕ) (old mid : Store) (regions : Regions) (
   -- the account covers the object
   covers_object : sliced_refusal session_object (account_in mid account) ≡ None
   covers_object =
-      ap (sliced_refusal session_object) (account_is account mid _ ready.charge)
+      ap (sliced_refusal session_object) (account_by account mid _ ready.charge)
       ∙ lacks_nothing (charged (opened ram caps) 0 1) session_ram 1 (omega (arith, enough_ram ram caps enough)) (omega (arith, enough_caps ram caps enough))
 
   pub is_furnished : (heap taken : SlicedHeap) (new : Store) (after : Regions) (r : Result ℕ Refusal) → client ≢ account → payer_of heap ≡ account → result_err r ≡ sliced_refusal session_object (account_in mid (payer_of heap)) →
@@ -179,7 +175,7 @@ module _ (account : ℕ) (heap left : SlicedHeap) (old mid : Store) (regions aft
   -- and uses one capability
   pub one_used : (account_in mid account).caps_used ≡ 1
   one_used =
-      let credit = ap (λ (a : Account). a.caps_used) (account_is account mid _ given.charge) in
+      let credit = ap (λ (a : Account). a.caps_used) (account_by account mid _ given.charge) in
       omega (arith, credit, pays, blocks)
 
   pub still_open : IsOpenIn mid account

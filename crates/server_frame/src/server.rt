@@ -11,7 +11,6 @@ ghost use Rattle.region_map.specs.Regions.{fresh_regions};
 ghost use Rattle.dataspace_core.specs.Store.{Store, account_in, ram_limits_in, IsOpenIn, room_in, RaisesPart};
 ghost use Rattle.server_frame.specs.Frame.{sessions_of, row_served, AtSession, IsServer, IsNoSession, OpensSession, ServesSession, ClosesSession};
 ghost use Rattle.server_frame.specs.Lent.{key_of};
-ghost use Rattle.calls.specs.Told.{nothing_told};
 
 use crate::effect::Effect;
 use crate::furniture::{dismiss, furnish, test_donation};
@@ -186,7 +185,7 @@ impl<S: Service + Drop> Server<S> {
     ) -> Effect
         requires server { IsServer S.IsKept self.old.sessions memory.old self.old.map }
         requires open { ContainsKey self.old.sessions id.0 }
-        requires reply { reply.old ≡ nothing_told }
+        requires reply { reply.old.lines ≡ [] }
         ensures server { IsServer S.IsKept self.new.sessions memory.new self.new.map }
         ensures text { AtSession S.value S.buffer
             self.old.sessions memory.old self.old.map id.0 (λ row.

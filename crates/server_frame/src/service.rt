@@ -1,5 +1,5 @@
 //! What a server does for a session.
-ghost use Rattle.std.specs.Prelude.{◌≡◌, ℕ, ◌≤◌, List, length, Option, None};
+ghost use Rattle.std.specs.Prelude.{◌≡◌, ℕ, ◌≤◌, List, [], length, Option, None};
 ghost use Rattle.own_model.specs.Account.{Account};
 ghost use Rattle.dataspace_core.specs.Store.{account_in};
 ghost use Rattle.dataspace_core.specs.Share.{Share};
@@ -7,7 +7,6 @@ ghost use Rattle.sliced_heap.specs.Heap.{payer_of, KeepsOthers};
 ghost use Rattle.server_frame.specs.Lent.{AllLendAside, IsEffect, bytes_lent, key_of};
 ghost use Rattle.server_frame.specs.Session.{Served, IsSessionAccount, IsSessionHeap, HasBlocksAlone, PaysFor, holding_at, holding_of};
 ghost use Rattle.sliced_heap.specs.Sliced.{IsLinked};
-ghost use Rattle.calls.specs.Told.{nothing_told};
 
 use crate::effect::Effect;
 use calls::{LONGEST_LABEL, Reply};
@@ -70,7 +69,7 @@ pub trait Service {
         requires account { IsSessionAccount (payer state.old) memory.old map.old }
         requires kept { IsKept state.old (payer state.old)
             (holding_at (payer state.old) memory.old map.old) }
-        requires reply { reply.old ≡ nothing_told }
+        requires reply { reply.old.lines ≡ [] }
         ensures served { record {
           text = reply.new.text;
           lines = reply.new.lines;

@@ -1,7 +1,6 @@
 -- Laws for callers: what is so of a server, whichever its service is.
 use Rattle.std.proofs.Common.{◌≡◌, ◌≢◌, ℕ, ◌+◌, ◌*◌, ◌≤◌, Bool, Some, false, refl, sym, ap, subst, ◌∙◌, arith}
-use Rattle.std.specs.Prelude.{Option, None, List, [], IsSome}
-use Rattle.std.specs.Option.{option_map}
+use Rattle.std.specs.Prelude.{List, [], IsSome}
 use Rattle.std.specs.FinMap.{get, empty}
 use Rattle.slab.specs.Slab.{Slab, ContainsKey}
 use Rattle.slab.specs.Slab as slab
@@ -16,7 +15,7 @@ use Rattle.dataspace_core.specs.Store.{Store, part, space_at, account_in, ram_li
 use Rattle.server_frame.specs.Frame.{Row, row_of, IsNoSession}
 use Rattle.server_frame.specs.declared.server.Session.{Session}
 use Rattle.server_frame.proofs.FrameLaws.{server_at_first, server_stays}
-use Rattle.server_frame.proofs.FrameLemmas.{Stays, row_stays}
+use Rattle.server_frame.proofs.FrameLemmas.{Stays, row_stays, read_alike}
 use Rattle.server_frame.specs.Laws.{WritesLent}
 use Rattle.server_frame.proofs.LentLaws.{lent_are_paid, writes_leave_sessions}
 use Rattle.server_frame.proofs.PlaceLaws.{table_has_place}
@@ -99,11 +98,6 @@ host_has_place heads store host works clients room places client ram caps none f
     (λ id session is. clients id _ (row_there table store id session is)) room (is_none store host client none) fits least places
 
 -- ---- beside calls that leave what its sessions see
-
--- what is read of an option stays where each value's reading does
-read_alike : {T X : Type 0} (f g : T → X) (o : Option T) → ((x : T) → o ≡ Some x → g x ≡ f x) → option_map g o ≡ option_map f o
-read_alike f g None alike = refl
-read_alike f g (Some x) alike = ap Some (alike x refl)
 
 -- a slab is read alike where each of its values is
 map_of_alike : {T X : Type 0} (f g : T → X) (s : Slab T) → ((q : ℕ) (x : T) → slab.get s q ≡ Some x → g x ≡ f x) → map_of g s ≡ map_of f s

@@ -1,5 +1,5 @@
 //! A server of one of the services.
-ghost use Rattle.std.specs.Prelude.{◌≡◌, ◌+◌, ◌*◌, ◌≤◌, length, is_some, IfOk, OnOk, OnErr};
+ghost use Rattle.std.specs.Prelude.{◌≡◌, ◌+◌, ◌*◌, ◌≤◌, [], length, is_some, IfOk, OnOk, OnErr};
 ghost use Rattle.std.specs.FinMap.{get, insert};
 ghost use Rattle.std.specs.Result.{result_err};
 ghost use Rattle.own_model.specs.Account.{shortage};
@@ -10,7 +10,6 @@ ghost use Rattle.server_frame.specs.Frame.{AtRow, row_served, sessions_of, IsSer
 ghost use Rattle.services.specs.Host.{CanOpen};
 ghost use Rattle.server_frame.specs.Lent.{key_of};
 ghost use Rattle.server_frame.specs.Session.{service_step};
-ghost use Rattle.calls.specs.Told.{nothing_told};
 
 use calls::{LONGEST_LABEL, Reply};
 use dataspace_core::Memory;
@@ -159,7 +158,7 @@ impl Host {
         reply: &mut Reply,
     ) -> Effect
         requires serves { Serves memory.old self.old id.0 }
-        requires reply { reply.old ≡ nothing_told }
+        requires reply { reply.old.lines ≡ [] }
         ensures text { AtRow (rows_of memory.old self.old) id.0 (λ row.
             reply.new.text ≡ (row_served service_step request.now memory.old row).text) }
         ensures lines { AtRow (rows_of memory.old self.old) id.0 (λ row.

@@ -7,10 +7,11 @@ use Rattle.std.specs.Cmp.Lexicographic.{pointwise, same_text}
 use Rattle.std.proofs.lemmas.Bool.Decides.{nat_tests}
 use Rattle.std.proofs.lemmas.List.{take-append-drop}
 use Rattle.std.proofs.lemmas.List.Sums.{prefix_len-le-length}
+use Rattle.std.proofs.lemmas.Bool.{and_parts}
 use Rattle.own_model.specs.Text.{is_name_byte}
 use Rattle.own_model.specs.SessionArgs.{Pair, is_bare, is_quotable, inner, pieces_of, onto_first, value_of, pair_of, each}
 use Rattle.own_model.specs.SessionArgs.Value.{Bare, Quoted}
-use Rattle.own_model.proofs.SessionArgsLemmas.{both, none_of_three, not_quoted, is_plain, onto, pair_in, pieces-plain, pieces-quoted, trimmed-plain, trimmed-quote, value-quoted}
+use Rattle.own_model.proofs.SessionArgsLemmas.{none_of_three, not_quoted, is_plain, onto, pair_in, pieces-plain, pieces-quoted, trimmed-plain, trimmed-quote, value-quoted}
 use Rattle.session_proto.specs.Pairs.{BeginsWith}
 use Rattle.session_proto.specs.Pieces.{pieces_after, behind_comma}
 use Rattle.session_proto.proofs.PieceLemmas.{pieces_of-first}
@@ -52,13 +53,13 @@ name_plain b named = grind (arith, nat_tests)
 
 names_plain : (value : List ℕ) → list_all is_name_byte value ≡ true → list_all is_plain value ≡ true
 names_plain [] named = refl
-names_plain (b ∷ bs) named = let parts = both _ _ named in λ i. name_plain b parts.0 i && names_plain bs parts.1 i
+names_plain (b ∷ bs) named = let parts = and_parts _ _ named in λ i. name_plain b parts.0 i && names_plain bs parts.1 i
 
 value-bare : (value : List ℕ) → is_bare value ≡ true → value_of value ≡ Some (Bare value)
 value-bare [] bare = absurd (cc)
 value-bare (b ∷ bs) bare =
-    let named : list_all is_name_byte (b ∷ bs) ≡ true = (both _ _ bare).1 in
-    let quote : nat_eq b 34 ≡ false = (none_of_three _ _ _ (name_plain b (both _ _ named).0)).1 in
+    let named : list_all is_name_byte (b ∷ bs) ≡ true = (and_parts _ _ bare).1 in
+    let quote : nat_eq b 34 ≡ false = (none_of_three _ _ _ (name_plain b (and_parts _ _ named).0)).1 in
     ap (λ t. cond t (Some (Quoted (inner (b ∷ bs)))) (cond (is_bare (b ∷ bs)) (Some (Bare (b ∷ bs))) None)) (not_quoted _ _ _ _ quote)
     ∙ ap (λ t. cond t (Some (Bare (b ∷ bs))) None) bare
 
@@ -68,7 +69,7 @@ value-bare (b ∷ bs) bare =
 pieces-last : (xs : List ℕ) → list_all is_plain xs ≡ true → pieces_of false xs ≡ xs ∷ []
 pieces-last [] plain = refl
 pieces-last (b ∷ bs) plain =
-    let parts = both _ _ plain in
+    let parts = and_parts _ _ plain in
     let tests = none_of_three _ _ _ parts.0 in
     (λ i. cond (tests.2 i && true) ([] ∷ pieces_of false bs) (onto_first b (pieces_of (cond (tests.1 i) true false) bs)))
     ∙ ap (onto_first b) (pieces-last bs parts.1)
@@ -83,7 +84,7 @@ pieces-label : (label : List ℕ) (rest : Option (List ℕ)) → list_all is_quo
 pieces-label label None quotable = pieces-quoted label quotable
 pieces-label [] (Some text) quotable = refl
 pieces-label (b ∷ bs) (Some text) quotable =
-    let parts : (is_quotable b ≡ true) × (list_all is_quotable bs ≡ true) = both _ _ quotable in
+    let parts : (is_quotable b ≡ true) × (list_all is_quotable bs ≡ true) = and_parts _ _ quotable in
     let byte : is_quotable b ≡ true = parts.0 in
     let quote : nat_eq b 34 ≡ false = grind (arith, nat_tests, byte) in
     let comma : (nat_eq b 44 && false) ≡ false = grind (arith, nat_tests) in
@@ -98,7 +99,7 @@ first_pair text piece pair rest cut is = ap (each pair_of) cut ∙ ap (option_an
 
 module _ (value : List ℕ) (rest : Option (List ℕ)) (bare : is_bare value ≡ true) where
   named : list_all is_plain value ≡ true
-  named = names_plain value (both _ _ bare).1
+  named = names_plain value (and_parts _ _ bare).1
 
   pub ram_first : BeginsWith (codes "ram_quota=" ++ (value ++ behind_comma rest)) (record { key = codes "ram_quota"; value = Bare value }) rest
   ram_first = first_pair (codes "ram_quota=" ++ (value ++ behind_comma rest)) (codes "ram_quota=" ++ value) _ rest (pieces-bare (codes "ram_quota=" ++ value) rest named)

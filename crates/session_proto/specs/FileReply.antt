@@ -1,26 +1,10 @@
 -- The file service's replies, as the model's words.
 use Rattle.std.specs.Prelude.{ℕ, ◌+◌, ◌*◌, length}
 use Rattle.own_model.specs.FileText as model
+pub use Rattle.calls.specs.FileError.{model_error}
 use Rattle.calls.specs.Quotas.{quotas_account}
-use Rattle.session_proto.specs.declared.file_reply.FileError.{FileError}
-use Rattle.session_proto.specs.declared.file_reply.FileError.TheVariants.{BadRequest, BadName, Exists, NotFound, Gap, TooLong, End, TooManyChunks, OutOfRam, OutOfCaps, InvalidSize, NoBuffer, BadRange}
 use Rattle.session_proto.specs.declared.file_reply.FileReply.{FileReply}
 use Rattle.session_proto.specs.declared.file_reply.FileReply.TheVariants.{Done, Count, Bytes, Named, Quotas, Lent, Refused}
-
-abbrev pub model_error : FileError → model.FileError
-model_error BadRequest = model.FileError.BadRequest
-model_error BadName = model.FileError.BadName
-model_error Exists = model.FileError.Exists
-model_error NotFound = model.FileError.NotFound
-model_error Gap = model.FileError.Gap
-model_error TooLong = model.FileError.TooLong
-model_error End = model.FileError.End
-model_error TooManyChunks = model.FileError.TooManyChunks
-model_error OutOfRam = model.FileError.OutOfRam
-model_error OutOfCaps = model.FileError.OutOfCaps
-model_error InvalidSize = model.FileError.InvalidSize
-model_error NoBuffer = model.FileError.NoBuffer
-model_error BadRange = model.FileError.BadRange
 
 abbrev pub model_reply : FileReply → model.FileReply
 model_reply Done = model.FileReply.Done

@@ -1,7 +1,8 @@
 //! The arguments of a session.
-ghost use Rattle.std.specs.Prelude.{◌≡◌, true, None, Some, IfOk, IfErr, OnErr};
+ghost use Rattle.std.specs.Prelude.{◌≡◌, ◌≤◌, length, true, None, Some, IfOk, IfErr, OnErr};
 ghost use Rattle.std.specs.Option.{option_map, option_copied};
 ghost use Rattle.trade_base.specs.declared.refusal.Refusal.TheVariants.{BadArgs};
+ghost use Rattle.own_model.specs.Session.{given};
 ghost use Rattle.own_model.specs.SessionArgs.{arguments_of, ram_of, caps_of, label_of};
 ghost use Rattle.session_proto.specs.View.{model_pair, model_value, plain_pair};
 ghost use Rattle.session_proto.specs.Pairs.{known, known_with, with_pair, told};
@@ -63,6 +64,17 @@ impl<'a> SessionArgs<'a> {
         ensures { result.now ≡ self.now.label }
     {
         self.label
+    }
+
+    /// Returns the label that a text gives: none where the text isn't in the grammar.
+    pub fn label_given(text: &'a [u8]) -> &'a [u8]
+        ensures label { result.now ≡ (given text.now).label }
+        ensures short { length result.now ≤ 64 }
+    {
+        match SessionArgs::read(text) {
+            Ok(args) => args.label(),
+            Err(_) => b"",
+        }
     }
 }
 

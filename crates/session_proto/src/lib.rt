@@ -13,6 +13,7 @@ mod plain;
 mod text;
 
 pub use args::SessionArgs;
+pub use calls::FileError;
 pub use file::FileRequest;
-pub use file_reply::{FileError, FileReply};
+pub use file_reply::FileReply;
 pub use log::{LogReply, LogRequest};

@@ -1,11 +1,11 @@
 //! The log service's requests and replies.
-ghost use Rattle.std.specs.Prelude.{◌≡◌, ◌+◌, ◌≤◌, ◌++◌, length, None, Some, IfSome, IfNone, IsSome};
+ghost use Rattle.std.specs.Prelude.{◌≡◌, None, Some, IfSome, IfNone, IsSome};
 ghost use Rattle.own_model.specs.Text.{bytes_of_hex, hex_bytes};
 ghost use Rattle.own_model.specs.LogText.{log_request};
 ghost use Rattle.session_proto.specs.LogReply.{log_reply_text};
 
 use crate::hex_text::hex_or_nothing;
-use calls::Reply;
+use calls::{FileError, Reply};
 use text_codec::split_first_word;
 
 /// The most bytes of a request.
@@ -49,17 +49,13 @@ pub enum LogReply {
 }
 
 impl LogReply {
-    /// Appends the text of a reply to another, where there is room for 24 bytes.
+    /// Writes the reply after the log lines.
     pub fn write(self, reply: &mut Reply)
-        requires { length reply.old.text + 24 ≤ 2100 }
-        ensures { reply.new ≡ record reply.old { text = reply.old.text ++ log_reply_text self } }
+        ensures { reply.new ≡ record reply.old { text = log_reply_text self } }
     {
         match self {
-            LogReply::Wrote(count) => {
-                reply.add_text(b"OK ");
-                reply.add_number(count);
-            }
-            LogReply::BadRequest => reply.add_text(b"ERR BAD_REQUEST"),
+            LogReply::Wrote(count) => reply.serve_count(count),
+            LogReply::BadRequest => reply.serve_error(FileError::BadRequest),
         }
     }
 }

@@ -51,7 +51,7 @@ module _ (passes : Option ℕ → Bool) (heap : NatMap Region) (tags : NatMap �
 -- ---- sliced blocks
 
 -- the one number that passes
-sliced_number : (o : Option ℕ) → is_sliced_tag o ≡ true → o ≡ Some sliced_tag
+pub sliced_number : (o : Option ℕ) → is_sliced_tag o ≡ true → o ≡ Some sliced_tag
 sliced_number None h = absurd (true≢false (sym h))
 sliced_number (Some n) h = ap Some (eqb-true n sliced_tag h)
 

@@ -8,9 +8,6 @@ ghost use Rattle.sliced_heap.specs.Sliced.{word_at, HasHeader, IsField, IsStored
 use dataspace_core::Memory;
 use trade_base::{AccountId, DsId};
 
-/// The bytes of a header.
-pub const HEADER: u64 = 32;
-
 /// Where a header has the link to the block after.
 pub const NEXT: u64 = 0;
 

@@ -12,11 +12,11 @@ ghost use Rattle.sliced_heap.specs.Sliced.{sliced_tag};
 ghost use Rattle.sliced_heap.specs.Heap.{payer_of, share_at, blocks_at, IsSound, MapsMemory, HasNoBlocks, KeepsOthers, Keeps, TakesBlock};
 ghost use Rattle.sliced_heap.specs.Heap.{GivesBlock, GivesAll, IsBlockAt, HoldsAddress, NoneHolds, HoldsRange, Enters, CanEnter, free_refusal};
 
-use crate::header::{HEADER, START, linked, load};
+use crate::header::{START, linked, load};
 use crate::links::{put_first, take_out};
 use dataspace_core::Memory;
 use region_map::RegionMap;
-use trade_base::{AccountId, DsId, PAGE, Refusal};
+use trade_base::{AccountId, DsId, PAGE, Refusal, SLICED_HEADER};
 
 /// The number that the region of a sliced block keeps.
 const SLICED: u64 = u64::MAX;
@@ -124,7 +124,7 @@ impl SlicedHeap {
         let (start, ds) = self.block_at(memory, map, address)?;
         let offset = address - start;
         let size = memory.size(ds);
-        if offset < HEADER || count > size - offset {
+        if offset < SLICED_HEADER || count > size - offset {
             return None;
         }
         Some((ds, offset))
@@ -169,7 +169,7 @@ impl SlicedHeap {
         ensures none { IfNone result
             (get (blocks_at (payer_of self.now) memory.now map.now) address ≡ None) }
     {
-        let start = address.checked_sub(HEADER)?;
+        let start = address.checked_sub(SLICED_HEADER)?;
         let (first, ds) = self.block_at(memory, map, start)?;
         if first != start {
             return None;
@@ -210,7 +210,7 @@ impl SlicedHeap {
     {
         let start = map.attach_block(ds, pages, SLICED);
         self.first = put_first(memory, self.account, self.first, ds, start);
-        start + HEADER
+        start + SLICED_HEADER
     }
 }
 
@@ -222,6 +222,6 @@ fn with_header(bytes: u64) -> Option<u64>
     if bytes == 0 {
         None
     } else {
-        bytes.checked_add(HEADER)
+        bytes.checked_add(SLICED_HEADER)
     }
 }

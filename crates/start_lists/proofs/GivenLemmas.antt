@@ -5,10 +5,10 @@ use Rattle.std.proofs.lemmas.Bool.{cases_eq, eq-eqb, ne_eqb}
 use Rattle.std.proofs.lemmas.List.{get_or_append_left, get_or_push, get_or-set_other, get_or-set_same}
 use Rattle.std.proofs.lemmas.List.Sums.{sum_by-cons}
 use Rattle.std.proofs.lemmas.Option.{none-some, same_Some}
+use Rattle.own_model.proofs.StartLemmas.{length-with_started}
 use Rattle.own_model.specs.Account.{Account, parted_with}
 use Rattle.own_model.specs.StartList.{AllCovered, IsCovered, StartEntry, budget, init_account, init_at, inits_at_first, inits_keep, no_account, with_started}
 use Rattle.start_lists.specs.ListLaws.{InitsGiveTheirOwn, caps_given, ram_given}
-use Rattle.start_lists.proofs.QuotaLemmas.{longer}
 
 -- ---- one entry
 
@@ -67,7 +67,7 @@ record Keeps (inits : List Account) (starts : List StartEntry) (number : ℕ) (h
 keeps : (inits : List Account) (starts : List StartEntry) (number : ℕ) → number < length inits → AllCovered inits starts → Keeps inits starts number (init_at inits number)
 keeps inits [] number there covered = record { ram = omega arith; caps = omega arith }
 keeps inits (start ∷ starts) number there covered =
-    let rest = keeps (with_started inits start) starts number (omega (arith, there, longer inits start)) covered.1 in
+    let rest = keeps (with_started inits start) starts number (omega (arith, there, length-with_started inits start)) covered.1 in
     record {
       ram = omega (arith, rest.ram, one_ram inits start covered.0 number there, ram_more number start starts);
       caps = omega (arith, rest.caps, one_caps inits start covered.0 number there, caps_more number start starts);
@@ -85,7 +85,7 @@ keeps_later : (inits : List Account) (starts : List StartEntry) (place : ℕ) (s
 keeps_later inits [] place start there covered = absurd (none-some start there)
 keeps_later inits (first ∷ starts) zero start there covered =
     let same : first ≡ start = same_Some first start there in
-    let rest = keeps (with_started inits first) starts (length inits) (omega (arith, longer inits first)) covered.1 in
+    let rest = keeps (with_started inits first) starts (length inits) (omega (arith, length-with_started inits first)) covered.1 in
     let home = covered.0.there in
     let none_ram = ap (λ b. cond b (budget first).ram 0) (ne_eqb first.entry.home (length inits) (λ at. omega (arith, home, at))) in
     let none_caps = ap (λ b. cond b (budget first).caps 0) (ne_eqb first.entry.home (length inits) (λ at. omega (arith, home, at))) in
@@ -99,7 +99,7 @@ keeps_later inits (first ∷ starts) zero start there covered =
       plus_none n = omega arith
 keeps_later inits (first ∷ starts) (suc place) start there covered =
     let rest = keeps_later (with_started inits first) starts place start there covered.1 in
-    let number : length (with_started inits first) + place ≡ length inits + suc place = omega (arith, longer inits first) in
+    let number : length (with_started inits first) + place ≡ length inits + suc place = omega (arith, length-with_started inits first) in
     let home = covered.0.there in
     let none_ram = ap (λ b. cond b (budget first).ram 0) (ne_eqb first.entry.home (length inits + suc place) (λ at. omega (arith, home, at))) in
     let none_caps = ap (λ b. cond b (budget first).caps 0) (ne_eqb first.entry.home (length inits + suc place) (λ at. omega (arith, home, at))) in

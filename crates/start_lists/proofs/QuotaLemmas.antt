@@ -1,13 +1,14 @@
 -- The first entry that isn't covered, and lists in which each is.
-use Rattle.std.proofs.Common.{◌≡◌, ℕ, zero, suc, ◌+◌, ◌<◌, List, [], ◌∷◌, length, map, set, take, Option, Some, None, IsSome, subst, refl, sym, ap, ◌∙◌, arith, length-append, length-set}
+use Rattle.std.proofs.Common.{◌≡◌, ℕ, zero, suc, ◌+◌, ◌<◌, List, [], ◌∷◌, length, map, take, Option, Some, None, IsSome, subst, refl, sym, ap, ◌∙◌, arith}
 use Rattle.std.specs.List.{slice_get}
 use Rattle.std.specs.Option.{option_map}
 use Rattle.std.proofs.lemmas.Bool.Decides.{nat_tests}
 use Rattle.std.proofs.lemmas.Option.{none-some, same_Some}
+use Rattle.own_model.proofs.StartLemmas.{length-with_started}
 use Rattle.trade_base.specs.declared.refusal.Refusal.{Refusal}
-use Rattle.own_model.specs.Account.{Account, Fits, parted_with, shortage}
+use Rattle.own_model.specs.Account.{Account, Fits, shortage}
 use Rattle.own_model.specs.Listed.{Listed, ListedEntry, start_of, start_list_of}
-use Rattle.own_model.specs.StartList.{AllCovered, StartEntry, StartList, budget, init_account, init_at, inits_at_first, inits_keep, with_started}
+use Rattle.own_model.specs.StartList.{AllCovered, StartEntry, StartList, budget, init_at, inits_at_first, inits_keep, with_started}
 use Rattle.own_model.proofs.StepLemmas.{covers}
 use Rattle.start_lists.specs.Quota.{first_or, first_uncovered}
 use Rattle.start_lists.specs.ListLaws.{FaultsAreOfLacks, FaultsNameTheFirst, IsFirstLack}
@@ -17,13 +18,6 @@ use Rattle.start_lists.proofs.ListedLemmas.{lists_are_listed}
 -- an account that covers it lacks nothing
 lacks_none : (a : Account) (ram caps : ℕ) → Fits a ram caps → shortage a ram caps ≡ None
 lacks_none a ram caps fits = let ram_fits = fits.ram_fits in let caps_fit = fits.caps_fit in grind (arith, nat_tests, ram_fits, caps_fit)
-
--- there is one init's account more after each entry
-pub longer : (inits : List Account) (start : StartEntry) → length (with_started inits start) ≡ length inits + 1
-longer inits start =
-    let home = start.entry.home in
-    let parted = parted_with (init_at inits home) (budget start).ram (budget start).caps in
-    omega (arith, length-append (set inits home parted) (init_account start ∷ []), length-set inits home parted)
 
 -- each entry's init is there by then
 abbrev HaveInits : ℕ → List StartEntry → Type 0
@@ -40,7 +34,7 @@ all_covered inits [] have none = tt
 all_covered inits (start ∷ starts) have none =
     let both = first_none (shortage (init_at inits start.entry.home) (budget start).ram (budget start).caps) start (first_uncovered (with_started inits start) starts) none in (
       record { there = have.0; covers = covers (init_at inits start.entry.home) (budget start).ram (budget start).caps both.0 },
-      all_covered (with_started inits start) starts (subst (λ n. HaveInits n starts) (sym (longer inits start)) have.1) both.1,
+      all_covered (with_started inits start) starts (subst (λ n. HaveInits n starts) (sym (length-with_started inits start)) have.1) both.1,
     )
 
 none_first : (inits : List Account) (starts : List StartEntry) → AllCovered inits starts → first_uncovered inits starts ≡ None

@@ -5,10 +5,28 @@ use Rattle.std.specs.Result.{result_ok}
 use Rattle.serde_json.specs.Data.{Data}
 use Rattle.start_lists.specs.declared.fault.BootFault.{BootFault}
 use Rattle.start_lists.specs.declared.fault.BootFault.TheVariants.{BadConfig}
+use Rattle.start_lists.specs.declared.fault.Field.{Field}
 use Rattle.start_lists.specs.declared.fault.Field.TheVariants as field
 use Rattle.start_lists.specs.Entries.{◌>>=◌, Misread, SoFar, entries_read, own_of, value_or}
 use Rattle.start_lists.specs.Members.{whole_at}
 use Rattle.start_lists.specs.StartText.{machine_of}
+
+-- the member that has a bad value
+abbrev pub member_of : Field → List ℕ
+member_of field.Size = codes "size"
+member_of field.Machine = codes "machine"
+member_of field.Pages = codes "pages"
+member_of field.Caps = codes "caps"
+member_of field.DefaultRoute = codes "default-route"
+member_of field.Start = codes "start"
+member_of field.Name = codes "name"
+member_of field.Binary = codes "binary"
+member_of field.Quantum = codes "quantum"
+member_of field.Provides = codes "provides"
+member_of field.Route = codes "route"
+member_of field.Reserve = codes "reserve"
+member_of field.ReserveCaps = codes "reserve-caps"
+member_of field.Config = codes "config"
 
 -- the values of the entries, where nothing before them has a fault
 abbrev pub starts_of : Data → Result (List Data) BootFault

@@ -41,9 +41,14 @@ pub enum Field {
     Config,
 }
 
-impl fmt::Display for Field {
-    fn fmt<W: fmt::Write>(&self, f: &mut fmt::Formatter<W>) -> fmt::Result {
-        f.write_str(match self {
+impl Field {
+    ghost use Rattle.start_lists.specs.Misread.{member_of};
+
+    /// Returns the name of the member.
+    pub fn as_str(self) -> &'static str
+        ensures { result.now ≡ member_of self }
+    {
+        match self {
             Field::Size => "size",
             Field::Machine => "machine",
             Field::Pages => "pages",
@@ -58,7 +63,13 @@ impl fmt::Display for Field {
             Field::Reserve => "reserve",
             Field::ReserveCaps => "reserve-caps",
             Field::Config => "config",
-        })
+        }
+    }
+}
+
+impl fmt::Display for Field {
+    fn fmt<W: fmt::Write>(&self, f: &mut fmt::Formatter<W>) -> fmt::Result {
+        f.write_str(self.as_str())
     }
 }
 

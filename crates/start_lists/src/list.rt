@@ -28,7 +28,7 @@ use std::alloc::Global;
 use std::marker::Model;
 
 /// The most bytes of a start list's text.
-const LONGEST_TEXT: usize = 65_536;
+pub const LONGEST_TEXT: usize = 65_536;
 
 /// The fewest pages of a machine, and the fewest capabilities.
 const SMALLEST: u32 = 16;
@@ -37,7 +37,7 @@ const SMALLEST: u32 = 16;
 const LARGEST: u32 = 4096;
 
 /// How deep inits nest at most below the machine's.
-const DEEPEST: usize = 3;
+pub const DEEPEST: usize = 3;
 
 /// A machine, and the components that its inits start on it: the entries of all lists, an init directly before its own.
 #[derive(Drop)]

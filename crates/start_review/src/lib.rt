@@ -1,43 +1,20 @@
-//! Start lists for people who write them: the place of a fault, what a list says that its writer can't have meant, and where
-//! the wishes of each script lead.
+//! Start lists for people who write them: the list of a text with its findings, or the fault and its place. `check` and `tree`
+//! call it.
+//!
+//! ```text
+//! let review = Review::read(alloc, text)?;
+//! ```
 #![tactic(auto)]
 
-mod asked;
-mod bad_rule;
-mod decisions;
-mod fault;
-mod finding;
-mod findings;
-mod flaw;
-mod graph;
-mod hiding;
-mod idle;
-mod left;
-mod members;
-mod near;
-mod node;
-mod outer;
-mod part;
-mod quoted;
-mod reached;
-mod repeated;
 mod review;
-mod spare;
-mod strays;
-mod tree;
-mod unread;
-mod values;
-mod views;
-mod wishes;
 
-pub use bad_rule::faults_of_rules_are_the_engines;
-pub use fault::{Fault, Reason, Whereabouts};
-pub use finding::{Finding, Known, Remark, Written};
-pub use flaw::{Expected, Flaw, Sort, faults_have_places};
-pub use graph::Graph;
-pub use hiding::hidden_rules_never_decide;
-pub use left::Lack;
-pub use part::{Part, Step, Steps};
+pub use list_faults::{
+    Expected, Fault, Flaw, Reason, Sort, Whereabouts, faults_have_places,
+    faults_of_rules_are_the_engines,
+};
+pub use list_findings::{
+    Advice, Finding, Known, Remark, Spare, Written, hidden_rules_never_decide,
+};
+pub use list_parts::{Lack, Part, Step, Steps};
+pub use list_tree::{Graph, Tree};
 pub use review::Review;
-pub use spare::{Advice, Spare};
-pub use tree::Tree;

@@ -11,6 +11,7 @@ use Rattle.own_model.specs.Text.{hex_digit_of, bytes_of_hex, hex_bytes}
 use Rattle.std.proofs.lemmas.Option.{same_Some}
 use Rattle.std.proofs.lemmas.Bool.{cases_eq}
 use Rattle.std.proofs.lemmas.List.Elements.{All-get_or}
+use Rattle.own_model.proofs.NatMapLemmas.{none_of}
 use Rattle.hex.specs.Hex.{decode_of, decode_pairs, digit_or_error, hex_digit_value, is_hex_digit, ◌>>=◌}
 use Rattle.hex.specs.declared.error.FromHexError.{FromHexError}
 use Rattle.hex.proofs.HexLemmas.{decode_of-even, decode_of-odd, decode_of-ok}
@@ -41,10 +42,6 @@ pub bytes_found : (bytes : Option (List ℕ)) → is_some bytes ≡ true → byt
 bytes_found None some = absurd (cc)
 bytes_found (Some bytes) some = refl
 
-pub no_bytes_found : (bytes : Option (List ℕ)) → is_some bytes ≡ false → bytes ≡ None
-no_bytes_found None none = refl
-no_bytes_found (Some bytes) none = absurd (cc)
-
 -- the value of a result that has one
 pub ok_bytes : (r : Result (List ℕ) FromHexError) → IsOk r → (bytes : List ℕ) × (r ≡ Ok bytes)
 ok_bytes (Ok bytes) ok = (bytes, refl)
@@ -74,7 +71,7 @@ pairs_read i (high ∷ low ∷ rest) =
 pub decoded : (text : List ℕ) → result_ok (decode_of text) ≡ bytes_of_hex text
 decoded text =
     elim (cases_eq (length text % 2) 1) [
-      | inl odd ↦ rw (decode_of-odd text odd) (sym (no_bytes_found (bytes_of_hex text) (bytes_of_even text ∙ rw odd refl)))
+      | inl odd ↦ rw (decode_of-odd text odd) (sym (none_of (bytes_of_hex text) (bytes_of_even text ∙ rw odd refl)))
       | inr other ↦ let even : length text % 2 ≡ 0 = omega arith in ap result_ok (decode_of-even text even) ∙ pairs_read 0 text
     ]
 
@@ -92,7 +89,7 @@ pub bytes_there : (text : List ℕ) → is_ok (decode_of text) ≡ true → byte
 bytes_there text ok = bytes_found (bytes_of_hex text) (sym (decodes_alike text) ∙ ok)
 
 pub no_bytes_there : (text : List ℕ) → is_ok (decode_of text) ≡ false → bytes_of_hex text ≡ None
-no_bytes_there text other = no_bytes_found (bytes_of_hex text) (sym (decodes_alike text) ∙ other)
+no_bytes_there text other = none_of (bytes_of_hex text) (sym (decodes_alike text) ∙ other)
 
 pub ruleset read_bytes = (bytes_there, no_bytes_there, nat_tests)
 

@@ -3,7 +3,7 @@ use Rattle.std.proofs.Common.{◌≡◌, ℕ, suc, ◌+◌, ◌<◌, ◌≤◌, 
 use Rattle.std.specs.List.{list_all, slice_split, position, position_or_len}
 use Rattle.std.proofs.lemmas.Bool.Decides.{nat_tests}
 use Rattle.std.proofs.lemmas.List.Splits.{length-slice_split}
-use Rattle.std.proofs.lemmas.Option.{none-some, same_Some}
+use Rattle.std.proofs.lemmas.Option.{none-some, cond_some}
 use Rattle.own_model.specs.Text.{is_name, is_name_byte, is_path}
 
 -- no byte of a name parts names
@@ -50,18 +50,13 @@ ends : (word : List ℕ) → EndsAt (position_or_len (λ b. b == 47) word) word
 ends [] = record { at_end = λ _. refl; at_slash = λ within. absurd (omega (arith, within)) }
 ends (b ∷ bs) = ends_next (b == 47) (position_or_len (λ b. b == 47) bs) b bs refl (ends bs)
 
--- where a place is told, it is the first slash's
-placed : (t : Bool) (m n : ℕ) → cond t (Some m) None ≡ Some n → (t ≡ true) × (m ≡ n)
-placed true m n is = (refl, same_Some m n is)
-placed false m n is = absurd (none-some n is)
-
 not_placed : (t : Bool) (m : ℕ) → cond t (Some m) None ≡ None → t ≡ false
 not_placed true m is = absurd (none-some m (sym is))
 not_placed false m is = refl
 
 first_part : (n : ℕ) (word : List ℕ) → position (λ b. b == 47) word ≡ Some n → parts word ≡ take n word ∷ parts (drop (n + 1) word)
 first_part n word at =
-    let is = placed (nat_lt (position_or_len (λ b. b == 47) word) (length word)) (position_or_len (λ b. b == 47) word) n at in
+    let is = cond_some (nat_lt (position_or_len (λ b. b == 47) word) (length word)) (position_or_len (λ b. b == 47) word) n at in
     subst (λ i. parts word ≡ take i word ∷ parts (drop (i + 1) word)) is.1 ((ends word).at_slash (grind (arith, nat_tests, is.0)))
 
 only_part : (word : List ℕ) → position (λ b. b == 47) word ≡ None → parts word ≡ word ∷ []

@@ -1,5 +1,5 @@
-//! Where a byte stands.
-ghost use Rattle.std.specs.Prelude.{◌≡◌, ◌==◌, ◌||◌, ◌<◌, length, IfSome, position};
+//! Where a byte is in a text, and the rest of a text.
+ghost use Rattle.std.specs.Prelude.{◌≡◌, ◌==◌, ◌||◌, ◌<◌, length, drop, IfSome, position};
 
 use memchr::{memchr, memchr2};
 
@@ -21,4 +21,15 @@ pub fn find_either(one: u8, other: u8, text: &[u8]) -> Option<usize>
     ensures inside { IfSome result (λ at. at < length text.now) }
 {
     memchr2(one, other, text)
+}
+
+/// Returns a text without its first bytes, so many: nothing where it has no more.
+pub fn skip_bytes(text: &[u8], count: usize) -> &[u8]
+    ensures { result.now ≡ drop count text.now }
+{
+    if count < text.len() {
+        &text[count..]
+    } else {
+        b""
+    }
 }

@@ -12,7 +12,7 @@ mod words;
 
 pub use address::read_address;
 pub use byte_kinds::{is_key_byte, is_name_byte, is_quotable};
-pub use bytes::{find_byte, find_either};
+pub use bytes::{find_byte, find_either, skip_bytes};
 pub use digits::{MOST_HEX_DIGITS, write_hex, write_number};
 pub use fixed_text::{add, add_number};
 pub use hex_pairs::{decode_hex, decode_hex_from, encode_hex};

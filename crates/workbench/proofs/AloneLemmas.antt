@@ -18,7 +18,7 @@ use Rattle.own_model.proofs.RunningLemmas.{states_running-at}
 use Rattle.own_model.proofs.RunSaidByLemmas.{pieces_stand_alone, state_stands_alone}
 use Rattle.scenario_lines.specs.Answer.{AnswersLine, IsAnswer, answer_text, answered_name, answered_reply, finished_lines}
 use Rattle.scenario_lines.specs.Answered.{after_all}
-use Rattle.scenario_lines.specs.declared.answering.LineAnswer.{LineAnswer}
+use Rattle.scenario_lines.specs.declared.line_answer.LineAnswer.{LineAnswer}
 use Rattle.scenario_lines.proofs.AnsweringLemmas.{told_answer}
 use Rattle.scenario_lines.proofs.ToldLemmas.{left_by_both, said_by-append}
 use Rattle.workbench.specs.Alone.{AreAlike, SeesAlone, alone_tells, told_in}

@@ -1,5 +1,5 @@
 -- Which faults come, and whether a write has failed then.
-use Rattle.std.proofs.Common.{◌≡◌, Bool, true, false, ◌||◌, List, ℕ, Some, None, Result, Ok, Err, IfErr, IsErrAnd, refl, sym, ◌∙◌, ap}
+use Rattle.std.proofs.Common.{◌≡◌, Bool, true, false, ◌||◌, List, ℕ, Some, None, Result, Ok, Err, IfErr, IsErrAnd, OnErr, refl, sym, ◌∙◌, ap}
 use Rattle.std.proofs.Math.Bool.{or-true}
 use Rattle.friendly_lines.specs.Friendly.{Said, said_of}
 use Rattle.friendly_lines.specs.declared.fault.Fault.{Fault}
@@ -32,6 +32,17 @@ fails_before A T NoMemory a b takes more works fails wider = (or_first a b works
 pub fails_for_room : {T : Type 0} (r : Result T PlayFault) (failed takes : Bool) → failed ≡ false → takes ≡ true → IfErr r (λ fault. fault ≡ NoMemory) → Fails r failed takes
 fails_for_room (Ok done) failed takes works room is = works
 fails_for_room (Err fault) failed takes works room is = rw is (works, room)
+
+-- where rounds begin or end behind what failed, or didn't
+pub fails_crossing : {T : Type 0} (r : Result T PlayFault) (failed takes due crosses : Bool) → failed ≡ false → IfErr r (λ fault. fault ≡ NoMemory) → OnErr r (due ≡ true) → due ≡ crosses → Fails r failed (takes || crosses)
+fails_crossing (Ok done) failed takes due crosses works room cross same = works
+fails_crossing (Err fault) failed takes due crosses works room cross same = rw room (works, ap (λ b. takes || b) (sym same ∙ cross) ∙ or-true takes)
+
+pub fails_or : (T : Type 0) (fault : PlayFault) (failed takes crosses : Bool) → Fails {T = T} (Err fault) failed takes → Fails {T = T} (Err fault) failed (takes || crosses)
+fails_or T ReadFault failed takes crosses fails = fails
+fails_or T WriteFault failed takes crosses fails = fails
+fails_or T TooManyLines failed takes crosses fails = fails
+fails_or T NoMemory failed takes crosses fails = (fails.0, ap (λ b. b || crosses) fails.1)
 
 -- what takes no room fails for want of none
 pub fails_wider : {T : Type 0} (r : Result T PlayFault) (failed takes : Bool) → Fails r failed false → Fails r failed takes

@@ -13,7 +13,7 @@ use Rattle.pd_core.specs.Answer.{quotas_account}
 use Rattle.calls.specs.declared.quotas.Quotas.{Quotas}
 use Rattle.budget_meter.specs.Metered.{HasHeard, IsToldBy}
 use Rattle.budget_meter.specs.declared.account.AccountMeter.{AccountMeter}
-use Rattle.scenario_lines.specs.declared.answering.LineAnswer.{LineAnswer}
+use Rattle.scenario_lines.specs.declared.line_answer.LineAnswer.{LineAnswer}
 use Rattle.workbench.specs.Meters.{SeesNeeds, meter_at}
 use Rattle.workbench.specs.Needs.{limits, own_calls}
 use Rattle.workbench.specs.Said.{said_in}

@@ -19,3 +19,4 @@ pub mod AccountingLemmas
 pub mod ListLemmas
 pub mod RowLemmas
 pub mod ShownLemmas
+pub mod AnswerLemmas

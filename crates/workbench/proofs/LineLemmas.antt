@@ -15,10 +15,10 @@ use Rattle.workbench.specs.Faults.{takes_in}
 use Rattle.workbench.specs.Hearing.{Hears, IsHeard, IsHeardAs, answer_of}
 use Rattle.workbench.specs.Judging.{AnswersIn, Awaited, IsJudged, awaited_after, is_complained}
 use Rattle.workbench.specs.Plays.{PlaysTurn, Point, point}
-use Rattle.workbench.specs.Turns.{Deed, calls_in, has_holes, passed, stand_after, stand_with}
+use Rattle.workbench.specs.Turns.{Arrives, Deed, calls_in, has_holes, stand_after}
 use Rattle.workbench.specs.Turns.Deed.{TooLong, Unnamed, Follows, Says}
 use Rattle.workbench.specs.Watching.{IsToldOf, Watches}
-use Rattle.workbench.specs.declared.stand.Stand.{Stand}
+use Rattle.line_steps.specs.Stand.{Stand, arrived, crosses, passed}
 use Rattle.workbench.specs.declared.watch.Heard.{Heard}
 use Rattle.workbench.proofs.FailLemmas.{fails_before, fails_beside}
 use Rattle.workbench.proofs.PlayedLemmas.{told_of_one}
@@ -122,23 +122,32 @@ told_takes only world number calls deed (Some it) is takes = of deed is.said
     of (Says f (Ok (Call line reply))) said = ap (λ b. b || has_holes f) takes
     of (Says f (Err fault)) said = unsaid said
 
+-- and where rounds begin or end behind a line that takes some too
+or_wider : (a b c : Bool) → (a ≡ true → b ≡ true) → (a || c) ≡ true → (b || c) ≡ true
+or_wider true b c wider takes = ap (λ x. x || c) (wider refl)
+or_wider false true c wider takes = refl
+or_wider false false c wider takes = takes
+
+or_left : (a c : Bool) → a ≡ true → (a || c) ≡ true
+or_left a c is = ap (λ x. x || c) is
+
 module _ {only : Option (List ℕ)} {tells : World → List (List ℕ) → ℕ → List ℕ → List ℕ} {calls : Bool} {seen now_seen : World → List (List ℕ) → Type 0} {old new : World} {stand next : Stand} {awaited now_awaited : Awaited}
     {w w' : Option (List ℕ)} {g g' : List ℕ} (told_failed own_failed : Bool) (deed : Deed) (o : Option Heard) (heard : IsHeard only old stand.number (calls_in deed) o) where
   -- a line was told and judged
   pub turn_judged : {T : Type 0} {done : T} (r : Result Bool PlayFault) → Hears only tells seen now_seen stand.number (calls_in deed) old new (Ok done) w g w' g' → told_failed ≡ false →
       IfOk r (λ complained. complained ≡ is_complained deed (answer_of o) awaited) → OnOk r (now_awaited ≡ awaited_after stand.number deed awaited) →
-      OnOk r (next ≡ stand_with (passed stand) deed (answer_of o)) → Fails r own_failed (takes_in false deed) →
+      OnOk r (Arrives stand deed (answer_of o) next) → Fails r own_failed (takes_in false deed || crosses stand) →
       PlaysTurn only tells calls seen now_seen deed (told_failed || own_failed) r (point old stand awaited w g) (point new next now_awaited w' g')
   turn_judged r hears works judged expects stands fails = record {
     hears = hears_on r hears;
     stands = stands_on r stands;
     judged = judged_on r judged;
     expects = expects;
-    failing = fails_beside r told_failed own_failed _ _ works fails (takes_wider calls deed);
+    failing = fails_beside r told_failed own_failed _ _ works fails (or_wider (takes_in false deed) (takes_in calls deed) (crosses stand) (takes_wider calls deed));
   }
     where
-      stands_on : (r : Result Bool PlayFault) → OnOk r (next ≡ stand_with (passed stand) deed (answer_of o)) → OnOk r (next ≡ stand_after only old (passed stand) deed)
-      stands_on (Ok complained) stands = stands ∙ stands_answered only old (passed stand) deed _ (answers_in only old stand.number (calls_in deed) o heard)
+      stands_on : (r : Result Bool PlayFault) → OnOk r (Arrives stand deed (answer_of o) next) → OnOk r (next ≡ arrived (stand_after only old (passed stand) deed))
+      stands_on (Ok complained) stands = stands.is ∙ ap arrived (stands_answered only old (passed stand) deed _ (answers_in only old stand.number (calls_in deed) o heard))
       stands_on (Err fault) stands = tt
 
       judged_on : (r : Result Bool PlayFault) → IfOk r (λ complained. complained ≡ is_complained deed (answer_of o) awaited) → IfOk r (IsJudged only old deed awaited)
@@ -153,7 +162,7 @@ module _ {only : Option (List ℕ)} {tells : World → List (List ℕ) → ℕ �
     stands = tt;
     judged = tt;
     expects = tt;
-    failing = fails_before T Bool fault told_failed own_failed (is_some o && calls) _ works fails (told_takes only old stand.number calls deed o heard);
+    failing = fails_before T Bool fault told_failed own_failed (is_some o && calls) _ works fails (λ takes. or_left _ (crosses stand) (told_takes only old stand.number calls deed o heard takes));
   }
 
 -- what a line is may be told in other words

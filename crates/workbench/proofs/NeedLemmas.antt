@@ -25,7 +25,7 @@ use Rattle.budget_meter.specs.declared.account.AccountMeter.{AccountMeter}
 use Rattle.scenario_lines.specs.Accounts.{listed_at, unlisted}
 use Rattle.scenario_lines.specs.Answer.{answered_reply}
 use Rattle.scenario_lines.specs.Machine.{world_of}
-use Rattle.scenario_lines.specs.declared.answering.LineAnswer.{LineAnswer}
+use Rattle.scenario_lines.specs.declared.line_answer.LineAnswer.{LineAnswer}
 use Rattle.scenario_lines.proofs.AccountLemmas.{entries_listed}
 use Rattle.workbench.specs.Meters.{IsFresh, SeesNeeds, meter_at, needed_of, no_meter}
 use Rattle.workbench.specs.Needs.{Needed, added, budget_at, counts_below, is_script, lies_below, limits, needed_below, needed_by_calls, needed_running, own_calls, summed}

@@ -1,5 +1,5 @@
 -- A play from line to line: what was played, and what it leaves at its end.
-use Rattle.std.proofs.Common.{◌≡◌, ◌||◌, ℕ, ◌+◌, ◌<◌, ◌≤◌, ◌^◌, List, [], ◌∷◌, ◌++◌, length, Option, Some, None, IfNone, Result, Ok, Err, OnOk, Bool, true, false, ⊎_elim, arith, refl, sym, ◌∙◌, ap, subst, append-nil}
+use Rattle.std.proofs.Common.{◌≡◌, ◌||◌, ℕ, ◌≤◌, List, [], ◌∷◌, ◌++◌, length, Option, Some, None, IfNone, Result, Ok, Err, OnOk, Bool, true, false, ⊎_elim, refl, sym, ◌∙◌, ap, subst, append-nil}
 use Rattle.std.specs.Result.{result_err}
 use Rattle.own_model.specs.SaidBy.{said_by}
 use Rattle.own_model.specs.StartList.{Entry}
@@ -15,10 +15,9 @@ use Rattle.scenario_lines.proofs.ToldLemmas.{left_none, said_none}
 use Rattle.workbench.specs.Faults.{takes_in}
 use Rattle.workbench.specs.Played.{calls_answered, calls_said, told_of_calls, told_of_turns}
 use Rattle.workbench.specs.Plays.{ClosesAs, LeadsTurns, PlaysAll, PlaysTurn, Point, Remains, StopsTurns, TakesRoomFor, counted, most_lines}
-use Rattle.workbench.specs.Turns.{Deed, StaysBelow, call_of, deed_of, left_behind, next_stand, passed, stand_after, stand_behind, turn_of, turns_of}
+use Rattle.workbench.specs.Turns.{call_of, deed_of, left_behind, next_stand, stand_behind, turn_of, turns_of}
 use Rattle.workbench.specs.Watching.{Watches}
-use Rattle.workbench.specs.declared.stand.Stand.{Stand}
-use Rattle.workbench.proofs.TurnLemmas.{below_next}
+use Rattle.line_steps.specs.Stand.{Stand, crosses}
 use Rattle.workbench.proofs.PlayedLemmas.{answered_more, answered-one, calls_said-one, left_more, stand_more, told_more, told_of_turns-one, turns_more}
 
 -- ---- one line behind others
@@ -31,14 +30,10 @@ counted_fails (Err WriteFault) failed takes fails = fails
 counted_fails (Err TooManyLines) failed takes fails = fails
 counted_fails (Err NoMemory) failed takes fails = (fails.0, refl)
 
-pub numbered : (stand : Stand) (more : ℕ) → StaysBelow stand more → stand.number < 2 ^ 63
-numbered stand more below = omega (arith, below.within, below.below)
-
--- one line less can be numbered
-pub ready_next : {A : Type 0} (only : Option (List ℕ)) (world : World) (judged : Result Bool PlayFault) (stand next : Stand) (deed : Deed) (more : ℕ) → A → StaysBelow stand (more + 1) → OnOk judged (next ≡ stand_after only world (passed stand) deed) →
-    OnOk (counted judged) (A × StaysBelow next more)
-ready_next only world (Ok complained) stand next deed more a below stands = (a, subst (λ (s : Stand). StaysBelow s more) (sym stands) (below_next only world stand deed more below))
-ready_next only world (Err fault) stand next deed more a below stands = tt
+-- what holds behind a line holds where the play goes on
+pub ready_next : {A : Type 0} (judged : Result Bool PlayFault) → A → OnOk (counted judged) A
+ready_next (Ok complained) a = a
+ready_next (Err fault) a = tt
 
 module _ (only : Option (List ℕ)) (start mid : World) (first stand : Stand) (xs : List (List ℕ)) (line : List ℕ)
     (left : mid ≡ after_all only start (calls_said (turns_of only start first xs))) (stands : stand ≡ stand_behind only start first xs) where
@@ -53,7 +48,7 @@ module _ (only : Option (List ℕ)) (start mid : World) (first stand : Stand) (x
       subst seen (ap (λ calls. earlier ++ calls) (sym (answered-one only (turn_of stand line))) ∙ answered_more only start mid first stand xs (line ∷ []) left stands []) sees
 
   goes_on : {A : Type 0} (calls : Bool) (seen : List (List ℕ) → Type 0) (last : World) (next : Stand) (judged : Result Bool PlayFault) (write_failed : Bool) → A → last ≡ left_behind only mid stand line →
-      OnOk judged (seen (earlier ++ said_by only (call_of stand line))) → OnOk judged (next ≡ next_stand only mid stand line) → Fails judged write_failed (takes_in calls (deed_of stand line)) →
+      OnOk judged (seen (earlier ++ said_by only (call_of stand line))) → OnOk judged (next ≡ next_stand only mid stand line) → Fails judged write_failed (takes_in calls (deed_of stand line) || crosses stand) →
       GoesOn (λ lines. A × LeadsTurns only start last first next seen lines) (λ fault lines. A × StopsTurns calls only start last first fault lines) (xs ++ line ∷ []) (counted judged)
   goes_on calls seen last next (Ok complained) write_failed a world sees after fails = (
     a,
@@ -77,7 +72,7 @@ module _ (only : Option (List ℕ)) (start mid : World) (first stand : Stand) (x
   -- what is told of it is told behind what was told of those, and it leads on
   pub bench_plays : {A : Type 0} (tells : List (List ℕ) → ℕ → List ℕ → List ℕ) (calls : Bool) (seen : List (List ℕ) → Type 0) (last : World) (next : Stand) (judged : Result Bool PlayFault) (write_failed : Bool) (w w' : Option (List ℕ)) (g g' : List ℕ) → A →
       last ≡ left_behind only mid stand line → TellsUnless judged w g w' g' (told_of_calls tells earlier stand.number (said_by only (call_of stand line))) →
-      OnOk judged (seen (earlier ++ said_by only (call_of stand line))) → OnOk judged (next ≡ next_stand only mid stand line) → Fails judged write_failed (takes_in calls (deed_of stand line)) →
+      OnOk judged (seen (earlier ++ said_by only (call_of stand line))) → OnOk judged (next ≡ next_stand only mid stand line) → Fails judged write_failed (takes_in calls (deed_of stand line) || crosses stand) →
       PlaysLine (λ lines. told_of_turns tells only [] (turns_of only start first lines)) (λ lines. A × LeadsTurns only start last first next seen lines) (λ fault lines. A × StopsTurns calls only start last first fault lines) xs line (counted judged) w g w' g'
   bench_plays tells calls seen last next judged write_failed w w' g g' a world told sees after fails = record {
     piece = told_of_turns tells only earlier (turn_of stand line ∷ []);

@@ -13,7 +13,7 @@ use Rattle.workbench.specs.Turns.{Turn, call_of, calls_in, deed_filled, deed_of,
 use Rattle.workbench.specs.Turns.Deed.{TooLong}
 use Rattle.scenario_names.specs.Filling.{filled}
 use Rattle.workbench.specs.Writes.{transcript_of}
-use Rattle.workbench.specs.declared.stand.Stand.{Stand}
+use Rattle.line_steps.specs.Stand.{Stand}
 
 -- a line's length is tested
 is_short : (n : ℕ) → n ≤ longest_line → nat_le n longest_line ≡ true

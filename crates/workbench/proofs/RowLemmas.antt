@@ -17,7 +17,7 @@ use Rattle.own_model.specs.Account.{Account}
 use Rattle.own_model.specs.Session.{Session}
 use Rattle.own_model.specs.Transcript.{heard}
 use Rattle.own_model.specs.World.{World, world_running}
-use Rattle.scenario_lines.specs.declared.answering.LineAnswer.{LineAnswer}
+use Rattle.scenario_lines.specs.declared.line_answer.LineAnswer.{LineAnswer}
 use Rattle.scenario_lines.proofs.ToldLemmas.{world_running-append}
 use Rattle.workbench.specs.Texts.{line_text}
 use Rattle.workbench.specs.Tracing.{account_cells, call_text, cell_text, cells_of, figures, open_cells, stranger_cells, trace_row, trace_tells}

@@ -1,6 +1,5 @@
 -- What a line is when its turn comes, by how it was filled.
-use Rattle.std.proofs.Common.{◌≡◌, ℕ, ◌+◌, ◌≤◌, ◌==◌, ◌||◌, Bool, true, false, cond, List, [], ◌∷◌, length, nat_le, slice_index, is_none, take, Option, Some, None, Result, Ok, Err, arith, refl, sym, ◌∙◌, ap, subst}
-use Rattle.std.proofs.Math.Nat.{min-le_right}
+use Rattle.std.proofs.Common.{◌≡◌, ℕ, ◌≤◌, ◌==◌, ◌||◌, Bool, true, false, cond, List, [], ◌∷◌, length, nat_le, slice_index, is_none, take, Option, Some, None, Result, Ok, Err, OnOk, refl, sym, ◌∙◌, ap, subst}
 use Rattle.own_model.specs.SaidBy.{said_by}
 use Rattle.own_model.specs.Transcript.{longest_line}
 use Rattle.own_model.specs.World.{World}
@@ -11,22 +10,22 @@ use Rattle.friendly_lines.proofs.PlainLemmas.{plain_lines_pass}
 use Rattle.friendly_lines.specs.declared.fault.Fault.{Fault}
 use Rattle.friendly_lines.specs.Words.{next_word}
 use Rattle.scenario_lines.specs.Answered.{after_all}
-use Rattle.scenario_lines.specs.declared.answering.LineAnswer.{LineAnswer}
+use Rattle.scenario_lines.specs.declared.line_answer.LineAnswer.{LineAnswer}
 use Rattle.scenario_lines.proofs.ToldLemmas.{left_none, said_none}
 use Rattle.scenario_names.specs.Directives.{Directive, directive_by, directive_of}
-use Rattle.scenario_names.specs.Directives.Directive.{Set, Enter, Again, Leave, Repeat, End, Unknown}
 use Rattle.scenario_names.specs.Filling.{Filled, Hole, body_of, filled, filled_parts, front_length, whole}
 use Rattle.scenario_names.specs.Known.{Known}
 use Rattle.scenario_names.specs.Learning.{learnt, learnt_of}
+use Rattle.scenario_names.specs.RoundMarks.{RoundMark}
 use Rattle.friendly_lines.specs.Expected.{meets}
 use Rattle.scenario_names.specs.declared.fault.NameFault.{NameFault}
 use Rattle.workbench.specs.Deeds.{deed_view}
 use Rattle.workbench.specs.Hearing.{TakesTurn}
 use Rattle.workbench.specs.Judging.{AnswersIn}
-use Rattle.workbench.specs.Turns.{AreBare, Deed, StaysBelow, bare_deed, calls_in, deed_by, deed_filled, deed_of, learnt_by, learnt_from, left_behind, low, next_stand, passed, stand_after, stand_with, turns_from, turns_of}
+use Rattle.workbench.specs.Turns.{AreBare, Arrives, Deed, bare_deed, calls_in, deed_by, deed_filled, deed_of, learnt_by, learnt_from, left_behind, next_stand, stand_after, stand_with, turns_from, turns_of}
 use Rattle.workbench.specs.Turns.Deed.{TooLong, Unnamed, Follows, Says}
 use Rattle.workbench.specs.declared.deed.Deed.{Deed as Told}
-use Rattle.workbench.specs.declared.stand.Stand.{Stand}
+use Rattle.line_steps.specs.Stand.{Stand, arrived, arrived_at, crosses, is_due, number_behind, passed}
 use Rattle.workbench.specs.declared.turn.Turn.{Turn}
 use Rattle.workbench.proofs.PlayedLemmas.{deed_of-short}
 
@@ -39,6 +38,10 @@ module _ (stand : Stand) (line : List ℕ) (short : length line ≤ longest_line
 
   pub deed_says : (f : Filled) (said : Result Said Fault) → Ok f ≡ filled stand.known line → None ≡ directive_of f.line → said ≡ said_of f.line → Says f said ≡ deed_of stand line
   deed_says f said is none says = ap (Says f) says ∙ sym (deed_of-short stand line short ∙ ap deed_filled (sym is) ∙ ap (deed_by f) (sym none))
+
+-- what a line is filled with is known by another name
+pub filled_by : (known now : Known) (line : List ℕ) (what : Result Filled NameFault) → now ≡ known → what ≡ filled now line → what ≡ filled known line
+filled_by known now line what is by = by ∙ ap (λ k. filled k line) is
 
 -- ---- how it has its turn
 
@@ -91,26 +94,34 @@ module _ (only : Option (List ℕ)) (world : World) where
   stands_answered stand (Says f (Ok (Call line reply))) answer answers = ap (λ known. record stand { known = known }) (learns_answer stand.known f (line ∷ []) answer answers)
   stands_answered stand (Says f (Err fault)) answer answers = ap (λ known. record stand { known = known }) (learns_silent stand.known f)
 
-  -- and its next number is small
-  stays_low : (stand : Stand) (deed : Deed) (n : ℕ) → low ≤ n → stand.number ≤ n → (stand_after only world stand deed).number ≤ n
-  stays_low stand (Follows (Enter line counter)) n most was = omega (arith, most, min-le_right line low)
-  stays_low stand (Follows (Again line counter)) n most was = omega (arith, most, min-le_right line low)
-  stays_low stand (Follows (Leave line)) n most was = omega (arith, most, min-le_right line low)
-  stays_low stand (Follows (Set binding)) n most was = was
-  stays_low stand (Follows Repeat) n most was = was
-  stays_low stand (Follows End) n most was = was
-  stays_low stand (Follows Unknown) n most was = was
-  stays_low stand TooLong n most was = was
-  stays_low stand (Unnamed fault) n most was = was
-  stays_low stand (Says f said) n most was = was
+  -- its number is passed, and no mark is
+  next_number : (stand : Stand) (deed : Deed) → (stand_after only world (passed stand) deed).number ≡ number_behind stand.number
+  next_number stand TooLong = refl
+  next_number stand (Unnamed fault) = refl
+  next_number stand (Follows directive) = refl
+  next_number stand (Says f said) = refl
 
-  pub below_next : (stand : Stand) (deed : Deed) (more : ℕ) → StaysBelow stand (more + 1) → StaysBelow (stand_after only world (passed stand) deed) more
-  below_next stand deed more below = record {
-    most = below.most + 1;
-    above = omega (arith, below.above);
-    within = stays_low (passed stand) deed (below.most + 1) (omega (arith, below.above)) (omega (arith, below.within));
-    below = omega (arith, below.below);
-  }
+  same_ahead : (stand : Stand) (deed : Deed) → (stand_after only world (passed stand) deed).ahead ≡ stand.ahead
+  same_ahead stand TooLong = refl
+  same_ahead stand (Unnamed fault) = refl
+  same_ahead stand (Follows directive) = refl
+  same_ahead stand (Says f said) = refl
+
+-- whether marks are due behind a line is known before it
+pub due_behind : (stand : Stand) (deed : Deed) (answer : Option LineAnswer) → is_due (stand_with (passed stand) deed answer).number (stand_with (passed stand) deed answer).ahead ≡ crosses stand
+due_behind stand TooLong answer = refl
+due_behind stand (Unnamed fault) answer = refl
+due_behind stand (Follows directive) answer = refl
+due_behind stand (Says f (Ok Nothing)) answer = refl
+due_behind stand (Says f (Ok (Log text))) answer = refl
+due_behind stand (Says f (Ok (Call line reply))) answer = refl
+due_behind stand (Says f (Err fault)) answer = refl
+
+-- rounds begin or end behind the line
+pub arrives : {T E : Type 0} (stand mid next : Stand) (deed : Deed) (answer : Option LineAnswer) (r : Result T E) → OnOk r (next ≡ arrived mid) → mid ≡ stand_with (passed stand) deed answer →
+    OnOk r (Arrives stand deed answer next)
+arrives stand mid next deed answer (Ok done) leads is = record { is = leads ∙ ap arrived is }
+arrives stand mid next deed answer (Err fault) leads is = tt
 
 -- ---- bare lines
 
@@ -135,16 +146,21 @@ pub stands_whole : (stand : Stand) (line : List ℕ) (answer : Option LineAnswer
 stands_whole stand line None = refl
 stands_whole stand line (Some answer) = sym (ap (λ known. record stand { known = known }) (learnt_none stand.known (whole line) answer.reply.now refl))
 
-next_number : (only : Option (List ℕ)) (world : World) (stand : Stand) (line : List ℕ) (short : Bool) → (stand_after only world (passed stand) (cond short (Says (whole line) (said_of line)) TooLong)).number ≡ stand.number + 1
-next_number only world stand line true = refl
-next_number only world stand line false = refl
+-- no mark is due where there is none
+arrives_nowhere : (stand : Stand) → stand.ahead ≡ [] → arrived stand ≡ stand
+arrives_nowhere stand none =
+    ap (arrived_at stand.number stand.known) none ∙ ap (λ (marks : List RoundMark). record { number = stand.number; known = stand.known; ahead = marks }) (sym none)
 
-pub bare_turns : (only : Option (List ℕ)) (world : World) (stand : Stand) (lines : List (List ℕ)) → AreBare lines → turns_of only world stand lines ≡ turns_from stand.number lines
-bare_turns only world stand [] bare = refl
-bare_turns only world stand (line ∷ lines) bare =
+pub bare_turns : (only : Option (List ℕ)) (world : World) (stand : Stand) (lines : List (List ℕ)) → stand.ahead ≡ [] → AreBare lines → turns_of only world stand lines ≡ turns_from stand.number lines
+bare_turns only world stand [] none bare = refl
+bare_turns only world stand (line ∷ lines) none bare =
     let is = is_bare stand line bare.0 in
     let left = left_behind only world stand line in
+    let after = stand_after only world (passed stand) (deed_of stand line) in
     let next = next_stand only world stand line in
-    let number : next.number ≡ stand.number + 1 = ap (λ deed. (stand_after only world (passed stand) deed).number) is ∙ next_number only world stand line (nat_le (length line) longest_line) in
-    let rest = bare_turns only left next lines bare.1 ∙ ap (λ n. turns_from n lines) number in
-    λ i. record { number = stand.number; deed = is i } ∷ rest i
+    let still : after.ahead ≡ [] = same_ahead only world stand (deed_of stand line) ∙ none in
+    let stays : next ≡ after = arrives_nowhere after still in
+    let number : next.number ≡ number_behind stand.number = ap (λ (s : Stand). s.number) stays ∙ next_number only world stand (deed_of stand line) in
+    let rest = bare_turns only left next lines (ap (λ (s : Stand). s.ahead) stays ∙ still) bare.1 ∙ ap (λ n. turns_from n lines) number in
+    let crosses_none : crosses stand ≡ false = ap (is_due (number_behind stand.number)) none in
+    λ i. record { number = stand.number; deed = is i; crosses = crosses_none i } ∷ rest i

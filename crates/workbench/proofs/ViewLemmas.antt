@@ -21,7 +21,7 @@ use Rattle.workbench.specs.Writes.{Closes, IsPlayedFrom, WritesAfter, list_behin
 use Rattle.workbench.specs.declared.accounting.Accounting.{Accounting}
 use Rattle.workbench.specs.declared.ending.Ending.{Ending}
 use Rattle.scenario_lines.specs.declared.play_fault.PlayFault.{PlayFault}
-use Rattle.workbench.specs.declared.stand.Stand.{Stand}
+use Rattle.line_steps.specs.Stand.{Stand}
 use Rattle.workbench.proofs.ListLemmas.{text_is}
 use Rattle.workbench.proofs.PlayedLemmas.{told_as_engine}
 use Rattle.workbench.proofs.WriteLemmas.{closes_alone, played_from}

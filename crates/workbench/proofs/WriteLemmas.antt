@@ -25,7 +25,7 @@ use Rattle.workbench.specs.Writes.{AreAll, Closes, IsPlayed, IsPlayedFrom, IsUnp
 use Rattle.workbench.specs.declared.ending.Ending.{Ending}
 use Rattle.scenario_lines.specs.declared.play_fault.PlayFault.{PlayFault}
 use Rattle.scenario_lines.specs.declared.play_fault.PlayFault.TheVariants.{ReadFault, WriteFault, TooManyLines, NoMemory}
-use Rattle.workbench.specs.declared.stand.Stand.{Stand}
+use Rattle.line_steps.specs.Stand.{Stand}
 
 -- behind a text that is written a part of another is
 part_behind : (w w' w'' : Option (List ℕ)) (told more : List ℕ) → Appends w w' told → AppendsPart w' w'' more → AppendsPart w w'' (told ++ more)

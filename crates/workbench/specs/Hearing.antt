@@ -8,7 +8,7 @@ use Rattle.call_lines.specs.Read.{IsReadAs}
 use Rattle.scenario_lines.specs.Answer.{IsAnswer}
 use Rattle.scenario_lines.specs.Answered.{after_all}
 use Rattle.scenario_lines.specs.Gathered.{TellsUnless}
-use Rattle.scenario_lines.specs.declared.answering.LineAnswer.{LineAnswer}
+use Rattle.scenario_lines.specs.declared.line_answer.LineAnswer.{LineAnswer}
 use Rattle.scenario_lines.specs.declared.play_fault.PlayFault.{PlayFault}
 use Rattle.workbench.specs.Deeds.{deed_view}
 use Rattle.workbench.specs.Played.{told_of_calls}

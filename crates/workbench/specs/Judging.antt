@@ -1,7 +1,6 @@
 -- What is expected of an answer, and whether it is otherwise.
 use Rattle.std.specs.Prelude.{◌≡◌, ℕ, ◌&&◌, ◌||◌, Bool, true, false, not, is_some, List, [], ◌∷◌, ◌++◌, Option, Some, None, Result, Ok, Err}
 use Rattle.std.specs.Str.{bytes_eq}
-use Rattle.trade_base.specs.Refusal.{refusal_name}
 use Rattle.trade_base.specs.declared.refusal.Refusal.TheVariants.{UnknownComponent}
 use Rattle.own_model.specs.SaidBy.{said_by}
 use Rattle.own_model.specs.Transcript.{heard}
@@ -11,7 +10,9 @@ use Rattle.friendly_lines.specs.Friendly.{Said, is_passed}
 use Rattle.friendly_lines.specs.Friendly.Said.{Nothing, Log, Call}
 use Rattle.friendly_lines.specs.declared.fault.Fault.{Fault}
 use Rattle.scenario_lines.specs.Answer.{IsAnswer}
-use Rattle.scenario_lines.specs.declared.answering.LineAnswer.{LineAnswer}
+use Rattle.calls.specs.declared.outcome.Outcome.{Outcome}
+use Rattle.calls.specs.declared.outcome.Outcome.TheVariants.{Refused}
+use Rattle.scenario_lines.specs.declared.line_answer.LineAnswer.{LineAnswer}
 use Rattle.scenario_names.specs.Misplaced.{is_misplaced}
 use Rattle.workbench.specs.Turns.{Deed, calls_in}
 use Rattle.workbench.specs.Turns.Deed.{TooLong, Unnamed, Follows, Says}
@@ -38,9 +39,14 @@ awaited_more awaited number text = record {
   first = Some (first_of awaited.first number);
 }
 
+-- no component has the name of a call
+abbrev pub is_unknown : Outcome → Bool
+is_unknown (Refused UnknownComponent) = true
+is_unknown outcome = false
+
 -- nobody has the name of a call: of a line that is passed to the engine as it stands that is no matter
 abbrev pub is_strange : Bool → LineAnswer → Bool
-is_strange passed answer = bytes_eq answer.reply.now (refusal_name UnknownComponent) && not passed
+is_strange passed answer = is_unknown answer.outcome && not passed
 
 -- an answer is otherwise than expected: its reply doesn't meet what is expected, or it has other log lines; where no reply is
 -- expected log lines are, or nobody has the call's name; a call that was skipped is answered as it may be

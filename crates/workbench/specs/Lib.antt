@@ -18,3 +18,4 @@ pub mod PeakList
 pub mod Needs
 pub mod Meters
 pub mod Accounting
+pub mod Answers

@@ -1,5 +1,6 @@
 -- How far a play of the friendly form has come, and how it ends.
-use Rattle.std.specs.Prelude.{◌≡◌, ℕ, ◌≤◌, Bool, true, false, ⊤, List, [], ◌∷◌, ◌++◌, length, Option, Some, None, IfSome, IfNone, IfOk, OnOk, Result, Ok, Err}
+use Rattle.std.specs.Prelude.{◌≡◌, ℕ, ◌≤◌, ◌||◌, Bool, true, false, ⊤, List, [], ◌∷◌, ◌++◌, length, Option, Some, None, IfSome, IfNone, IfOk, OnOk, Result, Ok, Err}
+use Rattle.line_steps.specs.Stand.{Stand, arrived, crosses, passed}
 use Rattle.own_model.specs.World.{World}
 use Rattle.scenario_lines.specs.Answered.{after_all}
 use Rattle.scenario_lines.specs.Faults.{Fails}
@@ -11,8 +12,7 @@ use Rattle.workbench.specs.Faults.{takes_in}
 use Rattle.workbench.specs.Hearing.{Hears}
 use Rattle.workbench.specs.Judging.{Awaited, IsJudged, awaited_after}
 use Rattle.workbench.specs.Played.{calls_answered, calls_said, told_of_turns}
-use Rattle.workbench.specs.Turns.{Deed, Turn, calls_in, passed, stand_after, stand_behind, turns_of}
-use Rattle.workbench.specs.declared.stand.Stand.{Stand}
+use Rattle.workbench.specs.Turns.{Deed, Turn, calls_in, stand_after, stand_behind, turns_of}
 
 -- a player is the one that began: where it complains, its run, what it tells and what it was made with
 pub record Remains {N R T : Type 0} (name now_name : N) (run now_run : R) (tells now_tells : T) (holds now_holds : List ℕ)
@@ -35,7 +35,7 @@ TakesRoom calls ReadFault turns = ⊤
 TakesRoom calls WriteFault turns = ⊤
 TakesRoom calls TooManyLines turns = ⊤
 TakesRoom calls NoMemory turns =
-    (front : List Turn) × (last : Turn) × (turns ≡ front ++ last ∷ []) × (takes_in calls last.deed ≡ true)
+    (front : List Turn) × (last : Turn) × (turns ≡ front ++ last ∷ []) × ((takes_in calls last.deed || last.crosses) ≡ true)
 
 -- lines lead from one world to another, and at the last of them a fault came
 pub record StopsTurns (calls : Bool) (only : Option (List ℕ)) (start world : World) (first : Stand) (fault : PlayFault)
@@ -75,10 +75,10 @@ pub record PlaysTurn (only : Option (List ℕ)) (tells : World → List (List �
     (old new : Point) : Type 0 where
   pub hears : Hears only tells seen now_seen old.stand.number (calls_in deed) old.world new.world result old.written old.gathered
       new.written new.gathered
-  pub stands : OnOk result (new.stand ≡ stand_after only old.world (passed old.stand) deed)
+  pub stands : OnOk result (new.stand ≡ arrived (stand_after only old.world (passed old.stand) deed))
   pub judged : IfOk result (IsJudged only old.world deed old.awaited)
   pub expects : OnOk result (new.awaited ≡ awaited_after old.stand.number deed old.awaited)
-  pub failing : Fails result failed (takes_in calls deed)
+  pub failing : Fails result failed (takes_in calls deed || crosses old.stand)
 
 -- ---- the whole play
 

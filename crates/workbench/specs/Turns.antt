@@ -1,6 +1,5 @@
 -- The turns of a play: what each line of a scenario is, when its turn comes.
-use Rattle.std.specs.Prelude.{◌≡◌, ℕ, ◌+◌, ◌<◌, ◌≤◌, ◌^◌, Bool, ⊤, List, [], ◌∷◌, length, min, nat_le, nat_lt, if◌then◌else◌, Option, Some, None, Result, Ok, Err}
-use Rattle.std.specs.Option.{unwrap_or}
+use Rattle.std.specs.Prelude.{◌≡◌, ℕ, Bool, false, ⊤, List, [], ◌∷◌, length, nat_le, nat_lt, if◌then◌else◌, Option, Some, None, Result, Ok, Err}
 use Rattle.own_model.specs.Reply.{reply_text}
 use Rattle.own_model.specs.SaidBy.{said_by}
 use Rattle.own_model.specs.Transcript.{heard, longest_line}
@@ -9,20 +8,15 @@ use Rattle.friendly_lines.specs.Friendly.{Said, said_of}
 use Rattle.friendly_lines.specs.Friendly.Said.{Nothing, Log, Call}
 use Rattle.friendly_lines.specs.Laws.{IsBare}
 use Rattle.friendly_lines.specs.declared.fault.Fault.{Fault}
+use Rattle.line_steps.specs.Stand.{Stand, arrived, crosses, followed_by, number_behind, passed}
 use Rattle.scenario_lines.specs.Answer.{answered_reply}
 use Rattle.scenario_lines.specs.Answered.{after_all}
-use Rattle.scenario_lines.specs.declared.answering.LineAnswer.{LineAnswer}
-use Rattle.scenario_names.specs.Directives.{Directive, directive_of, followed}
-use Rattle.scenario_names.specs.Directives.Directive.{Set, Enter, Again, Leave, Repeat, End, Unknown}
+use Rattle.scenario_lines.specs.declared.line_answer.LineAnswer.{LineAnswer}
+use Rattle.scenario_names.specs.Directives.{Directive, directive_of}
 use Rattle.scenario_names.specs.Filling.{Filled, filled, whole}
 use Rattle.scenario_names.specs.Known.{Known}
 use Rattle.scenario_names.specs.Learning.{learnt}
 use Rattle.scenario_names.specs.declared.fault.NameFault.{NameFault}
-use Rattle.workbench.specs.declared.stand.Stand.{Stand}
-
--- before the first line, with what was given
-abbrev pub first_with : Known → Stand
-first_with known = record { number = 1; known = known }
 
 -- what a line is when its turn comes: too long to be read; or it can't be filled with what names stand for; or it is a
 -- directive; or it is a line that was filled, and says something, or isn't read for a cause
@@ -32,10 +26,11 @@ pub data Deed : Type 0 where
   Follows : Directive → Deed
   Says : Filled → Result Said Fault → Deed
 
--- the turn of a line: its number, and what it is then
+-- the turn of a line: its number, what it is then, and whether rounds begin or end behind it
 pub record Turn : Type 0 where
   pub number : ℕ
   pub deed : Deed
+  pub crosses : Bool
 
 -- the engine's line of what is said, where it is a call
 abbrev pub call_in : Result Said Fault → List (List ℕ)
@@ -63,43 +58,11 @@ abbrev pub deed_of : Stand → List ℕ → Deed
 deed_of stand line = if nat_le (length line) longest_line then deed_filled (filled stand.known line) else TooLong
 
 abbrev pub turn_of : Stand → List ℕ → Turn
-turn_of stand line = record { number = stand.number; deed = deed_of stand line }
+turn_of stand line = record { number = stand.number; deed = deed_of stand line; crosses = crosses stand }
 
 -- the engine's line that a line says then, if it says a call
 abbrev pub call_of : Stand → List ℕ → List (List ℕ)
 call_of stand line = calls_in (deed_of stand line)
-
--- a line was passed
-abbrev pub passed : Stand → Stand
-passed stand = record stand { number = stand.number + 1 }
-
--- the number of a line is small: within this, and one more for each line behind it
-abbrev pub low : ℕ
-low = 4294967296
-
--- so many lines more can be numbered
-pub record StaysBelow (stand : Stand) (more : ℕ) : Type 0 where
-  pub most : ℕ
-  pub above : low ≤ most
-  pub within : stand.number ≤ most
-  pub below : most + more < 2 ^ 63
-
--- the number of the next line, where a directive tells it
-abbrev pub line_told : Directive → Option ℕ
-line_told (Set binding) = None
-line_told (Enter line counter) = Some (min line low)
-line_told (Again line counter) = Some (min line low)
-line_told (Leave line) = Some (min line low)
-line_told Repeat = None
-line_told End = None
-line_told Unknown = None
-
--- behind a directive
-abbrev pub followed_by : Stand → Directive → Stand
-followed_by stand directive = record {
-  number = unwrap_or (line_told directive) stand.number;
-  known = followed stand.known directive;
-}
 
 -- a line has names that its reply binds
 abbrev pub has_holes : Filled → Bool
@@ -119,7 +82,7 @@ abbrev pub learnt_from : World → Known → Filled → List (List ℕ) → Know
 learnt_from world known filled [] = known
 learnt_from world known filled (call ∷ calls) = learnt known filled (reply_in world call)
 
--- where the play stands once a line was played in this world: its number was passed
+-- where the play stands once a line was played in this world: its number was passed, and rounds may begin or end behind it
 abbrev pub stand_after : Option (List ℕ) → World → Stand → Deed → Stand
 stand_after only world stand TooLong = stand
 stand_after only world stand (Unnamed fault) = stand
@@ -140,8 +103,12 @@ stand_with stand (Unnamed fault) answer = stand
 stand_with stand (Follows directive) answer = followed_by stand directive
 stand_with stand (Says filled said) answer = stand_said stand filled said answer
 
+-- where the play stands behind a line, by how its call was answered: its number was passed, and rounds may begin or end
+pub record Arrives (stand : Stand) (deed : Deed) (answer : Option LineAnswer) (next : Stand) : Type 0 where
+  pub is : next ≡ arrived (stand_with (passed stand) deed answer)
+
 abbrev pub next_stand : Option (List ℕ) → World → Stand → List ℕ → Stand
-next_stand only world stand line = stand_after only world (passed stand) (deed_of stand line)
+next_stand only world stand line = arrived (stand_after only world (passed stand) (deed_of stand line))
 
 -- and the world that it leaves
 abbrev pub left_behind : Option (List ℕ) → World → Stand → List ℕ → World
@@ -173,10 +140,12 @@ bare_deed line = if nat_le (length line) longest_line then Says (whole line) (sa
 -- the turns of lines as they stand, from one of this number on
 abbrev pub turns_from : ℕ → List (List ℕ) → List Turn
 turns_from number [] = []
-turns_from number (line ∷ lines) = record { number = number; deed = bare_deed line } ∷ turns_from (number + 1) lines
+turns_from number (line ∷ lines) =
+    record { number = number; deed = bare_deed line; crosses = false } ∷ turns_from (number_behind number) lines
 
--- bare lines are played as they stand, one after another, whatever is known, and whatever they are answered
+-- bare lines of a scenario without rounds are played as they stand, one after another, whatever is known, and whatever they are
+-- answered
 abbrev pub BareLinesStand : Type 0
 BareLinesStand =
-    (only : Option (List ℕ)) (world : World) (stand : Stand) (lines : List (List ℕ)) → AreBare lines →
+    (only : Option (List ℕ)) (world : World) (stand : Stand) (lines : List (List ℕ)) → stand.ahead ≡ [] → AreBare lines →
     turns_of only world stand lines ≡ turns_from stand.number lines

@@ -3,7 +3,7 @@ use Rattle.std.specs.Prelude.{◌≡◌, ℕ, List, [], ◌∷◌, ◌++◌}
 use Rattle.own_model.specs.Transcript.{heard}
 use Rattle.own_model.specs.World.{World, world_running}
 use Rattle.scenario_lines.specs.Answer.{IsAnswer}
-use Rattle.scenario_lines.specs.declared.answering.LineAnswer.{LineAnswer}
+use Rattle.scenario_lines.specs.declared.line_answer.LineAnswer.{LineAnswer}
 
 -- after earlier calls from a start a call was answered so, and left this world
 pub record IsToldOf (start : World) (earlier : List (List ℕ)) (call : List ℕ) (left : World) (answer : LineAnswer) : Type 0 where

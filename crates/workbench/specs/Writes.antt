@@ -18,7 +18,7 @@ use Rattle.workbench.specs.Turns.{Turn, turns_of}
 use Rattle.workbench.specs.declared.ending.Ending.{Ending}
 use Rattle.scenario_lines.specs.declared.play_fault.PlayFault.{PlayFault}
 use Rattle.scenario_lines.specs.declared.play_fault.PlayFault.TheVariants.{ReadFault, WriteFault, TooManyLines, NoMemory}
-use Rattle.workbench.specs.declared.stand.Stand.{Stand}
+use Rattle.line_steps.specs.Stand.{Stand}
 use Rattle.workbench.specs.declared.transcript.Showing.{Showing}
 
 -- all lines of a text

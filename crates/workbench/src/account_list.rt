@@ -11,7 +11,7 @@ ghost use Rattle.scenario_lines.specs.declared.run_fault.RunFault.TheVariants.{W
 ghost use Rattle.workbench.specs.Accounting.{OfSessions, SeesAccounts, accounts_behind, accounts_text, text_kept};
 ghost use Rattle.workbench.specs.Faults.{fault_before, unplayed};
 ghost use Rattle.workbench.specs.Played.{calls_answered};
-ghost use Rattle.workbench.specs.Turns.{first_with, turns_of};
+ghost use Rattle.workbench.specs.Turns.{turns_of};
 ghost use Rattle.workbench.specs.Writes.{Closes, IsPlayed, IsPlayedFrom, IsUnplayed, nothing_told, turns_on};
 ghost use Rattle.scenario_lines.specs.declared.play_fault.PlayFault.TheVariants.{NoMemory as NoRoom};
 
@@ -59,7 +59,7 @@ pub fn accounts<S: Source, K: Sink, E: Sink>(
     ensures played { IfOk result (λ accounts. fault_before (S.has_failed reader.old)
         (K.has_failed writer.old || E.has_failed complaints.old) ≡ None →
         (sessions : OfSessions) × IsPlayed play.entry.machine.now
-        (turns_on None (first_with play.entry.given)) nothing_told (accounts_behind sessions) true accounts.ending
+        (turns_on None play.entry.start) nothing_told (accounts_behind sessions) true accounts.ending
         (S.remaining reader.old) (S.remaining reader.new)
         (S.has_failed reader.new) (K.contents writer.old) (K.contents writer.new)) }
     ensures few { IfOk result (λ accounts. accounts.ending.lines ≤ MAX_LINES) }
@@ -85,7 +85,7 @@ pub fn accounts<S: Source, K: Sink, E: Sink>(
     let list = StartList::read(alloc, play.machine)?;
     let core = boot(alloc, &list)?;
     let mut watch = Accounting::new(alloc, &core)?;
-    let notes = Notes::new(alloc, play.scenario, play.given);
+    let notes = Notes::new(alloc, play.scenario, play.start);
     let run = Run {
         list: &list,
         only: None,
@@ -110,7 +110,6 @@ fn play_accounting<R: Router + Drop, S: Source, K: Sink, E: Sink>(
 ) -> AccountList
     requires listed { stage.core.entries ≡ entries_of (start_list_of stage.run.list.now) }
     requires all { stage.run.only ≡ None }
-    requires first { stage.notes.stand.number ≡ 1 }
     requires sees { SeesAccounts watch.old stage.run.list.now stage.core [] }
     ensures played { fault_before (S.has_failed reader.old)
         (K.has_failed writer.old || E.has_failed complaints.old) ≡ None →

@@ -1,5 +1,5 @@
 //! The player of scenarios in the friendly form.
-ghost use Rattle.std.specs.Prelude.{◌≡◌, ◌<◌, ◌≤◌, ◌^◌, ◌||◌, [], length};
+ghost use Rattle.std.specs.Prelude.{◌≡◌, ◌≤◌, ◌||◌, [], length};
 ghost use Rattle.std.specs.Option.{option_copied};
 ghost use Rattle.own_model.specs.Listed.{start_list_of};
 ghost use Rattle.own_model.specs.StartList.{entries_of};
@@ -8,7 +8,7 @@ ghost use Rattle.friendly_lines.specs.Laws.{IsBare, IsPlain};
 ghost use Rattle.scenario_lines.specs.Next.{OutputsWork};
 ghost use Rattle.workbench.specs.Played.{told_of_turns};
 ghost use Rattle.workbench.specs.Plays.{LeadsTurns, PlaysTurn, Remains, StopsTurns, counted, point};
-ghost use Rattle.workbench.specs.Turns.{StaysBelow, deed_of, turns_of};
+ghost use Rattle.workbench.specs.Turns.{deed_of, turns_of};
 
 use crate::deed::Deed;
 use crate::notes::Notes;
@@ -61,7 +61,6 @@ impl<W: Watch, E: Sink> Bench<'_, '_, '_, '_, '_, '_, '_, W, E> {
     ) -> Result<bool, PlayFault>
         requires short { length line.now ≤ LONGEST_LINE }
         requires listed { core.old.entries ≡ entries_of (start_list_of self.old.run.now.list.now) }
-        requires low { self.old.notes.now.stand.number < 2 ^ 63 }
         requires works { OutputsWork (K.has_failed writer.old)
             (E.has_failed self.old.complaints.now) }
         ensures remains { Remains self.old.complaints.ghost_name self.new.complaints.ghost_name
@@ -98,7 +97,6 @@ impl<W: Watch, E: Sink> Bench<'_, '_, '_, '_, '_, '_, '_, W, E> {
         requires read { Reads line.now call }
         requires short { length line.now ≤ LONGEST_LINE }
         requires listed { core.old.entries ≡ entries_of (start_list_of self.old.run.now.list.now) }
-        requires low { self.old.notes.now.stand.number < 2 ^ 63 }
         requires works { OutputsWork (K.has_failed writer.old)
             (E.has_failed self.old.complaints.now) }
         ensures remains { Remains self.old.complaints.ghost_name self.new.complaints.ghost_name
@@ -116,8 +114,7 @@ impl<W: Watch, E: Sink> Bench<'_, '_, '_, '_, '_, '_, '_, W, E> {
             (K.contents writer.new) gathered.new) }
     {
         let list = self.run.list;
-        let number = self.notes.stand.number;
-        let heard = hear_plain(self.run, core, number, line, call, self.rooms);
+        let heard = hear_plain(self.run, core, &self.notes.stand, line, call, self.rooms);
         match tell_heard(self.watch, core, list, &heard, gathered, writer) {
             Ok(()) => self.notes.take_plain(list, line, &heard, self.complaints),
             Err(fault) => Err(fault),
@@ -134,7 +131,6 @@ impl<W: Watch, E: Sink> Bench<'_, '_, '_, '_, '_, '_, '_, W, E> {
     ) -> Result<bool, PlayFault>
         requires short { length line.now ≤ LONGEST_LINE }
         requires listed { core.old.entries ≡ entries_of (start_list_of self.old.run.now.list.now) }
-        requires low { self.old.notes.now.stand.number < 2 ^ 63 }
         requires works { OutputsWork (K.has_failed writer.old)
             (E.has_failed self.old.complaints.now) }
         ensures remains { Remains self.old.complaints.ghost_name self.new.complaints.ghost_name
@@ -177,9 +173,8 @@ impl<W: Watch, E: Sink> Player for Bench<'_, '_, '_, '_, '_, '_, '_, W, E> {
         × StopsTurns W.takes (option_copied first.run.now.only) start world first.notes.now.stand
         fault lines };
 
-    ghost is_ready = { λ bench world more.
-        (world.entries ≡ entries_of (start_list_of bench.run.now.list.now))
-        × StaysBelow bench.notes.now.stand more };
+    ghost is_ready = { λ bench world _.
+        world.entries ≡ entries_of (start_list_of bench.run.now.list.now) };
 
     ghost has_failed = { λ bench. E.has_failed bench.complaints.now };
 

@@ -15,7 +15,7 @@ ghost use Rattle.scenario_lines.specs.Faults.{is_write_fault};
 ghost use Rattle.workbench.specs.Alone.{AreAlike, SeesAlone, alone_behind, alone_sum, alone_tells, alone_told};
 ghost use Rattle.workbench.specs.Played.{calls_answered, told_of_turns};
 ghost use Rattle.workbench.specs.Texts.{in_brackets, line_text};
-ghost use Rattle.workbench.specs.Turns.{first_with, turns_of};
+ghost use Rattle.workbench.specs.Turns.{turns_of};
 ghost use Rattle.workbench.specs.Writes.{Closes, IsPlayed, IsPlayedFrom, IsUnplayed, IsWrittenBy, turns_on};
 ghost use Rattle.scenario_lines.specs.declared.play_fault.PlayFault.TheVariants.{NoMemory as NoRoom};
 
@@ -285,13 +285,13 @@ pub fn alone<S: Source, K: Sink, E: Sink>(
 ) -> Result<Comparison, BootFault>
     ensures played { IfOk result (λ compared. fault_before (S.has_failed reader.old)
         (K.has_failed writer.old || E.has_failed complaints.old) ≡ None →
-        IsPlayed play.entry.machine.now (turns_on None (first_with play.entry.given))
+        IsPlayed play.entry.machine.now (turns_on None play.entry.start)
         (alone_told name.now) (alone_behind name.now) false compared.ending
         (S.remaining reader.old) (S.remaining reader.new)
         (S.has_failed reader.new) (K.contents writer.old) (K.contents writer.new)) }
     ensures summed { IfOk result (λ compared. fault_before (S.has_failed reader.old)
         (K.has_failed writer.old || E.has_failed complaints.old) ≡ None →
-        IsPlayed play.entry.machine.now (turns_on None (first_with play.entry.given))
+        IsPlayed play.entry.machine.now (turns_on None play.entry.start)
         (alone_told name.now) (λ _ _. alone_sum name.now compared.lines) false compared.ending
         (S.remaining reader.old) (S.remaining reader.new)
         (S.has_failed reader.new) (K.contents writer.old) (K.contents writer.new)) }
@@ -323,7 +323,7 @@ pub fn alone<S: Source, K: Sink, E: Sink>(
     let list = StartList::read(alloc, play.machine)?;
     let whole = boot(alloc, &list)?;
     let alone = boot(alloc, &list)?;
-    let mut notes = Notes::new(alloc, play.scenario, play.given);
+    let mut notes = Notes::new(alloc, play.scenario, play.start);
     let machines = Machines {
         whole,
         alone,
@@ -345,7 +345,6 @@ fn play_beside<'a, R: Router + Drop, Q: Router + Drop, S: Source, K: Sink, E: Si
 ) -> Comparison
     requires listed { machines.whole.entries ≡ entries_of (start_list_of named.now.run.list.now) }
     requires all { named.now.run.only ≡ None }
-    requires first { notes.old.stand.number ≡ 1 }
     requires same { machines.alone ≡ machines.whole }
     ensures played { fault_before (S.has_failed reader.old)
         (K.has_failed writer.old || E.has_failed complaints.old) ≡ None →

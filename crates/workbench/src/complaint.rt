@@ -2,8 +2,9 @@
 ghost use Rattle.std.specs.Prelude.{◌≡◌, false, is_err};
 
 use crate::shown::Shown;
+use calls::Outcome;
 use itoa::Buffer;
-use scenario_lines::{DeviceFault, Sink};
+use scenario_lines::{DeviceFault, LineAnswer, Sink};
 use view_diagnostics::{Diagnostics, Place, Severity, Subject};
 
 /// Writes the errors of a scenario's lines.
@@ -39,34 +40,37 @@ impl<'a> Complaints<'a> {
         &mut self,
         sink: &mut E,
         place: Place,
-        reply: &[u8],
+        answer: LineAnswer<'_>,
         expected: &[u8],
     ) -> Result<(), DeviceFault>
         requires { E.has_failed sink.old ≡ false }
         ensures failing { E.has_failed sink.new ≡ is_err result }
     {
-        let is_text = has_byte(b'"', expected);
+        let has_bytes = has_byte(b'"', expected) || matches!(answer.outcome, Outcome::Bytes);
         self.begin(sink, place, b"expected `")?;
-        self.put_shown(sink, expected, false)?;
+        self.put_shown(sink, expected, expected.starts_with(b"data "))?;
         self.diagnostics.put(sink, b", found `")?;
-        self.put_shown(sink, reply, is_text)?;
-        self.put_difference(sink, reply, expected)?;
+        self.put_shown(sink, answer.reply, has_bytes)?;
+        self.put_difference(sink, answer.reply, expected)?;
         self.diagnostics.end(sink)
     }
 
-    // Writes a text with its closing quote, and its bytes as text.
+    // Writes a text with its closing quote, and the bytes of its last word as text if it has bytes there.
     fn put_shown<E: Sink>(
         &mut self,
         sink: &mut E,
         text: &[u8],
-        is_text: bool,
+        has_bytes: bool,
     ) -> Result<(), DeviceFault>
         requires { E.has_failed sink.old ≡ false }
         ensures failing { E.has_failed sink.new ≡ is_err result }
     {
         self.diagnostics.put(sink, text)?;
         self.diagnostics.put(sink, b"`")?;
-        match Shown::in_reply(text, is_text) {
+        if !has_bytes {
+            return Ok(());
+        }
+        match Shown::at_end(text) {
             Some(shown) => shown.put_in_message(&mut self.diagnostics, sink),
             None => Ok(()),
         }

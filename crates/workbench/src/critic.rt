@@ -5,13 +5,14 @@ ghost use Rattle.std.specs.Str.{bytes_eq};
 ghost use Rattle.friendly_lines.specs.Expected.{meets};
 ghost use Rattle.friendly_lines.specs.Friendly.{is_passed};
 ghost use Rattle.scenario_lines.specs.Faults.{Fails};
-ghost use Rattle.workbench.specs.Judging.{awaited_more, is_other, is_strange, nothing_awaited};
+ghost use Rattle.workbench.specs.Judging.{awaited_more, is_other, is_strange, is_unknown, nothing_awaited};
 ghost use Rattle.scenario_lines.specs.declared.play_fault.PlayFault.TheVariants.{NoMemory as NoRoom};
 
 use crate::complaint::Complaints;
 use crate::expected::Expected;
 use crate::given::{Asked, Given};
 use crate::near::near_component;
+use calls::Outcome;
 use friendly_lines::{Fault, end_of, is_passed, meets};
 use scenario_lines::{LineAnswer, PlayFault, Sink};
 use scenario_names::{Known, Misplaced, NameFault, token_at};
@@ -78,7 +79,7 @@ impl<'a> Critic<'a> {
                     place: asked.given.place(known, column_of(asked.line, reply)),
                     reply,
                 };
-                self.judge_answer(wish, answer.reply, answer.lines, sink)
+                self.judge_answer(wish, answer, sink)
             }
         };
         self.expected.clear();
@@ -117,26 +118,25 @@ impl<'a> Critic<'a> {
     fn judge_answer<E: Sink>(
         &mut self,
         wish: Wish<'_>,
-        reply: &[u8],
-        lines: &[u8],
+        answer: LineAnswer<'_>,
         sink: &mut E,
     ) -> Result<bool, PlayFault>
         requires { E.has_failed sink.old ≡ false }
         ensures judged { IfOk result (λ complained. complained
-            ≡ (not (meets reply.now wish.entry.reply.now)
-            || not (bytes_eq lines.now self.old.expected.lines))) }
+            ≡ (not (meets answer.entry.reply.now wish.entry.reply.now)
+            || not (bytes_eq answer.entry.lines.now self.old.expected.lines))) }
         ensures keeps { self.new.expected ≡ self.old.expected }
         ensures works { OnOk result (E.has_failed sink.new ≡ false) }
         ensures failing { Fails result (E.has_failed sink.new) false }
     {
-        if !meets(reply, wish.reply) {
+        if !meets(answer.reply, wish.reply) {
             self.complaints
-                .tell_reply(sink, wish.place, reply, wish.reply)?;
+                .tell_reply(sink, wish.place, answer, wish.reply)?;
             return Ok(true);
         }
         let expected = self.expected.lines();
-        if lines != expected {
-            let lines = without_last(lines);
+        if answer.lines != expected {
+            let lines = without_last(answer.lines);
             let expected = without_last(expected);
             self.complaints
                 .tell_lines(sink, wish.place, lines, expected)?;
@@ -257,7 +257,14 @@ impl<'a> Critic<'a> {
 fn is_strange(line: &[u8], answer: LineAnswer<'_>) -> bool
     ensures { result ≡ is_strange (is_passed line.now) answer.entry }
 {
-    answer.reply == Refusal::UnknownComponent.name().as_bytes() && !is_passed(line)
+    is_unknown(answer.outcome) && !is_passed(line)
+}
+
+// Whether no component has the name.
+fn is_unknown(outcome: Outcome) -> bool
+    ensures { result ≡ is_unknown outcome }
+{
+    matches!(outcome, Outcome::Refused(Refusal::UnknownComponent))
 }
 
 // A reply that is expected, and where it begins.

@@ -5,6 +5,7 @@
 mod account_list;
 mod account_rows;
 mod accounting;
+mod answer_list;
 mod bench;
 mod beside;
 mod closed_lines;
@@ -26,7 +27,6 @@ mod playing;
 mod row;
 mod shown;
 mod stage;
-mod stand;
 mod text;
 mod texts;
 mod tracing;
@@ -36,8 +36,10 @@ mod watch;
 
 pub use account_list::{AccountList, accounts};
 pub use account_rows::AccountRows;
+pub use answer_list::{AnswerList, answers};
 pub use beside::{Comparison, alone};
 pub use ending::{Ending, exit_status};
+pub use exchanges::Exchange;
 pub use laws::bare_lines_stand;
 pub use machine::Play;
 pub use near::near_component;

@@ -1,6 +1,6 @@
 //! What is played.
 
-use scenario_names::Known;
+use line_steps::Stand;
 use view_diagnostics::Subject;
 
 /// A machine, and the scenario that is played on it.
@@ -10,6 +10,6 @@ pub struct Play<'a> {
     pub machine: &'a [u8],
     /// The scenario's path, and the form of diagnostics about it.
     pub scenario: Subject<'a>,
-    /// What names stand for, as it was given with the command.
-    pub given: Known,
+    /// Where the run begins: before the first line, with what was given with the command.
+    pub start: Stand<'a>,
 }

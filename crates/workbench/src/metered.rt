@@ -4,11 +4,10 @@ ghost use Rattle.workbench.specs.Meters.{needed_of_session};
 
 use crate::peaks::{Peaks, Session};
 use budget_meter::{Budget, SessionMeter};
-use calls::Call;
+use calls::{Answer, Call, Outcome};
 use pd_core::{Core, Router};
 use std::alloc::{AllocError, Global};
 use std::mem;
-use trade_base::read_number;
 
 /// An open session with what its account needs.
 #[derive(Drop)]
@@ -65,13 +64,13 @@ impl Sessions {
         core: &Core<R>,
         component: usize,
         call: Call<'_>,
-        reply: &[u8],
+        reply: Answer<'_>,
         peaks: &Peaks,
     ) -> Result<(), AllocError>
         requires { component < length core.now.entries }
     {
         match call {
-            Call::Open { .. } => self.begin(core, component, reply),
+            Call::Open { .. } => self.begin(core, component, reply.outcome),
             Call::CallSession { selector, request } => {
                 self.ask(core, component, selector, Some(request), reply)
             }
@@ -86,13 +85,14 @@ impl Sessions {
         &mut self,
         core: &Core<R>,
         component: usize,
-        reply: &[u8],
+        outcome: Outcome,
     ) -> Result<(), AllocError>
         requires { component < length core.now.entries }
     {
-        let Some(selector) = selector_told(reply) else {
+        let Outcome::Selected(selector) = outcome else {
             return Ok(());
         };
+        let selector = u64::from(selector.0);
         let Some(account) = core.session_account(component, selector) else {
             return Ok(());
         };
@@ -113,7 +113,7 @@ impl Sessions {
         component: usize,
         selector: u64,
         request: Option<&[u8]>,
-        reply: &[u8],
+        reply: Answer<'_>,
     ) -> Result<(), AllocError>
         requires { component < length core.now.entries }
     {
@@ -170,9 +170,4 @@ fn copied(alloc: Global, session: &Session) -> Result<Session, AllocError> {
         label,
         peak: session.peak,
     })
-}
-
-// The selector that a call is answered, if it is answered one.
-fn selector_told(reply: &[u8]) -> Option<u64> {
-    read_number(reply.strip_prefix(b"cap ")?)
 }

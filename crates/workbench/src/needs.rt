@@ -24,7 +24,7 @@ use crate::peaks::Peaks;
 use crate::text::made_in;
 use crate::watch::Heard;
 use budget_meter::{AccountMeter, Budget};
-use calls::{Call, Quotas};
+use calls::{Answer, Call, Quotas};
 use pd_core::{Core, Router};
 use scenario_lines::Owner;
 use start_lists::{Binary, Entry, StartList};
@@ -156,20 +156,23 @@ impl Needs {
         let Some((component, call)) = made_in(list, heard.line, heard.call) else {
             return Ok(());
         };
-        let reply = heard.answer.reply;
+        let reply = Answer {
+            outcome: heard.answer.outcome,
+            text: heard.answer.reply,
+        };
         self.hear_own(component, call, reply, core.account(component));
         self.sessions.hear(core, component, call, reply, peaks)
     }
 
     // Takes a call of a component in, with its reply and the account that it left.
-    fn hear_own(&mut self, component: usize, call: Call<'_>, reply: &[u8], after: Quotas)
+    fn hear_own(&mut self, component: usize, call: Call<'_>, reply: Answer<'_>, after: Quotas)
         ensures count { length self.new.meters.items ≡ length self.old.meters.items }
         ensures others { (place : ℕ) → place ≢ component →
             meter_at self.new.meters.items place ≡ meter_at self.old.meters.items place }
         ensures own { component < length self.old.meters.items →
             (entry : AnEntry) (calls : List Said) (s : OwnState) →
             HasHeard entry calls (limits s.account) s (meter_at self.old.meters.items component) →
-            IsToldBy reply.now after (own_step entry (model_call call.entry) (own_run entry calls s)) →
+            IsToldBy reply.entry.text.now after (own_step entry (model_call call.entry) (own_run entry calls s)) →
             HasHeard entry (calls ++ model_call call.entry ∷ []) (limits s.account) s
             (meter_at self.new.meters.items component) }
         ensures sessions { self.new.sessions ≡ self.old.sessions }

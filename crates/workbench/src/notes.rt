@@ -1,5 +1,5 @@
 //! What is kept of a play from line to line.
-ghost use Rattle.std.specs.Prelude.{◌≡◌, ◌<◌, ◌^◌, IfOk, OnOk, false, true};
+ghost use Rattle.std.specs.Prelude.{◌≡◌, ◌||◌, IfErr, IfOk, OnErr, OnOk, false, true};
 ghost use Rattle.std.specs.Option.{option_copied};
 ghost use Rattle.friendly_lines.specs.Friendly.{is_passed};
 ghost use Rattle.scenario_lines.specs.Faults.{Fails};
@@ -9,16 +9,18 @@ ghost use Rattle.workbench.specs.Deeds.{deed_view, plain_deed};
 ghost use Rattle.workbench.specs.Faults.{takes_in};
 ghost use Rattle.workbench.specs.Hearing.{answer_of};
 ghost use Rattle.workbench.specs.Judging.{awaited_after, is_complained, is_other, nothing_awaited};
-ghost use Rattle.workbench.specs.Turns.{first_with, followed_by, has_holes, learnt_by, passed, stand_with};
+ghost use Rattle.workbench.specs.Turns.{Arrives, has_holes, learnt_by, stand_with};
+ghost use Rattle.line_steps.specs.Stand.{arrived, crosses, followed_by, is_due, passed};
+ghost use Rattle.scenario_lines.specs.declared.play_fault.PlayFault.TheVariants.{NoMemory as NoRoom};
 
 use crate::critic::Critic;
 use crate::deed::{Deed, Saying};
 use crate::given::{Asked, Given};
-use crate::stand::{Stand, learn};
 use crate::turn::{Turn, answer_in};
 use crate::watch::Heard;
+use line_steps::Stand;
 use scenario_lines::{LineAnswer, PlayFault, Sink};
-use scenario_names::{Directive, Filled, Known};
+use scenario_names::{Directive, Filled};
 use start_lists::StartList;
 use std::alloc::Global;
 use view_diagnostics::Subject;
@@ -27,24 +29,24 @@ use view_diagnostics::Subject;
 #[derive(Drop)]
 pub(crate) struct Notes<'a> {
     /// Where the play is.
-    pub stand: Stand,
+    pub stand: Stand<'a>,
     /// Who holds answers against what is expected.
     pub critic: Critic<'a>,
 }
 
 impl<'a> Notes<'a> {
-    /// What is kept before the first line of a scenario by its name, with what names stand for.
-    pub(crate) fn new(alloc: Global, scenario: Subject<'a>, given: Known) -> Notes<'a>
-        ensures { result.stand ≡ first_with given }
+    /// What is kept where the run of a scenario begins.
+    pub(crate) fn new(alloc: Global, scenario: Subject<'a>, start: Stand<'a>) -> Notes<'a>
+        ensures { result.stand ≡ start.entry }
     {
         Notes {
-            stand: Stand::new(given),
+            stand: start,
             critic: Critic::new(alloc, scenario),
         }
     }
 
     /// Takes in the turn of a line on the machine of a list: passes the line and tells whether there was a complaint, goes where it
-    /// leads, and binds what it binds.
+    /// leads, binds what it binds, and begins and ends rounds behind it.
     pub(crate) fn take_in<'x, E: Sink>(
         &mut self,
         list: &StartList,
@@ -52,7 +54,30 @@ impl<'a> Notes<'a> {
         turn: &Turn<'x>,
         complaints: &mut E,
     ) -> Result<bool, PlayFault>
-        requires low { self.old.stand.number < 2 ^ 63 }
+        requires works { E.has_failed complaints.old ≡ false }
+        ensures judged { IfOk result (λ complained. complained ≡ is_complained
+            (deed_view turn.now.deed) (answer_of turn.now.heard) self.old.critic.expected) }
+        ensures expects { OnOk result (self.new.critic.expected ≡ awaited_after
+            self.old.stand.number (deed_view turn.now.deed) self.old.critic.expected) }
+        ensures stands { OnOk result (Arrives self.old.stand
+            (deed_view turn.now.deed) (answer_of turn.now.heard) self.new.stand) }
+        ensures failing { Fails result (E.has_failed complaints.new)
+            (takes_in false (deed_view turn.now.deed) || crosses self.old.stand) }
+    {
+        match self.take_turn(list, line, turn, complaints) {
+            Ok(complained) => self.arrive(complained),
+            Err(fault) => Err(fault),
+        }
+    }
+
+    // Takes in the turn of a line, up to the rounds behind it.
+    fn take_turn<'x, E: Sink>(
+        &mut self,
+        list: &StartList,
+        line: &'x [u8],
+        turn: &Turn<'x>,
+        complaints: &mut E,
+    ) -> Result<bool, PlayFault>
         requires works { E.has_failed complaints.old ≡ false }
         ensures judged { IfOk result (λ complained. complained ≡ is_complained
             (deed_view turn.now.deed) (answer_of turn.now.heard) self.old.critic.expected) }
@@ -83,12 +108,13 @@ impl<'a> Notes<'a> {
                 }
                 Err(fault) => self
                     .critic
-                    .tell_unread(given, &self.stand.known, *fault, complaints),
+                    .tell_unread(given, self.stand.known(), *fault, complaints),
             },
         }
     }
 
-    /// Takes in a call that stands as it is: passes the line, and tells whether there was a complaint.
+    /// Takes in a call that stands as it is: passes the line, tells whether there was a complaint, and begins and ends rounds
+    /// behind it.
     pub(crate) fn take_plain<E: Sink>(
         &mut self,
         list: &StartList,
@@ -96,16 +122,15 @@ impl<'a> Notes<'a> {
         heard: &Option<Heard<'_>>,
         complaints: &mut E,
     ) -> Result<bool, PlayFault>
-        requires low { self.old.stand.number < 2 ^ 63 }
         requires works { E.has_failed complaints.old ≡ false }
         ensures judged { IfOk result (λ complained. complained ≡ is_complained
             (plain_deed line.now) (answer_of heard.now) self.old.critic.expected) }
         ensures expects { OnOk result (self.new.critic.expected ≡ awaited_after
             self.old.stand.number (plain_deed line.now) self.old.critic.expected) }
-        ensures stands { OnOk result (self.new.stand ≡ stand_with (passed self.old.stand)
-            (plain_deed line.now) (answer_of heard.now)) }
+        ensures stands { OnOk result (Arrives self.old.stand
+            (plain_deed line.now) (answer_of heard.now) self.new.stand) }
         ensures failing { Fails result (E.has_failed complaints.new)
-            (takes_in false (plain_deed line.now)) }
+            (takes_in false (plain_deed line.now) || crosses self.old.stand) }
     {
         let number = self.stand.pass();
         let asked = Asked {
@@ -113,7 +138,27 @@ impl<'a> Notes<'a> {
             line,
             reply: None,
         };
-        self.critic.judge(list, asked, &self.stand.known, answer_in(heard), complaints)
+        let known = self.stand.known();
+        match self
+            .critic
+            .judge(list, asked, known, answer_in(heard), complaints)
+        {
+            Ok(complained) => self.arrive(complained),
+            Err(fault) => Err(fault),
+        }
+    }
+
+    // Begins and ends the rounds behind a line of which was complained, or not.
+    fn arrive(&mut self, complained: bool) -> Result<bool, PlayFault>
+        ensures judged { IfOk result (λ judged. judged ≡ complained) }
+        ensures fault { IfErr result (λ fault. fault ≡ NoRoom) }
+        ensures takes { OnErr result
+            (is_due self.old.stand.number self.old.stand.ahead ≡ true) }
+        ensures stands { OnOk result (self.new.stand ≡ arrived self.old.stand) }
+        ensures same { self.new.critic ≡ self.old.critic }
+    {
+        self.stand.arrive()?;
+        Ok(complained)
     }
 
     // Goes where a directive leads, or complains of it.
@@ -160,13 +205,34 @@ impl<'a> Notes<'a> {
         ensures failing { Fails result (E.has_failed complaints.new)
             (has_holes (filled_view filled.now)) }
     {
-        let known = &mut self.stand.known;
+        let known = self.stand.known();
         match self.critic.judge(list, asked, known, answer, complaints) {
-            Ok(complained) => match learn(known, filled, answer) {
+            Ok(complained) => match learn(&mut self.stand, filled, answer) {
                 Ok(()) => Ok(complained),
                 Err(fault) => Err(fault),
             },
             Err(fault) => Err(fault),
         }
+    }
+}
+
+// Binds the names of a line that its reply binds, unless its call was skipped.
+fn learn(
+    stand: &mut Stand<'_>,
+    filled: &Filled<'_>,
+    answer: Option<LineAnswer<'_>>,
+) -> Result<(), PlayFault>
+    ensures fault { IfErr result (λ fault. fault ≡ NoRoom) }
+    ensures takes { OnErr result (has_holes (filled_view filled.now) ≡ true) }
+    ensures learns { OnOk result (stand.new ≡ record stand.old {
+      known = learnt_by stand.old.known (filled_view filled.now) answer.entry;
+    }) }
+{
+    match answer {
+        Some(answer) if !filled.holes.is_empty() => {
+            stand.learn(filled, answer.reply)?;
+            Ok(())
+        }
+        _ => Ok(()),
     }
 }

@@ -6,7 +6,6 @@ ghost use Rattle.own_model.specs.StartList.{entries_of};
 ghost use Rattle.scenario_lines.specs.Faults.{is_write_fault};
 ghost use Rattle.workbench.specs.Faults.{fault_before, unplayed};
 ghost use Rattle.workbench.specs.Plays.{ClosesAs, PlaysAll};
-ghost use Rattle.workbench.specs.Turns.{low};
 
 use crate::bench::{Bench, count};
 use crate::critic::Critic;
@@ -26,7 +25,6 @@ pub(crate) fn play<R: Router + Drop, W: Watch, S: Source, K: Sink, E: Sink>(
     writer: &mut K,
 ) -> Ending
     requires listed { core.old.entries ≡ entries_of (start_list_of bench.old.run.now.list.now) }
-    requires low { bench.old.notes.now.stand.number ≤ low }
     requires sees { W.sees bench.old.watch.now bench.old.run.now.list.now core.old [] }
     ensures plays { fault_before (S.has_failed reader.old)
         (K.has_failed writer.old || E.has_failed bench.old.complaints.now) ≡ None →

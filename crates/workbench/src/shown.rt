@@ -34,14 +34,9 @@ impl<'a> Shown<'a> {
         }
     }
 
-    /// The last word of a reply or of what is expected of one, if it is such digits and tells bytes: in what `peek` replies, and
-    /// where text is expected.
-    pub(crate) fn in_reply(reply: &'a [u8], is_text_expected: bool) -> Option<Shown<'a>> {
-        if is_text_expected || reply.starts_with(b"data ") {
-            Shown::of(last_word(reply))
-        } else {
-            None
-        }
+    /// Returns the last word of a text, if it is such digits.
+    pub(crate) fn at_end(text: &'a [u8]) -> Option<Shown<'a>> {
+        Shown::of(last_word(text))
     }
 
     /// Gathers ` ("TEXT")`, with the escapes of the friendly form.

@@ -18,7 +18,7 @@ ghost use Rattle.scenario_lines.specs.Faults.{is_write_fault};
 ghost use Rattle.workbench.specs.Played.{told_of_turns};
 ghost use Rattle.workbench.specs.Texts.{signs_text};
 ghost use Rattle.workbench.specs.Tracing.{call_text, caller_cells, cell_text, figures, session_cells, session_of, stranger_cells, trace_header, trace_tells, trace_told};
-ghost use Rattle.workbench.specs.Turns.{first_with, turns_of};
+ghost use Rattle.workbench.specs.Turns.{turns_of};
 ghost use Rattle.workbench.specs.Writes.{IsPlayed, IsPlayedFrom, IsUnplayed, nothing_told, turns_on};
 ghost use Rattle.scenario_lines.specs.declared.play_fault.PlayFault.TheVariants.{NoMemory as NoRoom};
 
@@ -249,7 +249,7 @@ pub fn trace<S: Source, K: Sink, E: Sink>(
 ) -> Result<Ending, BootFault>
     ensures played { IfOk result (λ ending. fault_before (S.has_failed reader.old)
         (K.has_failed writer.old || E.has_failed complaints.old) ≡ None →
-        IsPlayed play.entry.machine.now (turns_on None (first_with play.entry.given)) trace_told
+        IsPlayed play.entry.machine.now (turns_on None play.entry.start) trace_told
         nothing_told false ending
         (S.remaining reader.old) (S.remaining reader.new)
         (S.has_failed reader.new) (K.contents writer.old) (K.contents writer.new)) }
@@ -275,7 +275,7 @@ pub fn trace<S: Source, K: Sink, E: Sink>(
     let rooms = Rooms::new(alloc)?;
     let list = StartList::read(alloc, play.machine)?;
     let core = boot(alloc, &list)?;
-    let notes = Notes::new(alloc, play.scenario, play.given);
+    let notes = Notes::new(alloc, play.scenario, play.start);
     let run = Run {
         list: &list,
         only: None,
@@ -298,7 +298,6 @@ fn trace_on<R: Router + Drop, S: Source, K: Sink, E: Sink>(
 ) -> Ending
     requires listed { stage.core.entries ≡ entries_of (start_list_of stage.run.list.now) }
     requires all { stage.run.only ≡ None }
-    requires first { stage.notes.stand.number ≡ 1 }
     ensures played { fault_before (S.has_failed reader.old)
         (K.has_failed writer.old || E.has_failed complaints.old) ≡ None →
         IsPlayedFrom (turns_of None stage.entry.core stage.entry.notes.stand)

@@ -11,7 +11,7 @@ ghost use Rattle.scenario_lines.specs.Machine.{boot_fault};
 ghost use Rattle.scenario_lines.specs.Causes.{HasCause};
 ghost use Rattle.workbench.specs.Faults.{fault_before, unplayed};
 ghost use Rattle.scenario_lines.specs.Faults.{is_write_fault};
-ghost use Rattle.workbench.specs.Turns.{first_with, turns_of};
+ghost use Rattle.workbench.specs.Turns.{turns_of};
 ghost use Rattle.workbench.specs.Writes.{Closes, IsPlayed, IsPlayedFrom, IsUnplayed, list_behind, number_before, run_behind, run_tells, run_told, shown_of, turns_on};
 ghost use Rattle.scenario_lines.specs.declared.play_fault.PlayFault.TheVariants.{NoMemory as NoRoom};
 
@@ -127,7 +127,7 @@ pub fn run<S: Source, K: Sink, E: Sink>(
     ensures played { IfOk result (λ ending. fault_before (S.has_failed reader.old)
         (K.has_failed writer.old || E.has_failed complaints.old) ≡ None →
         IsPlayed play.entry.machine.now
-        (turns_on (option_copied showing.entry.only) (first_with play.entry.given))
+        (turns_on (option_copied showing.entry.only) play.entry.start)
         (run_told showing.entry) (run_behind showing.entry) false ending
         (S.remaining reader.old) (S.remaining reader.new)
         (S.has_failed reader.new) (K.contents writer.old) (K.contents writer.new)) }
@@ -153,7 +153,7 @@ pub fn run<S: Source, K: Sink, E: Sink>(
     let rooms = Rooms::new(alloc)?;
     let list = StartList::read(alloc, play.machine)?;
     let core = boot(alloc, &list)?;
-    let notes = Notes::new(alloc, play.scenario, play.given);
+    let notes = Notes::new(alloc, play.scenario, play.start);
     let run = Run {
         list: &list,
         only: showing.only,
@@ -176,7 +176,6 @@ fn run_on<R: Router + Drop, S: Source, K: Sink, E: Sink>(
     complaints: &mut E,
 ) -> Ending
     requires listed { stage.core.entries ≡ entries_of (start_list_of stage.run.list.now) }
-    requires first { stage.notes.stand.number ≡ 1 }
     ensures played { fault_before (S.has_failed reader.old)
         (K.has_failed writer.old || E.has_failed complaints.old) ≡ None →
         IsPlayedFrom (turns_of (option_copied stage.entry.run.only) stage.entry.core

@@ -14,10 +14,10 @@ ghost use Rattle.workbench.specs.Turns.{deed_of};
 ghost use Rattle.workbench.specs.Turns.Deed.{Says};
 
 use crate::deed::{Deed, Saying};
-use crate::stand::Stand;
 use crate::watch::{Heard, Watch};
 use calls::Reply;
 use friendly_lines::{Line, Said, read_friendly};
+use line_steps::Stand;
 use pd_core::{Core, Router};
 use scenario_lines::{Gather, LONGEST_LINE, LineAnswer, NamedCall, PlayFault, Run, Sink};
 use scenario_names::{Filled, directive_of, fill};
@@ -59,7 +59,7 @@ impl Rooms {
 pub(crate) fn take_turn<'a, 'b, R: Router + Drop>(
     run: &Run<'a>,
     core: &mut Core<R>,
-    stand: &Stand,
+    stand: &Stand<'_>,
     line: &'b [u8],
     rooms: &'b mut Rooms,
 ) -> Turn<'b>
@@ -70,7 +70,7 @@ where
     ensures { TakesTurn (option_copied run.now.only) stand.now.number
         (deed_of stand.now line.now) core.old core.new result }
 {
-    match fill(line, &stand.known, &mut rooms.filled) {
+    match fill(line, stand.known(), &mut rooms.filled) {
         Ok(filled) => match directive_of(filled.line) {
             Some(directive) => Turn {
                 deed: Deed::Follows(directive),
@@ -79,7 +79,7 @@ where
             None => take_filled(
                 run,
                 core,
-                stand.number,
+                stand,
                 filled,
                 &mut rooms.engine,
                 &mut rooms.reply,
@@ -96,7 +96,7 @@ where
 fn take_filled<'a, 'b, R: Router + Drop>(
     run: &Run<'a>,
     core: &mut Core<R>,
-    number: u64,
+    stand: &Stand<'_>,
     filled: Filled<'b>,
     room: &'b mut Line,
     reply: &'b mut Reply,
@@ -104,7 +104,7 @@ fn take_filled<'a, 'b, R: Router + Drop>(
 where
     'a: 'b,
     requires listed { core.old.entries ≡ entries_of (start_list_of run.now.list.now) }
-    ensures { TakesTurn (option_copied run.now.only) number
+    ensures { TakesTurn (option_copied run.now.only) stand.now.number
         (Says (filled_view filled.entry) (said_of filled.entry.line.now))
         core.old core.new result }
 {
@@ -130,7 +130,7 @@ where
                 reply: expected,
             },
         ) => {
-            let heard = hear(run, core, number, line, call, reply);
+            let heard = hear(run, core, stand, line, call, reply);
             Turn {
                 deed: Deed::Says {
                     filled,
@@ -152,11 +152,11 @@ where
     }
 }
 
-/// Answers a call that stands as it is, in a line of this number.
+/// Answers a call that stands as it is, where a play stands.
 pub(crate) fn hear_plain<'a, 'b, R: Router + Drop>(
     run: &Run<'a>,
     core: &mut Core<R>,
-    number: u64,
+    stand: &Stand<'_>,
     line: &'b [u8],
     call: NamedCall<'b>,
     rooms: &'b mut Rooms,
@@ -166,17 +166,18 @@ where
     requires listed { core.old.entries ≡ entries_of (start_list_of run.now.list.now) }
     requires read { Reads line.now call }
     ensures world { core.new ≡ after_all (option_copied run.now.only) core.old (line.now ∷ []) }
-    ensures heard { IsHeard (option_copied run.now.only) core.old number (line.now ∷ []) result }
+    ensures heard { IsHeard (option_copied run.now.only) core.old stand.now.number
+        (line.now ∷ []) result }
     ensures read { IfSome result (λ it. IsReadAs it.line.now it.call) }
 {
-    hear(run, core, number, line, Some(call), &mut rooms.reply)
+    hear(run, core, stand, line, Some(call), &mut rooms.reply)
 }
 
-// Answers the engine's line of a line of this number, by what was read of it.
+// Answers the engine's line of a line where a play stands, by what was read of it.
 fn hear<'a, 'b, R: Router + Drop>(
     run: &Run<'a>,
     core: &mut Core<R>,
-    number: u64,
+    stand: &Stand<'_>,
     line: &'b [u8],
     call: Option<NamedCall<'b>>,
     reply: &'b mut Reply,
@@ -186,9 +187,11 @@ where
     requires listed { core.old.entries ≡ entries_of (start_list_of run.now.list.now) }
     requires read { IsReadAs line.now call }
     ensures world { core.new ≡ after_all (option_copied run.now.only) core.old (line.now ∷ []) }
-    ensures heard { IsHeard (option_copied run.now.only) core.old number (line.now ∷ []) result }
+    ensures heard { IsHeard (option_copied run.now.only) core.old stand.now.number
+        (line.now ∷ []) result }
     ensures read { IfSome result (λ it. IsReadAs it.line.now it.call) }
 {
+    let number = stand.number();
     match run.answer_read(core, line, call, reply) {
         Some(answer) => Some(Heard {
             number,

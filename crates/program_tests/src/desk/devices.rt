@@ -1,6 +1,7 @@
 //! Readers and writers that fail, and the status of each ending.
 use crate::devices::{Reader, Writer};
 use init_core::{BootFault, MACHINE_A};
+use line_steps::Stand;
 use scenario_lines::{Input, Output};
 use scenario_names::Known;
 use std::alloc::Global;
@@ -49,7 +50,7 @@ fn played(
             file: b"it",
             form: Form::Text,
         },
-        given: Known::new(alloc),
+        start: Stand::new(Known::new(alloc), &[])?,
     };
     match kind {
         Kind::Run => run(alloc, play, LISTED, reader, writer, complaints),

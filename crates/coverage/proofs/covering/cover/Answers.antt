@@ -1,9 +1,11 @@
--- All of the trace is noted in the rows of the machine.
-use Rattle.std.proofs.Common.{arith}
+-- Each answer is noted in the rows of the machine.
+use Rattle.std.proofs.Common.{arith, map}
+use Rattle.coverage.specs.Covered.{answer_of}
 use Rattle.coverage.proofs.CoverLemmas.{covered_whole}
 use Rattle.coverage.proofs.covering.cover.Goals as goal
 
 pub returns : goal.returns
 returns c =
-    covered_whole _ _ _ _ _ _ (cc (c.as_mut_slice.ensures.value)) (omega (arith, c.as_mut_slice.ensures.len)) c.in_ok-rows.ensures
-    c.in_ok-note_all.ensures
+    covered_whole c.args.list.now (map answer_of c.args.exchanges.now) c.in_ok-rows.rows.len c.in_ok-rows.rows.items
+    c.as_mut_slice.result.now c.note_all.new.rows (cc (c.as_mut_slice.ensures.value))
+    (omega (arith, c.as_mut_slice.ensures.len)) c.in_ok-rows.ensures c.in_ok-note_all.ensures

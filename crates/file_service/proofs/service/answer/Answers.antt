@@ -3,7 +3,7 @@ use Rattle.std.proofs.Common.{refl, subst}
 use Rattle.session_proto.specs.File.{HasHex}
 use Rattle.server_frame.specs.declared.effect.Effect.TheVariants.{Nothing}
 use Rattle.file_service.proofs.BufferRequestLemmas.{buffer_answered, files_answered, read_as}
-use Rattle.file_service.proofs.RequestLemmas.{has_room, hex_is_short}
+use Rattle.file_service.proofs.RequestLemmas.{hex_is_short}
 use Rattle.file_service.proofs.ResultLemmas.{keeps_same}
 use Rattle.file_service.proofs.ServeLemmas.{serves_same}
 use Rattle.file_service.proofs.service.answer.Goals as goal
@@ -69,42 +69,6 @@ returns-in-Some-Name c =
       answered = files_answered c.requires.ready a.request.now _ t.0 a.reply.now _ (read_as a.request.now _ _ r.field-0-is r.ensures.request)
           (keeps_same c.requires.ready.furnished refl refl c.tell_name.ensures.memory refl) t.1.0 t.1.1 c.requires.reply;
     }
-
-pub tell_done-requires : goal.tell_done-requires
-tell_done-requires c = has_room c.args.reply.now c.requires.reply
-
-pub tell_done-requires-in-Some-Clear : goal.tell_done-requires-in-Some-Clear
-tell_done-requires-in-Some-Clear c = has_room c.args.reply.now c.requires.reply
-
-pub tell_done-requires-in-Some-Drop : goal.tell_done-requires-in-Some-Drop
-tell_done-requires-in-Some-Drop c = has_room c.args.reply.now c.requires.reply
-
-pub tell_count-requires : goal.tell_count-requires
-tell_count-requires c = has_room c.args.reply.now c.requires.reply
-
-pub tell_count-requires-in-Some-Size : goal.tell_count-requires-in-Some-Size
-tell_count-requires-in-Some-Size c = has_room c.args.reply.now c.requires.reply
-
-pub tell_count-requires-in-Some-Put : goal.tell_count-requires-in-Some-Put
-tell_count-requires-in-Some-Put c = has_room c.args.reply.now c.requires.reply
-
-pub tell_count-requires-in-Some-Get : goal.tell_count-requires-in-Some-Get
-tell_count-requires-in-Some-Get c = has_room c.args.reply.now c.requires.reply
-
-pub tell_read-requires-clause-room : goal.tell_read-requires-clause-room
-tell_read-requires-clause-room c = has_room c.args.reply.now c.requires.reply
-
-pub tell_name-requires-clause-room : goal.tell_name-requires-clause-room
-tell_name-requires-clause-room c = has_room c.args.reply.now c.requires.reply
-
-pub tell_shares-requires-clause-room : goal.tell_shares-requires-clause-room
-tell_shares-requires-clause-room c = has_room c.args.reply.now c.requires.reply
-
-pub tell_lent-requires : goal.tell_lent-requires
-tell_lent-requires c = has_room c.args.reply.now c.requires.reply
-
-pub tell_gone-requires : goal.tell_gone-requires
-tell_gone-requires c = has_room c.args.reply.now c.requires.reply
 
 pub returns-in-Some-Size : goal.returns-in-Some-Size
 returns-in-Some-Size c =

@@ -8,14 +8,14 @@ use Rattle.pd_core.proofs.CorePlainLemmas.{unlisted}
 use Rattle.pd_core.proofs.ServerLemmas.{is_server, serving_as, as_it_is, host_serves_in, component_stays}
 use Rattle.pd_core.proofs.SessionRefusedLemmas.{call_asks, unnamed_goes}
 use Rattle.pd_core.proofs.SessionWorldLemmas.{its as named_role, Names, named_two, named_cap, host_within, host_serves}
-use Rattle.pd_core.proofs.SessionServedLemmas.{nothing_goes, has_left, has_room, made_goes, given_named, given_goes}
+use Rattle.pd_core.proofs.SessionServedLemmas.{nothing_goes, has_left, is_lent, made_goes, given_named, given_goes}
 use Rattle.pd_core.proofs.CoreWorldLemmas.{role_at}
 use Rattle.pd_core.proofs.session_calls.call.Goals as goal
 
 pub returns-in-Err : goal.returns-in-Err
 returns-in-Err c = λ places.
     let components = c.args.components.now in
-    subst (λ told. Goes places (CallSession c.args.selector c.args.request.now) c.args.caller told c.args.memory.now components c.args.memory.now components) (sym c.refuse.ensures)
+    subst (λ told. Goes places (CallSession c.args.selector c.args.request.now) c.args.caller told c.args.memory.now components c.args.memory.now components) (sym c.write_refusal.ensures)
     (unnamed_goes places components c.index-components-caller.result c.requires.core c.requires.caller (CallSession c.args.selector c.args.request.now) c.args.selector (call_asks c.args.selector c.args.request.now)
     c.in-Err.refusal c.session.ensures.named c.in-Err.is)
 
@@ -79,8 +79,8 @@ keep_buffer-kept-requires c =
           (named_cap names) done.new.memory (serving_as at key done.new.self) (component_stays at key done.ensures.stays) c.args.request.now done.result done.ensures.serves e (as_it_is at key c.in-Server.host c.in-Server.is) (λ _. unlisted) c.requires.caller (named_role names).1 c.index-components-caller-in-Buffer.result c.in-Buffer.space c.in-Buffer.is;
     }
 
-pub add_number-requires : goal.add_number-requires
-add_number-requires c =
+pub add_selector-requires : goal.add_selector-requires
+add_selector-requires c =
     let components = c.args.components.now in
     let names : Names c.args.memory.now components c.args.caller c.index-components-caller.result c.args.selector c.in-Ok.named
     = record { core = c.requires.core; here = c.requires.caller; is = sym c.session.ensures.named ∙ c.in-Ok.is } in
@@ -89,7 +89,7 @@ add_number-requires c =
     let at = get_or components c.in-Ok.named.0 e in
     let key = c.in-Server.field-0 in
     let done = c.serve in
-    has_room components two c.index-components-caller.result (serving_as at key c.in-Server.host) (role_at components c.in-Ok.named.0 e (host_within components c.in-Ok.named.0 two.serving) ∙ c.in-Server.is) c.args.selector c.in-Ok.named.1
+    is_lent components two c.index-components-caller.result (serving_as at key c.in-Server.host) (role_at components c.in-Ok.named.0 e (host_within components c.in-Ok.named.0 two.serving) ∙ c.in-Server.is) c.args.selector c.in-Ok.named.1
     (named_cap names) done.new.memory (serving_as at key done.new.self) (component_stays at key done.ensures.stays) c.args.request.now done.result done.ensures.serves e (as_it_is at key c.in-Server.host c.in-Server.is) (λ _. unlisted) c.requires.caller (named_role names).1 c.index-components-caller-in-Buffer.result c.in-Buffer.space c.in-Buffer.is done.new.reply done.ensures.text
 
 pub returns-in-Buffer : goal.returns-in-Buffer
@@ -105,7 +105,7 @@ returns-in-Buffer c = λ places.
     let kept = c.keep_buffer-kept in
     made_goes components two c.index-components-caller.result (serving_as at key c.in-Server.host) (role_at components c.in-Ok.named.0 e (host_within components c.in-Ok.named.0 two.serving) ∙ c.in-Server.is) c.args.selector c.in-Ok.named.1
     (named_cap names) done.new.memory (serving_as at key done.new.self) (component_stays at key done.ensures.stays) c.args.request.now done.result done.ensures.serves e (as_it_is at key c.in-Server.host c.in-Server.is) places c.requires.caller (named_role names).1 c.index-components-caller-in-Buffer.result c.in-Buffer.space c.in-Buffer.is
-    _ refl kept.result kept.new.self kept.ensures.least kept.ensures.kept done.new.reply c.add_number.new.self done.ensures.text done.ensures.lines c.add_number.ensures.added
+    _ refl kept.result kept.new.self kept.ensures.least kept.ensures.kept done.new.reply c.add_selector.new.self done.ensures.text done.ensures.lines c.add_selector.ensures
 
 -- one that it gives back goes, with its regions
 pub drop_buffer-requires : goal.drop_buffer-requires

@@ -7,10 +7,10 @@ use Rattle.recording.proofs.recording.record_on.Goals as goal
 
 pub returns-clause-recorded : goal.returns-clause-recorded
 returns-clause-recorded g c =
-    whole_recorded _ c.in_ok-player.player.all _ c.args.scenario.unfolded.now c.args.scenario.text.now c.args.core.now (stage_in c.in_ok-player.player.stand c.args.core.now)
+    whole_recorded _ c.in_ok-player.player.all _ c.args.scenario.unfolded.now c.args.scenario.text.now c.args.core.now (stage_in c.in_ok-player.player.stand c.in_ok-player.player.awaits c.args.core.now)
     (marks_view c.in_ok-player.player.marks.marks.items) _ _
     c.in_ok-player.ensures.all
-    (first_in c.in_ok-player.player.stand c.args.core.now _ c.in_ok-player.ensures.number c.in_ok-player.ensures.known c.in_ok-player.ensures.awaits)
+    (first_in c.in_ok-player.player.stand c.in_ok-player.player.awaits c.args.core.now _ c.in_ok-player.ensures.stand c.in_ok-player.ensures.awaits)
     (ap (λ m. marks_view m.marks.items) c.in_ok-player.ensures.marks ∙ c.in_ok-marks.ensures)
     c.in_ok-play_all.ensures.marks
     (c.in_ok-into_recording.ensures

@@ -1,8 +1,8 @@
 use Rattle.std.proofs.Common.{sym, ap, ◌∙◌}
 use Rattle.std.specs.Option.{option_map}
 use Rattle.serde_json.specs.View.{view}
-use Rattle.start_review.specs.Places.{spot_of_flaw}
-use Rattle.start_review.proofs.PlaceLemmas.{no_fault_without}
+use Rattle.list_faults.specs.Places.{spot_of_flaw}
+use Rattle.list_faults.proofs.PlaceLemmas.{no_fault_without}
 use Rattle.start_review.proofs.review.placed.Goals as goal
 
 pub returns-in-Ok-None-clause-place : goal.returns-in-Ok-None-clause-place

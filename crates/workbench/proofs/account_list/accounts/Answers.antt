@@ -2,7 +2,6 @@
 use Rattle.std.proofs.Common.{ap, [], None}
 use Rattle.workbench.specs.Accounting.{accounts_text}
 use Rattle.workbench.specs.Played.{calls_answered}
-use Rattle.workbench.specs.Turns.{first_with}
 use Rattle.workbench.proofs.WriteLemmas.{ends_for_some_cause, is_played, unplayed_on, unplayed_with}
 use Rattle.workbench.proofs.account_list.accounts.Goals as goal
 
@@ -10,7 +9,7 @@ pub returns-clause-played : goal.returns-clause-played
 returns-clause-played g c = λ works.
     let played = c.play_accounting.ensures.played works in (
       played.0,
-      is_played None (first_with c.args.play.given) (λ _ _. []) (λ listed start turns. accounts_text played.0 listed start (calls_answered None turns)) c.play_accounting.result.ending _ _ _ _ _
+      is_played None c.args.play.start (λ _ _. []) (λ listed start turns. accounts_text played.0 listed start (calls_answered None turns)) c.play_accounting.result.ending _ _ _ _ _
           c.in_ok-list.ensures.ok c.in_ok-core.ensures.covered c.in_ok-core.ensures.started c.new-notes.ensures played.1,
     )
 

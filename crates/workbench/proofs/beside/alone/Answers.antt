@@ -2,19 +2,18 @@
 use Rattle.std.proofs.Common.{ap, [], length, None, Some}
 use Rattle.workbench.specs.Alone.{alone_sum, alone_tells}
 use Rattle.workbench.specs.Played.{calls_answered, told_of_turns}
-use Rattle.workbench.specs.Turns.{first_with}
 use Rattle.workbench.proofs.AloneLemmas.{are_alike}
 use Rattle.workbench.proofs.WriteLemmas.{ends_for_cause, is_played, unplayed_on, unplayed_with}
 use Rattle.workbench.proofs.beside.alone.Goals as goal
 
 pub returns-clause-played : goal.returns-clause-played
 returns-clause-played g c = λ works.
-    is_played None (first_with c.args.play.given) (λ start turns. told_of_turns (alone_tells c.args.name.now start) None [] turns) (λ _ _ turns. alone_sum c.args.name.now (length (calls_answered (Some c.args.name.now) turns))) c.play_beside.result.ending _ _ _ _ _
+    is_played None c.args.play.start (λ start turns. told_of_turns (alone_tells c.args.name.now start) None [] turns) (λ _ _ turns. alone_sum c.args.name.now (length (calls_answered (Some c.args.name.now) turns))) c.play_beside.result.ending _ _ _ _ _
     c.in_ok-list.ensures.ok c.in_ok-whole.ensures.covered c.in_ok-whole.ensures.started c.new-notes.ensures (rw c.new-named.ensures.name at (c.play_beside.ensures.played works))
 
 pub returns-clause-summed : goal.returns-clause-summed
 returns-clause-summed g c = λ works.
-    is_played None (first_with c.args.play.given) (λ start turns. told_of_turns (alone_tells c.args.name.now start) None [] turns) (λ _ _ _. alone_sum c.args.name.now c.play_beside.result.lines) c.play_beside.result.ending _ _ _ _ _
+    is_played None c.args.play.start (λ start turns. told_of_turns (alone_tells c.args.name.now start) None [] turns) (λ _ _ _. alone_sum c.args.name.now c.play_beside.result.lines) c.play_beside.result.ending _ _ _ _ _
     c.in_ok-list.ensures.ok c.in_ok-whole.ensures.covered c.in_ok-whole.ensures.started c.new-notes.ensures (rw c.new-named.ensures.name at (c.play_beside.ensures.summed works))
 
 pub returns-clause-alike : goal.returns-clause-alike

@@ -1,14 +1,13 @@
 -- The lines are played behind the front, and then it is complained of what is left over.
-use Rattle.std.proofs.Common.{ℕ, List, arith, refl, subst, ap}
+use Rattle.std.proofs.Common.{ℕ, List, refl, subst, ap}
 use Rattle.std.specs.Option.{option_copied}
 use Rattle.scenario_lines.specs.Gathered.{Tells}
-use Rattle.workbench.specs.Turns.{low}
 use Rattle.workbench.proofs.PlayLemmas.{closed_on, closed_writing, complaints_work, leads_none, plays_closed, remains, turns_played, world_left}
 use Rattle.workbench.proofs.WriteLemmas.{front_cut, plays_behind}
 use Rattle.workbench.proofs.playing.play.Goals as goal
 
 pub play-played-requires-clause-ready : goal.play-played-requires-clause-ready
-play-played-requires-clause-ready g c = (c.requires.listed, record { most = low; above = omega arith; within = c.requires.low; below = omega arith })
+play-played-requires-clause-ready g c = c.requires.listed
 
 pub play-played-requires-clause-leads : goal.play-played-requires-clause-leads
 play-played-requires-clause-leads g c = (

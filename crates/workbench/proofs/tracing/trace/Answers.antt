@@ -2,13 +2,12 @@
 use Rattle.std.proofs.Common.{ap, ◌++◌, [], None}
 use Rattle.workbench.specs.Played.{told_of_turns}
 use Rattle.workbench.specs.Tracing.{trace_header, trace_tells}
-use Rattle.workbench.specs.Turns.{first_with}
 use Rattle.workbench.proofs.WriteLemmas.{ends_for_cause, is_played, unplayed_on, unplayed_with}
 use Rattle.workbench.proofs.tracing.trace.Goals as goal
 
 pub returns-clause-played : goal.returns-clause-played
 returns-clause-played g c = λ works.
-    is_played None (first_with c.args.play.given) (λ start turns. trace_header ++ told_of_turns (trace_tells start) None [] turns) (λ _ _ _. []) c.trace_on.result _ _ _ _ _
+    is_played None c.args.play.start (λ start turns. trace_header ++ told_of_turns (trace_tells start) None [] turns) (λ _ _ _. []) c.trace_on.result _ _ _ _ _
     c.in_ok-list.ensures.ok c.in_ok-core.ensures.covered c.in_ok-core.ensures.started c.new-notes.ensures (c.trace_on.ensures.played works)
 
 pub returns-clause-ok : goal.returns-clause-ok

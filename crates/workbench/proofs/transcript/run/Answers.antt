@@ -1,14 +1,13 @@
 -- On the machine of the text.
 use Rattle.std.proofs.Common.{ap}
 use Rattle.std.specs.Option.{option_copied}
-use Rattle.workbench.specs.Turns.{first_with}
 use Rattle.workbench.specs.Writes.{list_behind, shown_of}
 use Rattle.workbench.proofs.WriteLemmas.{ends_for_cause, is_played, unplayed_on, unplayed_with}
 use Rattle.workbench.proofs.transcript.run.Goals as goal
 
 pub returns-clause-played : goal.returns-clause-played
 returns-clause-played g c = λ works.
-    is_played (option_copied c.args.showing.only) (first_with c.args.play.given) (shown_of c.args.showing.numbers (option_copied c.args.showing.only)) (λ listed start turns. list_behind c.args.showing.accounts (option_copied c.args.showing.only) listed start turns) c.run_on.result _ _ _ _ _
+    is_played (option_copied c.args.showing.only) c.args.play.start (shown_of c.args.showing.numbers (option_copied c.args.showing.only)) (λ listed start turns. list_behind c.args.showing.accounts (option_copied c.args.showing.only) listed start turns) c.run_on.result _ _ _ _ _
     c.in_ok-list.ensures.ok c.in_ok-core.ensures.covered c.in_ok-core.ensures.started c.new-notes.ensures (c.run_on.ensures.played works)
 
 pub returns-clause-ok : goal.returns-clause-ok

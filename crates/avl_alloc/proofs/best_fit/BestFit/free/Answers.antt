@@ -1,6 +1,7 @@
 use Rattle.std.proofs.Common.{◌∙◌, sym, arith}
+use Rattle.std.proofs.lemmas.Bool.{not-false}
 use Rattle.avl_alloc.proofs.FreedLemmas.{used_none, used_some}
-use Rattle.avl_alloc.proofs.GivenLemmas.{not_used, not_start, is_used, used_start, sound_long, used_is, next_stand, next_end, IsGiven, back_stand, back_few, block_given}
+use Rattle.avl_alloc.proofs.GivenLemmas.{not_used, not_start, used_start, sound_long, used_is, next_stand, next_end, IsGiven, back_stand, back_few, block_given}
 use Rattle.avl_alloc.proofs.best_fit.BestFit.free.Given as given
 use Rattle.avl_alloc.proofs.best_fit.BestFit.free.Goals as goal
 use Rattle.avl_alloc.proofs.best_fit.BestFit.free.Goals.{then-not-block-via-then-not-block, then-not-block-via-else-not-block+then-block-addr}
@@ -23,54 +24,54 @@ returns-then-not-block-clause-block g c =
 -- or one does
 pub place_of-start-requires : goal.place_of-start-requires
 place_of-start-requires g c =
-    let is = used_is _ _ _ _ c.in_ok-block.block c.requires.sound (sym c.in_ok-block.was ∙ c.reach.ensures.found) (is_used _ c.if-not-block.false) c.if-block-addr.false in
+    let is = used_is _ _ _ _ c.in_ok-block.block c.requires.sound (sym c.in_ok-block.was ∙ c.reach.ensures.found) (not-false _ c.if-not-block.false) c.if-block-addr.false in
     is.low
 
 pub overflow_add-place : goal.overflow_add-place
 overflow_add-place g c =
-    let is = used_is _ _ _ _ c.in_ok-block.block c.requires.sound (sym c.in_ok-block.was ∙ c.reach.ensures.found) (is_used _ c.if-not-block.false) c.if-block-addr.false in
+    let is = used_is _ _ _ _ c.in_ok-block.block c.requires.sound (sym c.in_ok-block.was ∙ c.reach.ensures.found) (not-false _ c.if-not-block.false) c.if-block-addr.false in
     omega (arith, is.end, is.last, c.place_of-start.ensures)
 
 pub overflow_add-place-2 : goal.overflow_add-place-2
 overflow_add-place-2 g c =
-    let is = used_is _ _ _ _ c.in_ok-block.block c.requires.sound (sym c.in_ok-block.was ∙ c.reach.ensures.found) (is_used _ c.if-not-block.false) c.if-block-addr.false in
+    let is = used_is _ _ _ _ c.in_ok-block.block c.requires.sound (sym c.in_ok-block.was ∙ c.reach.ensures.found) (not-false _ c.if-not-block.false) c.if-block-addr.false in
     omega (arith, is.end, is.last, c.place_of-start.ensures)
 
 pub bounds-self-addr : goal.bounds-self-addr
 bounds-self-addr g c =
-    let is = used_is _ _ _ _ c.in_ok-block.block c.requires.sound (sym c.in_ok-block.was ∙ c.reach.ensures.found) (is_used _ c.if-not-block.false) c.if-block-addr.false in
+    let is = used_is _ _ _ _ c.in_ok-block.block c.requires.sound (sym c.in_ok-block.was ∙ c.reach.ensures.found) (not-false _ c.if-not-block.false) c.if-block-addr.false in
     is.low
 
 pub overflow_add-start : goal.overflow_add-start
 overflow_add-start g c =
-    let is = used_is _ _ _ _ c.in_ok-block.block c.requires.sound (sym c.in_ok-block.was ∙ c.reach.ensures.found) (is_used _ c.if-not-block.false) c.if-block-addr.false in
+    let is = used_is _ _ _ _ c.in_ok-block.block c.requires.sound (sym c.in_ok-block.was ∙ c.reach.ensures.found) (not-false _ c.if-not-block.false) c.if-block-addr.false in
     omega (arith, is.last, c.place_of-start.ensures)
 
 pub hole_behind-behind-requires-clause-stand : goal.hole_behind-behind-requires-clause-stand
 hole_behind-behind-requires-clause-stand g c =
-    let is = used_is _ _ _ _ c.in_ok-block.block c.requires.sound (sym c.in_ok-block.was ∙ c.reach.ensures.found) (is_used _ c.if-not-block.false) c.if-block-addr.false in
+    let is = used_is _ _ _ _ c.in_ok-block.block c.requires.sound (sym c.in_ok-block.was ∙ c.reach.ensures.found) (not-false _ c.if-not-block.false) c.if-block-addr.false in
     (is.next, is.rest, next_stand _ _ _ _ _ _ _ is c.reach.ensures.words c.place_of-start.ensures, next_end _ _ _ _ _ _ _ is c.reach.ensures.words c.place_of-start.ensures)
 
 pub overflow_sub-place : goal.overflow_sub-place
 overflow_sub-place g c =
-    let is = used_is _ _ _ _ c.in_ok-block.block c.requires.sound (sym c.in_ok-block.was ∙ c.reach.ensures.found) (is_used _ c.if-not-block.false) c.if-block-addr.false in
+    let is = used_is _ _ _ _ c.in_ok-block.block c.requires.sound (sym c.in_ok-block.was ∙ c.reach.ensures.found) (not-false _ c.if-not-block.false) c.if-block-addr.false in
     omega (arith, is.back)
 
 pub give_back-requires-clause-stand : goal.give_back-requires-clause-stand
 give_back-requires-clause-stand g c =
-    let is = used_is _ _ _ _ c.in_ok-block.block c.requires.sound (sym c.in_ok-block.was ∙ c.reach.ensures.found) (is_used _ c.if-not-block.false) c.if-block-addr.false in
+    let is = used_is _ _ _ _ c.in_ok-block.block c.requires.sound (sym c.in_ok-block.was ∙ c.reach.ensures.found) (not-false _ c.if-not-block.false) c.if-block-addr.false in
     let next = next_stand _ _ _ _ _ _ _ is c.reach.ensures.words c.place_of-start.ensures in
     let hole = c.hole_behind-behind.ensures.hole is.next is.rest next (next_end _ _ _ _ _ _ _ is c.reach.ensures.words c.place_of-start.ensures) in
     (is.site, back_stand _ _ _ _ _ _ _ is (c.hole_behind-behind.ensures.words ∙ c.reach.ensures.words) c.place_of-start.ensures _ hole)
 
 pub returns-clause-block : goal.returns-clause-block
 returns-clause-block g c =
-    used_start c.args.addr.offset c.in_ok-block.block (is_used _ c.if-not-block.false) c.if-block-addr.false
+    used_start c.args.addr.offset c.in_ok-block.block (not-false _ c.if-not-block.false) c.if-block-addr.false
     ∙ used_some c.args.addr.offset _ c.in_ok-block.block (sound_long _ _ c.requires.sound c.args.addr.chunk) (sym c.in_ok-block.was ∙ c.reach.ensures.found)
 
 done : (g : given.Over) (c : goal.After-give_back g) → IsGiven c.args.self.now c.give_back.new.self (g.M.WordMemory.word c.args.memory.now) (g.M.WordMemory.word c.give_back.new.memory) c.args.addr.chunk c.args.addr.offset
 done g c =
-    let is = used_is _ _ _ _ c.in_ok-block.block c.requires.sound (sym c.in_ok-block.was ∙ c.reach.ensures.found) (is_used _ c.if-not-block.false) c.if-block-addr.false in
+    let is = used_is _ _ _ _ c.in_ok-block.block c.requires.sound (sym c.in_ok-block.was ∙ c.reach.ensures.found) (not-false _ c.if-not-block.false) c.if-block-addr.false in
     let next = next_stand _ _ _ _ _ _ _ is c.reach.ensures.words c.place_of-start.ensures in
     let hole = c.hole_behind-behind.ensures.hole is.next is.rest next (next_end _ _ _ _ _ _ _ is c.reach.ensures.words c.place_of-start.ensures) in
     let words = c.hole_behind-behind.ensures.words ∙ c.reach.ensures.words in
@@ -90,7 +91,7 @@ returns-clause-others g c = (done g c).others
 
 pub returns-clause-loads : goal.returns-clause-loads
 returns-clause-loads g c =
-    let is = used_is _ _ _ _ c.in_ok-block.block c.requires.sound (sym c.in_ok-block.was ∙ c.reach.ensures.found) (is_used _ c.if-not-block.false) c.if-block-addr.false in
+    let is = used_is _ _ _ _ c.in_ok-block.block c.requires.sound (sym c.in_ok-block.was ∙ c.reach.ensures.found) (not-false _ c.if-not-block.false) c.if-block-addr.false in
     let next = next_stand _ _ _ _ _ _ _ is c.reach.ensures.words c.place_of-start.ensures in
     let hole = c.hole_behind-behind.ensures.hole is.next is.rest next (next_end _ _ _ _ _ _ _ is c.reach.ensures.words c.place_of-start.ensures) in
     let words = c.hole_behind-behind.ensures.words ∙ c.reach.ensures.words in

@@ -20,14 +20,14 @@ overflow_sub-left g c =
     let size = hole_size _ _ q.0 c.args.place q.1 _ q.2 c.load-whole.ensures.value in
     omega arith
 
-pub returns-then-left-lt-LEAST-clause-turn : goal.returns-then-left-lt-LEAST-clause-turn
-returns-then-left-lt-LEAST-clause-turn g c at n stand le =
+pub returns-then-left-lt-LEAST_BLOCK-clause-turn : goal.returns-then-left-lt-LEAST_BLOCK-clause-turn
+returns-then-left-lt-LEAST_BLOCK-clause-turn g c at n stand le =
     let size = hole_size _ _ at c.args.place n _ stand c.load-whole.ensures.value in
     let taken = take_turn _ _ _ _ _ at c.args.place n _ stand c.load-whole.ensures.value c.load-whole.ensures.words c.take_out.ensures.turn in
-    cut_whole _ _ _ _ at c.args.place n c.args.size (c.load-whole.result - c.args.size) (omega arith) taken c.if-left-lt-LEAST.true
+    cut_whole _ _ _ _ at c.args.place n c.args.size (c.load-whole.result - c.args.size) (omega arith) taken c.if-left-lt-LEAST_BLOCK.true
 
-pub returns-then-left-lt-LEAST-clause-loads : goal.returns-then-left-lt-LEAST-clause-loads
-returns-then-left-lt-LEAST-clause-loads g c at n b stand le few =
+pub returns-then-left-lt-LEAST_BLOCK-clause-loads : goal.returns-then-left-lt-LEAST_BLOCK-clause-loads
+returns-then-left-lt-LEAST_BLOCK-clause-loads g c at n b stand le few =
     let size = hole_size _ _ at c.args.place n _ stand c.load-whole.ensures.value in
     omega (arith, c.load-whole.ensures.loads, c.take_out.ensures.loads at b (rw (c.load-whole.ensures.words, ← size) stand) (rw (← size) few))
 
@@ -45,7 +45,7 @@ split-requires-clause-left g c =
     let laid = stand_laid _ _ q.0 c.args.place _ q.2 in
     let even = laid.0.sized.even in
     let even' = c.requires.size.even in
-    record { least = c.if-left-lt-LEAST.false; even = omega arith }
+    record { least = c.if-left-lt-LEAST_BLOCK.false; even = omega arith }
 
 pub split-requires-clause-fits : goal.split-requires-clause-fits
 split-requires-clause-fits g c =
@@ -65,7 +65,7 @@ put_in-requires-clause-stand g c =
     let taken = take_turn _ _ _ _ _ q.0 c.args.place q.1 _ q.2 c.load-whole.ensures.value c.load-whole.ensures.words c.take_out.ensures.turn in
     let left : ℕ = c.load-whole.result - c.args.size in
     let parts = c.split.ensures.turn q.0 (split_asks _ _ _ _ q.0 c.args.place q.1 c.args.size left (omega arith) taken) in
-    (_, _, left_asks _ _ _ _ q.0 c.args.place q.1 c.args.size left (omega arith) taken _ c.if-left-lt-LEAST.false parts)
+    (_, _, left_asks _ _ _ _ q.0 c.args.place q.1 c.args.size left (omega arith) taken _ c.if-left-lt-LEAST_BLOCK.false parts)
 
 pub put_in-requires-clause-fits : goal.put_in-requires-clause-fits
 put_in-requires-clause-fits g c =
@@ -79,7 +79,7 @@ returns-clause-turn g c at n stand le =
     let taken = take_turn _ _ _ _ _ at c.args.place n _ stand c.load-whole.ensures.value c.load-whole.ensures.words c.take_out.ensures.turn in
     let left : ℕ = c.load-whole.result - c.args.size in
     let parts = c.split.ensures.turn at (split_asks _ _ _ _ at c.args.place n c.args.size left (omega arith) taken) in
-    cut_turn _ _ _ _ at c.args.place n c.args.size left (omega arith) taken _ c.if-left-lt-LEAST.false parts _ _ c.put_in.ensures.turn
+    cut_turn _ _ _ _ at c.args.place n c.args.size left (omega arith) taken _ c.if-left-lt-LEAST_BLOCK.false parts _ _ c.put_in.ensures.turn
 
 pub returns-clause-loads : goal.returns-clause-loads
 returns-clause-loads g c at n b stand le few =
@@ -92,6 +92,6 @@ returns-clause-loads g c at n b stand le few =
       c.load-whole.ensures.loads,
       c.split.ensures.loads,
       c.take_out.ensures.loads at b (rw (c.load-whole.ensures.words, ← size) stand) (rw (← size) few),
-      c.put_in.ensures.loads _ _ b (left_asks _ _ _ _ at c.args.place n c.args.size left (omega arith) taken _ c.if-left-lt-LEAST.false parts)
-          (left_holes _ _ _ _ at c.args.place n c.args.size left (omega arith) taken _ c.if-left-lt-LEAST.false parts _ few),
+      c.put_in.ensures.loads _ _ b (left_asks _ _ _ _ at c.args.place n c.args.size left (omega arith) taken _ c.if-left-lt-LEAST_BLOCK.false parts)
+          (left_holes _ _ _ _ at c.args.place n c.args.size left (omega arith) taken _ c.if-left-lt-LEAST_BLOCK.false parts _ few),
     )

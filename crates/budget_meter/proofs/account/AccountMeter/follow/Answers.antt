@@ -28,13 +28,13 @@ returns-clause-on c = λ is entry calls rest budget s now left told.
     let call = model_call c.args.call in
     one_less entry calls budget s c.hear.new.self call rest now c.args.self.now left
     (λ heard has here.
-    c.hear.ensures entry heard budget s has (told_there entry call c.args.reply.now c.args.after (own_run entry heard (budgeted budget s)) now here told))
-    (want_told entry call c.args.reply.now c.args.after now told ∙ sym c.is_in_want.ensures ∙ is)
+    c.hear.ensures entry heard budget s has (told_there entry call c.args.reply.text.now c.args.after (own_run entry heard (budgeted budget s)) now here told))
+    (want_told entry call c.args.reply.text.now c.args.after now told ∙ sym c.is_in_want.ensures ∙ is)
 
 pub returns-clause-end : goal.returns-clause-end
 returns-clause-end c = λ is entry calls rest budget s now left told.
     let call = model_call c.args.call in
     ended entry calls budget s c.hear.new.self call rest now c.args.self.now left
     (λ heard has here.
-    c.hear.ensures entry heard budget s has (told_there entry call c.args.reply.now c.args.after (own_run entry heard (budgeted budget s)) now here told))
-    (want_told entry call c.args.reply.now c.args.after now told ∙ sym c.is_in_want.ensures ∙ is)
+    c.hear.ensures entry heard budget s has (told_there entry call c.args.reply.text.now c.args.after (own_run entry heard (budgeted budget s)) now here told))
+    (want_told entry call c.args.reply.text.now c.args.after now told ∙ sym c.is_in_want.ensures ∙ is)

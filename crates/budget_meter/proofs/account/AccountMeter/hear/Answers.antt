@@ -14,7 +14,7 @@ returns-then-not-self c = λ entry calls budget s before told.
     let taken = c.take.new.self in
     let on : c.args.self.now.is_gone ≡ false = grind (arith, nat_tests, c.if-not-self.true) in
     subst (λ b. HasHeard entry (calls ++ model_call c.args.call ∷ []) budget s (record taken { account = c.args.after; is_gone = b })) (sym c.is_exit-self.ensures)
-    (heard entry calls (model_call c.args.call) budget s c.args.self.now taken c.args.reply.now c.args.after before c.if-self.true on told
+    (heard entry calls (model_call c.args.call) budget s c.args.self.now taken c.args.reply.text.now c.args.after before c.if-self.true on told
     (c.take.ensures.shown entry (own_run entry calls (budgeted budget s))) (c.take.ensures.pages entry (own_run entry calls (budgeted budget s)))
     c.take.ensures.start c.take.ensures.script)
 

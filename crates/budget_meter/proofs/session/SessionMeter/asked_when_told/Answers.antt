@@ -12,6 +12,6 @@ use Rattle.budget_meter.proofs.session.SessionMeter.asked_when_told.Goals as goa
 
 pub returns-in-Write : goal.returns-in-Write
 returns-in-Write c = λ other files keeps.
-    subst (λ r. AsksAs c.content.result (told_tests (Some (model_request r)) c.args.reply.now (quotas_account c.args.self.now.account) (quotas_account c.args.after) files)) (sym c.in-Write.is)
+    subst (λ r. AsksAs c.content.result (told_tests (Some (model_request r)) c.args.reply.text.now (quotas_account c.args.self.now.account) (quotas_account c.args.after) files)) (sym c.in-Write.is)
     (subst (λ n. AsksAs c.content.result (write_tests c.in-Write.offset n (file_named c.in-Write.file.now files))) (hex_counted c.in-Write.hex.now (subst HasHex c.in-Write.is c.requires))
     (c.content.ensures files keeps))

@@ -13,8 +13,8 @@ returns-clause-on c = λ is sent rest donation session now buffer left told.
     one_less sent donation session c.hear.new.self (Asks request) rest (bytes_of_buffer buffer) now c.args.self.now left
     (λ heard has here.
     c.in_ok-hear.ensures heard donation session buffer has
-    (subst (λ (t : Session). IsServedBy c.args.reply.now c.args.after buffer (served (bytes_of_buffer buffer) t request)) (sym here) told))
-    (want_told left.heard donation session now buffer request c.args.reply.now c.args.after c.args.self.now left.has left.here told ∙ sym c.is_short.ensures ∙ is)
+    (subst (λ (t : Session). IsServedBy c.args.reply.text.now c.args.after buffer (served (bytes_of_buffer buffer) t request)) (sym here) told))
+    (want_told left.heard donation session now buffer request c.args.reply.text.now c.args.after c.args.self.now left.has left.here told ∙ sym c.is_short.ensures ∙ is)
 
 pub returns-clause-end : goal.returns-clause-end
 returns-clause-end c = λ is sent rest donation session now buffer left told.
@@ -22,5 +22,5 @@ returns-clause-end c = λ is sent rest donation session now buffer left told.
     ended sent donation session c.hear.new.self (Asks request) rest (bytes_of_buffer buffer) now c.args.self.now left
     (λ heard has here.
     c.in_ok-hear.ensures heard donation session buffer has
-    (subst (λ (t : Session). IsServedBy c.args.reply.now c.args.after buffer (served (bytes_of_buffer buffer) t request)) (sym here) told))
-    (want_told left.heard donation session now buffer request c.args.reply.now c.args.after c.args.self.now left.has left.here told ∙ sym c.is_short.ensures ∙ is)
+    (subst (λ (t : Session). IsServedBy c.args.reply.text.now c.args.after buffer (served (bytes_of_buffer buffer) t request)) (sym here) told))
+    (want_told left.heard donation session now buffer request c.args.reply.text.now c.args.after c.args.self.now left.has left.here told ∙ sym c.is_short.ensures ∙ is)

@@ -19,7 +19,7 @@ pub returns-in_default : goal.returns-in_default
 returns-in_default c = λ all donation session buffer before told.
     let few : c.args.after.ram_limit.0 < 2 ^ 64 = search rules in
     let new : SessionMeter = record c.args.self.now { account = c.args.after } in
-    heard all donation session buffer c.args.request.now c.args.reply.now c.args.after c.args.self.now before told new None
+    heard all donation session buffer c.args.request.now c.args.reply.text.now c.args.after c.args.self.now before told new None
     (ap (option_map model_request) (sym c.in_default.is) ∙ c.read.ensures.request) (sym (together_nothing (shown_in c.args.self.now.meter))) before.at.growth
     (λ changes. subst (λ fs. Keeps c.args.self.now.sizes fs) (sym changes) before.at.sizes) refl few refl
 
@@ -30,7 +30,7 @@ returns c = λ all donation session buffer before told.
     let files = files_in here.state in
     let after = files_in (served (bytes_of_buffer buffer) here c.args.request.now).session.state in
     let new : SessionMeter = record c.take.new.self { account = c.args.after; sizes = c.keep.new.self } in
-    heard all donation session buffer c.args.request.now c.args.reply.now c.args.after c.args.self.now before told new (Some (model_request c.in-Some.request))
+    heard all donation session buffer c.args.request.now c.args.reply.text.now c.args.after c.args.self.now before told new (Some (model_request c.in-Some.request))
     (ap (option_map model_request) (sym c.in-Some.is) ∙ c.read.ensures.request)
     (c.take.ensures.shown files before.at.few before.at.growth before.at.sizes) (c.take.ensures.pages files before.at.growth)
     (λ changes. c.in_ok-keep.ensures files.files after.files (subst (λ z. Keeps z files.files) (sym c.take.ensures.sizes) before.at.sizes) changes)

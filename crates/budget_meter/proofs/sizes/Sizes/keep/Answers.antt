@@ -9,5 +9,5 @@ use Rattle.budget_meter.proofs.sizes.Sizes.keep.Goals as goal
 pub returns-in-Write : goal.returns-in-Write
 returns-in-Write c = λ old new keeps changes.
     c.write.ensures old new keeps
-    (subst (λ n. IsWritten c.in-Write.file.now c.in-Write.offset n c.args.reply.now old new) (sym (hex_counted c.in-Write.hex.now (subst HasHex c.in-Write.is c.requires)))
-    (subst (λ r. Changes (Some (model_request r)) c.args.reply.now old new) c.in-Write.is changes))
+    (subst (λ n. IsWritten c.in-Write.file.now c.in-Write.offset n c.args.reply.text.now old new) (sym (hex_counted c.in-Write.hex.now (subst HasHex c.in-Write.is c.requires)))
+    (subst (λ r. Changes (Some (model_request r)) c.args.reply.text.now old new) c.in-Write.is changes))

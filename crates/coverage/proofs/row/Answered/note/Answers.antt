@@ -2,12 +2,12 @@
 use Rattle.std.proofs.Common.{sym, subst, arith, ◌≡◌, ◌<◌, length, set, map, take, drop, ◌++◌, ◌+◌}
 use Rattle.std.proofs.lemmas.List.{get_or_default}
 use Rattle.std.proofs.lemmas.List.Edits.{map_over_more}
-use Rattle.coverage.specs.Covered.{row_with}
+use Rattle.coverage.specs.Covered.{evidence_in, row_with}
 use Rattle.coverage.proofs.row.Answered.note.Goals as goal
 
 pub loop-row-preserved : goal.loop-row-preserved
 loop-row-preserved c =
-    let noted = row_with c.args.self.line.now c.args.self.reply.now c.args.self.rules.now in
+    let noted = row_with (evidence_in c.args.self) in
     let rows = c.loop-row.rows in
     let i = c.loop-row.row-index in
     let there : i < length rows = omega (arith, c.loop-row-test.true, c.loop-row.auto.rows) in

@@ -1,5 +1,6 @@
 -- The new node is stored, the last one is linked to it, and it is entered in the tree.
 use Rattle.std.proofs.Common.{◌≡◌, ◌∙◌, ◌++◌, ◌∷◌, [], ℕ, List, sym, ap, subst, arith}
+use Rattle.heap_core.proofs.WordsLemmas.{below_bytes}
 use Rattle.own_model.specs.OwnState.{with_part, zeros}
 use Rattle.trade_base.specs.Word.{word_bytes}
 use Rattle.heap_core.specs.Words.{are_bytes}
@@ -12,7 +13,6 @@ use Rattle.file_service.specs.Node.{FileNode, bytes_of, rank_of}
 use Rattle.file_service.specs.declared.session.FileSession.{FileSession}
 use Rattle.file_service.proofs.AppendLemmas.{last_there, files_new}
 use Rattle.file_service.proofs.EnterLemmas.{can_enter, are_appended, stand_linked}
-use Rattle.file_service.proofs.NodeStoreLemmas.{small_bytes}
 use Rattle.file_service.proofs.TailFileLemmas.{files_tails}
 use Rattle.file_service.proofs.ServeLemmas.{keeps_both}
 use Rattle.file_service.proofs.session.FileSession.append.Goals as goal
@@ -33,7 +33,7 @@ enter-self-requires-clause-unnamed c =
     let node : FileNode = record { next = 0; content = 0; size = 0; name = c.copied.result.items } in
     let bytes : List ℕ = with_part (payload_in was.nodes.payloads c.args.address) 0 (bytes_of node ++ (zeros 24 ++ word_bytes c.args.self.now.last)) in
     let back = c.store_new.ensures.back ∙ ap (λ (x : List ℕ). record { next = 0; content = 0; size = 0; name = x }) c.copied.ensures in
-    let padded = c.store_new.ensures.padded (ap are_bytes c.copied.ensures ∙ small_bytes c.args.name.now (λ i. omega (arith, c.type_inv.name i))) in
+    let padded = c.store_new.ensures.padded (ap are_bytes c.copied.ensures ∙ below_bytes c.args.name.now (λ i. omega (arith, c.type_inv.name i))) in
     let root : c.link.new.self.root ≡ c.args.self.now.root = ap (λ (s : FileSession). s.root) c.link.ensures.same in (
       c.requires.files.blocks,
       subst (λ r. CanEnter r c.requires.files.blocks c.args.address (rank_of c.args.name.now) linked.nodes) (sym root)
@@ -50,7 +50,7 @@ returns-clause-kept c =
     let node : FileNode = record { next = 0; content = 0; size = 0; name = c.copied.result.items } in
     let bytes : List ℕ = with_part (payload_in was.nodes.payloads c.args.address) 0 (bytes_of node ++ (zeros 24 ++ word_bytes c.args.self.now.last)) in
     let back = c.store_new.ensures.back ∙ ap (λ (x : List ℕ). record { next = 0; content = 0; size = 0; name = x }) c.copied.ensures in
-    let padded = c.store_new.ensures.padded (ap are_bytes c.copied.ensures ∙ small_bytes c.args.name.now (λ i. omega (arith, c.type_inv.name i))) in
+    let padded = c.store_new.ensures.padded (ap are_bytes c.copied.ensures ∙ below_bytes c.args.name.now (λ i. omega (arith, c.type_inv.name i))) in
     let contents : linked.contents ≡ was.contents = ap (λ (s : Stock). s.contents) c.link.ensures.rest ∙ ap (λ (s : Stock). s.contents) c.store_new.ensures.stored in
     let root : c.link.new.self.root ≡ c.args.self.now.root = ap (λ (s : FileSession). s.root) c.link.ensures.same in
     are_appended c.args.self.now.first c.args.self.now.last c.args.self.now.root was.nodes mid.nodes was.contents linked now c.requires.files c.args.address c.requires.fresh bytes (ap (λ (s : Stock). s.nodes) c.store_new.ensures.stored)
@@ -66,7 +66,7 @@ returns-clause-files c =
     let node : FileNode = record { next = 0; content = 0; size = 0; name = c.copied.result.items } in
     let bytes : List ℕ = with_part (payload_in was.nodes.payloads c.args.address) 0 (bytes_of node ++ (zeros 24 ++ word_bytes c.args.self.now.last)) in
     let back = c.store_new.ensures.back ∙ ap (λ (x : List ℕ). record { next = 0; content = 0; size = 0; name = x }) c.copied.ensures in
-    let padded = c.store_new.ensures.padded (ap are_bytes c.copied.ensures ∙ small_bytes c.args.name.now (λ i. omega (arith, c.type_inv.name i))) in
+    let padded = c.store_new.ensures.padded (ap are_bytes c.copied.ensures ∙ below_bytes c.args.name.now (λ i. omega (arith, c.type_inv.name i))) in
     let contents : linked.contents ≡ was.contents = ap (λ (s : Stock). s.contents) c.link.ensures.rest ∙ ap (λ (s : Stock). s.contents) c.store_new.ensures.stored in
     let root : c.link.new.self.root ≡ c.args.self.now.root = ap (λ (s : FileSession). s.root) c.link.ensures.same in
     let stand = stand_linked c.args.self.now.first c.args.self.now.last c.args.self.now.root was.nodes mid.nodes was.contents linked now c.requires.files c.args.address c.requires.fresh bytes (ap (λ (s : Stock). s.nodes) c.store_new.ensures.stored)

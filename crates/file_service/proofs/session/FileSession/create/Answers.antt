@@ -2,6 +2,7 @@
 use Rattle.std.proofs.Common.{◌≡◌, ◌∙◌, ◌-◌, ◌++◌, ◌∷◌, [], true, None, is_some, sym, ap, subst, arith, rules, Some, Err, refl}
 use Rattle.std.specs.Prelude.{IfSome, IfNone, IfOk, OnErr}
 use Rattle.std.specs.Result.{result_err}
+use Rattle.heap_core.proofs.WordsLemmas.{below_bytes}
 use Rattle.own_model.specs.FileService.{File, FileServed, node_size, file_named, error_of, told}
 use Rattle.own_model.specs.FileText.FileReply.{Refused}
 use Rattle.own_model.specs.FileText.FileError.{Exists}
@@ -19,7 +20,6 @@ use Rattle.file_service.specs.Session.{files_in, Finds, served_in, done_reply}
 use Rattle.file_service.proofs.CreateLemmas.{Takes, takes_node}
 use Rattle.file_service.proofs.KeptLemmas.{blocks_are, files_are}
 use Rattle.file_service.proofs.NodeKeptLemmas.{indexed_kept, place_same}
-use Rattle.file_service.proofs.NodeStoreLemmas.{small_bytes}
 use Rattle.file_service.proofs.SeekLemmas.{name_fits, none_ranked}
 use Rattle.file_service.proofs.PlaceLemmas.{furnished_has_places}
 use Rattle.file_service.proofs.SearchLemmas.{found_named}
@@ -86,7 +86,7 @@ append-requires-clause-new c b listed =
     let before = blocks_are c.args.self.now.first c.args.self.now.last was.nodes was.contents c.requires.files.blocks c.requires.files.stand in
     let there = ap (λ xs. is_listed xs b) (sym now) ∙ listed in
     let other = none_ranked c.args.self.now.first c.args.self.now.last c.args.self.now.root was.nodes was.contents c.requires.files c.args.name.now (omega (arith, name_fits c.args.name.now (sym c.if-not-is_name.ensures)))
-    (small_bytes c.args.name.now (λ i. omega (arith, c.type_inv.name i))) none b (ap (λ xs. is_listed xs b) before ∙ there) in
+    (below_bytes c.args.name.now (λ i. omega (arith, c.type_inv.name i))) none b (ap (λ xs. is_listed xs b) before ∙ there) in
     λ same. other (ap rank_of (sym (place_same was.nodes taken.nodes b (takes.same b there)).name) ∙ same)
 
 pub returns-clause-serves : goal.returns-clause-serves

@@ -1,6 +1,6 @@
 -- Each step goes one link on, and one place.
 use Rattle.std.proofs.Common.{◌≡◌, ◌≢◌, ◌∙◌, ◌+◌, ◌≤◌, ◌++◌, ◌∷◌, [], ℕ, length, map, Some, refl, sym, ap, subst, arith, length-append}
-use Rattle.std.proofs.lemmas.List.{length-map}
+use Rattle.std.proofs.lemmas.List.{length-map, append-nil}
 use Rattle.std.proofs.lemmas.Option.{slice_get_past}
 use Rattle.std.specs.Option.{option_map}
 use Rattle.std.specs.Prelude.{slice_get}
@@ -12,7 +12,7 @@ use Rattle.file_service.specs.Rooms.{stock_of}
 use Rattle.file_service.specs.Links.{last_of, Leads}
 use Rattle.file_service.specs.Node.{FileNode, value_of}
 use Rattle.file_service.proofs.KeptLemmas.{files_are}
-use Rattle.file_service.proofs.SearchLemmas.{next_behind, here_behind, stand_on, none_behind, last_put, link_some, append_none, file_there}
+use Rattle.file_service.proofs.SearchLemmas.{next_behind, here_behind, stand_on, none_behind, last_put, link_some, file_there}
 use Rattle.file_service.proofs.NextLemmas.{next_is}
 use Rattle.file_service.proofs.session.FileSession.file_at.Goals as goal
 
@@ -89,5 +89,5 @@ returns-clause-name c =
     let e = none_behind c.args.self.now.first c.args.self.now.last has.nodes has.contents (last_of 0 i.before) c.loop-address.address i.before i.behind i.stand i.leads i.address zero in
     let past : length (map f i.before) ≤ c.args.place = omega (arith, i.place, length-map i.before f) in
     sym (ap (λ files. option_map (λ (file : File). file.name) (slice_get files c.args.place))
-    (files_are c.args.self.now.first c.args.self.now.last has.nodes has.contents (i.before ++ i.behind) i.stand ∙ ap (λ xs. map f (i.before ++ xs)) e ∙ ap (map f) (append_none i.before))
+    (files_are c.args.self.now.first c.args.self.now.last has.nodes has.contents (i.before ++ i.behind) i.stand ∙ ap (λ xs. map f (i.before ++ xs)) e ∙ ap (map f) (append-nil i.before))
     ∙ ap (option_map (λ (file : File). file.name)) (slice_get_past (map f i.before) c.args.place past))

@@ -4,6 +4,7 @@ use Rattle.std.specs.Prelude.{IfOk, OnErr}
 use Rattle.std.specs.Option.{option_map}
 use Rattle.std.specs.Result.{result_err}
 use Rattle.std.specs.FinMap.{get}
+use Rattle.own_model.proofs.StepLemmas.{accepted_block}
 use Rattle.own_model.specs.Account.{shortage}
 use Rattle.own_model.specs.FileService.{error_of, told}
 use Rattle.own_model.specs.FileText as model
@@ -11,7 +12,7 @@ use Rattle.own_model.specs.FileText.FileReply.{Refused}
 use Rattle.own_model.specs.FileText.FileRequest.{Write}
 use Rattle.own_model.specs.Sliced.{sliced_size}
 use Rattle.session_proto.specs.FileReply.{model_error}
-use Rattle.session_proto.specs.declared.file_reply.FileError.TheVariants.{OutOfRam}
+use Rattle.calls.specs.declared.file_error.FileError.TheVariants.{OutOfRam}
 use Rattle.file_service.specs.Calls.{content_taken, content_written, HasBytes}
 use Rattle.file_service.specs.Index.{IsIndexed, previous_at}
 use Rattle.file_service.specs.Furnished.{Stock}
@@ -23,7 +24,7 @@ use Rattle.file_service.proofs.SourceLemmas.{source_kept, bytes_kept}
 use Rattle.file_service.proofs.LengthenLemmas.{TakesLonger, sum_is, no_sum, not_new, source, target, room, made_has, made_own, made_found, made_served}
 use Rattle.file_service.proofs.ResultLemmas.{err_case, err_and}
 use Rattle.file_service.proofs.ServeLemmas.{keeps_both, serves_told, serves_refused, was_ok}
-use Rattle.file_service.proofs.WriteLemmas.{past_limit, refused_short, granted_covered, longer_refused}
+use Rattle.file_service.proofs.WriteLemmas.{past_limit, refused_short, longer_refused}
 use Rattle.file_service.proofs.session.FileSession.lengthen.Goals.{In_ok-content, After-copy_content}
 use Rattle.file_service.proofs.session.FileSession.lengthen.Goals as goal
 
@@ -39,7 +40,7 @@ takes c =
     let ok = was_ok c.take_content.result c.map_err.result c.in_ok-content.content _ c.map_err.ensures.cases c.map_err.ensures.variant c.in_ok-content.was in
     record {
       size_is = size_is;
-      covered = ap (λ n. shortage was.account (sliced_size n) 1) (sym size_is) ∙ granted_covered size was.account (sym c.take_content.ensures.refusal ∙ ap result_err ok);
+      covered = ap (λ n. shortage was.account (sliced_size n) 1) (sym size_is) ∙ accepted_block size was.account (sym c.take_content.ensures.refusal ∙ ap result_err ok);
       free = subst (λ r. IfOk r (λ a. get was.contents a ≡ None)) ok c.take_content.ensures.free;
       is = subst (λ r. IfOk r (λ a. taken ≡ content_taken size a was)) ok c.take_content.ensures.taken;
     }

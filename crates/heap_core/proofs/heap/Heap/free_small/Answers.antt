@@ -8,13 +8,13 @@ use Rattle.heap_core.proofs.GiveLemmas.{give_keeps, gave_none, gave_unchanged, g
 use Rattle.heap_core.proofs.LookupLemmas.{no_free, not_large}
 use Rattle.heap_core.proofs.heap.Heap.free_small.Goals as goal
 
-pub returns-then-at-lt-HEADER-clause-refusal : goal.returns-then-at-lt-HEADER-clause-refusal
-returns-then-at-lt-HEADER-clause-refusal c =
-    let low = c.if-at-lt-HEADER.true in
+pub returns-then-at-lt-BLOCK_HEADER-clause-refusal : goal.returns-then-at-lt-BLOCK_HEADER-clause-refusal
+returns-then-at-lt-BLOCK_HEADER-clause-refusal c =
+    let low = c.if-at-lt-BLOCK_HEADER.true in
     sym (no_free _ _ _ c.requires.sound _ _ _ c.requires.lies (λ y n used is. absurd (omega (arith, is, low))))
 
-pub returns-then-at-lt-HEADER-clause-is_small : goal.returns-then-at-lt-HEADER-clause-is_small
-returns-then-at-lt-HEADER-clause-is_small c = not_large _ _ _ c.requires.sound _ _ _ c.requires.lies
+pub returns-then-at-lt-BLOCK_HEADER-clause-is_small : goal.returns-then-at-lt-BLOCK_HEADER-clause-is_small
+returns-then-at-lt-BLOCK_HEADER-clause-is_small c = not_large _ _ _ c.requires.sound _ _ _ c.requires.lies
 
 pub give-given-requires-clause-stand : goal.give-given-requires-clause-stand
 give-given-requires-clause-stand c =
@@ -22,7 +22,7 @@ give-given-requires-clause-stand c =
 
 pub returns-then-is_none-clause-refusal : goal.returns-then-is_none-clause-refusal
 returns-then-is_none-clause-refusal c =
-    sym (gave_none _ _ _ _ _ _ _ c.requires.sound _ c.deref.ensures.0 c.give-given.ensures.around c.give-given.ensures.gives _ _ c.requires.lies c.if-at-lt-HEADER.false refl (let x = c.is_none.ensures in let y = c.if-is_none.true in grind arith))
+    sym (gave_none _ _ _ _ _ _ _ c.requires.sound _ c.deref.ensures.0 c.give-given.ensures.around c.give-given.ensures.gives _ _ c.requires.lies c.if-at-lt-BLOCK_HEADER.false refl (let x = c.is_none.ensures in let y = c.if-is_none.true in grind arith))
 
 pub returns-then-is_none-clause-is_small : goal.returns-then-is_none-clause-is_small
 returns-then-is_none-clause-is_small c = not_large _ _ _ c.requires.sound _ _ _ c.requires.lies
@@ -33,15 +33,15 @@ returns-then-is_none-clause-keeps c =
 
 pub returns-then-is_none-clause-err : goal.returns-then-is_none-clause-err
 returns-then-is_none-clause-err c =
-    gave_unchanged _ _ _ _ _ _ _ c.requires.sound _ c.deref.ensures.0 c.give-given.ensures.around c.give-given.ensures.gives _ _ c.requires.lies c.if-at-lt-HEADER.false refl (let x = c.is_none.ensures in let y = c.if-is_none.true in grind arith)
+    gave_unchanged _ _ _ _ _ _ _ c.requires.sound _ c.deref.ensures.0 c.give-given.ensures.around c.give-given.ensures.gives _ _ c.requires.lies c.if-at-lt-BLOCK_HEADER.false refl (let x = c.is_none.ensures in let y = c.if-is_none.true in grind arith)
 
 pub returns-clause-refusal : goal.returns-clause-refusal
 returns-clause-refusal c =
-    sym (gave_free _ _ _ _ _ _ _ c.requires.sound _ c.deref.ensures.0 c.give-given.ensures.around c.give-given.ensures.gives _ _ c.requires.lies c.if-at-lt-HEADER.false refl (let x = c.is_none.ensures in let y = c.if-is_none.false in grind arith))
+    sym (gave_free _ _ _ _ _ _ _ c.requires.sound _ c.deref.ensures.0 c.give-given.ensures.around c.give-given.ensures.gives _ _ c.requires.lies c.if-at-lt-BLOCK_HEADER.false refl (let x = c.is_none.ensures in let y = c.if-is_none.false in grind arith))
 
 pub returns-clause-small : goal.returns-clause-small
 returns-clause-small c =
-    gave_small _ _ _ _ _ _ _ c.requires.sound _ c.deref.ensures.0 c.give-given.ensures.around c.give-given.ensures.gives _ _ c.requires.lies c.if-at-lt-HEADER.false refl (let x = c.is_none.ensures in let y = c.if-is_none.false in grind arith)
+    gave_small _ _ _ _ _ _ _ c.requires.sound _ c.deref.ensures.0 c.give-given.ensures.around c.give-given.ensures.gives _ _ c.requires.lies c.if-at-lt-BLOCK_HEADER.false refl (let x = c.is_none.ensures in let y = c.if-is_none.false in grind arith)
 
 pub returns-clause-is_small : goal.returns-clause-is_small
 returns-clause-is_small c = not_large _ _ _ c.requires.sound _ _ _ c.requires.lies

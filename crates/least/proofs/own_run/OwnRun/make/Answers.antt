@@ -10,5 +10,5 @@ returns-then-follow-clause-ends g c = λ _ calls rest budget s left.
     let world = c.args.self.now.core.now in
     let component = c.args.self.now.component in
     c.follow.ensures.end c.if-follow.true (entry_at world.entries component) calls rest budget s (state_at world.states component) left.left
-    (is_told world c.step.new.self component (model_call c.args.call) c.text.result.now c.account-after.result (c.text.ensures ∙ c.step.ensures.answered)
+    (is_told world c.step.new.self component (model_call c.args.call) c.answer.result.text.now c.account-after.result (c.answer.ensures ∙ c.step.ensures.answered)
     c.step.ensures.stepped c.account-after.ensures.value left.script left.there)

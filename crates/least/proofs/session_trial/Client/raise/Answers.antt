@@ -17,7 +17,7 @@ returns-clause-left g c = λ sent rest session donation selector before.
     let raising = subst (λ a. HasLeft world client heard sent (raises a rest) session donation) named.1 made in
     let entry = raising.has.entry in
     subst (λ p. HasLeft c.step.new.self.core p c.raise.new.self sent rest session donation) (sym c.step.ensures.same)
-    (raises_on world c.step.new.self.core client c.args.args.now c.text.result.now (c.text.ensures ∙ c.step.ensures.answered entry) (c.step.ensures.stepped entry)
+    (raises_on world c.step.new.self.core client c.args.args.now c.answer.result.text.now (c.answer.ensures ∙ c.step.ensures.answered entry) (c.step.ensures.stepped entry)
     c.in-Some-account.account
     (account_told c.step.new.self.core c.step.new.self.client client world.entries c.account.result c.in-Some-account.account c.step.ensures.same c.step.ensures.entries entry
     c.in-Some-account.is c.account.ensures)

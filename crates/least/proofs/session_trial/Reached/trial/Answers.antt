@@ -76,7 +76,7 @@ returns-clause-run g c =
     was_not world c.step.new.self.core client c.in-Some-Open.service.now text c.step.new.self.reply.text (c.step.ensures.answered ready.entry) (c.step.ensures.stepped ready.entry) ready wish
     again.1.0
     (none_told c.step.new.self.core c.step.new.self.client client world.entries c.account.result c.step.ensures.same c.step.ensures.entries ready.entry c.in-None.is c.account.ensures)
-    (sym (ap tells_small c.text.ensures) ∙ small) in
+    (sym (ap tells_small c.answer.ensures) ∙ small) in
     small_run (sent_at c.args.self.steps.now c.args.self.opened.now.steps.items) donation session trial left.small refused shown)
     c.unopened.ensures.small c.unopened.ensures.refused c.unopened.ensures.shown
 
@@ -99,6 +99,6 @@ returns-clause-ready g c =
     was_not world c.step.new.self.core client c.in-Some-Open.service.now text c.step.new.self.reply.text (c.step.ensures.answered ready.entry) (c.step.ensures.stepped ready.entry) ready wish
     again.1.0
     (none_told c.step.new.self.core c.step.new.self.client client world.entries c.account.result c.step.ensures.same c.step.ensures.entries ready.entry c.in-None.is c.account.ensures)
-    (sym (ap tells_small c.text.ensures) ∙ small) in
+    (sym (ap tells_small c.answer.ensures) ∙ small) in
     subst (λ p. IsReady c.step.new.self.core p) (sym c.step.ensures.same) left.still)
     c.unopened.ensures.small

@@ -16,11 +16,10 @@ has_bytes hex some = let read = some_of (bytes_of_hex hex) some in read.1 ∙ ap
 pub write-requires-clause-room : goal.write-requires-clause-room
 write-requires-clause-room c =
     let few = request_is_short c.args.request.now (hex_bytes c.in-Some.request.hex.now) c.in-Some.ensures.bytes in
-    omega (arith, few, ap (λ told. length told.lines) c.requires)
+    omega (arith, few, ap length c.requires)
 
 pub returns-in-Some-clause-text : goal.returns-in-Some-clause-text
 returns-in-Some-clause-text c =
     let hex = c.in-Some.request.hex.now in
     let half : length hex / 2 ≡ length (hex_bytes hex) = omega (arith, bytes_of_digits hex (hex_bytes hex) (has_bytes hex c.in-Some.ensures.hex)) in
-    let empty : c.write.new.reply.text ≡ [] = ap (λ told. told.text) c.write.ensures.reply ∙ ap (λ told. told.text) c.requires in
-    ap (λ told. told.text) c.write-in-Some.ensures ∙ rw (empty, half) (sym (ap (λ o. (log_served_bytes c.args.session.now.partial o).reply) c.in-Some.ensures.bytes))
+    ap (λ told. told.text) c.write-in-Some.ensures ∙ rw half (sym (ap (λ o. (log_served_bytes c.args.session.now.partial o).reply) c.in-Some.ensures.bytes))

@@ -34,6 +34,6 @@ returns-in-Ok-clause-outcome c sessions ready =
 
 pub returns-in-Err-clause-outcome : goal.returns-in-Err-clause-outcome
 returns-in-Err-clause-outcome c sessions ready =
-    ap (λ m. told c.refuse.new.reply (own_at sessions m c.args.self.now)) c.in-Err.ensures.memory
-    ∙ ap (λ reply. told reply (own_at sessions c.args.memory.now c.args.self.now)) c.refuse.ensures
+    ap (λ m. told c.write_refusal.new.self (own_at sessions m c.args.self.now)) c.in-Err.ensures.memory
+    ∙ ap (λ reply. told reply (own_at sessions c.args.memory.now c.args.self.now)) c.write_refusal.ensures
     ∙ ap told_of (peek_refused _ _ _ _ _ c.requires.own c.args.address c.args.count _ c.in-Err.ensures.refusal sessions)

@@ -13,9 +13,9 @@ use Rattle.recording.proofs.player.Player.play_all.Given as goal
 abbrev pub invariant-loop-rest : goal.invariant-loop-rest
 invariant-loop-rest g l = record {
   marked :
-      all_marked (events l.initial.self.all (stage_in l.initial.self.stand l.initial.core) (pieces_of l.scenario))
+      all_marked (events l.initial.self.all (stage_in l.initial.self.stand l.initial.self.awaits l.initial.core) (pieces_of l.scenario))
       (marks_view l.initial.self.marks.marks.items)
-      ≡ all_marked (events l.self.all (stage_in l.self.stand l.core) (pieces_in (option_copied l.rest)))
+      ≡ all_marked (events l.self.all (stage_in l.self.stand l.self.awaits l.core) (pieces_in (option_copied l.rest)))
       (marks_view l.self.marks.marks.items);
   all : l.self.all ≡ l.initial.self.all;
   listed : l.core.entries ≡ entries_of (start_list_of l.list);

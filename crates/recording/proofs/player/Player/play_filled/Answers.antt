@@ -2,8 +2,8 @@
 use Rattle.std.proofs.Common.{Ok, ap, refl, sym, ◌∙◌}
 use Rattle.friendly_lines.specs.Says.{says}
 use Rattle.scenario_names.specs.Views.{filled_view}
-use Rattle.recording.specs.Views.{marks_view, stage_in}
-use Rattle.recording.proofs.RecordedLemmas.{said_deed, turned_by, turned_over, turns_by, turns_over}
+use Rattle.recording.specs.Views.{marks_view}
+use Rattle.recording.proofs.RecordedLemmas.{said_deed, same_stage, turned_by, turned_over, turns_by, turns_over}
 use Rattle.recording.proofs.player.Player.play_filled.Goals as goal
 
 pub returns-in-Ok-Nothing-clause-turned : goal.returns-in-Ok-Nothing-clause-turned
@@ -28,4 +28,4 @@ pub returns-in-Err-clause-turned : goal.returns-in-Err-clause-turned
 returns-in-Err-clause-turned g c =
     turned_over c.miss.result _ _ _ _ _ _ _
     (said_deed (filled_view c.args.filled.now) c.args.filled.now.line.now _ c.in-Err.ensures.value)
-    (ap (λ s. stage_in s c.args.core.now) c.miss.ensures.stand) (ap (λ m. marks_view m.marks.items) c.miss.ensures.marks)
+    (same_stage c.args.core.now c.miss.ensures.stand c.miss.ensures.awaits) (ap (λ m. marks_view m.marks.items) c.miss.ensures.marks)

@@ -3,14 +3,26 @@ use Rattle.std.proofs.Common.{rules, ◌≡◌, ◌∙◌, ◌+◌, ◌-◌, ℕ
 use Rattle.std.specs.Borrow.{Bor}
 use Rattle.rounds.specs.Unfolding.{lines_from, within}
 use Rattle.rounds.specs.Views.{head_view, made_of, texts}
-use Rattle.rounds.proofs.RoundLemmas.{line_at, line_fails, lines_end, lines_next, lines_within, next_inside, round_next}
+use Rattle.rounds.proofs.RoundLemmas.{count_fails, line_at, line_fails, lines_end, lines_next, lines_within, marks_at, next_inside, round_next}
 use Rattle.rounds.proofs.unfolding.Unfolding.+rounds.Goals as goal
 
 pub put_each-loop-k-preserved : goal.put_each-loop-k-preserved
 put_each-loop-k-preserved t c =
-    round_next (within c.args.deep) c.args.place (head_view c.args.head) c.loop-k.k _ _ _ (texts c.args.body.now) c.loop-k-test.true
-    c.in_ok-put_begin.ensures c.in_ok-put_lines.ensures
+    round_next (within c.args.deep) c.args.place (head_view c.args.head) c.loop-k.k _ _ _ _ (texts c.args.body.now) c.loop-k-test.true
+    (marks_at (made_of c.loop-k.self) (made_of c.put_mark.new.self) _ (head_view c.args.head) c.args.place.line c.size_of-size.result c.loop-k.k
+    (texts c.args.body.now) c.in_ok-put_mark.ensures c.in_ok-mark.ensures c.size_of-size.ensures.value) c.in_ok-put_lines.ensures c.in_ok-count_round.ensures
     ∙ c.loop-k.invariant
+
+pub put_each-returns-in_err-count_round : goal.put_each-returns-in_err-count_round
+put_each-returns-in_err-count_round t c =
+    let tells : c.from_residual-in_err-count_round.result ≡ Err c.in_err-count_round.field-0.0 = search rules in
+    let whole = sym c.loop-k.invariant in
+    rw (tells, whole)
+    (count_fails Unit Unit c.in_err-count_round.field-0.0 (within c.args.deep) c.args.place (head_view c.args.head) c.loop-k.k (made_of c.loop-k.self)
+    (made_of c.put_mark.new.self) (made_of c.put_lines.new.self) (made_of c.count_round.new.self) (made_of c.count_round.new.self)
+    (texts c.args.body.now) c.loop-k-test.true
+    (marks_at (made_of c.loop-k.self) (made_of c.put_mark.new.self) _ (head_view c.args.head) c.args.place.line c.size_of-size.result c.loop-k.k
+    (texts c.args.body.now) c.in_ok-put_mark.ensures c.in_ok-mark.ensures c.size_of-size.ensures.value) c.in_ok-put_lines.ensures c.in_err-count_round.ensures)
 
 pub put_lines-returns-in_err-at : goal.put_lines-returns-in_err-at
 put_lines-returns-in_err-at t c =

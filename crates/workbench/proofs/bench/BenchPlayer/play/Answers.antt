@@ -3,11 +3,8 @@ use Rattle.std.specs.Option.{option_copied}
 use Rattle.own_model.specs.Listed.{start_list_of}
 use Rattle.own_model.specs.StartList.{entries_of}
 use Rattle.workbench.specs.Turns.{calls_in, deed_of}
-use Rattle.workbench.proofs.PlayLemmas.{bench_line, counted_fails, listed_on, numbered, ready_next, remains_on}
+use Rattle.workbench.proofs.PlayLemmas.{bench_line, counted_fails, listed_on, ready_next, remains_on}
 use Rattle.workbench.proofs.bench.BenchPlayer.play.Goals as goal
-
-pub play_line-judged-requires-clause-low : goal.play_line-judged-requires-clause-low
-play_line-judged-requires-clause-low g c = numbered c.args.self.now.notes.now.stand _ c.requires.ready.1.1
 
 pub returns-clause-played : goal.returns-clause-played
 returns-clause-played g c = λ first start earlier led.
@@ -22,6 +19,6 @@ returns-clause-ready g c = λ more ready.
     let now = c.args.self.now in
     let only = option_copied now.run.now.only in
     let deed = deed_of now.notes.now.stand c.args.line.now in
-    let plays = c.play_line-judged.ensures.plays in
-    rw c.count.ensures (ready_next only c.args.core.now c.play_line-judged.result now.notes.now.stand c.play_line-judged.new.self.notes.now.stand deed more
-    (listed_on (λ run. entries_of (start_list_of run.list.now)) only (calls_in deed) c.args.core.now plays.hears.world ready.0 c.play_line-judged.ensures.remains.run_is) ready.1 plays.stands)
+    rw c.count.ensures (ready_next c.play_line-judged.result
+    (listed_on (λ run. entries_of (start_list_of run.list.now)) only (calls_in deed) c.args.core.now c.play_line-judged.ensures.plays.hears.world ready
+    c.play_line-judged.ensures.remains.run_is))

@@ -22,6 +22,4 @@ returns-clause-played g c = λ first start earlier line long led.
     c.take_in-judged.ensures.judged c.take_in-judged.ensures.expects c.take_in-judged.ensures.stands c.take_in-judged.ensures.failing)))
 
 pub returns-clause-ready : goal.returns-clause-ready
-returns-clause-ready g c = λ more ready.
-    let now = c.args.self.now in
-    rw c.count.ensures (ready_next (option_copied now.run.now.only) c.args._core.now c.take_in-judged.result now.notes.now.stand c.take_in-judged.new.self.stand TooLong more ready.0 ready.1 c.take_in-judged.ensures.stands)
+returns-clause-ready g c = λ more ready. rw c.count.ensures (ready_next c.take_in-judged.result ready)

@@ -1,0 +1,37 @@
+//! Lines of a scenario's text by their numbers.
+use std::alloc::AllocError;
+
+/// Where the lines of a text begin.
+#[derive(Drop)]
+pub struct LineStarts<'a> {
+    text: &'a [u8],
+    starts: Vec<usize>,
+}
+
+impl<'a> LineStarts<'a> {
+    /// Returns those of a text.
+    pub fn of(rt: &HostRuntime, text: &'a [u8]) -> Result<LineStarts<'a>, AllocError> {
+        let mut starts = vec![in rt.alloc(); 0]?;
+        for (place, byte) in text.iter().enumerate() {
+            if *byte == b'\n' {
+                starts.push(place.saturating_add(1))?;
+            }
+        }
+        Ok(LineStarts { text, starts })
+    }
+
+    /// Returns the line of a number, from 1 on, without its newline. It is empty if there is none.
+    pub fn line(&self, number: u64) -> &'a [u8] {
+        let place = number.saturating_sub(1) as usize;
+        let Some(start) = self.starts.get(place) else {
+            return b"";
+        };
+        let Some((_, rest)) = self.text.split_at_checked(*start) else {
+            return b"";
+        };
+        match rest.iter().position(|byte| *byte == b'\n') {
+            Some(end) => &rest[..end],
+            None => rest,
+        }
+    }
+}

@@ -1,0 +1,94 @@
+//! Files that are written whole or not at all.
+use std::fs::{File, OpenOptions, Permissions};
+use std::io::{ErrorKind, Write};
+use std::os::unix::fs::OpenOptionsExt;
+use std::{fs, io};
+
+/// How many names are tried for a new file.
+const MOST_NAMES: usize = 100;
+
+/// The rights of a new file until it is written: its owner alone reads and writes it.
+const OWN: u32 = 0o600;
+
+/// Replaces a regular file by one with this text and the same rights. Until then it is as it was; a file that is not regular stays.
+pub fn replace_file(rt: &HostRuntime, path: &str, text: &[u8]) -> io::Result<()> {
+    let path = fs::canonicalize(rt, path)?;
+    let found = fs::metadata(rt, path.as_str())?;
+    if !found.is_file() {
+        return Err(io::Error::new(ErrorKind::Other, "not a regular file"));
+    }
+    write_by_new(rt, path.as_str(), text, Some(found.permissions()))
+}
+
+/// Writes a file with this text, which takes the place of a regular file of this path. A device or a pipe is written to.
+pub fn write_file(rt: &HostRuntime, path: &str, text: &[u8]) -> io::Result<()> {
+    match fs::metadata(rt, path) {
+        Ok(found) if found.is_file() => replace_file(rt, path, text),
+        Ok(_) => fs::write(rt, path, text),
+        Err(error) if error.kind() == ErrorKind::NotFound => write_by_new(rt, path, text, None),
+        Err(error) => Err(error),
+    }
+}
+
+// Writes a text into a new file with these rights, which then takes a path. A write that fails removes the new file.
+fn write_by_new(
+    rt: &HostRuntime,
+    path: &str,
+    text: &[u8],
+    rights: Option<Permissions>,
+) -> io::Result<()> {
+    let (name, mut file) = new_file(rt, path, rights.is_some())?;
+    let written = fill(rt, &mut file, name.as_str(), path, text, rights);
+    if written.is_err() {
+        let _ = fs::remove_file(rt, name.as_str());
+    }
+    written
+}
+
+// Makes a new file next to a path: by the first name that nothing has.
+fn new_file(rt: &HostRuntime, path: &str, is_own: bool) -> io::Result<(String, File)> {
+    let mut options = OpenOptions::new();
+    options.write(true).create_new(true);
+    if is_own {
+        options.mode(OWN);
+    }
+    let mut taken = io::Error::from(ErrorKind::AlreadyExists);
+    for number in 0..MOST_NAMES {
+        let name = format!(in rt.alloc(); "{path}.new{number}")?;
+        match options.open(rt, name.as_str()) {
+            Ok(file) => return Ok((name, file)),
+            Err(error) if error.kind() == ErrorKind::AlreadyExists => taken = error,
+            Err(error) => return Err(error),
+        }
+    }
+    Err(taken)
+}
+
+// Fills a new file, and gives it its rights and its path.
+fn fill(
+    rt: &HostRuntime,
+    file: &mut File,
+    name: &str,
+    path: &str,
+    text: &[u8],
+    rights: Option<Permissions>,
+) -> io::Result<()> {
+    file.write_all(text)?;
+    if let Some(rights) = rights {
+        file.set_permissions(rights)?;
+    }
+    file.sync_all()?;
+    fs::rename(rt, name, path)?;
+    let _ = sync_folder(rt, path);
+    Ok(())
+}
+
+// Has the name of a file written to its folder on the disk, where the file system can do so.
+fn sync_folder(rt: &HostRuntime, path: &str) -> io::Result<()> {
+    let folder = match path.rsplit_once('/') {
+        Some(("", _)) => "/",
+        Some((folder, _)) => folder,
+        None => ".",
+    };
+    File::open(rt, folder)?.sync_all()
+}

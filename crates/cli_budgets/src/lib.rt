@@ -1,0 +1,9 @@
+//! The command `least` of `nethrywel`: the budgets that suffice for a scenario are computed and printed.
+//!
+//! `nethrywel` calls `least_budgets(rt, asked, settings)` with what the command line says, and ends with the exit status that
+//! this returns.
+#![tactic(auto)]
+
+mod least_command;
+
+pub use least_command::least_budgets;

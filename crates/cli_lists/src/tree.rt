@@ -1,0 +1,48 @@
+//! The components of a start list.
+use crate::review::review;
+use cli_base::{REFUSED, Settings, no_memory, print_documents, status_of};
+use start_review::Review;
+use std::alloc::AllocError;
+use workbench_options::Tree;
+
+/// Shows the components of a start list, and answers the exit status.
+pub fn show_tree(rt: &HostRuntime, asked: &Tree<'_>, settings: Settings<'_>) -> u8 {
+    if asked.json {
+        tree_document(rt, asked.list, settings)
+    } else {
+        tree(rt, asked.list, settings, asked.dot)
+    }
+}
+
+// Shows the components of a start list as text or as a graph, and answers the exit status.
+fn tree(rt: &HostRuntime, path: &str, settings: Settings<'_>, dot: bool) -> u8 {
+    let Some(review) = review(rt, path, settings) else {
+        return REFUSED;
+    };
+    if dot {
+        return show_graph(rt, path, &review);
+    }
+    match review.tree(rt.alloc()) {
+        Ok(tree) => status_of(rt, print!(rt; "{tree}")),
+        Err(_) => no_memory(rt),
+    }
+}
+
+// Shows the components of a start list as a graph, and answers the exit status.
+fn show_graph(rt: &HostRuntime, path: &str, review: &Review) -> u8 {
+    match review.graph(rt.alloc()) {
+        Ok(graph) => status_of(rt, print!(rt; "{graph}")),
+        Err(_) => no_memory(rt),
+    }
+}
+
+// Tells a tree, a document a line of it, and answers the exit status.
+fn tree_document(rt: &HostRuntime, path: &str, settings: Settings<'_>) -> u8 {
+    match review(rt, path, settings) {
+        Some(review) => match review.tree(rt.alloc()) {
+            Ok(tree) => print_documents(rt, tree.documents(rt.alloc())),
+            Err(AllocError) => no_memory(rt),
+        },
+        None => REFUSED,
+    }
+}

@@ -1,0 +1,21 @@
+//! The commands `run`, `trace`, `accounts`, `alone` and `record` of `nethrywel`: a scenario is read, run on a machine, and what is
+//! asked for is printed.
+//!
+//! `nethrywel` calls a function for each command, with what its command line says, and ends with the exit status that this
+//! returns: `trace_scenario(rt, asked, settings)` prints the table of a scenario's lines.
+#![tactic(auto)]
+
+mod accounts;
+mod alone;
+mod record;
+mod run;
+mod run_end;
+mod scene;
+mod trace;
+mod view;
+
+pub use accounts::list_accounts;
+pub use alone::{show_all_alone, show_alone};
+pub use record::record_scenario;
+pub use run::run_scenario;
+pub use trace::trace_scenario;

@@ -1,0 +1,5 @@
+pub mod FaultLemmas
+pub mod PlaceLemmas
+pub mod RuleLemmas
+pub mod StartsLemmas
+pub mod ValueLemmas

@@ -1,0 +1,3 @@
+pub mod Places
+pub mod RuleFaults
+pub mod Values

@@ -1,0 +1,23 @@
+-- The members of an object, by the map that holds them.
+use Rattle.std.proofs.Common.{◌≡◌, ℕ, List, [], ◌∷◌, ◌++◌, flat_map, map, Option, Some, String, Global, string_bytes, refl, ap, ◌∙◌}
+use Rattle.std.specs.Option.{option_and_then}
+use Rattle.serde_json.specs.Data.{Data}
+use Rattle.serde_json.specs.Find.{as_object}
+use Rattle.serde_json.specs.View.{members_view}
+use Rattle.serde_json.specs.declared.value.Value.{Value}
+use Rattle.list_findings.specs.Findings.{told}
+use Rattle.list_findings.specs.Unread.{names_of, unread, unread_in}
+use Rattle.list_findings.specs.declared.finding.Finding.{Finding}
+use Rattle.list_findings.specs.declared.members.Table.{Table}
+use Rattle.list_parts.specs.declared.part.Part.{Part}
+
+-- what is told of each name
+told_each : (f : List ℕ → List Finding) (entries : List (String Global × Value))
+    → flat_map (λ key. f (string_bytes key)) (map (λ e. e.0) entries) ≡ flat_map f (names_of (members_view entries))
+told_each f [] = refl
+told_each f (e ∷ entries) = ap (λ rest. f (string_bytes e.0) ++ rest) (told_each f entries)
+
+pub told_members : (kind : Table) (part : Part) (d : Option Data) (entries : List (String Global × Value))
+    → Some (members_view entries) ≡ option_and_then as_object d
+    → flat_map (λ key. told part (unread kind (string_bytes key))) (map (λ e. e.0) entries) ≡ unread_in kind part d
+told_members kind part d entries is = told_each (λ name. told part (unread kind name)) entries ∙ rw (← is) refl

@@ -1,0 +1,11 @@
+pub mod Findings
+pub mod Hiding
+pub mod Idle
+pub mod Near
+pub mod Outer
+pub mod Reached
+pub mod Repeated
+pub mod Spare
+pub mod Unread
+pub mod Views
+pub mod Wishes

@@ -1,0 +1,20 @@
+-- Servers' budgets that nothing uses: no call changes what a server's account has.
+use Rattle.std.specs.Prelude.{◌&&◌, ◌||◌, List, [], ◌∷◌, flat_map, nat_lt, if◌then◌else◌, Option, Some, None}
+use Rattle.own_model.specs.Listed.{Listed, ListedEntry}
+use Rattle.list_findings.specs.Outer.{is_server}
+use Rattle.list_findings.specs.declared.spare.Spare.{Spare}
+
+-- what an entry has, if it is a server's and has something
+abbrev pub spare_in : ListedEntry → List Spare
+spare_in entry =
+    if is_server entry.binary && (nat_lt 0 entry.ram || nat_lt 0 entry.caps)
+    then record { path = entry.path; ram = entry.ram; caps = entry.caps } ∷ [] else []
+
+-- what all servers have
+abbrev pub spare_of : Listed → List Spare
+spare_of list = flat_map spare_in list.entries
+
+-- a list that isn't empty
+abbrev pub if_any : {A : Type 0} → List A → Option (List A)
+if_any [] = None
+if_any (x ∷ xs) = Some (x ∷ xs)

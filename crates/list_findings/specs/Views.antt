@@ -1,0 +1,81 @@
+-- How the wishes of all scripts are decided, for each service that there is or that a rule asks for, and for any other.
+use Rattle.std.specs.Prelude.{◌≡◌, ℕ, List, [], ◌∷◌, ◌++◌, flat_map, map, if◌then◌else◌, Option, Some, None, All}
+use Rattle.std.specs.List.{enumerate_from, list_any}
+use Rattle.std.specs.Str.{bytes_eq}
+use Rattle.trade_base.specs.Service.{service_name, services}
+use Rattle.own_model.specs.Listed.{Listed, ListedEntry, ListedRule}
+use Rattle.reach.specs.Deciding.{AreTrails, TrailAt}
+use Rattle.list_findings.specs.Wishes.{is_script}
+
+-- ---- services
+
+abbrev pub with_service : List (List ℕ) → List ℕ → List (List ℕ)
+with_service services service = if list_any (bytes_eq service) services then services else services ++ service ∷ []
+
+-- with the one that a rule asks for, if it asks for one
+abbrev pub with_asked : List (List ℕ) → Option (List ℕ) → List (List ℕ)
+with_asked services None = services
+with_asked services (Some service) = with_service services service
+
+abbrev pub with_rules : List (List ℕ) → List ListedRule → List (List ℕ)
+with_rules services [] = services
+with_rules services (rule ∷ rules) = with_rules (with_asked services rule.service) rules
+
+abbrev pub with_route : List (List ℕ) → Option (List ListedRule) → List (List ℕ)
+with_route services None = services
+with_route services (Some rules) = with_rules services rules
+
+abbrev pub with_entry : List (List ℕ) → ListedEntry → List (List ℕ)
+with_entry services entry = with_rules (with_route services entry.route) entry.inner_route
+
+abbrev pub with_entries : List (List ℕ) → List ListedEntry → List (List ℕ)
+with_entries services [] = services
+with_entries services (entry ∷ entries) = with_entries (with_entry services entry) entries
+
+-- those that there are
+abbrev pub served : List (List ℕ)
+served = map service_name services
+
+-- an empty name, which no rule asks for, those that there are, and those that some rule asks for
+abbrev pub services_of : Listed → List (List ℕ)
+services_of list = with_entries (with_rules ([] ∷ served) list.default_route) list.entries
+
+-- ---- scripts that ask for them
+
+pub record Asking : Type 0 where
+  pub client : ℕ
+  pub service : List ℕ
+
+-- an entry, by its number, if it is a script's
+abbrev pub asking_by : List ℕ → ℕ × ListedEntry → List Asking
+asking_by service entry = if is_script entry.1.binary then record { client = entry.0; service = service } ∷ [] else []
+
+abbrev pub askings_for : Listed → List ℕ → List Asking
+askings_for list service = flat_map (asking_by service) (enumerate_from 0 list.entries)
+
+abbrev pub askings : Listed → List Asking
+askings list = flat_map (askings_for list) (services_of list)
+
+-- ---- how their wishes are decided
+
+pub record ViewOf : Type 0 where
+  pub client : ℕ
+  pub service : List ℕ
+  pub trails : List TrailAt
+
+abbrev pub asking_of : ViewOf → Asking
+asking_of view = record { client = view.client; service = view.service }
+
+-- a view's trails are those of its script's wishes for its service
+abbrev pub IsShown : Listed → ViewOf → Type 0
+IsShown list view = AreTrails list view.client view.service view.trails
+
+-- these askings have views, behind those that were there
+pub record Shows (list : Listed) (old : List ViewOf) (more : List Asking) (new : List ViewOf) : Type 0 where
+  pub asked : map asking_of new ≡ map asking_of old ++ more
+  pub shown : All (IsShown list) new
+
+-- all have
+pub record ShowAll (list : Listed) (views : List ViewOf) : Type 0 where
+  pub asked : map asking_of views ≡ askings list
+  pub shown : All (IsShown list) views

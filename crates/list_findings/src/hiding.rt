@@ -1,0 +1,112 @@
+//! Rules that earlier rules hide.
+ghost use Rattle.std.specs.Prelude.{◌≡◌, nat_eq, true, position};
+ghost use Rattle.std.specs.List.{starts_with, ends_with};
+ghost use Rattle.std.specs.Option.{is_none, option_copied};
+ghost use Rattle.list_parts.specs.Texts.{has};
+ghost use Rattle.list_findings.specs.Hiding.{covers, covers_labels, covers_prefix, covers_suffix, decides_some, hides, is_decided_before, HiddenNeverDecide};
+
+use start_lists::{Name, Rule};
+
+/// Whether what the earlier rule asks of the label is implied by what the later one asks.
+pub(crate) fn covers_labels(earlier: &Rule, later: &Rule) -> bool
+    ensures { result ≡ covers_labels earlier.now later.now }
+{
+    covers_label(earlier, later) && covers_prefix(earlier, later) && covers_suffix(earlier, later)
+}
+
+// The same of the whole label.
+fn covers_label(earlier: &Rule, later: &Rule) -> bool
+    ensures { result ≡ covers earlier.now.label later.now.label }
+{
+    match (earlier.label(), later.label()) {
+        (None, _) => true,
+        (Some(asked), Some(label)) => asked.as_bytes() == label.as_bytes(),
+        (Some(_), None) => false,
+    }
+}
+
+// The same of how it begins.
+fn covers_prefix(earlier: &Rule, later: &Rule) -> bool
+    ensures { result ≡ covers_prefix earlier.now later.now }
+{
+    match earlier.label_prefix() {
+        None => true,
+        Some(asked) => begins(later.label(), asked) || begins(later.label_prefix(), asked),
+    }
+}
+
+// The same of how it ends.
+fn covers_suffix(earlier: &Rule, later: &Rule) -> bool
+    ensures { result ≡ covers_suffix earlier.now later.now }
+{
+    match earlier.label_suffix() {
+        None => true,
+        Some(asked) => ends(later.label(), asked) || ends(later.label_suffix(), asked),
+    }
+}
+
+// Whether there is a text, and it begins so.
+fn begins(text: Option<&str>, asked: &str) -> bool
+    ensures { result
+        ≡ has (λ text. starts_with nat_eq text asked.now) (option_copied text.entry) }
+{
+    match text {
+        Some(text) => text.as_bytes().starts_with(asked.as_bytes()),
+        None => false,
+    }
+}
+
+// Whether there is a text, and it ends so.
+fn ends(text: Option<&str>, asked: &str) -> bool
+    ensures { result ≡ has (λ text. ends_with nat_eq text asked.now) (option_copied text.entry) }
+{
+    match text {
+        Some(text) => text.as_bytes().ends_with(asked.as_bytes()),
+        None => false,
+    }
+}
+
+/// Whether an earlier rule hides a later one: whatever the later matches, the earlier does.
+pub(crate) fn hides(earlier: &Rule, later: &Rule) -> bool
+    ensures { result ≡ hides earlier.now later.now }
+{
+    covers_service(earlier.service(), later.service()) && covers_labels(earlier, later)
+}
+
+// Whether what is asked of the service is implied by what the later rule asks.
+fn covers_service(earlier: Option<&Name>, later: Option<&Name>) -> bool
+    ensures { result ≡ covers (option_copied earlier.entry) (option_copied later.entry) }
+{
+    match (earlier, later) {
+        (None, _) => true,
+        (Some(earlier), Some(later)) => earlier.as_bytes() == later.as_bytes(),
+        (Some(_), None) => false,
+    }
+}
+
+/// The place of the first rule that hides another, if one does.
+pub(crate) fn hidden_by(earlier: &[Rule], rule: &Rule) -> Option<usize>
+    ensures { result ≡ position (λ before. hides before rule.now) earlier.now }
+{
+    earlier.iter().position(|before| hides(before, rule))
+}
+
+/// Whether a rule decides some wishes for a service: it asks for it, and none of the earlier rules decides all of these.
+pub(crate) fn decides_some(earlier: &[Rule], rule: &Rule, service: &[u8]) -> bool
+    ensures { result ≡ decides_some earlier.now rule.now service.now }
+{
+    rule.asks_service(service) && !is_decided_before(earlier, rule, service)
+}
+
+// Whether one of the earlier rules decides whatever wishes for a service the rule matches.
+fn is_decided_before(earlier: &[Rule], rule: &Rule, service: &[u8]) -> bool
+    ensures { result ≡ is_decided_before earlier.now rule.now service.now }
+{
+    earlier.iter().any(|before| before.asks_service(service) && covers_labels(before, rule))
+}
+
+/// A hidden rule never decides: what it matches, the rule that hides it matches.
+#[tactic(auto, using(crate::proofs::HidingLemmas::hidden_never_decide))]
+pub fn hidden_rules_never_decide()
+    ensures { HiddenNeverDecide }
+{}

@@ -1,0 +1,111 @@
+//! The members that a start list's objects have, and which of them nothing reads.
+ghost use Rattle.std.specs.Prelude.{◌≡◌, map, IfOk};
+ghost use Rattle.std.specs.List.{list_any};
+ghost use Rattle.std.specs.Str.{bytes_eq};
+ghost use Rattle.list_findings.specs.Unread.{is_comment, is_read, members_read, unread};
+
+use crate::finding::{Known, Remark, Written};
+use near_words::nearest;
+use std::alloc::{AllocError, Global};
+
+/// The kinds of objects in a start list.
+#[derive(Clone, Copy)]
+pub(crate) enum Table {
+    /// The list itself.
+    List,
+    /// Its machine.
+    Machine,
+    /// An entry of another binary than an init's.
+    Entry,
+    /// An init's entry.
+    Init,
+    /// What an init starts.
+    Config,
+    /// A rule.
+    Rule,
+}
+
+impl Table {
+    /// The members that are read of such an object, and the one by which an editor finds their schema.
+    fn members(self) -> &'static [&'static str]
+        ensures { map (λ known. known.now) result.now ≡ members_read self }
+    {
+        match self {
+            Table::List => &["machine", "default-route", "start", "$schema"],
+            Table::Machine => &["pages", "caps"],
+            Table::Entry => &[
+                "name",
+                "binary",
+                "quantum",
+                "caps",
+                "provides",
+                "route",
+                "reserve",
+                "reserve-caps",
+            ],
+            Table::Init => &[
+                "name",
+                "binary",
+                "quantum",
+                "caps",
+                "provides",
+                "route",
+                "reserve",
+                "reserve-caps",
+                "config",
+            ],
+            Table::Config => &["default-route", "start"],
+            Table::Rule => &[
+                "service",
+                "any-service",
+                "label",
+                "label_prefix",
+                "label_suffix",
+                "child",
+                "any-child",
+                "parent",
+            ],
+        }
+    }
+
+    // Whether a member of such an object is read.
+    fn reads(self, member: &str) -> bool
+        ensures { result ≡ is_read self member.now }
+    {
+        is_among(self.members(), member)
+    }
+
+    /// That nothing reads a member of such an object, where it is so, and which name may have been meant.
+    pub(crate) fn unread(self, alloc: Global, member: &str) -> Result<Option<Remark>, AllocError>
+        ensures { IfOk result (λ remark. remark ≡ unread self member.now) }
+    {
+        if is_comment(member) || self.reads(member) {
+            return Ok(None);
+        }
+        let near = match nearest(alloc, self.members(), member)? {
+            Some(known) => Some(Known(known)),
+            None => None,
+        };
+        Ok(Some(Remark::Unread(Written::copy_of(alloc, member)?, near)))
+    }
+}
+
+// Whether a word is one of these.
+fn is_among(words: &[&str], word: &str) -> bool
+    ensures { result
+        ≡ list_any (λ known. bytes_eq known word.now) (map (λ known. known.now) words.now) }
+{
+    for known in words {
+        if known.as_bytes() == word.as_bytes() {
+            return true;
+        }
+    }
+    false
+}
+
+// Whether a member is a comment: its name begins with `_`.
+fn is_comment(member: &str) -> bool
+    ensures { result ≡ is_comment member.now }
+{
+    member.as_bytes().starts_with(b"_")
+}

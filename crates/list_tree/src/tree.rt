@@ -1,0 +1,217 @@
+//! The components of a start list, and where their requests for sessions are routed, as text and as documents.
+use crate::decisions::{Decision, Decisions, all_decisions};
+use crate::node::{Extra, Node};
+use json_documents::{Field, Listing};
+use list_parts::{Inits, kept, left_of, show_within};
+use start_lists::{Entry, StartList};
+use std::alloc::{AllocError, Global};
+use std::fmt;
+
+/// A start list's machine, what inits keep, each component with its budget, below its init, and for each script and service the
+/// server to which its requests are routed, by which rules, under which conditions on the label, and with which label, if others
+/// are routed elsewhere.
+#[derive(Drop)]
+pub struct Tree<'a> {
+    pub(crate) list: &'a StartList,
+    pub(crate) inits: Inits,
+    pub(crate) decisions: Vec<Decisions<'a>>,
+}
+
+impl<'a> Tree<'a> {
+    /// The tree of a list. An error is out of memory.
+    pub fn of(alloc: Global, list: &'a StartList) -> Result<Tree<'a>, AllocError> {
+        Ok(Tree {
+            list,
+            inits: kept(list),
+            decisions: all_decisions(alloc, list)?,
+        })
+    }
+
+    /// Returns it as a list of JSON: a document for the machine, for what its init keeps, and for each component, each followed by
+    /// those of its requests. An error is out of memory.
+    pub fn documents(&self, alloc: Global) -> Result<Vec<u8>, AllocError> {
+        let mut listing = Listing::new(alloc);
+        self.add_machine(&mut listing)?;
+        for (number, entry) in self.list.entries().iter().enumerate() {
+            add_node(alloc, &mut listing, &Node::of(&self.inits, number, entry))?;
+            self.add_decisions(alloc, &mut listing, number)?;
+        }
+        listing.into_text()
+    }
+
+    // Adds the machine, and what its init keeps.
+    fn add_machine(&self, listing: &mut Listing) -> Result<(), AllocError> {
+        let left = left_of(&self.inits, 0);
+        listing.add(&[
+            ("kind", Field::Word("machine")),
+            ("pages", number_of(self.list.pages())),
+            ("caps", number_of(self.list.caps())),
+        ])?;
+        listing.add(&[
+            ("kind", Field::Word("init")),
+            ("keeps_ram", Field::Number(left.ram)),
+            ("keeps_caps", number_of(left.caps)),
+        ])
+    }
+
+    // Adds the decisions on the requests of the script of a number.
+    fn add_decisions(
+        &self,
+        alloc: Global,
+        listing: &mut Listing,
+        number: usize,
+    ) -> Result<(), AllocError> {
+        for one in self.decisions.as_slice() {
+            if one.client == number {
+                for trail in one.trails() {
+                    add_decision(alloc, listing, &one.decision(trail))?;
+                }
+            }
+        }
+        Ok(())
+    }
+
+    // Writes the decisions on the requests of the script of a number.
+    fn show_decisions<W: fmt::Write>(
+        &self,
+        f: &mut fmt::Formatter<W>,
+        number: usize,
+    ) -> fmt::Result {
+        for one in self.decisions.as_slice() {
+            if one.client == number {
+                for trail in one.trails() {
+                    show_decision(f, &one.decision(trail))?;
+                }
+            }
+        }
+        Ok(())
+    }
+}
+
+impl fmt::Display for Tree<'_> {
+    fn fmt<W: fmt::Write>(&self, f: &mut fmt::Formatter<W>) -> fmt::Result {
+        let left = left_of(&self.inits, 0);
+        writeln!(
+            f,
+            "machine: {} pages, {} caps\ninit keeps: {left}",
+            self.list.pages(),
+            self.list.caps()
+        )?;
+        for (number, entry) in self.list.entries().iter().enumerate() {
+            show_node(f, &Node::of(&self.inits, number, entry))?;
+            self.show_decisions(f, number)?;
+        }
+        Ok(())
+    }
+}
+
+// A component with its budget, and what it provides.
+fn show_node<W: fmt::Write>(f: &mut fmt::Formatter<W>, node: &Node<'_>) -> fmt::Result {
+    let entry = node.entry;
+    let binary = entry.binary();
+    show_indent(f, entry)?;
+    write!(f, "{} ({}): ", entry.to_name(), binary.as_str())?;
+    node.show_budget(f, ", ")?;
+    match binary.service() {
+        Some(service) if entry.provides() => writeln!(f, ", provides {}", service.name()),
+        Some(_) => f.write_str(", provides nothing\n"),
+        None => f.write_str("\n"),
+    }
+}
+
+// Where requests are routed, by which rules, and with which label, if others are routed elsewhere.
+fn show_decision<W: fmt::Write>(f: &mut fmt::Formatter<W>, decision: &Decision<'_>) -> fmt::Result {
+    show_indent(f, decision.client)?;
+    write!(f, "  {} -> ", decision.service)?;
+    match decision.server() {
+        Some(server) if decision.trail.rules().len() > 1 => write!(f, "{}", server.to_path())?,
+        Some(server) => write!(f, "{}", server.to_name())?,
+        None => f.write_str("denied")?,
+    }
+    write!(f, " by {}", decision.rules(false))?;
+    if let Some(label) = decision.label {
+        show_within(f, ", with label \"", label, "\"")?;
+    }
+    f.write_str("\n")
+}
+
+// Two spaces for each init around an entry.
+fn show_indent<W: fmt::Write>(f: &mut fmt::Formatter<W>, entry: &Entry) -> fmt::Result {
+    for sign in entry.path() {
+        if *sign == b'/' {
+            f.write_str("  ")?;
+        }
+    }
+    Ok(())
+}
+
+// Adds a component with its budget, and the service that it provides: null if its binary has one and it provides none.
+fn add_node(alloc: Global, listing: &mut Listing, node: &Node<'_>) -> Result<(), AllocError> {
+    let entry = node.entry;
+    let binary = entry.binary();
+    let mut members = vec![in alloc;
+        ("kind", Field::Word("component")),
+        ("name", Field::Text(entry.path())),
+        ("binary", Field::Word(binary.as_str())),
+        ("ram", Field::Number(node.own.ram)),
+        ("caps", number_of(node.own.caps)),
+    ]?;
+    match node.extra {
+        Some(Extra::Reserve(left)) => {
+            members.push(("reserve_ram", Field::Number(left.ram)))?;
+            members.push(("reserve_caps", number_of(left.caps)))?;
+        }
+        Some(Extra::Keeps(left)) => {
+            members.push(("keeps_ram", Field::Number(left.ram)))?;
+            members.push(("keeps_caps", number_of(left.caps)))?;
+        }
+        None => {}
+    }
+    match binary.service() {
+        Some(service) if entry.provides() => {
+            members.push(("provides", Field::Word(service.name())))?;
+        }
+        Some(_) => members.push(("provides", Field::Nothing))?,
+        None => {}
+    }
+    listing.add(members.as_slice())
+}
+
+// Adds a decision.
+fn add_decision(
+    alloc: Global,
+    listing: &mut Listing,
+    decision: &Decision<'_>,
+) -> Result<(), AllocError> {
+    let by = decision.rules(false).to_string(alloc)?;
+    add_request(listing, *decision, by.as_str())
+}
+
+// Adds a decision by these rules.
+fn add_request<'a>(
+    listing: &mut Listing,
+    decision: Decision<'a>,
+    by: &'a str,
+) -> Result<(), AllocError> {
+    let to = match decision.server() {
+        Some(server) => Field::Text(server.path()),
+        None => Field::Nothing,
+    };
+    let label = match decision.label {
+        Some(label) => Field::Text(label.as_bytes()),
+        None => Field::Nothing,
+    };
+    listing.add(&[
+        ("kind", Field::Word("wish")),
+        ("name", Field::Text(decision.client.path())),
+        ("service", Field::Word(decision.service)),
+        ("to", to),
+        ("by", Field::Text(by.as_bytes())),
+        ("label", label),
+    ])
+}
+
+// A number of pages or of capabilities as a field.
+fn number_of(count: u32) -> Field<'static> {
+    Field::Number(u64::from(count))
+}

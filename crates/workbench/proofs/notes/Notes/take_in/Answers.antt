@@ -1,0 +1,19 @@
+-- Rounds begin or end behind the line, unless a fault came.
+use Rattle.std.proofs.Common.{Bool, ap, ◌∙◌}
+use Rattle.line_steps.specs.Stand.{Stand, is_due}
+use Rattle.workbench.specs.Deeds.{deed_view}
+use Rattle.workbench.specs.Hearing.{answer_of}
+use Rattle.workbench.proofs.FailLemmas.{fails_crossing, fails_or}
+use Rattle.workbench.proofs.TurnLemmas.{arrives, due_behind}
+use Rattle.workbench.proofs.notes.Notes.take_in.Goals as goal
+
+pub returns-in-Ok-clause-stands : goal.returns-in-Ok-clause-stands
+returns-in-Ok-clause-stands g c = arrives c.args.self.now.stand _ _ (deed_view c.args.turn.now.deed) (answer_of c.args.turn.now.heard) c.arrive.result c.arrive.ensures.stands c.in-Ok.ensures.stands
+
+pub returns-in-Ok-clause-failing : goal.returns-in-Ok-clause-failing
+returns-in-Ok-clause-failing g c =
+    fails_crossing c.arrive.result _ _ _ _ c.in-Ok.ensures.failing c.arrive.ensures.fault c.arrive.ensures.takes
+    (ap (λ (s : Stand). is_due s.number s.ahead) c.in-Ok.ensures.stands ∙ due_behind c.args.self.now.stand (deed_view c.args.turn.now.deed) (answer_of c.args.turn.now.heard))
+
+pub returns-in-Err-clause-failing : goal.returns-in-Err-clause-failing
+returns-in-Err-clause-failing g c = fails_or Bool c.in-Err.fault _ _ _ c.in-Err.ensures.failing

@@ -1,0 +1,22 @@
+-- Rounds begin or end behind the line, unless a fault came.
+use Rattle.std.proofs.Common.{Bool, false, ap, ◌∙◌}
+use Rattle.line_steps.specs.Stand.{Stand, is_due, passed}
+use Rattle.workbench.specs.Deeds.{plain_deed}
+use Rattle.workbench.specs.Hearing.{answer_of}
+use Rattle.workbench.proofs.FailLemmas.{fails_crossing, fails_or}
+use Rattle.workbench.proofs.TurnLemmas.{arrives, stands_whole}
+use Rattle.workbench.proofs.notes.Notes.take_plain.Goals as goal
+
+pub returns-in-Ok-clause-stands : goal.returns-in-Ok-clause-stands
+returns-in-Ok-clause-stands g c =
+    let stand = c.args.self.now.stand in
+    arrives stand _ _ (plain_deed c.args.line.now) (answer_of c.args.heard.now) c.arrive.result c.arrive.ensures.stands
+    (c.pass-number.ensures.passed ∙ stands_whole (passed stand) c.args.line.now (answer_of c.args.heard.now))
+
+pub returns-in-Ok-clause-failing : goal.returns-in-Ok-clause-failing
+returns-in-Ok-clause-failing g c =
+    fails_crossing c.arrive.result _ false _ _ c.in-Ok.ensures.failing c.arrive.ensures.fault c.arrive.ensures.takes
+    (ap (λ (s : Stand). is_due s.number s.ahead) c.pass-number.ensures.passed)
+
+pub returns-in-Err-clause-failing : goal.returns-in-Err-clause-failing
+returns-in-Err-clause-failing g c = fails_or Bool c.in-Err.fault _ _ _ c.in-Err.ensures.failing

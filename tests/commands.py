@@ -1,0 +1,88 @@
+"""Runs commands for the tests, and names the files that the tests read."""
+import importlib.util
+import os
+import shutil
+import signal
+import socket
+import subprocess
+from pathlib import Path
+from typing import NamedTuple
+
+import pytest
+
+TOP = Path(__file__).resolve().parent.parent
+CASES, EXAMPLES = TOP / "cases", TOP / "examples"
+PYTHON = "/usr/bin/python3"
+CRAWLER = ("--machine", "friendly/crawler.json")
+SENSORS = ("--machine", "friendly/sensors.json")
+# What the pages of report and desk need.
+PAGES = ("jinja2", "waitress", "/usr/share/nodejs/d3/dist/d3.min.js", "/usr/share/javascript/codemirror/codemirror.js")
+CHROMIUM = (*PAGES, "selenium", "/usr/bin/chromedriver", "/usr/bin/chromium")
+
+
+def missing(*names) -> list[str]:
+    """Returns the names of commands, Python packages and files that aren't here."""
+    return [it for it in names if not (os.path.exists(it) or shutil.which(it) or "/" not in it and importlib.util.find_spec(it))]
+
+
+def needs(*names):
+    """Returns the mark of a test that is skipped if one of these commands, Python packages and files is missing."""
+    return pytest.mark.skipif(bool(missing(*names)), reason=f"{', '.join(missing(*names))} isn't here")
+
+
+class Ran(NamedTuple):
+    """The end of a command: its status and both streams."""
+
+    status: int
+    out: str
+    err: str
+
+
+def run(*words, stdin="", cwd=EXAMPLES, timeout=600, **options) -> Ran:
+    """Runs a command in a folder, with a text or an open file as standard input."""
+    given = {"input": stdin.encode(errors="surrogateescape")} if isinstance(stdin, str) else {"stdin": stdin}
+    streams = {"stdout": subprocess.PIPE, "stderr": subprocess.PIPE, **options}
+    ran = subprocess.run(words, cwd=cwd, timeout=timeout, **given, **streams)
+    return Ran(ran.returncode, *((it or b"").decode(errors="surrogateescape") for it in (ran.stdout, ran.stderr)))
+
+
+class Program:
+    """A program at a path, which a call runs."""
+
+    def __init__(self, path):
+        self.path = str(path)
+
+    def __call__(self, *words, **options) -> Ran:
+        return run(self.path, *words, **options)
+
+
+def tool(name) -> Program:
+    """Returns a tool of the repository, as tools/report."""
+    return Program(TOP / name)
+
+
+def environment(**settings):
+    """Returns the environment with settings changed; those that are None are left out."""
+    return {name: str(value) for name, value in {**os.environ, **settings}.items() if value is not None}
+
+
+def machine_of(scenario) -> list[str]:
+    """Returns the option that names a scenario's start list, if it has one."""
+    path = Path(scenario).with_suffix(".json")
+    return ["--machine", str(path)] if (EXAMPLES / path).exists() else []
+
+
+def free_port() -> int:
+    with socket.socket() as it:
+        it.bind(("127.0.0.1", 0))
+        return it.getsockname()[1]
+
+
+def kill_tree(pid):
+    """Ends a process and all that it started, by their ids."""
+    for child in run("ps", "-o", "pid=", "--ppid", str(pid)).out.split():
+        kill_tree(int(child))
+    try:
+        os.kill(pid, signal.SIGKILL)
+    except ProcessLookupError:
+        pass

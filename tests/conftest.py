@@ -1,0 +1,168 @@
+"""Fixtures of all tests: the built programs, a desk and sshd on loopback, a browser; and the order in which the tests run."""
+import contextlib
+import fcntl
+import os
+import resource
+import signal
+import subprocess
+import time
+from pathlib import Path
+
+import pytest
+from commands import EXAMPLES, TOP, Program, environment, free_port
+from hypothesis import HealthCheck, settings
+
+# The same examples in each run, so that CI is deterministic; tests/run --random draws others, and more of them.
+COMMON = {"deadline": None, "database": None, "suppress_health_check": list(HealthCheck), "print_blob": False}
+settings.register_profile("fixed", derandomize=True, max_examples=20, **COMMON)
+settings.register_profile("random", max_examples=200, **COMMON)
+settings.load_profile("fixed")
+
+
+def pytest_collection_modifyitems(items):
+    """Sorts the tests that take long to the front, so that no processor waits for the last of them."""
+    items.sort(key=lambda it: it.get_closest_marker("slow") is None)
+
+
+@pytest.hookimpl(optionalhook=True)
+def pytest_xdist_make_scheduler(config, log):
+    from xdist.scheduler import LoadScheduling
+
+    class InOrder(LoadScheduling):
+        """Gives each process few tests at a time, so that the order holds."""
+
+        def _send_tests(self, node, num):
+            super()._send_tests(node, min(num, 2))
+
+    return InOrder(config, log)
+
+
+def built(name):
+    folder = os.environ.get("PROGRAMS") or TOP / "crates" / name / "out"
+    path = os.path.join(folder, name)
+    if not os.access(path, os.X_OK):
+        pytest.fail(f"{path} isn't built; tests/run builds it", pytrace=False)
+    return Program(os.path.abspath(path))
+
+
+@pytest.fixture(scope="session")
+def engine():
+    return built("scenario_run")
+
+
+@pytest.fixture(scope="session")
+def nethrywel():
+    return built("nethrywel")
+
+
+@pytest.fixture(scope="session")
+def once(tmp_path_factory):
+    """Returns what makes a folder once for all processes of a run: `once(name, make)` calls make(folder), and returns the folder."""
+    root = tmp_path_factory.getbasetemp()
+    root = root.parent if "PYTEST_XDIST_WORKER" in os.environ else root
+
+    def made(name, make):
+        folder, done = root / name, root / f"{name}.done"
+        with open(root / f"{name}.lock", "w") as lock:
+            fcntl.flock(lock, fcntl.LOCK_EX)
+            if not done.exists():
+                folder.mkdir(exist_ok=True)
+                make(folder)
+                done.touch()
+        return folder
+
+    return made
+
+
+@pytest.fixture
+def report(once):
+    """Returns what writes the page of a name in test_report.REPORTS, once for all tests, and returns its path."""
+    from test_report import write_report
+
+    return lambda name: once(f"report-{name}", lambda folder: write_report(name, folder)) / f"{name}.html"
+
+
+class Server:
+    """An sshd on loopback, which knows one key and has a home in a folder."""
+
+    def __init__(self, folder, name):
+        self.home, self.log, port = folder / name, folder / f"{name}.log", free_port()
+        self.home.mkdir()
+        key = folder / "key"
+        if not key.exists():
+            subprocess.run(["ssh-keygen", "-q", "-t", "ed25519", "-N", "", "-f", key], check=True)
+        config = folder / f"{name}.conf"
+        config.write_text(f"""Port {port}
+ListenAddress 127.0.0.1
+HostKey {key}
+AuthorizedKeysFile {key}.pub
+PidFile none
+StrictModes no
+UsePAM no
+PasswordAuthentication no
+KbdInteractiveAuthentication no
+ForceCommand cd {self.home} && HOME={self.home} exec sh -c "$SSH_ORIGINAL_COMMAND"
+""")
+        self.process = subprocess.Popen(["/usr/sbin/sshd", "-D", "-f", config, "-E", self.log])
+        while self.process.poll() is None and not (self.log.exists() and "Server listening" in self.log.read_text()):
+            time.sleep(0.02)
+        options = "-o IdentitiesOnly=yes -o StrictHostKeyChecking=no -o UserKnownHostsFile=/dev/null -o LogLevel=ERROR"
+        self.line = f"2/ssh -p {port} -i {key} {options} 127.0.0.1\n"
+
+    def end(self):
+        self.process.terminate()
+        self.process.wait()
+
+
+@pytest.fixture
+def sshd(tmp_path):
+    """Returns what starts a server by a name. All are ended after the test."""
+    folder, place, servers = tmp_path / "ssh", Path("/run/sshd"), []
+    folder.mkdir()
+    was_there = place.exists()
+    place.mkdir(exist_ok=True)
+    yield lambda name: servers.append(Server(folder, name)) or servers[-1]
+    for it in servers:
+        it.end()
+    if not was_there:
+        place.rmdir()
+
+
+@contextlib.contextmanager
+def running_desk(folder, *words, end=signal.SIGINT):
+    """Starts a desk with 256 descriptors and yields its address. A signal ends it with status 0, and it leaves no
+    file and prints no traceback."""
+    temporary = folder / "desk"
+    temporary.mkdir()
+    few = {"preexec_fn": lambda: resource.setrlimit(resource.RLIMIT_NOFILE, (256, 256))}
+    settings = environment(TMPDIR=temporary)
+    with open(folder / "desk.err", "w") as errors:
+        ran = subprocess.Popen([TOP / "tools/desk", *words], cwd=EXAMPLES, env=settings, stdout=subprocess.PIPE, stderr=errors, text=True, **few)
+    try:
+        url = ran.stdout.readline().strip()
+        assert url, (folder / "desk.err").read_text()
+        yield url
+        ran.send_signal(end)
+        assert ran.wait(timeout=60) == 0
+    finally:
+        ran.kill()
+        ran.wait()
+    assert os.listdir(temporary) == []
+    assert "Traceback" not in (folder / "desk.err").read_text()
+
+
+@pytest.fixture
+def desk(tmp_path):
+    """Returns what starts a desk and returns its address. It ends after the test."""
+    with contextlib.ExitStack() as started:
+        yield lambda *words: started.enter_context(running_desk(tmp_path, *words))
+
+
+@pytest.fixture(scope="module")
+def browser():
+    """Returns a page of Chromium."""
+    from chromium import Page
+
+    page = Page()
+    yield page
+    page.close()

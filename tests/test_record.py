@@ -1,0 +1,138 @@
+"""What `nethrywel record` writes of a scenario is what `run` answers."""
+import itertools
+import os
+import re
+import threading
+
+import pytest
+from commands import PYTHON, TOP, machine_of, run
+from hypothesis import example, given
+from hypothesis import strategies as st
+from test_cases import scenarios
+
+SHAPES = "quota churn limit bytes short regions full caps sliced heap turns holes sessions log middle reserves".split()
+FILE_SHAPES = "files contents buffers lent".split()
+
+
+def check_record(nethrywel, folder, text, *words):
+    """Records a scenario, and compares the result with the scenario, with its replies, and with further records of it."""
+    scenario, recorded, wrong = (folder / it for it in ("drawn.scenario", "recorded.scenario", "wrong.scenario"))
+    scenario.write_text(text)
+    ran = nethrywel("record", *words, scenario)
+    assert ran.status == 0, ran.err
+    kept = [it for it in ran.out.splitlines() if not it.startswith("=> ")]
+    assert len(kept) == len(text.splitlines())
+    assert all(line.startswith(before) for line, before in zip(kept, text.splitlines(), strict=True))
+    recorded.write_text(ran.out)
+    assert nethrywel("run", *words, recorded).status == 0
+    assert nethrywel("record", *words, recorded).out == ran.out
+    assert nethrywel("record", "--all", *words, recorded).out == ran.out
+    # Each expectation that binds no name is made wrong, and recorded again.
+    lines = [it if re.search(r" => .*\$", it) else re.sub(r" => .*", " => never", it, count=1) for it in ran.out.split("\n")]
+    wrong.write_text("\n".join(f"{it}!" if it.startswith("=> ") else it for it in lines))
+    assert nethrywel("record", "--all", *words, wrong).out == ran.out
+
+
+@pytest.mark.slow
+@pytest.mark.parametrize("shape", SHAPES + FILE_SHAPES)
+def test_shape(nethrywel, tmp_path_factory, shape):
+    machine = ["--machine", TOP / "bench/files.json"] if shape in FILE_SHAPES else []
+
+    @given(seed=st.integers(0, 32_767))
+    @example(seed=0)
+    def check(seed):
+        text = run(PYTHON, TOP / "bench/generate.py", shape, "300", str(seed)).out
+        check_record(nethrywel, tmp_path_factory.mktemp(shape), text, *machine)
+
+    check()
+
+
+@st.composite
+def drawn(draw):
+    """Draws a scenario for the built-in machine, with names, sums, @set and rounds, in which no line has a fault.
+
+    alice takes only what she gives back, so what her replies bind is there. bob takes until he is refused. A reply is expected only
+    if it binds a name."""
+    numbers = itertools.count(1)
+
+    def pick(*of):
+        return draw(st.sampled_from(of))
+
+    def page(_):
+        number, at = next(numbers), draw(st.integers(0, 3999))
+        page, where = f"page{number}", f"where{number}"
+        return [f"alice alloc 4K => cap ${page}", f"alice attach ${{{page}}} => at ${where}", f'  alice poke ${where}+{at} "{at} $$"',
+                f"alice peek ${where}+0x{at:x}+1 {pick(0, 1, 2, 3)}", f"alice peek ${where}+4096 1", f"alice detach ${where}",
+                f"alice free ${page}"]
+
+    def log(counters):
+        text = pick("text", '$$5, \\"$$x\\" # *', "$size", *(f"${it}" for it in counters))
+        return [f'alice call $log WRITE "{text}{pick("", chr(92) + "n")}"']
+
+    def taken(counters):
+        size = pick("$size", "4K", "64K", *(f"${it}+1" for it in counters))
+        return [f"bob alloc {size}", pick("bob quota", "bob free 1", "bob capalloc", "# bob")]
+
+    def set_size(_):
+        return [f"@set size {draw(st.integers(1, 19))}K"]
+
+    def rounds(counters, deep):
+        counter = f"i{next(numbers)}" if draw(st.booleans()) else ""
+        head = f"@repeat {pick(0, 1, 2, 3)}" + (f" as {counter}" if counter else "")
+        return [head, *lines([*counters, counter] if counter else counters, deep - 1, 3), "@end"]
+
+    def lines(counters, deep, most):
+        found = []
+        for _ in range(draw(st.integers(1, most))):
+            make = pick(taken, log, set_size, page, *[rounds] * (deep > 0))
+            found += rounds(counters, deep) if make is rounds else make(counters)
+        return found
+
+    return "\n".join(["@set size 4K", 'alice open LOG ram_quota=4K, cap_quota=2, label="$size" => cap $log', *lines([], 4, 12), ""])
+
+
+@pytest.mark.slow
+@given(text=drawn())
+def test_names(nethrywel, tmp_path_factory, text):
+    check_record(nethrywel, tmp_path_factory.mktemp("names"), text)
+
+
+@pytest.mark.parametrize("name", scenarios("friendly/*.scenario"))
+def test_example(nethrywel, tmp_path, name):
+    """An example in the friendly form, which expects replies already, holds after `record --all`."""
+    ran = nethrywel("record", "--all", *machine_of(name), f"{name}.scenario")
+    (tmp_path / "recorded.scenario").write_text(ran.out)
+    assert ran.status == 0 and nethrywel("run", *machine_of(name), tmp_path / "recorded.scenario").status == 0
+
+
+def test_write(nethrywel, tmp_path):
+    """With --write a file is replaced, by a link too, and keeps its mode."""
+    file, link = tmp_path / "a.scenario", tmp_path / "link"
+    file.write_text("alice alloc 4K\nalice quota")
+    file.chmod(0o640)
+    link.symlink_to(file.name)
+    assert nethrywel("record", "--write", link) == (0, "", "")
+    assert file.read_text() == "alice alloc 4K => cap 1\nalice quota => ram 4096/65536 caps 1/16"
+    assert link.is_symlink() and file.stat().st_mode & 0o777 == 0o640
+    assert sorted(os.listdir(tmp_path)) == ["a.scenario", "link"]
+
+
+def test_write_next_to_a_new_file(nethrywel, tmp_path):
+    """A new file that another run left is no obstacle, and remains."""
+    file, other = tmp_path / "b.scenario", tmp_path / "b.scenario.new0"
+    file.write_text("alice alloc 4K\n")
+    other.write_text("mine")
+    assert nethrywel("record", "--write", file) == (0, "", "")
+    assert (file.read_text(), other.read_text()) == ("alice alloc 4K => cap 1\n", "mine")
+    assert sorted(os.listdir(tmp_path)) == ["b.scenario", "b.scenario.new0"]
+
+
+def test_write_to_a_pipe(nethrywel, tmp_path):
+    """What is no regular file remains as it is."""
+    pipe = tmp_path / "pipe"
+    os.mkfifo(pipe)
+    writer = threading.Thread(target=lambda: pipe.write_text("alice quota\n"))
+    writer.start()
+    ran = nethrywel("record", "--write", pipe)
+    writer.join()
+    assert (ran.status, ran.err) == (1, f"error: cannot write {pipe}: not a regular file\n") and pipe.is_fifo()

@@ -1,0 +1,129 @@
+"""tools/report: one page that needs no network, lets no text of a file through, and is written whole or not at all."""
+import hashlib
+import os
+import re
+import resource
+
+import pytest
+from commands import EXAMPLES, PAGES, environment, needs, tool
+
+REPORT = tool("tools/report")
+SCRIPT = "<script>window.met=1</script>"
+pytestmark = needs(*PAGES)
+
+
+def strange_files(folder):
+    """Writes a start list, a policy and a scenario whose texts would be a page's own if they weren't escaped."""
+    rule = f'{{"service": "LOG", "label": "{SCRIPT}", "any-child": true}}, {{'
+    text = (EXAMPLES / "friendly/crawler.json").read_text()
+    (folder / "strange.json").write_text(text.replace('{"any-service": true, "any-child": true', rule + '"any-service": true, "any-child": true', 1))
+    (folder / "strange.policy").write_text(f"deny reader -> log # {SCRIPT}\n")
+    (folder / "strange.scenario").write_text(f"""# </script>{SCRIPT}
+reader open LOG ram_quota=8K, cap_quota=3, label="{SCRIPT}"
+reader call 1 WRITE "<img src=x onerror=window.met=1>\\n"
+reader {SCRIPT}
+""")
+
+
+def long_scenario():
+    """Returns a scenario of 100,000 lines by four components, with sessions, refusals, and wrong expectations."""
+    return "".join(f"""acme/web open File_system ram_quota=40K, cap_quota=5, label="pages" => cap 1
+acme/web call 1 CREATE page{i} => OK
+globex/web alloc {4096 * (i % 30) + 1}
+acme/batch new {i % 5000 + 1}
+globex/batch quota{'' if i % 100 else ' => ok'}
+acme/web call 1 WRITE page{i} 0 "{i} of 12500"
+globex/web free {i % 3 + 1}
+acme/web close 1 => ok
+""" for i in range(12_500))
+
+
+REPORTS = {
+    "crawler": ["--machine", "friendly/crawler.json", "friendly/crawler.scenario"],
+    "tenants": ["--machine", "tenants.json", "--policy", "tenants.policy", "{}/tenants.scenario"],
+    "notes": ["friendly/notes.scenario"],
+    "none": ["--machine", "poor.json", "{}/none.scenario"],
+    "long": ["--machine", "tenants.json", "{}/long.scenario"],
+    "strange": ["--machine", "{}/strange.json", "--policy", "{}/strange.policy", "{}/strange.scenario"],
+}
+
+
+def write_report(name, folder):
+    """Writes the page of a name in REPORTS into a folder."""
+    strange_files(folder)
+    lines = (EXAMPLES / "tenants.scenario").read_text().splitlines(keepends=True)
+    (folder / "tenants.scenario").write_text("".join(f"!{it}" for it in lines))
+    (folder / "none.scenario").write_text("broke alloc 800M\n")
+    (folder / "long.scenario").write_text(long_scenario())
+    words = [it.replace("{}", str(folder)) for it in REPORTS[name]]
+    ran = REPORT(*words, "-o", folder / f"{name}.html")
+    assert ran.status == 0, ran
+
+
+@pytest.mark.slow
+@pytest.mark.parametrize("name", REPORTS)
+def test_page(report, name):
+    """A page has less than 1.5 MB, and asks nobody for anything."""
+    text = report(name).read_text()
+    assert report(name).stat().st_size < 1_500_000
+    assert not re.search(r'(src|href) *= *"?(https?:|//)', text)
+
+
+@pytest.mark.slow
+def test_texts_of_files(report):
+    text = report("strange").read_text()
+    assert "<script>window.met" not in text and "<img src=x" not in text
+    assert text.count(r"u003cscript\u003ewindow.met=1") >= 5
+
+
+@pytest.mark.slow
+@pytest.mark.parametrize("name, file", [("crawler", "friendly/crawler.scenario"), ("tenants", "tenants.policy")])
+def test_sum(report, name, file):
+    """A page has the checksums of the files that it reports."""
+    assert hashlib.sha256((EXAMPLES / file).read_bytes()).hexdigest() in report(name).read_text()
+
+
+@pytest.mark.slow
+def test_long_scenario(report):
+    """A page of 100,000 lines reports how many lines it leaves out."""
+    assert re.search(r'"left":\{"lines":9[0-9]{4},', report("long").read_text())
+
+
+def test_name_like_an_option(nethrywel, tmp_path):
+    """A script whose name begins with a dash is given after `--`, by users and by the report."""
+    machine, scenario = tmp_path / "dashed.json", tmp_path / "dashed.scenario"
+    machine.write_text((EXAMPLES / "friendly/crawler.json").read_text().replace('"name": "reader"', '"name": "-reader"'))
+    scenario.write_text(re.sub(r"^reader ", "-reader ", (EXAMPLES / "friendly/crawler.scenario").read_text(), flags=re.M))
+    assert nethrywel("route", "--", machine, "-reader", "LOG").out.splitlines()[-1] == "leads to log"
+    ran = nethrywel("alone", "--machine", machine, "--", "-reader", scenario)
+    assert ran.out.splitlines()[-1] == "10 lines of -reader: the same alone as in the whole run"
+    ran = REPORT("--machine", machine, scenario, "-o", tmp_path / "page.html")
+    assert ran.status == 0 and "for -reader, where the label is" in (tmp_path / "page.html").read_text()
+
+
+def test_unwritten_page(tmp_path):
+    """A page that can't be written leaves the old one as it was."""
+    (tmp_path / "page.html").write_text("old")
+    limit = {"preexec_fn": lambda: resource.setrlimit(resource.RLIMIT_FSIZE, (8 << 10, 8 << 10))}
+    ran = REPORT("friendly/notes.scenario", "-o", tmp_path / "page.html", **limit)
+    assert ran.status != 0
+    assert (tmp_path / "page.html").read_text() == "old" and os.listdir(tmp_path) == ["page.html"]
+
+
+def test_deep_list(tmp_path):
+    """A start list that nests too deeply is reported at its place."""
+    (tmp_path / "deep.json").write_text("[" * 5000)
+    words = ["--machine", tmp_path / "deep.json", "friendly/notes.scenario", "-o", tmp_path / "page.html"]
+    ran = REPORT(*words)
+    assert "Traceback" not in ran.err and "invalid JSON" in (tmp_path / "page.html").read_text()
+
+
+@pytest.mark.parametrize("package, words", [("jinja2", ["report", "-o", "{}"]), ("jinja2", ["desk"]), ("waitress", ["desk"])],
+                         ids=["report-jinja2", "desk-jinja2", "desk-waitress"])
+def test_missing_package(tmp_path, package, words):
+    """Without a package report and desk say what to do, and write nothing."""
+    (tmp_path / f"{package}.py").write_text("raise ImportError\n")
+    name, *words = [it.replace("{}", str(tmp_path / "page.html")) for it in words]
+    ran = tool(f"tools/{name}")(*words, "friendly/notes.scenario", env=environment(PYTHONPATH=tmp_path))
+    assert (ran.status, ran.out) == (1, "") and f"{package} isn't here; run dev/setup" in ran.err
+    assert not (tmp_path / "page.html").exists()

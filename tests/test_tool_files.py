@@ -1,0 +1,71 @@
+"""Files that tools write: whole or not at all, not over what another program wrote, and by one desk at a time."""
+import os
+import stat
+import sys
+import threading
+
+import pytest
+from commands import TOP
+
+sys.path.insert(0, str(TOP / "tools/lib"))
+from nethrywel_tools import files, saved_files
+
+
+def test_whole(tmp_path, monkeypatch):
+    """A file keeps its mode, is new to who has it open, and isn't changed by a write that fails."""
+    path = tmp_path / "file"
+    path.write_bytes(b"old")
+    path.chmod(0o640)
+    with open(path, "rb") as before:
+        files.write_whole(path, b"new")
+        assert before.read() == b"old" and path.read_bytes() == b"new" and stat.S_IMODE(path.stat().st_mode) == 0o640
+    modes = []
+
+    def replace(new, old):
+        modes.append(stat.S_IMODE(os.stat(new).st_mode))
+        raise OSError(28, "No space left on device")
+
+    monkeypatch.setattr(os, "replace", replace)
+    with pytest.raises(OSError):
+        files.write_whole(path, b"newer")
+    assert path.read_bytes() == b"new" and os.listdir(tmp_path) == ["file"] and modes == [0o640]
+
+
+def test_exclusive(tmp_path, monkeypatch):
+    """The new file is created for its owner alone, and never opened if something has its name already."""
+    made = []
+    real = os.open
+    monkeypatch.setattr(os, "open", lambda path, flags, mode=0o777, **named: made.append((str(path), flags, mode)) or real(path, flags, mode, **named))
+    files.write_whole(tmp_path / "file", b"text")
+    flags, mode = next(it[1:] for it in made if it[0].startswith(f"{tmp_path}/.file."))
+    assert flags & os.O_EXCL and flags & os.O_CREAT and flags & os.O_NOFOLLOW and mode == 0o600
+
+
+def test_one_desk_at_a_time(tmp_path, monkeypatch):
+    """Of two desks that save over the same text at once, one saves and the other reports the change."""
+    (tmp_path / "file").write_bytes(b"old\n")
+    desks = [saved_files.Files({"scenario": tmp_path / "file"}) for _ in range(2)]
+    sums, both, ends = desks[0].read()[1], threading.Barrier(2), []
+    real = saved_files.write_whole
+
+    def slow(path, data):
+        threading.Event().wait(0.2)
+        real(path, data)
+
+    monkeypatch.setattr(saved_files, "write_whole", slow)
+
+    def save(desk, text):
+        both.wait()
+        try:
+            desk.save({"scenario": text}, sums)
+            ends.append(text)
+        except saved_files.Changed:
+            ends.append(None)
+
+    threads = [threading.Thread(target=save, args=(desk, text)) for desk, text in zip(desks, ("one\n", "two\n"))]
+    for it in threads:
+        it.start()
+    for it in threads:
+        it.join()
+    saved = [it for it in ends if it]
+    assert len(ends) == 2 and len(saved) == 1 and (tmp_path / "file").read_text() == saved[0]

@@ -1,0 +1,248 @@
+"""What a page shows of a start list, a policy and a scenario, from what nethrywel prints with --json and from transcripts. Values are
+put next to each other, and thinned where they are many; nothing is computed again."""
+import json
+import re
+from collections import Counter
+
+from .outputs import Account, Diagnostic, Interval, Request, calls_in, diagnostics_in, values_in
+from .start_list_places import places, range_of, rules_in, rules_named
+from .timelines import TICKS, TIMELINES, Timelines, donation_in, some, thin
+
+# A scenario is shown whole up to so many lines and bytes, with its replies.
+WHOLE_LINES, WHOLE_BYTES = 3000, 500_000
+# Of a longer one lines are kept: at both ends, that don't meet their expectations, that are refused, and evenly; each so long.
+ENDS, WRONG, REFUSED, EVENLY, LONG = 300, 400, 400, 600, 120
+ACCOUNTS, COMPLAINTS, TEXT_LINES = 300, 1000, 400
+LEFT = ("lines", "timelines", "points", "accounts", "complaints", "ticks")
+
+
+def amount(number):
+    return f"{number // 1024}K" if number and number % 1024 == 0 else str(number)
+
+
+def lines_in(text):
+    return text.removesuffix("\n").split("\n") if text else []
+
+
+def errors_in(text):
+    """Returns the texts of what a command wrote on standard error."""
+    return "\n".join(it.text for it in diagnostics_in(text))
+
+
+def outputs_in(calls, transcript):
+    """Yields each call with its lines of a transcript: the log lines that it finished, and its reply."""
+    lines = iter(lines_in(transcript))
+    for it in calls:
+        answer, output = f"{it.component}: {it.reply}", []
+        for line in lines:
+            output.append(line)
+            if line == answer:
+                break
+        yield it, output
+
+
+def clipped(text):
+    return text if len(text) <= LONG else f"{text[:LONG]} .. ({len(text)} characters)"
+
+
+def policy_lines(text, status, breaches, rules):
+    """Returns the lines of a policy, each with whether it is kept, and the rules that a breach names."""
+    faults = {it.line or 0: it.text for it in breaches}
+    lines = []
+    for number, line in enumerate(lines_in(text), 1):
+        told = faults.get(number)
+        kept = None if told or status == 2 or re.match(r"\s*(#|$)", line) else True
+        lines.append({"text": line, "told": told, "kept": kept, "rules": rules_named(told, told.split(" ")[0], rules) if told else []})
+    return {"lines": lines, "fault": faults.get(0), "read": status != 2}
+
+
+def requests_of(requests, rules):
+    """Returns the scripts, each with the routes of its session requests."""
+    scripts = {}
+    for it in requests:
+        label = f', with label "{it.label}"' if it.label is not None else ""
+        way = {"service": it.service, "to": it.to or "denied", "by": it.by + label, "rules": rules_named(it.by, it.name, rules)}
+        scripts.setdefault(it.name, []).append(way)
+    return [{"name": name, "ways": ways} for name, ways in scripts.items()]
+
+
+def accounts_of(documents):
+    """Returns the accounts that are open at the end, with their peaks; the reserve of a script is in its account."""
+    accounts = []
+    for it in documents:
+        if it.kind == "reserve":
+            accounts[-1]["reserve"] = [it.ram, it.caps]
+        elif it.ram_used is not None:
+            accounts.append({
+                "name": it.name, "session": it.session and str(it.session), "server": it.server, "label": it.label,
+                "ram": [it.ram_used, it.ram_limit, it.ram_peak], "caps": [it.caps_used, it.caps_limit, it.caps_peak],
+            })
+    return accounts
+
+
+def budget_of(key, rows, given):
+    """Returns one account's sufficient budgets, as values and as text, with what it was given."""
+    name, session, line = key
+    said = "; ".join(
+        f"ram from {amount(it.ram_from)}{f' below {amount(it.ram_below)}' if it.ram_below is not None else ''}, caps from {it.caps_from}" for it in rows
+    )
+    told = [said or "no budget serves"]
+    if given and rows:
+        more = given[0] - rows[0].ram_from, given[1] - rows[0].caps_from
+        gap = f"{amount(abs(more[0]))} and {abs(more[1])}"
+        fits = any(it.has(*given) for it in rows)
+        least = f"the least is {amount(rows[0].ram_from)} and {rows[0].caps_from}"
+        end = f"insufficient; {least}" if not fits else least if min(more) < 0 else f"{gap} could be saved" if any(more) else "the least"
+        told.append(f"given {amount(given[0])} and {given[1]}: {end}")
+    return {
+        "name": name, "session": session and str(session), "line": line, "rows": [[it.ram_from, it.ram_below, it.caps_from] for it in rows],
+        "given": given, "told": told, "short": not rows or bool(given) and not any(it.has(*given) for it in rows),
+    }
+
+
+class PageData:
+    """What is printed of texts, which are in a folder as list.json, policy and scenario; the first two may be none. `run` runs the
+    program with arguments there, and returns status, output and standard error."""
+
+    def __init__(self, run, list_text, policy_text, scenario_text):
+        self.run, self.list, self.policy, self.scenario = run, list_text, policy_text, scenario_text
+        self.machine = ["--machine", "list.json"] if list_text is not None else []
+        self.rules, self.calls, self.outputs, self.budgets = {}, [], [], {}
+
+    def first(self):
+        """Returns what is printed of the start list and, if it boots, of each line."""
+        data = {"list": self.list, "boots": True, "findings": [], "policy": None, "ways": [], "reach": None, "least": None, "alone": None}
+        data.update({"count": len(lines_in(self.scenario)), "lines": [], "complaints": [], "faults": [], "timelines": [], "accounts": []})
+        data["left"] = dict.fromkeys(LEFT, 0)
+        if self.list is None or self.of_list(data):
+            self.of_scenario(data)
+        return data
+
+    def of_list(self, data):
+        found = places(self.list)
+        self.rules = rules_in(self.list, found)
+        status, out, err = self.run(["check", "--json", *(["--policy", "policy"] if self.policy else []), "list.json"])
+        told = [*values_in(Diagnostic, out), *diagnostics_in(err)]
+        breaches = [it for it in told if it.file == "policy"]
+        for it in told:
+            if it.file != "policy":
+                where = f"{it.line}:{it.column}: " if it.line else f"{it.part}: " if it.part and it.kind == "finding" else ""
+                data["findings"].append({"told": where + it.text, "range": range_of(it, self.list, found), "advice": it.kind == "advice"})
+        # (a policy with a fault, or a breach of it, is no fault of the list)
+        data["boots"] = status == 0 or bool(breaches)
+        if self.policy and data["boots"]:
+            data["policy"] = policy_lines(self.policy, status, breaches, self.rules)
+        if data["boots"]:
+            tree = self.run(["tree", "--json", "list.json"])[1]
+            data["ways"] = requests_of(values_in(Request, tree, "wish"), self.rules)
+            self.budgets = {it.name: (it.ram, it.caps) for it in values_in(Account, tree, "component")}
+            data["reach"] = json.loads(self.run(["reach", "--json", "list.json"])[1] or "[]")
+        return data["boots"]
+
+    def of_scenario(self, data):
+        data["status"], out, err = self.run(["trace", "--json", *self.machine, "scenario"])
+        self.calls = list(calls_in(out.split("\n")))
+        errors = diagnostics_in(err)
+        complaints = [[it.line, it.column, it.text] for it in errors if it.file == "scenario" and it.column]
+        data["faults"] = [it.text for it in errors if it.file != "scenario" or not it.column]
+        data["wrong"] = len({it[0] for it in complaints})
+        self.of_lines(data, complaints)
+        shown = {it[0] for it in data["lines"]}
+        data["complaints"] = [it for it in complaints if it[0] in shown or it[0] > data["count"]][:COMPLAINTS]
+        data["left"]["complaints"] = len(complaints) - len(data["complaints"])
+        timelines, data["left"]["timelines"], thinned = thin(Timelines(self.calls).all())
+        data["left"]["points"] = thinned or any(len(it.refused) > TICKS for it in timelines)
+        data["timelines"] = [
+            {"name": it.name, "session": bool(it.part), "points": it.points, "refusals": len(it.refused), "refused": some(it.refused, TICKS)} for it in timelines
+        ]
+        accounts = accounts_of(values_in(Account, self.run(["accounts", "--json", *self.machine, "scenario"])[1], "account", "session", "reserve"))
+        donated = Counter()
+        for it in accounts:
+            if it["session"]:
+                donated.update({(it["name"], "ram"): it["ram"][1], (it["name"], "caps"): it["caps"][1]})
+        data["given"] = {name: [donated[name, "ram"], donated[name, "caps"]] for name, _ in donated}
+        data["accounts"], data["left"]["accounts"] = accounts[:ACCOUNTS], max(len(accounts) - ACCOUNTS, 0)
+
+    def of_lines(self, data, complaints):
+        """Fills in the lines that are shown, each with its number, its text, who called, the reply and the log lines that it finished."""
+        texts, transcript = lines_in(self.scenario), self.run(["run", *self.machine, "scenario"])[1]
+        self.outputs = list(outputs_in(self.calls, transcript))
+        told = {it.line: (it.component, it.reply, output[:-1]) for it, output in self.outputs}
+        if len(texts) <= WHOLE_LINES and len(self.scenario) + len(transcript) <= WHOLE_BYTES:
+            data["lines"] = [[i, text, *told.get(i, ())] for i, text in enumerate(texts, 1)]
+            return
+        count, refused = len(texts), list(dict.fromkeys(it.line for it in self.calls if it.is_refused))
+        kept = {*range(1, min(ENDS, count) + 1), *range(max(count - ENDS, 0) + 1, count + 1)}
+        kept.update(sorted({it[0] for it in complaints if it[0] <= count})[:WRONG], some(refused, REFUSED), some(range(1, count + 1), EVENLY))
+        for i in sorted(kept):
+            reply = [(name, clipped(text), list(map(clipped, logs[:8]))) for name, text, logs in [told[i]]] if i in told else [()]
+            data["lines"].append([i, clipped(texts[i - 1]), *reply[0]])
+        data["left"]["lines"] = count - len(kept)
+
+    def alone(self):
+        """Returns for each script that has a call the replies to its lines, in the whole run and in a run of them alone."""
+        scripts, own = [], {}
+        for it, output in self.outputs:
+            if it.ram_used is not None:
+                own.setdefault(it.component, []).append((it, output))
+        for name, whole in own.items():
+            status, out, err = self.run(["run", f"--only={name}", *self.machine, "scenario"])
+            if status not in (0, 3):
+                return {"scripts": [], "thinned": False, "why": err}
+            both = zip(whole, outputs_in([it for it, _ in whole], out))
+            differ = {it.line: "\n".join(alone) for (it, output), (_, alone) in both if output != alone}
+            lines = list(dict.fromkeys(it.line for it, _ in whole))
+            refused = some(sorted({it.line for it, _ in whole if it.is_refused}), TICKS)
+            said = f"{len(lines)} lines of {name}: {f'{len(differ)} differ' if differ else 'the same alone as in the whole run'}"
+            ticks = sorted({*some(lines, TICKS), *refused})
+            scripts.append({"name": name, "told": said, "lines": ticks, "thinned": len(ticks) < len(lines), "refused": refused, "differ": list(differ.items())})
+        return {"scripts": scripts, "thinned": any(it["thinned"] for it in scripts), "why": ""}
+
+    def least(self):
+        """Returns which budgets suffice for each account."""
+        arguments = [*self.machine, "scenario"]
+        status, out, err = self.run(["least", "--json", *arguments])
+        if status not in (0, 3):
+            return {"accounts": [], "left": 0, "text": [], "why": errors_in(err)}
+        found, given = [], dict(self.budgets)
+        if self.list is None:
+            boot = values_in(Account, self.run(["accounts", "--json", "/dev/null"])[1], "account")
+            given = {it.name: (it.ram_limit, it.caps_limit) for it in boot if it.name != "init"}
+        openings = Counter()
+        for it in self.calls:
+            if it.call.startswith("open ") and it.reply.startswith("cap ") and it.ram_used is not None:
+                key = it.component, int(it.reply[4:]), it.line
+                openings[key] += 1
+                given[key] = donation_in(it.call)
+        for it in values_in(Interval, out):
+            key = it.component, it.session, it.line
+            if found and found[-1][0] == key and found[-1][1][-1].ram_below is not None:
+                found[-1][1].append(it)
+            else:
+                found.append((key, [it]))
+        # (an account for which no budget suffices has no interval)
+        known = Counter(key for key, _ in found)
+        missing = [*(openings - known), *((name, None, None) for name in given if isinstance(name, str) and (name, None, None) not in known)]
+        accounts = [budget_of(key, rows, given.get(key if key[1] else key[0])) for key, rows in [*found, *((key, []) for key in missing)]]
+        sessions = {id(it) for it in some([it for it in accounts if it["session"]], TIMELINES)}
+        shown = [it for it in accounts if not it["session"] or id(it) in sessions]
+        text = lines_in(self.run(["least", *arguments])[1])
+        return {"accounts": shown, "left": len(accounts) - len(shown), "text": text[:TEXT_LINES], "why": ""}
+
+    def route(self, client, service, label):
+        """Returns the route of one session request, as it is printed, with the rules that it names."""
+        arguments = [f'label="{label}"'] if label else []
+        told = self.run(["route", "--", "list.json", client, service, *arguments])[1]
+        return {"told": told.splitlines(), "rules": rules_named(told, client, self.rules)}
+
+    def routes(self, reach):
+        """Returns the route of each cell's request, by the script, the service and the label."""
+        keys = dict.fromkeys((it["from"], it["service"], it["label"] if it["reach"] == "some" else "") for it in reach or [])
+        return {"\n".join(it): self.route(*it) for it in keys}
+
+    def diff(self, before):
+        """Returns how the start list differs from one before, with the effect on the scenario's replies."""
+        if self.list is None:
+            return {"told": [], "why": "the built-in machine has no text: write a start list"}
+        status, out, err = self.run(["diff", before, "list.json", "scenario"])
+        return {"told": lines_in(out), "why": "" if status in (0, 4) else err}

@@ -1,0 +1,94 @@
+"""Where the parts of a start list are in its text: values, rules, and what a diagnostic or a route decision names."""
+import json
+import re
+
+RULE = re.compile(r"(default-route|route)\[([0-9]+)\](?: for ([^,:]+))?")
+STEP = re.compile(r'([a-z-]+)(?: and [a-z-]+)?(?:\[([0-9]+)\])?(?: "[^"]*")?$')
+SPACE = re.compile(r"[ \t\n\r]*")
+
+
+def places(text):
+    """Returns where each value of a JSON text is, from its path to its first and last character; nothing if it is no JSON."""
+    found = {}
+    decode = json.JSONDecoder().raw_decode
+
+    def skip(at):
+        return SPACE.match(text, at).end()
+
+    def value(at, path):
+        end = {"{": members, "[": items}.get(text[at], scalar)(at, path)
+        found[path] = (at, end)
+        return end
+
+    def scalar(at, _):
+        return decode(text, at)[1]
+
+    def items(at, path):
+        at, count = skip(at + 1), 0
+        while text[at] != "]":
+            at = skip(value(at, (*path, count)))
+            at, count = skip(at + (text[at] == ",")), count + 1
+        return at + 1
+
+    def members(at, path):
+        at = skip(at + 1)
+        while text[at] != "}":
+            name, at = decode(text, at)
+            at = skip(value(skip(skip(at) + 1), (*path, name)))
+            at = skip(at + (text[at] == ","))
+        return at + 1
+
+    try:
+        value(skip(0), ())
+    except (ValueError, IndexError, RecursionError):
+        return {}
+    return found
+
+
+def range_of(diagnostic, text, found):
+    """Returns where a diagnostic is: at its line and column, or at its part, start[1] "sub": config: start[0]: quantum, and of that
+    the member that its message names in backquotes."""
+    if diagnostic.line:
+        before = sum(len(it) + 1 for it in text.split("\n")[: diagnostic.line - 1])
+        at = min(before + max(diagnostic.column - 1, 0), max(len(text) - 1, 0))
+        return at, at + 1
+    path, best = (), None
+    for step in (diagnostic.part or "").removeprefix("start list").split(": "):
+        at = STEP.match(step)
+        path += () if not at else (at[1],) if at[2] is None else (at[1], int(at[2]))
+        best = found.get(path) if path else None
+    named = re.search("`([^`]+)`", diagnostic.text)
+    return found.get((*path, named[1]), best) if named else best
+
+
+def entries(value, path=(), home=""):
+    """Yields the JSON path and the path of names of each entry, an init's before its own."""
+    start = value.get("start") if isinstance(value, dict) else None
+    for i, entry in enumerate(start if isinstance(start, list) else []):
+        if isinstance(entry, dict) and isinstance(entry.get("name"), str):
+            at = (*path, "start", i)
+            yield at, home + entry["name"]
+            yield from entries(entry.get("config"), (*at, "config"), home + entry["name"] + "/")
+
+
+def rules_in(text, found):
+    """Returns where each rule is, by the path of its client or init, the member that has it, and its number."""
+    try:
+        value = json.loads(text)
+    except (ValueError, RecursionError):
+        return {}
+    rules = {}
+    for at, name in entries(value):
+        for member, owner in (("route", at), ("default-route", at[:-2])):
+            number = 0
+            while (*owner, member, number) in found:
+                rules[name, member, number] = found[(*owner, member, number)]
+                number += 1
+    return rules
+
+
+def rules_named(text, client, rules):
+    """Returns where the rules are that a text names, those without a name as rules for the client."""
+    text = re.sub(r'"(?:[^"\\]|\\.)*"', '""', text)
+    named = [rules.get((it[3] or client, it[1], int(it[2]))) for it in RULE.finditer(text)]
+    return [it for it in dict.fromkeys(named) if it]
