@@ -74,11 +74,11 @@ def test_many_accounts():
 @pytest.mark.slow
 @drawing
 def test_long_trace():
-    """A trace of 200,000 calls, with many sessions, makes a picture of less than a megabyte, which reports what it leaves out."""
+    """A trace of 200,000 calls, with many sessions, makes a picture of less than 600,000 bytes, which reports what it leaves out."""
     account = (None, None, None, None)
     calls = (call_of(i, f"c{i % 3}", "call 1 X", "OK", (i * 7 % 90, 99, i % 50, 60), i % 400, (i % 9, 9, 1, 2) if i % 2 else account) for i in range(1, 200_001))
     ran = PICTURE(stdin=trace_of(*calls))
-    assert ran.status == 0 and len(ran.out) < 1_000_000
+    assert ran.status == 0 and len(ran.out) < 600_000
     assert re.search(r">line \(dashed: the limit; thinned; [0-9]+ sessions are left out\)<", ran.out)
 
 
