@@ -82,7 +82,7 @@ def machine(scripts, reserve):
     return {"machine": {"pages": 4096, "caps": 4096}, "default-route": [{"any-service": True, "any-child": True}], "start": start}
 
 
-class Desk:
+class Nethrywel:
     def __init__(self, program, folder):
         self.program, self.list, self.scenario = program, os.path.join(folder, "list.json"), os.path.join(folder, "scenario")
 
@@ -163,10 +163,10 @@ def groups(of, size):
     return [of[at : at + size] for at in range(0, len(of), size)]
 
 
-def check_account(desk, draw, calls, rows, reserve, most):
+def check_account(nethrywel, draw, calls, rows, reserve, most):
     looked = 0
     for group in groups(budgets(draw, rows, most), SIDE_BY_SIDE):
-        answered = desk.replies(machine(group, reserve), [calls] * len(group))
+        answered = nethrywel.replies(machine(group, reserve), [calls] * len(group))
         for (ram, caps), replies in zip(group, answered):
             looked += 1
             if covered(rows, ram, caps) == wants(calls, replies):
@@ -178,7 +178,7 @@ def donating(call, ram, caps):
     return re.sub(r"ram_quota=\d+, cap_quota=\d+", f"ram_quota={ram}, cap_quota={caps}", call)
 
 
-def check_session(desk, draw, calls, rows, opening, most):
+def check_session(nethrywel, draw, calls, rows, opening, most):
     looked = 0
     for group in groups(budgets(draw, rows, most), 4):
         scripts = []
@@ -189,7 +189,7 @@ def check_session(desk, draw, calls, rows, opening, most):
                     for place, call in enumerate(calls)
                 ]
             )
-        answered = desk.replies(machine([(1000 * PAGE, 1000)] * len(group), None), scripts)
+        answered = nethrywel.replies(machine([(1000 * PAGE, 1000)] * len(group), None), scripts)
         for (ram, caps), script, replies in zip(group, scripts, answered):
             looked += 1
             if covered(rows, ram, caps) == session_wants(script, replies, opening):
@@ -197,7 +197,7 @@ def check_session(desk, draw, calls, rows, opening, most):
     return None, looked
 
 
-def check(desk, draw):
+def check(nethrywel, draw):
     """A scenario's difference, if it has one, and how many budgets were looked at."""
     calls = calls_of(draw)
     if not calls:
@@ -205,19 +205,19 @@ def check(desk, draw):
     reserve = draw.choice((None, None, (amount(draw, 3), 1)))
     own = machine([(64 * PAGE, 32)], reserve)
     lines = [f"s0 {call}" for call in calls]
-    desk.write(own, lines)
-    donated, least = desk.rows("--as-donated"), desk.rows()
-    rewritten = desk.told("least", "--machine", desk.list, "--scenario", desk.scenario).splitlines()
+    nethrywel.write(own, lines)
+    donated, least = nethrywel.rows("--as-donated"), nethrywel.rows()
+    rewritten = nethrywel.told("least", "--machine", nethrywel.list, "--scenario", nethrywel.scenario).splitlines()
     most = 150 * PAGE
     looked = 0
     for rows, said in ((donated[("s0", "")] if ("s0", "") in donated else [], calls), (least.get(("s0", ""), []), [line[3:] for line in rewritten])):
-        differs, more = check_account(desk, draw, said, rows, reserve, most)
+        differs, more = check_account(nethrywel, draw, said, rows, reserve, most)
         looked += more
         if differs:
             return "\n".join(["of the script:", *said, str(rows), f"reserve {reserve}", differs]), looked
     for (name, line), rows in donated.items():
         if name == "s0" and line != "" and reserve is None:
-            differs, more = check_session(desk, draw, calls, rows, line - 1, most)
+            differs, more = check_session(nethrywel, draw, calls, rows, line - 1, most)
             looked += more
             if differs:
                 return "\n".join([f"of the session of line {line}:", *calls, str(rows), differs]), looked
@@ -230,9 +230,9 @@ def main():
     seed = int(sys.argv[3]) if len(sys.argv) > 3 else 1
     looked = 0
     with tempfile.TemporaryDirectory() as folder:
-        desk = Desk(program, folder)
+        nethrywel = Nethrywel(program, folder)
         for number in range(count):
-            differs, more = check(desk, random.Random(f"{seed} {number}"))
+            differs, more = check(nethrywel, random.Random(f"{seed} {number}"))
             looked += more
             if differs:
                 print(f"scenario {number} of seed {seed} differs {differs}")

@@ -5,16 +5,16 @@ limits that STAT tells; of a session while its client has enough. It ends with h
 are answered otherwise: all but those that a growth with two sizes was tested at, which no reply shows."""
 import os, random, re, sys, tempfile
 
-from least import PAGE, Desk, amount, calls_of, donating, machine
+from least import PAGE, Nethrywel, amount, calls_of, donating, machine
 
 ENOUGH = (1000 * PAGE, 1000)
 
 
-def needs_of(desk, made, calls):
+def needs_of(nethrywel, made, calls):
     """What the script needs, and whether it is gone; each open session, by its selector; and those that were closed, in order."""
-    desk.write(made, [f"s0 {call}" for call in calls])
+    nethrywel.write(made, [f"s0 {call}" for call in calls])
     own, opened, closed = None, {}, []
-    for line in desk.told("accounts", "--machine", desk.list, desk.scenario).splitlines():
+    for line in nethrywel.told("accounts", "--machine", nethrywel.list, nethrywel.scenario).splitlines():
         found = re.match(r"(account|session) s0(?: (\d+))?(?: ram \S+ caps \S+)?( gone| closed)? need ram (\d+) caps (\d+)", line)
         if not found:
             continue
@@ -28,9 +28,9 @@ def needs_of(desk, made, calls):
     return own, opened, closed
 
 
-def replies_of(desk, made, calls):
+def replies_of(nethrywel, made, calls):
     """What the script is answered, without the limits that a session tells."""
-    return [reply for call, reply in zip(calls, desk.replies(made, [calls])[0]) if "STAT" not in call]
+    return [reply for call, reply in zip(calls, nethrywel.replies(made, [calls])[0]) if "STAT" not in call]
 
 
 def sessions_in(calls, replies):
@@ -68,34 +68,34 @@ class Looked:
         return answers(need) == same
 
 
-def check_script(desk, draw, calls, looked):
+def check_script(nethrywel, draw, calls, looked):
     reserve = draw.choice((None, None, (amount(draw, 3), 1)))
     given = (draw.choice((64, 20, 10, 6, 3)) * PAGE + draw.choice((0, 0, 17)), draw.choice((32, 12, 6, 3)))
-    (need, is_gone), _, _ = needs_of(desk, machine([given], reserve), calls)
-    same = replies_of(desk, machine([given], reserve), calls)
+    (need, is_gone), _, _ = needs_of(nethrywel, machine([given], reserve), calls)
+    same = replies_of(nethrywel, machine([given], reserve), calls)
     if need[0] > given[0] or need[1] > given[1]:
         return f"{need} is more than {given}"
     if is_gone != ("exit" in calls):
         return f"gone: {is_gone}"
-    if not looked.at(need, lambda budget: replies_of(desk, machine([budget], reserve), calls), same):
+    if not looked.at(need, lambda budget: replies_of(nethrywel, machine([budget], reserve), calls), same):
         return f"{need} isn't answered as {given}, reserve {reserve}"
     return None
 
 
-def check_sessions(desk, calls, looked):
+def check_sessions(nethrywel, calls, looked):
     made = machine([ENOUGH], None)
-    _, opened, closed = needs_of(desk, made, calls)
-    are_open, were_closed = sessions_in(calls, desk.replies(made, [calls])[0])
+    _, opened, closed = needs_of(nethrywel, made, calls)
+    are_open, were_closed = sessions_in(calls, nethrywel.replies(made, [calls])[0])
     if sorted(opened) != sorted(are_open) or [it for it, _ in closed] != [it for it, _ in were_closed]:
         return f"sessions: {opened}, {closed}"
-    same = replies_of(desk, made, calls)
+    same = replies_of(nethrywel, made, calls)
     needs = [(are_open[selector], need) for selector, need in opened.items()]
     needs += [(place, need) for (_, place), (_, need) in zip(were_closed, closed)]
     for opening, need in needs:
 
         def answers(donation):
             lines = [donating(call, *donation) if place == opening else call for place, call in enumerate(calls)]
-            return replies_of(desk, made, lines)
+            return replies_of(nethrywel, made, lines)
 
         if not looked.at(need, answers, same):
             return f"session of line {opening + 1}: {need} isn't answered alike"
@@ -108,13 +108,13 @@ def main():
     seed = int(sys.argv[3]) if len(sys.argv) > 3 else 1
     looked = Looked()
     with tempfile.TemporaryDirectory() as folder:
-        desk = Desk(program, folder)
+        nethrywel = Nethrywel(program, folder)
         for number in range(count):
             draw = random.Random(f"{seed} {number}")
             calls = calls_of(draw)
             if "exit" in calls:
                 del calls[calls.index("exit") + 1 :]
-            differs = calls and (check_script(desk, draw, calls, looked) or check_sessions(desk, calls, looked))
+            differs = calls and (check_script(nethrywel, draw, calls, looked) or check_sessions(nethrywel, calls, looked))
             if differs:
                 print("\n".join([f"scenario {number} of seed {seed}:", *calls, differs]))
                 return 1

@@ -1,43 +1,12 @@
-"""A page in Chromium, for the tests and for dev/browse: scripts, texts, edits, and how it looks."""
+"""A page in Chromium, for the tests and for tools of dev/: scripts, texts, edits, and how it looks."""
 import time
+from pathlib import Path
 
 from selenium import webdriver
 from selenium.webdriver.chrome.options import Options
 from selenium.webdriver.chrome.service import Service
 
-STATE = "return [document.body.dataset.round || '0', document.body.dataset.whole || '0', document.getElementById('state').textContent]"
-# What is hard to read or to hit: text on a ground of nearly its own colour, targets below 24 pixels, editors in no landmark.
-HARD = """
-const channel = it => it / 255 <= 0.04045 ? it / 255 / 12.92 : ((it / 255 + 0.055) / 1.055) ** 2.4;
-const light = ([r, g, b]) => 0.2126 * channel(r) + 0.7152 * channel(g) + 0.0722 * channel(b);
-const color = text => text.match(/[0-9.]+/g).map(Number);
-const ground = it => { const here = color(getComputedStyle(it).backgroundColor); return here[3] === 0 && it.parentElement ? ground(it.parentElement) : here; };
-const contrast = it => { const both = [light(color(getComputedStyle(it).color)), light(ground(it))].sort((a, b) => b - a); return (both[0] + 0.05) / (both[1] + 0.05); };
-const shown = it => it.getClientRects().length > 0 && !it.closest('svg, .CodeMirror-measure');
-const own = it => [...it.childNodes].some(one => one.nodeType === 3 && one.data.trim());
-const size = it => it.getBoundingClientRect();
-return [...document.querySelectorAll('body *')].filter(it => shown(it) && own(it) && contrast(it) < 4.5).map(it => `${contrast(it).toFixed(1)}: ${it.textContent}`)
-  .concat([...document.querySelectorAll('button, select, summary, a[href], .lines .call')].filter(it => shown(it) && (size(it).height < 24 || size(it).width < 24))
-    .map(it => `${size(it).width} x ${size(it).height}: ${it.textContent}`))
-  .concat([...document.querySelectorAll('.CodeMirror')].filter(it => !it.closest('section[aria-label], main')).map(() => 'an editor in no landmark'))
-"""
-# How wide a page is, and where its editors end and its parts begin.
-WIDE = """
-const end = it => it ? it.getBoundingClientRect() : {right: 0, bottom: 0}, desk = end(document.getElementById('desk')), parts = end(document.getElementById('page'));
-return [document.documentElement.scrollWidth, parts.left >= desk.right || parts.top >= desk.bottom, parts.width]
-"""
-# An edit, until its replies are shown, and until all is shown: how long both took.
-EDIT = """
-const done = arguments[arguments.length - 1], {dataset} = document.body, before = Number(dataset.round || 0), began = performance.now();
-let replies = null;
-const watch = new MutationObserver(() => {
-  if (replies === null && Number(dataset.round) > before) replies = performance.now() - began;
-  if (replies === null || dataset.whole !== dataset.round) return;
-  watch.disconnect();
-  done([replies, performance.now() - began, document.getElementById('state').textContent]);
-});
-watch.observe(document.body, {attributes: true});
-"""
+SCRIPTS = Path(__file__).with_suffix(".js").read_text(encoding="utf-8")
 
 
 class Page:
@@ -45,8 +14,9 @@ class Page:
 
     def __init__(self, width=1500):
         options = Options()
-        for word in ("--headless=new", "--no-sandbox", "--disable-gpu", "--disable-dev-shm-usage", "--no-first-run", f"--window-size={width},900"):
-            options.add_argument(word)
+        for word in ("headless=new", "no-sandbox", "disable-gpu", "disable-dev-shm-usage", "no-first-run"):
+            options.add_argument(f"--{word}")
+        options.add_argument(f"--window-size={width},900")
         options.set_capability("goog:loggingPrefs", {"browser": "ALL"})
         self.driver = webdriver.Chrome(service=Service("/usr/bin/chromedriver"), options=options)
         self.driver.set_script_timeout(600)
@@ -55,8 +25,12 @@ class Page:
         """Runs a script and returns its value."""
         return self.driver.execute_script(script, *words)
 
+    def call(self, name, *words):
+        """Calls a function of chromium.js and returns its value."""
+        return self.run(f"{SCRIPTS}\nreturn {name}(...arguments)", *words)
+
     def texts(self, selector):
-        return self.run("return [...document.querySelectorAll(arguments[0])].map(it => it.textContent)", selector)
+        return self.call("texts", selector)
 
     def text(self):
         return self.run("return document.body.innerText")
@@ -75,7 +49,7 @@ class Page:
         """Waits until a condition holds, and returns its value."""
         end = time.monotonic() + seconds
         while not (found := holds()):
-            assert time.monotonic() < end, f"no answer in {seconds} s: {self.run(STATE)}"
+            assert time.monotonic() < end, f"no answer in {seconds} s: {self.call('state')}"
             time.sleep(0.01)
         return found
 
@@ -85,14 +59,15 @@ class Page:
         self.rest()
 
     def rest(self):
-        self.wait(lambda: self.run(STATE)[0] == self.run(STATE)[1] != "0")
+        self.wait(lambda: (state := self.call("state"))[0] == state[1] != "0")
 
     def edit(self, script):
         """Edits, and returns how many ms it took until the replies and until all was shown, and what the desk says of it."""
-        return self.driver.execute_async_script(EDIT + script)
+        return self.driver.execute_async_script(f"{SCRIPTS}\nwatched(arguments[arguments.length - 1]);\n{script}")
 
     def emulate(self, width, height, scheme="light"):
-        self.driver.execute_cdp_cmd("Emulation.setEmulatedMedia", {"features": [{"name": "prefers-color-scheme", "value": scheme}]})
+        features = [{"name": "prefers-color-scheme", "value": scheme}]
+        self.driver.execute_cdp_cmd("Emulation.setEmulatedMedia", {"features": features})
         size = {"width": width, "height": height, "deviceScaleFactor": 1, "mobile": False}
         self.driver.execute_cdp_cmd("Emulation.setDeviceMetricsOverride", size)
 

@@ -1,6 +1,9 @@
 """Runs commands for the tests, and names the files that the tests read."""
+import contextlib
 import importlib.util
 import os
+import pty
+import resource
 import shutil
 import signal
 import socket
@@ -12,6 +15,7 @@ import pytest
 
 TOP = Path(__file__).resolve().parent.parent
 CASES, EXAMPLES = TOP / "cases", TOP / "examples"
+ENGINE_CASES, NETHRYWEL_CASES = CASES / "engine", CASES / "nethrywel"
 PYTHON = "/usr/bin/python3"
 CRAWLER = ("--machine", "friendly/crawler.json")
 SENSORS = ("--machine", "friendly/sensors.json")
@@ -46,6 +50,19 @@ def run(*words, stdin="", cwd=EXAMPLES, timeout=600, **options) -> Ran:
     return Ran(ran.returncode, *((it or b"").decode(errors="surrogateescape") for it in (ran.stdout, ran.stderr)))
 
 
+def on_terminal(*words, **settings):
+    """Runs a command whose standard error is a terminal, and returns its status, its output and what the terminal shows."""
+    seen, terminal = pty.openpty()
+    with subprocess.Popen(words, stdin=subprocess.DEVNULL, stdout=subprocess.PIPE, stderr=terminal, **settings) as ran:
+        os.close(terminal)
+        said = b""
+        # (a terminal that nobody has open any more is an error for its reader)
+        with contextlib.suppress(OSError):
+            while part := os.read(seen, 1 << 12):
+                said += part
+        return Ran(ran.wait(), ran.stdout.read().decode(), said.decode())
+
+
 class Program:
     """A program at a path, which a call runs."""
 
@@ -64,6 +81,31 @@ def tool(name) -> Program:
 def environment(**settings):
     """Returns the environment with settings changed; those that are None are left out."""
     return {name: str(value) for name, value in {**os.environ, **settings}.items() if value is not None}
+
+
+def limited(**limits):
+    """Returns the option of `run` by which a command has these limits, as fsize=64."""
+    numbers = {getattr(resource, f"RLIMIT_{name.upper()}"): limit for name, limit in limits.items()}
+    return {"preexec_fn": lambda: [resource.setrlimit(number, (limit, limit)) for number, limit in numbers.items()]}
+
+
+def script(path, text):
+    """Writes a command of the shell, and returns its path."""
+    path.parent.mkdir(parents=True, exist_ok=True)
+    path.write_text(f"#!/bin/sh\n{text}\n")
+    path.chmod(0o755)
+    return path
+
+
+def crawler_files(folder):
+    """Copies the crawler's start list and scenario into a folder, and returns their paths."""
+    return [Path(shutil.copy(EXAMPLES / "friendly" / it, folder)) for it in ("crawler.json", "crawler.scenario")]
+
+
+def swept_scenario(folder, name="swept.scenario"):
+    """Writes the crawler's scenario with a parameter D, and returns its path."""
+    (folder / name).write_text((EXAMPLES / "friendly/crawler.scenario").read_text().replace("1M", "$D"))
+    return folder / name
 
 
 def machine_of(scenario) -> list[str]:

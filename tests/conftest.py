@@ -2,14 +2,13 @@
 import contextlib
 import fcntl
 import os
-import resource
 import signal
 import subprocess
 import time
 from pathlib import Path
 
 import pytest
-from commands import EXAMPLES, TOP, Program, environment, free_port
+from commands import EXAMPLES, TOP, Program, environment, free_port, limited
 from hypothesis import HealthCheck, settings
 
 # The same examples in each run, so that CI is deterministic; tests/run --random draws others, and more of them.
@@ -57,7 +56,8 @@ def nethrywel():
 
 @pytest.fixture(scope="session")
 def once(tmp_path_factory):
-    """Returns what makes a folder once for all processes of a run: `once(name, make)` calls make(folder), and returns the folder."""
+    """Returns what makes a folder once for all processes of a run: `once(name, make)` calls make(folder), and returns the
+    folder."""
     root = tmp_path_factory.getbasetemp()
     root = root.parent if "PYTEST_XDIST_WORKER" in os.environ else root
 
@@ -76,8 +76,8 @@ def once(tmp_path_factory):
 
 @pytest.fixture
 def report(once):
-    """Returns what writes the page of a name in test_report.REPORTS, once for all tests, and returns its path."""
-    from test_report import write_report
+    """Returns what writes the page of a name in view_test_report.REPORTS, once for all tests, and returns its path."""
+    from view_test_report import write_report
 
     return lambda name: once(f"report-{name}", lambda folder: write_report(name, folder)) / f"{name}.html"
 
@@ -132,23 +132,21 @@ def sshd(tmp_path):
 def running_desk(folder, *words, end=signal.SIGINT):
     """Starts a desk with 256 descriptors and yields its address. A signal ends it with status 0, and it leaves no
     file and prints no traceback."""
-    temporary = folder / "desk"
+    temporary, errors = folder / "desk", folder / "desk.err"
     temporary.mkdir()
-    few = {"preexec_fn": lambda: resource.setrlimit(resource.RLIMIT_NOFILE, (256, 256))}
-    settings = environment(TMPDIR=temporary)
-    with open(folder / "desk.err", "w") as errors:
-        ran = subprocess.Popen([TOP / "tools/desk", *words], cwd=EXAMPLES, env=settings, stdout=subprocess.PIPE, stderr=errors, text=True, **few)
+    options = {"cwd": EXAMPLES, "env": environment(TMPDIR=temporary), "stdout": subprocess.PIPE, "text": True}
+    with errors.open("w") as stderr:
+        ran = subprocess.Popen([TOP / "tools/desk", *words], stderr=stderr, **options, **limited(nofile=256))
     try:
         url = ran.stdout.readline().strip()
-        assert url, (folder / "desk.err").read_text()
+        assert url, errors.read_text()
         yield url
         ran.send_signal(end)
         assert ran.wait(timeout=60) == 0
     finally:
         ran.kill()
         ran.wait()
-    assert os.listdir(temporary) == []
-    assert "Traceback" not in (folder / "desk.err").read_text()
+    assert os.listdir(temporary) == [] and "Traceback" not in errors.read_text()
 
 
 @pytest.fixture

@@ -3,51 +3,21 @@ import re
 from collections import defaultdict
 
 import pytest
-from commands import CASES, EXAMPLES, TOP
+from commands import ENGINE_CASES, EXAMPLES, TOP
 from hypothesis import given
 from hypothesis import strategies as st
 
 SCRIPTS = ("alice", "bob", "sub/carol", "sub/dave")
 # An unknown name, an init and a server make calls too.
 CALLERS = (*SCRIPTS, "al", "sub", "log")
-MACHINE = """{"machine":{"pages":256,"caps":256},
- "default-route":[{"any-service":true,"any-child":true}],
- "start":[
-  {"name":"log","quantum":"16K","caps":8,"provides":["LOG"]},
-  {"name":"files","quantum":"16K","caps":8,"provides":["File_system"]},
-  {"name":"alice","binary":"script","quantum":"64K","caps":16,"reserve":"8K","reserve-caps":2},
-  {"name":"bob","binary":"script","quantum":"64K","caps":16},
-  {"name":"sub","binary":"init","quantum":"224K","caps":36,"config":{
-   "default-route":[{"any-service":true,"parent":true}],
-   "start":[
-    {"name":"carol","binary":"script","quantum":"128K","caps":16},
-    {"name":"dave","binary":"script","quantum":"64K","caps":16}]}}]}"""
+MACHINE = TOP / "bench/mixed.json"
 WHOLE = (256 * 4096, 256)
 
 # Each script gets a buffer at the same address; then come calls around it.
 LENT = [f"{name} {call}" for name in SCRIPTS for call in (
     "open File_system ram_quota=36K, cap_quota=6", "call 1 CREATE a", "call 1 BUFFER 8192", "attach 2")]
-BUFFER_CALLS = """poke 0x10000000 61|poke 0x10000ffe 62636465|poke 0x10001ffe 6667|poke 0x10002000 68|peek 0x10000000 8|peek 0x10000ffc 8
-peek 0x10001ff8 8|call 1 PUT a 0 0 9|call 1 PUT a 1 4094 4|call 1 PUT a 5 8190 2|call 1 PUT a 0 8190 3|call 1 PUT a 0 0 8192
-call 1 GET a 0 4090 9|call 1 GET a 2 8188 4|call 1 READ a 0 16|call 1 WRITE a 0 7172|call 1 CLEAR a|call 1 STAT|call 1 UNBUFFER
-call 1 BUFFER 8192|attach 2|attach 2|detach 0x10000000|alloc 4096|free 2|yield ram_quota=4K, cap_quota=1|reserve
-request ram_quota=4K, cap_quota=1|close 1""".replace("\n", "|").split("|")
-
-
-def calls():
-    """Yields calls of every kind except an exit, with sizes, selectors and addresses of several kinds."""
-    yield from ("capalloc", "open LOG ram_quota=4K, cap_quota=2", "open File_system ram_quota=32K, cap_quota=6", "reserve", "quota", "quotas")
-    for size in (1, 4096, 5000, 66000):
-        yield from (f"{it} {size}" for it in ("alloc", "new", "snew"))
-        yield from (f"{it} ram_quota={size}, cap_quota=1" for it in ("request", "yield"))
-    for cap in range(5):
-        yield from (f"{it} {cap}" for it in ("free", "attach", "capfree", "close"))
-        requests = "CREATE a|WRITE a 0 6869|WRITE 68690a|BUFFER 5000|BUFFER 66000|PUT a 0 0 4096|GET a 0 0 4096|GET a 0 0 1|UNBUFFER"
-        yield from (f"call {cap} {it}" for it in requests.split("|"))
-        yield f"upgrade {cap} ram_quota=4K"
-    for address in ("0x10000000", "0x10001000", "0x100000010", "0x100000020"):
-        yield from (f"{it} {address}" for it in ("detach", "del", "sdel"))
-        yield from (f"poke {address} 6162", f"peek {address} 4", f"attach_at 1 {address}", f"attach_at 3 {address}")
+# Calls of every kind except an exit, with sizes, selectors and addresses of several kinds; and calls around a buffer.
+CALLS, BUFFER_CALLS = ((TOP / f"bench/{it}.calls").read_text().splitlines() for it in ("mixed", "buffers"))
 
 
 def lines(of, count):
@@ -81,30 +51,23 @@ def sums(accounts):
     return tuple(sum(int(it[part]) for it in limits) for part in (0, 1)), (int(total[1]), int(total[2]))
 
 
-@pytest.fixture(scope="module")
-def machine(tmp_path_factory):
-    path = tmp_path_factory.mktemp("alone") / "machine.json"
-    path.write_text(MACHINE)
-    return path
-
-
 @pytest.mark.slow
 @given(mix=lines(BUFFER_CALLS, 100))
-def test_mix_around_buffers(engine, machine, mix):
-    check_each_alone(engine, "\n".join([*LENT, *mix]), machine)
+def test_mix_around_buffers(engine, mix):
+    check_each_alone(engine, "\n".join([*LENT, *mix]), MACHINE)
 
 
 @pytest.mark.slow
-@given(phases=st.tuples(*[lines(sorted(calls()), 30)] * 4))
-def test_mix_with_exits(engine, machine, phases):
+@given(phases=st.tuples(*[lines(CALLS, 30)] * 4))
+def test_mix_with_exits(engine, phases):
     """After each exit of a mix the limits of the account list add up to the machine's."""
     mix = []
     for script, phase in zip(SCRIPTS, phases, strict=True):
         mix += phase
-        ran = engine("--accounts", machine, stdin="\n".join(mix))
+        ran = engine("--accounts", MACHINE, stdin="\n".join(mix))
         assert ran.status == 0 and sums(ran.out) == (WHOLE, WHOLE), ran
         mix.append(f"{script} exit")
-    check_each_alone(engine, "\n".join(mix), machine)
+    check_each_alone(engine, "\n".join(mix), MACHINE)
 
 
 def whole_runs():
@@ -112,14 +75,12 @@ def whole_runs():
     for path in sorted(EXAMPLES.glob("*.scenario")):
         machine = path.with_suffix(".json")
         yield pytest.param(path, [machine] if machine.exists() else [], id=path.relative_to(TOP).as_posix())
-    for path in sorted(CASES.glob("engine/*/*.stdout")):
-        case, words = path.with_suffix(""), []
-        if case.with_name(case.name + ".args").exists():
-            words = case.with_name(case.name + ".args").read_text(errors="surrogateescape").split("\n")[:-1]
+    for path in sorted(ENGINE_CASES.glob("*/*.stdout")):
+        case, args = path.with_suffix(""), path.with_suffix(".args")
+        words = args.read_text(errors="surrogateescape").split("\n")[:-1] if args.exists() else []
         words = [it for it in words if it != "--accounts"]
-        if len(words) > 1 or words and (words[0].startswith("-") or not (case.parent / words[0]).exists()):
-            continue
-        if not case.with_name(case.name + ".status").exists():
+        is_whole = not words or len(words) == 1 and not words[0].startswith("-") and (case.parent / words[0]).exists()
+        if is_whole and not path.with_suffix(".status").exists():
             yield pytest.param(case, [case.parent / it for it in words], id=case.relative_to(TOP).as_posix())
 
 

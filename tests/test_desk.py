@@ -1,29 +1,25 @@
 """tools/desk: what it answers, and what it refuses: strangers, large texts, long runs, and saves over a change on disk."""
+import contextlib
 import http.client
 import json
 import os
-import shutil
 import signal
 import socket
 import struct
 import threading
 import time
-import urllib.request
 from urllib.parse import parse_qs, urlsplit
 
 import pytest
-from commands import EXAMPLES, PAGES, needs
+from commands import PAGES, crawler_files, needs, script
 from conftest import running_desk
 
 pytestmark = needs(*PAGES)
 SMALL = {"list": "", "scenario": "alice quota\n"}
 # A release walks the heap's chunk, here of 900 blocks.
-LONG = {"list": "", "scenario": "@repeat 900\nalice new 1\n@end\n@repeat 320000 as i\nalice new 1 => at $block\nalice del $block => ok\n@end\n"}
-
-
-def test_page(desk):
-    with urllib.request.urlopen(desk("friendly/notes.scenario")) as page:
-        assert page.read(15) == b"<!doctype html>"
+BLOCKS = "@repeat 900\nalice new 1\n@end\n@repeat 320000 as i\nalice new 1 => at $block\nalice del $block => ok\n@end\n"
+LONG = {"list": "", "scenario": BLOCKS}
+STRANGER = "http://nethrywel.example"
 
 
 class Client:
@@ -31,30 +27,28 @@ class Client:
 
     def __init__(self, url, scenario):
         self.at, self.scenario = urlsplit(url), scenario
+        self.address, self.origin = (self.at.hostname, self.at.port), f"http://{self.at.netloc}"
         self.token = parse_qs(self.at.query)["token"][0]
-        self.page = f"/?token={self.token}"
 
-    def ask(self, method, path, body=None, **given):
+    def ask(self, method, path, text=b"", **given):
         """Returns the status and the text of a reply. A header that is None isn't sent."""
-        own = {"Host": self.at.netloc, "Origin": f"http://{self.at.netloc}", "X-Token": self.token}
-        link = http.client.HTTPConnection("127.0.0.1", self.at.port, timeout=600)
+        own = {"Host": self.at.netloc, "Origin": self.origin, "X_Token": self.token, "Content_Length": len(text)}
+        link = http.client.HTTPConnection(*self.address, timeout=600)
         link.putrequest(method, path, skip_host=True)
-        text = json.dumps(body).encode() if body is not None else b""
-        for name, value in {**own, **{it.replace("_", "-"): given[it] for it in given}, "Content-Length": str(len(text))}.items():
+        for name, value in {**own, **given}.items():
             if value is not None:
-                link.putheader(name, value)
+                link.putheader(name.replace("_", "-"), str(value))
         link.endheaders()
-        try:
+        with contextlib.suppress(BrokenPipeError, ConnectionResetError):
             link.send(text)
-        except (BrokenPipeError, ConnectionResetError):
-            pass
-        answer = link.getresponse()
-        found = answer.read().decode()
-        link.close()
-        return answer.status, found
+        with contextlib.closing(link), link.getresponse() as answer:
+            return answer.status, answer.read().decode()
+
+    def get(self, path=None, **given):
+        return self.ask("GET", path or f"/?token={self.token}", **{"Origin": None, **given})
 
     def post(self, path, body, **given):
-        return self.ask("POST", path, body, **given)
+        return self.ask("POST", path, json.dumps(body).encode(), **given)
 
     def expect(self, status, text, path, body, **given):
         found = self.post(path, body, **given)
@@ -74,30 +68,28 @@ class Client:
 def client(tmp_path_factory):
     """A client of a desk that ends when its terminal is closed."""
     folder = tmp_path_factory.mktemp("client")
-    for it in ("crawler.json", "crawler.scenario"):
-        shutil.copy(EXAMPLES / "friendly" / it, folder)
-    words = ("--seconds", "600", folder / "crawler.json", folder / "crawler.scenario")
-    with running_desk(folder, *words, end=signal.SIGHUP) as url:
-        yield Client(url, folder / "crawler.scenario")
+    files = crawler_files(folder)
+    with running_desk(folder, "--seconds", "600", *files, end=signal.SIGHUP) as url:
+        yield Client(url, files[1])
     assert sorted(os.listdir(folder)) == ["crawler.json", "crawler.scenario", "desk", "desk.err"]
 
 
-def test_pages(client):
-    def get(path, **given):
-        return client.ask("GET", path, **given)
-
-    status, text = get(client.page, Origin=None)
+def test_page(desk):
+    """A desk of a scenario alone shows its page."""
+    status, text = Client(desk("friendly/notes.scenario"), None).get()
     assert status == 200 and text.startswith("<!doctype html>")
-    for path in ("/", "/?token=x"):
-        assert get(path, Origin=None)[0] == 403
-    assert get(client.page, Origin=None, Host="nethrywel.example")[0] == 403
-    assert get(client.page, Origin="http://nethrywel.example")[0] == 403
-    assert get(f"/etc/passwd?token={client.token}")[0] == 404
+
+
+@pytest.mark.parametrize("status, path, header", [
+    (200, None, {}), (403, "/", {}), (403, "/?token=x", {}), (403, None, {"Host": "nethrywel.example"}),
+    (403, None, {"Origin": STRANGER}), (404, "/etc/passwd?token={}", {}), (431, None, {"X_Long": "x" * 20_000})])
+def test_pages(client, status, path, header):
+    assert client.get(path and path.replace("{}", client.token), **header)[0] == status
 
 
 @pytest.mark.parametrize("header", [
-    {"X_Token": "x"}, {"X_Token": None}, {"Origin": "http://nethrywel.example"}, {"Origin": None}, {"Origin": "null"},
-    {"Host": "nethrywel.example:{port}"}, {"Sec_Fetch_Site": "cross-site"}], ids=lambda it: "-".join(f"{name}-{it[name]}" for name in it))
+    {"X_Token": "x"}, {"X_Token": None}, {"Origin": STRANGER}, {"Origin": None}, {"Origin": "null"},
+    {"Host": "nethrywel.example:{port}"}, {"Sec_Fetch_Site": "cross-site"}], ids=lambda it: "-".join(map(str, *it.items())))
 def test_stranger(client, header):
     header = {name: value and value.replace("{port}", str(client.at.port)) for name, value in header.items()}
     for path, body in (("/run", SMALL), ("/save", SMALL), ("/rest", {"edit": 1, "what": "least"})):
@@ -120,35 +112,41 @@ def test_route_of_a_name_like_an_option(client):
     client.expect(200, "leads to log", "/rest", {"edit": edit, "what": "route", "from": "-v", "service": "LOG", "label": ""})
 
 
-def test_no_request(client):
-    edit = client.read("/run", SMALL)["edit"]
-    for path, body in (
-        ("/rest", {"edit": edit, "what": "run"}),
-        ("/rest", {"edit": edit, "what": "diff", "before": 1}),
-        ("/run", {"list": 1, "scenario": ""}),
-        ("/run", []),
-        ("/example", {"name": "../../README"}),
-        ("/save", {"list": "{}", "scenario": "", "sums": {"scenario": 1}}),
-        ("/save", {"list": "{}", "scenario": "", "sums": {"../x": ""}}),
-    ):
-        client.expect(400, "no request", path, body)
-    client.expect(200, "crawler", "/example", {"name": "friendly/crawler"})
+@pytest.mark.parametrize("status, text, path, body", [
+    (400, "no request", "/rest", {"edit": 1, "what": "run"}),
+    (400, "no request", "/rest", {"edit": 1, "what": "diff", "before": 1}),
+    (400, "no request", "/run", {"list": 1, "scenario": ""}),
+    (400, "no request", "/run", []),
+    (400, "no request", "/example", {"name": "../../README"}),
+    (400, "no request", "/save", {"list": "{}", "scenario": "", "sums": {"scenario": 1}}),
+    (400, "no request", "/save", {"list": "{}", "scenario": "", "sums": {"../x": ""}}),
+    (404, "nothing is here", "/none", SMALL),
+    (200, "crawler", "/example", {"name": "friendly/crawler"}),
+    (200, "invalid JSON", "/run", {"list": "[" * 5000, "scenario": ""}),
+    (413, "65537 bytes, at most 65536", "/run", {"list": " " * 65537, "scenario": ""}),
+    (413, "65537 bytes, at most 65536", "/run", {"list": "", "policy": "#" * 65537, "scenario": ""}),
+    (413, "1048577 bytes, at most 1048576", "/run", {"list": "", "scenario": "a" * 1048577}),
+    (413, "1000001 lines, at most 1000000", "/run", {"list": "", "scenario": "\n" * 1000001}),
+], ids="command number list array path sum file unknown example deep long-list long-policy long-line lines".split())
+def test_answers(client, status, text, path, body):
+    """What is no request of the desk, what nests too deeply and what is too large is answered, without a traceback."""
+    client.expect(status, text, path, body)
 
 
-@pytest.mark.parametrize("body, text", [
-    ({"list": " " * 65537, "scenario": ""}, "65537 bytes, at most 65536"),
-    ({"list": "", "policy": "#" * 65537, "scenario": ""}, "65537 bytes, at most 65536"),
-    ({"list": "", "scenario": "a" * 1048577}, "1048577 bytes, at most 1048576"),
-    ({"list": "", "scenario": "\n" * 1000001}, "1000001 lines, at most 1000000"),
-], ids=["list", "policy", "line", "lines"])
-def test_too_large(client, body, text):
-    client.expect(413, text, "/run", body)
+def test_deep_request(client):
+    assert client.ask("POST", "/run", b"[" * 100_000)[0] == 400
 
 
 @pytest.mark.slow
 def test_long_run(desk):
     """A long run is ended by its limit."""
     Client(desk("--seconds", "1"), None).expect(409, "longer than 1 seconds", "/run", LONG)
+
+
+def test_much_output(desk, tmp_path, monkeypatch):
+    """A run that writes too much is ended."""
+    monkeypatch.setenv("PROGRAMS", str(script(tmp_path / "programs/nethrywel", '[ "$1" = --version ] || exec yes').parent))
+    Client(desk("friendly/notes.scenario"), None).expect(409, "wrote more than 67108864 bytes", "/run", SMALL)
 
 
 @pytest.mark.slow
@@ -168,10 +166,8 @@ def test_later_edit(client):
 
 def test_saves(client):
     """A file is saved over what was read. A change by somebody else remains until the user decides."""
-    text = client.scenario.read_text()
-    sums = client.sums()
+    text, sums = client.scenario.read_text(), client.sums()
     assert client.save(text + "# saved\n", sums)[0] == 200
-    assert client.scenario.read_text() == text + "# saved\n"
     assert client.save("# late\n", sums, of_list="[]")[0] == 409
     assert client.scenario.read_text() == text + "# saved\n"
     sums = client.sums()
@@ -224,27 +220,24 @@ def is_closed(link):
 @pytest.mark.slow
 def test_odd_clients(client):
     """Clients that leave early, and slow clients with more connections than the desk has descriptors, keep no page waiting."""
-    at = (client.at.hostname, client.at.port)
     for header in (b"GET / HTTP/1.1\r\n", b"GET / HTTP/1.1\r\n\r\n", b"GET [ HTTP/1.1\r\nx\r\n\r\n") * 50:
-        with socket.create_connection(at) as it:
+        with socket.create_connection(client.address) as it:
             it.sendall(header)
             it.setsockopt(socket.SOL_SOCKET, socket.SO_LINGER, struct.pack("ii", 1, 0))
-    slow = []
-    for _ in range(400):
-        slow.append(socket.create_connection(at, timeout=30))
-        slow[-1].sendall(b"GET / HTTP/1.1\r\nHost: x\r\nX-Slow: ")
-    began = time.monotonic()
-    assert client.ask("GET", client.page, Origin=None)[0] == 200
-    assert time.monotonic() - began < 20
-    assert is_closed(slow[-1])
-    for it in slow:
-        it.close()
+    with contextlib.ExitStack() as ends:
+        slow = [ends.enter_context(socket.create_connection(client.address, timeout=30)) for _ in range(400)]
+        for it in slow:
+            with contextlib.suppress(OSError):
+                it.sendall(b"GET / HTTP/1.1\r\nHost: x\r\nX-Slow: ")
+        began = time.monotonic()
+        assert client.get()[0] == 200
+        assert time.monotonic() - began < 20
+        assert is_closed(slow[-1])
 
 
-def test_answers_at_once(client):
-    """A header that is too long, and a stranger's body that never comes, are answered at once."""
-    assert client.ask("GET", client.page, Origin=None, X_Long="x" * 20000)[0] == 431
-    with socket.create_connection((client.at.hostname, client.at.port), timeout=30) as it:
-        host = client.at.netloc
-        it.sendall(f"POST /save HTTP/1.1\r\nHost: {host}\r\nOrigin: http://{host}\r\nX-Token: x\r\nContent-Length: 9000000\r\n\r\n".encode())
+def test_body_that_never_comes(client):
+    """A stranger's body that never comes is refused at once."""
+    with socket.create_connection(client.address, timeout=30) as it:
+        header = f"Host: {client.at.netloc}\r\nOrigin: {client.origin}\r\nX-Token: x\r\nContent-Length: 9000000"
+        it.sendall(f"POST /save HTTP/1.1\r\n{header}\r\n\r\n".encode())
         assert b" 403 " in it.recv(100)

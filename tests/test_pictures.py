@@ -34,30 +34,31 @@ def test_accounts(nethrywel):
 
 @drawing
 def test_budgets(nethrywel):
-    """A strip is drawn for each interval; a list without budgets isn't drawn."""
+    """A strip is drawn for each interval."""
     rows = nethrywel("least", "--json", *SENSORS, "friendly/sensors.scenario").out
     ran = PICTURE("--budgets", stdin=rows)
     assert ran.status == 0 and ">archive/1 line 7<" in ran.out and ran.out.count("fill: #2a9d3a") == len(json.loads(rows))
-    ran = PICTURE("--budgets", stdin="[]")
-    assert (ran.status, ran.out, ran.err) == (1, "", "picture: there are no budgets\n")
+
+
+POINTS = 'Q,"D",C,status\n4K,1,1,0\n4K,1,2,0\n4K,2,1,0\n4K,2,2,3\n8K,1,1,3\n8K,2,1,0\n'
 
 
 @drawing
-def test_map(tmp_path):
+def test_map():
     """A cell is green if all its points have status 0, else red with a cross."""
-    (tmp_path / "points.csv").write_text('Q,"D",C,status\n4K,1,1,0\n4K,1,2,0\n4K,2,1,0\n4K,2,2,3\n8K,1,1,3\n8K,2,1,0\n')
-    ran = PICTURE("--heat", "Q", "D", tmp_path / "points.csv")
+    ran = PICTURE("--heat", "Q", "D", stdin=POINTS)
     assert ran.status == 0 and all(f">{it}<" in ran.out for it in ("4K", "8K", "Q", "D"))
     assert ran.out.count("fill: #2a9d3a") == ran.out.count("fill: #d9534f") == 2
-    ran = PICTURE("--heat", "Q", "X", tmp_path / "points.csv")
-    assert (ran.status, ran.out, ran.err) == (1, "", "picture: expected a table of tools/sweep over Q and X\n")
 
 
-@pytest.mark.parametrize("text, why", [("a,b\n", "expected the output"), ("[]\n", "expected the output"), ("", "the trace has no account")])
 @drawing
-def test_no_trace(text, why):
-    ran = PICTURE(stdin=text)
-    assert (ran.status, ran.out) == (1, "") and ran.err.startswith(f"picture: {why}") and ran.err.count("\n") == 1
+@pytest.mark.parametrize("words, text, why", [
+    ("", "a,b\n", "expected the output of nethrywel trace --json"), ("", "[]\n", "expected the output of nethrywel trace --json"),
+    ("", "", "the trace has no account"), ("--budgets", "[]", "there are no budgets"),
+    ("--budgets", "a,b\n", "expected the output of nethrywel least --json"),
+    ("--heat Q X", POINTS, "expected a table of tools/sweep over Q and X"), ("--heat Q D", "", "there are no points")])
+def test_refused(words, text, why):
+    assert PICTURE(*words.split(), stdin=text) == (1, "", f"picture: {why}\n")
 
 
 @drawing
@@ -74,10 +75,13 @@ def test_many_accounts():
 @pytest.mark.slow
 @drawing
 def test_long_trace():
-    """A trace of 200,000 calls, with many sessions, makes a picture of less than 600,000 bytes, which reports what it leaves out."""
-    account = (None, None, None, None)
-    calls = (call_of(i, f"c{i % 3}", "call 1 X", "OK", (i * 7 % 90, 99, i % 50, 60), i % 400, (i % 9, 9, 1, 2) if i % 2 else account) for i in range(1, 200_001))
-    ran = PICTURE(stdin=trace_of(*calls))
+    """A trace of 200,000 calls, with many sessions, makes a picture of less than 600,000 bytes, which reports what it leaves
+    out."""
+    def call(i):
+        session = (i % 9, 9, 1, 2) if i % 2 else (None, None, None, None)
+        return call_of(i, f"c{i % 3}", "call 1 X", "OK", (i * 7 % 90, 99, i % 50, 60), i % 400, session)
+
+    ran = PICTURE(stdin=trace_of(*map(call, range(1, 200_001))))
     assert ran.status == 0 and len(ran.out) < 600_000
     assert re.search(r">line \(dashed: the limit; thinned; [0-9]+ sessions are left out\)<", ran.out)
 
@@ -85,7 +89,7 @@ def test_long_trace():
 def test_missing_package(tmp_path):
     (tmp_path / "matplotlib.py").write_text("raise ImportError\n")
     ran = PICTURE(stdin=trace_of(call_of(1, "a", "quota", "x", (0, 1, 0, 1))), env=environment(PYTHONPATH=tmp_path))
-    assert (ran.status, ran.out, ran.err) == (1, "", "picture: python3-matplotlib isn't here; run dev/setup\n")
+    assert ran == (1, "", "picture: python3-matplotlib isn't here; run dev/setup\n")
 
 
 def test_figures():
@@ -117,5 +121,4 @@ def test_graph(nethrywel):
 def test_missing_graphviz(tmp_path):
     for name in ("bash", "env", "dirname", "readlink"):
         (tmp_path / name).symlink_to(shutil.which(name))
-    ran = GRAPH(env=environment(PATH=tmp_path))
-    assert (ran.status, ran.out, ran.err) == (1, "", "graph: Graphviz isn't here; run dev/setup\n")
+    assert GRAPH(env=environment(PATH=tmp_path)) == (1, "", "graph: Graphviz isn't here; run dev/setup\n")

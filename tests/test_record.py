@@ -5,7 +5,7 @@ import re
 import threading
 
 import pytest
-from commands import PYTHON, TOP, machine_of, run
+from commands import PYTHON, TOP, machine_of, needs, run
 from hypothesis import example, given
 from hypothesis import strategies as st
 from test_cases import scenarios
@@ -51,8 +51,8 @@ def test_shape(nethrywel, tmp_path_factory, shape):
 def drawn(draw):
     """Draws a scenario for the built-in machine, with names, sums, @set and rounds, in which no line has a fault.
 
-    alice takes only what she gives back, so what her replies bind is there. bob takes until he is refused. A reply is expected only
-    if it binds a name."""
+    alice takes only what she gives back, so what her replies bind is there. bob takes until he is refused. A reply is expected
+    only if it binds a name."""
     numbers = itertools.count(1)
 
     def pick(*of):
@@ -61,9 +61,9 @@ def drawn(draw):
     def page(_):
         number, at = next(numbers), draw(st.integers(0, 3999))
         page, where = f"page{number}", f"where{number}"
-        return [f"alice alloc 4K => cap ${page}", f"alice attach ${{{page}}} => at ${where}", f'  alice poke ${where}+{at} "{at} $$"',
-                f"alice peek ${where}+0x{at:x}+1 {pick(0, 1, 2, 3)}", f"alice peek ${where}+4096 1", f"alice detach ${where}",
-                f"alice free ${page}"]
+        return [f"alice alloc 4K => cap ${page}", f"alice attach ${{{page}}} => at ${where}",
+                f'  alice poke ${where}+{at} "{at} $$"', f"alice peek ${where}+0x{at:x}+1 {pick(0, 1, 2, 3)}",
+                f"alice peek ${where}+4096 1", f"alice detach ${where}", f"alice free ${page}"]
 
     def log(counters):
         text = pick("text", '$$5, \\"$$x\\" # *', "$size", *(f"${it}" for it in counters))
@@ -88,7 +88,8 @@ def drawn(draw):
             found += rounds(counters, deep) if make is rounds else make(counters)
         return found
 
-    return "\n".join(["@set size 4K", 'alice open LOG ram_quota=4K, cap_quota=2, label="$size" => cap $log', *lines([], 4, 12), ""])
+    opened = 'alice open LOG ram_quota=4K, cap_quota=2, label="$size" => cap $log'
+    return "\n".join(["@set size 4K", opened, *lines([], 4, 12), ""])
 
 
 @pytest.mark.slow
@@ -105,26 +106,39 @@ def test_example(nethrywel, tmp_path, name):
     assert ran.status == 0 and nethrywel("run", *machine_of(name), tmp_path / "recorded.scenario").status == 0
 
 
-def test_write(nethrywel, tmp_path):
-    """With --write a file is replaced, by a link too, and keeps its mode."""
-    file, link = tmp_path / "a.scenario", tmp_path / "link"
-    file.write_text("alice alloc 4K\nalice quota")
-    file.chmod(0o640)
-    link.symlink_to(file.name)
-    assert nethrywel("record", "--write", link) == (0, "", "")
-    assert file.read_text() == "alice alloc 4K => cap 1\nalice quota => ram 4096/65536 caps 1/16"
-    assert link.is_symlink() and file.stat().st_mode & 0o777 == 0o640
-    assert sorted(os.listdir(tmp_path)) == ["a.scenario", "link"]
+@pytest.fixture
+def scenario(tmp_path):
+    (tmp_path / "a.scenario").write_text("alice alloc 4K\nalice quota")
+    (tmp_path / "a.scenario").chmod(0o640)
+    return tmp_path / "a.scenario"
 
 
-def test_write_next_to_a_new_file(nethrywel, tmp_path):
-    """A new file that another run left is no obstacle, and remains."""
-    file, other = tmp_path / "b.scenario", tmp_path / "b.scenario.new0"
-    file.write_text("alice alloc 4K\n")
+RECORDED = "alice alloc 4K => cap 1\nalice quota => ram 4096/65536 caps 1/16"
+
+
+def test_write(nethrywel, scenario):
+    """With --write a file is replaced, by a link too, and keeps its mode. A new file that another run left is no obstacle, and
+    remains."""
+    link, other = scenario.with_name("link"), scenario.with_name("a.scenario.new0")
+    link.symlink_to(scenario.name)
     other.write_text("mine")
-    assert nethrywel("record", "--write", file) == (0, "", "")
-    assert (file.read_text(), other.read_text()) == ("alice alloc 4K => cap 1\n", "mine")
-    assert sorted(os.listdir(tmp_path)) == ["b.scenario", "b.scenario.new0"]
+    assert nethrywel("record", "--write", link) == (0, "", "")
+    assert (scenario.read_text(), other.read_text()) == (RECORDED, "mine")
+    assert link.is_symlink() and scenario.stat().st_mode & 0o777 == 0o640
+    assert sorted(os.listdir(scenario.parent)) == ["a.scenario", "a.scenario.new0", "link"]
+
+
+@needs("strace")
+def test_write_step_by_step(nethrywel, scenario):
+    """The new file is its owner's alone until it is written. It is on the disk before it takes the name, and then its folder
+    is."""
+    traced = "trace=openat,fchmod,fsync,rename,renameat,renameat2"
+    calls = run("strace", "-y", "-e", traced, nethrywel.path, "record", "--write", scenario).err
+    new = re.escape(f"{scenario}.new0")
+    steps = [rf'openat\(.*"{new}", .*O_CREAT\|O_EXCL.*, 0600\)', rf"fchmod\(\d+<{new}>, .*0?640\)", rf"fsync\(\d+<{new}>\)",
+             rf'rename.*"{new}", .*"{re.escape(str(scenario))}".*\)', rf"fsync\(\d+<{re.escape(str(scenario.parent))}>\)"]
+    assert re.search(r" = [^\n]*\n(.*\n)*".join(steps), calls), calls
+    assert scenario.read_text() == RECORDED
 
 
 def test_write_to_a_pipe(nethrywel, tmp_path):

@@ -1,20 +1,18 @@
 """The documents, the command lines of all tools, and checkers of the sources: shellcheck and pyflakes."""
-import hashlib
 import re
-
 
 import pytest
 from commands import CASES, EXAMPLES, PYTHON, TOP, needs, run, tool
 
 # Tools that take no argument, or only names that are known.
-CLOSED = ("dev/attack", "dev/check-documents", "dev/crate-graph", "dev/quotes", "dev/schema", "dev/setup", "dev/steps", "dev/tour", "tools/sweep")
-TOOLS = (*CLOSED, "dev/browse", "dev/package", "dev/pictures", "tools/desk", "tools/graph", "tools/install", "tools/picture", "tools/report",
-         "tests/run", "examples/statuses", "examples/compare", "bench/measure")
-PAGES_WRITTEN = ("docs/tutorial.md", "README.md")
+CLOSED = [*(f"dev/{it}" for it in "attack check-documents crate-graph schema setup steps theorems tour".split()), "tools/sweep"]
+TOOLS = [*CLOSED, *(f"dev/{it}" for it in ("browse", "package", "pictures")),
+         *(f"tools/{it}" for it in ("desk", "graph", "install", "picture", "report")),
+         "tests/run", "examples/statuses", "examples/compare", "bench/measure"]
 
 
-def pages_sum():
-    return hashlib.sha256(b"".join((TOP / it).read_bytes() for it in PAGES_WRITTEN)).hexdigest()
+def documents():
+    return {it: it.read_bytes() for it in (TOP / "README.md", *sorted((TOP / "docs").rglob("*.md")))}
 
 
 @pytest.mark.parametrize("name", TOOLS)
@@ -26,10 +24,9 @@ def test_help(name):
 @pytest.mark.parametrize("name, word", [*((name, "--frob") for name in TOOLS), *((name, "frob") for name in CLOSED)])
 def test_unknown_argument(name, word):
     """An unknown argument has status 2. Nothing is printed except why, and no page is written."""
-    before = pages_sum()
-    ran = tool(name)(word)
+    before, ran = documents(), tool(name)(word)
     assert (ran.status, ran.out) == (2, "") and ran.err
-    assert pages_sum() == before
+    assert documents() == before
 
 
 def test_nethrywel_tool(nethrywel):
@@ -43,27 +40,27 @@ def test_version(nethrywel):
     assert nethrywel("--version") == (0, f"nethrywel {version}\n", "")
 
 
-@pytest.mark.parametrize("command", ["check-documents", "quotes", "steps", "crate-graph --check", "theorems --check"])
-def test_documents(nethrywel, command):
-    """Links, words and scenarios of documents, quotes of sources, step lists, and the picture of the crates."""
-    ran = tool(f"dev/{command.split()[0]}")(*command.split()[1:], *[nethrywel.path] * (command == "check-documents"))
+@pytest.mark.parametrize("words", ["check-documents {}", "steps", "crate-graph --check", "theorems --check"])
+def test_documents(nethrywel, words):
+    """Links, words, quotes and scenarios of documents, step lists, the picture of the crates, and the places of the theorems."""
+    name, *words = words.format(nethrywel.path).split()
+    ran = tool(f"dev/{name}")(*words)
     assert ran.status == 0, ran.out + ran.err
 
 
 @needs("jsonschema")
 def test_schema(nethrywel):
     """The schema of start lists and the program agree on all start lists of the repository."""
-    ran = tool("dev/schema")(nethrywel.path, *(it for folder in (EXAMPLES, CASES, TOP / "bench") for it in sorted(folder.rglob("*.json"))))
+    lists = [it for folder in (EXAMPLES, CASES, TOP / "bench") for it in sorted(folder.rglob("*.json"))]
+    ran = tool("dev/schema")(nethrywel.path, *lists)
     assert ran.status == 0, ran.out + ran.err
 
 
-def pages_with_commands():
-    pages = [TOP / "README.md", *sorted((TOP / "docs").rglob("*.md"))]
-    return [it.relative_to(TOP).as_posix() for it in pages if re.search(r"^```console$", it.read_text(), re.M)]
+COMMANDS = [it.relative_to(TOP).as_posix() for it, text in documents().items() if b"\n```console\n" in text]
 
 
 @pytest.mark.slow
-@pytest.mark.parametrize("page", [*pages_with_commands(), "examples/ci"])
+@pytest.mark.parametrize("page", [*COMMANDS, "examples/ci"])
 def test_commands_of_page(page):
     """The commands of a page print what the page shows, and the jobs of examples/ci pass."""
     ran = tool("dev/tour")("--check", page)
@@ -85,19 +82,14 @@ def test_pictures(tmp_path):
 
 def sources(language):
     """Returns the files of tools, tests, bench and examples in a language, by their first lines and endings."""
-    found = [TOP / ".ci/run", *(it for folder in ("tools", "dev", "tests", "bench", "examples") for it in sorted((TOP / folder).rglob("*")))]
-    ending = {"sh": ".sh", "python": ".py"}[language]
-    for it in found:
-        if not it.is_file() or "/out/" in str(it) or it.suffix in (".png", ".svg"):
-            continue
-        with it.open("rb") as file:
-            first = file.readline()
-        if it.suffix == ending or first.startswith(b"#!") and language.encode() in first or language == "sh" and b"shellcheck shell" in first:
-            yield pytest.param(it, id=it.relative_to(TOP).as_posix())
+    mark, ending = {"sh": (rb"#!.*sh\b|# shellcheck shell", ".sh"), "python": (rb"#!.*python", ".py")}[language]
+    found = (it for folder in (".ci", "tools", "dev", "tests", "bench", "examples") for it in sorted((TOP / folder).rglob("*")))
+    found = [it for it in found if it.is_file() and "/out/" not in str(it)]
+    return [it for it in found if it.suffix == ending or re.match(mark, it.read_bytes())]
 
 
 @needs("shellcheck")
-@pytest.mark.parametrize("file", sources("sh"))
+@pytest.mark.parametrize("file", sources("sh"), ids=lambda it: it.relative_to(TOP).as_posix())
 def test_shellcheck(file):
     ran = run("shellcheck", "-x", "-P", "SCRIPTDIR", file, cwd=TOP)
     assert ran.status == 0, ran.out
@@ -105,5 +97,5 @@ def test_shellcheck(file):
 
 @needs("pyflakes")
 def test_pyflakes():
-    ran = run(PYTHON, "-m", "pyflakes", *(it.values[0] for it in sources("python")))
+    ran = run(PYTHON, "-m", "pyflakes", *sources("python"))
     assert ran.status == 0, ran.out

@@ -1,49 +1,42 @@
 """tools/sweep: its table, its map, and sweeps that are killed, planned, run on other hosts, or refused."""
 import csv
-import resource
 import shutil
 import subprocess
 import time
 from pathlib import Path
 
 import pytest
-from commands import EXAMPLES, environment, kill_tree, needs, tool
-
+from commands import EXAMPLES, environment, kill_tree, limited, needs, on_terminal, swept_scenario, tool
 
 SWEEP = tool("tools/sweep")
 CRAWLER = EXAMPLES / "friendly/crawler.json"
 pytestmark = needs("parallel")
 
 
-def donation(folder, name="swept.scenario"):
-    """Writes the crawler's scenario with a parameter D."""
-    (folder / name).write_text((EXAMPLES / "friendly/crawler.scenario").read_text().replace("1M", "$D"))
-    return folder / name
-
-
 def large(folder, *words):
-    """Returns the arguments of a sweep of 200 points over the crawler's budget and its last donation."""
+    """Returns the arguments of a sweep of 200 points over the crawler's budget and its last donation, into FOLDER/out."""
     machine = folder / "swept.json"
     machine.write_text(CRAWLER.read_text().replace('"128K"', '"${Q}"').replace('"caps": 24', '"caps": ${C}'))
-    return ["--machine", machine, "--scenario", donation(folder), "--set", "Q=96K..132K:4K", "--set", "C=20..29", "--set", "D=1M,64K",
-            *words, "accounts"]
+    axes = [it for axis in ("Q=96K..132K:4K", "C=20..29", "D=1M,64K") for it in ("--set", axis)]
+    return ["--machine", machine, "--scenario", swept_scenario(folder), *axes, "--out", folder / "out", *words, "accounts"]
 
 
 def small(folder, to, *words):
     """Returns the arguments of a sweep of four points, one in a batch."""
-    return ["--machine", CRAWLER, "--scenario", donation(folder, "a b.scenario"), "--set", "D=61K..64K:1K", "--points", "1", "--out", to,
-            *words, "run"]
+    scenario = swept_scenario(folder, "a b.scenario")
+    return ["--machine", CRAWLER, "--scenario", scenario, "--set", "D=61K..64K:1K", "--points", "1", "--out", to, *words, "run"]
+
+
+def table_of(folder, words):
+    ran = SWEEP(*words)
+    assert ran.status == 0, ran
+    return (folder / "points.csv").read_text()
 
 
 @pytest.fixture
 def table(once):
     """Returns the table of the large sweep."""
-
-    def make(folder):
-        ran = SWEEP(*large(folder, "--out", folder / "out"))
-        assert ran.status == 0, ran
-
-    return (once("sweep", make) / "out/points.csv").read_text()
+    return (once("sweep", lambda folder: table_of(folder / "out", large(folder))) / "out/points.csv").read_text()
 
 
 @pytest.mark.slow
@@ -66,29 +59,26 @@ def test_map(table):
 @pytest.mark.slow
 def test_killed(tmp_path, table):
     """A sweep that is killed continues with the points that it lacks, and its table is the same."""
-    words, rows = large(tmp_path, "--out", tmp_path / "out", "--points", "10", "--jobs", "1"), tmp_path / "out/rows"
+    words, out = large(tmp_path, "--points", "10", "--jobs", "1"), tmp_path / "out"
     with subprocess.Popen([SWEEP.path, *words], stdout=subprocess.DEVNULL, stderr=subprocess.DEVNULL) as ran:
-        while ran.poll() is None and not (rows / "3").exists():
+        while ran.poll() is None and not (out / "rows/3").exists():
             time.sleep(0.02)
         kill_tree(ran.pid)
-    assert not (tmp_path / "out/points.csv").exists()
-    before = (rows / "1").stat()
-    assert SWEEP(*words).status == 0
-    after = (rows / "1").stat()
+    assert not (out / "points.csv").exists()
+    before = (out / "rows/1").stat()
+    assert table_of(out, words) == table
+    after = (out / "rows/1").stat()
     assert (before.st_ino, before.st_mtime_ns) == (after.st_ino, after.st_mtime_ns)
-    assert (tmp_path / "out/points.csv").read_text() == table
 
 
 @pytest.mark.slow
 def test_batches(nethrywel, tmp_path, table):
     """A sweep is planned, its batches run as the tasks of an array, and then its table is written."""
-    words, out = large(tmp_path, "--out", tmp_path / "out", "--points", "50"), tmp_path / "out"
-    ran = SWEEP(*words[:-1], "--plan", words[-1])
-    assert ran.out == f"4 batches ({out})\n"
+    words, out = large(tmp_path, "--points", "50"), tmp_path / "out"
+    assert SWEEP(*words[:-1], "--plan", words[-1]).out == f"4 batches ({out})\n"
     for number in ("3", "1", "4"):
         assert SWEEP("--batch", number, "--program", nethrywel.path, out).status == 0
-    assert SWEEP(*words).status == 0
-    assert (out / "points.csv").read_text() == table
+    assert table_of(out, words) == table
 
 
 @pytest.mark.slow
@@ -98,9 +88,7 @@ def test_hosts(tmp_path, table, sshd):
     servers = [sshd(it) for it in ("host1", "host2", "host3")]
     servers[2].end()
     (tmp_path / "hosts").write_text("".join(it.line for it in servers))
-    ran = SWEEP(*large(tmp_path, "--out", tmp_path / "out", "--points", "20", "--hosts", tmp_path / "hosts"))
-    assert ran.status == 0, ran
-    assert (tmp_path / "out/points.csv").read_text() == table
+    assert table_of(tmp_path / "out", large(tmp_path, "--points", "20", "--hosts", tmp_path / "hosts")) == table
     for it in servers[:2]:
         assert "Accepted" in it.log.read_text()
         assert [file for file in it.home.rglob("*") if file.is_file()] == []
@@ -116,40 +104,46 @@ def test_names_that_a_shell_reads(nethrywel, tmp_path):
     assert (out / "points.csv").read_text().count("\n") == 5
 
 
+def test_progress(tmp_path):
+    """A sweep shows its progress on a terminal, and nothing elsewhere."""
+    assert SWEEP(*small(tmp_path, tmp_path / "one"))[::2] == (0, "")
+    ran = on_terminal(SWEEP.path, *small(tmp_path, tmp_path / "two"))
+    assert ran.status == 0 and "100%" in ran.err
+
+
 def test_this_host(tmp_path):
-    """`:` in a file of hosts is this one."""
+    """`:` in a file of hosts is this one. Each folder has its own name on other hosts."""
     (tmp_path / "here").write_text(":\n")
-    for out, words in (("one", ()), ("two", ("--hosts", tmp_path / "here"))):
-        assert SWEEP(*small(tmp_path, tmp_path / out, *words)).status == 0
-    assert (tmp_path / "one/points.csv").read_text() == (tmp_path / "two/points.csv").read_text()
-    ran = SWEEP(*small(tmp_path, tmp_path / "three", "--hosts", tmp_path / "none"))
+    hosts = {"one": [], "two": ["--hosts", tmp_path / "here"], "three": ["--hosts", tmp_path / "here"]}
+    assert len({table_of(tmp_path / out, small(tmp_path, tmp_path / out, *words)) for out, words in hosts.items()}) == 1
+    names = [(tmp_path / it / "remote").read_text() for it in ("two", "three")]
+    assert names[0] != names[1] and all(len(it) == 16 for it in names)
+    ran = SWEEP(*small(tmp_path, tmp_path / "four", "--hosts", tmp_path / "none"))
     assert (ran.status, ran.err) == (2, f"sweep: {tmp_path}/none: No such file or directory\n")
 
 
 def test_rows_that_are_cut_off(nethrywel, tmp_path):
     """A batch with rows missing runs again. The same sweep with another build of the program is refused."""
-    out, words = tmp_path / "out", small(tmp_path, tmp_path / "out")
-    assert SWEEP(*words).status == 0
-    whole = (out / "points.csv").read_text()
+    out, words, other = tmp_path / "out", small(tmp_path, tmp_path / "out"), tmp_path / "other/nethrywel"
+    whole = table_of(out, words)
     (out / "rows/2").write_text("")
-    assert SWEEP(*words).status == 0
-    assert (out / "points.csv").read_text() == whole
-    other = tmp_path / "other"
-    other.mkdir()
-    (other / "nethrywel").write_bytes(Path(nethrywel.path).read_bytes() + b"\n")
-    (other / "nethrywel").chmod(0o755)
-    ran = SWEEP(*words, env=environment(PROGRAMS=other))
-    assert ran.status != 0 and "another build of nethrywel" in ran.err
+    assert table_of(out, words) == whole
+    other.parent.mkdir()
+    other.write_bytes(Path(nethrywel.path).read_bytes() + b"\n")
+    other.chmod(0o755)
+    ran = SWEEP(*words, env=environment(PROGRAMS=other.parent))
+    assert ran.status == 2 and "another build of nethrywel" in ran.err
 
 
 def test_trillion_points(tmp_path):
     """The plan of many points takes no memory for each."""
-    limit = {"preexec_fn": lambda: resource.setrlimit(resource.RLIMIT_AS, (2_048_000_000, 2_048_000_000))}
-    words = ["--machine", CRAWLER, "--scenario", donation(tmp_path), "--set", "D=1..1000000000000", "--out", tmp_path / "out", "--plan", "run"]
-    assert SWEEP(*words, **limit).out == f"10000000000 batches ({tmp_path}/out)\n"
+    out, axis = tmp_path / "out", "D=1..1000000000000"
+    words = ["--machine", CRAWLER, "--scenario", swept_scenario(tmp_path), "--set", axis, "--out", out]
+    assert SWEEP(*words, "--plan", "run", **limited(**{"as": 2_048_000_000})).out == f"10000000000 batches ({tmp_path}/out)\n"
 
 
-@pytest.mark.parametrize("words", ["--set E=1,2 run", "--set D=9..1 run", "--set D=1,2 --points 0 run", "--set D=1 --machine none.json run", "--set D=1"])
+@pytest.mark.parametrize("words", [
+    "--set E=1,2 run", "--set D=9..1 run", "--set D=1,2 --points 0 run", "--set D=1 --machine none.json run", "--set D=1"])
 def test_refused(tmp_path, words):
     scenario = EXAMPLES / "friendly/crawler.scenario"
     ran = SWEEP("--machine", CRAWLER, "--scenario", scenario, "--out", tmp_path / "out", *words.split())

@@ -35,7 +35,12 @@ def test_exclusive(tmp_path, monkeypatch):
     """The new file is created for its owner alone, and never opened if something has its name already."""
     made = []
     real = os.open
-    monkeypatch.setattr(os, "open", lambda path, flags, mode=0o777, **named: made.append((str(path), flags, mode)) or real(path, flags, mode, **named))
+
+    def opened(path, flags, mode=0o777, **named):
+        made.append((str(path), flags, mode))
+        return real(path, flags, mode, **named)
+
+    monkeypatch.setattr(os, "open", opened)
     files.write_whole(tmp_path / "file", b"text")
     flags, mode = next(it[1:] for it in made if it[0].startswith(f"{tmp_path}/.file."))
     assert flags & os.O_EXCL and flags & os.O_CREAT and flags & os.O_NOFOLLOW and mode == 0o600

@@ -27,28 +27,25 @@ ready() {
         fi
     fi
     if [ ! -x "$found" ]; then
-        echo "${0##*/}: $1 isn't built: tools/install proves it and installs it, tools/nethrywel builds it without a proof and keeps it" >&2
+        echo "${0##*/}: $1 isn't built: tools/install proves it and installs it," \
+            "tools/nethrywel builds it without a proof and keeps it" >&2
         return 1
     fi
     echo "$found"
 }
 
-# sources TEST..: prints the files that the programs are built from, as far as these tests of find hold, each with a NUL after it.
-sources() {
-    (cd "$top" && find crates.txt crates/*/src crates/*/specs crates/*/proofs -type f "$@" -print0)
-}
+# What the programs are built from: with proofs, and without them.
+with_proofs=(crates.txt "crates/*/src" "crates/*/specs" "crates/*/proofs") without_proofs=(crates.txt "crates/*/src")
 
-# sources_sum: prints the sum of what the programs are built from.
+# sources_sum PLACE..: prints the sum of the files in places of the repository.
 sources_sum() {
-    local sum
-    sum=$(sources | LC_ALL=C sort -z | (cd "$top" && xargs -0 sha256sum) | sha256sum)
-    echo "${sum%% *}"
+    # shellcheck disable=SC2068
+    (cd "$top" && find $@ -type f -print0 | LC_ALL=C sort -z | xargs -0 sha256sum | sha256sum | cut -d ' ' -f 1)
 }
 
-# sum_line NAME: prints what NAME.sources beside a program has: the sums of the sources and of the program itself.
+# sum_line NAME: prints what NAME.sources next to a program has: the sums of the sources and of the program itself.
 sum_line() {
-    local sum
-    sum=$(sha256sum <"$(program "$1")") && echo "$(sources_sum) ${sum%% *}"
+    echo "$(sources_sum "${with_proofs[@]}") $(sha256sum "$(program "$1")" | cut -d ' ' -f 1)"
 }
 
 # unfit NAME: prints why a program isn't the proved one of the sources; it fails if it is.
@@ -71,10 +68,11 @@ adopt() {
     local at
     at=$(program "$1")
     [ -z "${PROGRAMS:-}" ] && [ -d "$top/crates" ] && [ -x "$at" ] && ! [ "$at.sources" -nt "$at" ] || return 0
-    [ -n "$(sources -newer "$at" | head -c 1 | tr '\0' x)" ] || sum_line "$1" >"$at.sources"
+    # shellcheck disable=SC2068
+    [ -n "$(cd "$top" && find ${with_proofs[@]} -type f -newer "$at" | head -c 1)" ] || sum_line "$1" >"$at.sources"
 }
 
-# build NAME: proves and builds a program, unless it is the proved one of the sources. Beside it is NAME.sources then.
+# build NAME: proves and builds a program, unless it is the proved one of the sources. NAME.sources is next to it then.
 build() {
     local why before said=/dev/null
     needs readelf binutils
@@ -85,11 +83,11 @@ build() {
         return 1
     fi
     echo "${0##*/}: $why; building $1: a first proof of all crates takes long" >&2
-    before=$(sources_sum)
+    before=$(sources_sum "${with_proofs[@]}")
     # On a terminal the lines of the toolchain are the progress of the proof.
     [ ! -t 2 ] || said=/dev/stderr
     (cd "$top/crates/$1" && rt run </dev/null >"$said") || return 1
-    if [ "$(sources_sum)" != "$before" ]; then
+    if [ "$(sources_sum "${with_proofs[@]}")" != "$before" ]; then
         echo "${0##*/}: the sources were changed during the build; run it again" >&2
         return 1
     fi
@@ -97,16 +95,9 @@ build() {
     ! why=$(unfit "$1") || { echo "${0##*/}: $why" >&2 && return 1; }
 }
 
-# version: prints the version, which is the first heading of CHANGELOG.md.
-version() {
-    sed -n '/^## /{s///p;q}' "$top/CHANGELOG.md"
-}
-
 # unproved: prints the folder of the programs that are built without a proof of the sources as they are. Git ignores it.
 unproved() {
-    local sum
-    sum=$(cd "$top" && find crates.txt crates/*/src -type f -print0 | LC_ALL=C sort -z | xargs -0 sha256sum | sha256sum)
-    echo "$top/out/unproved/${sum:0:16}"
+    echo "$top/out/unproved/$(sources_sum "${without_proofs[@]}" | cut -c -16)"
 }
 
 # build_unproved NAME: builds a program without a proof, as `rt try` does, and keeps it in the folder that `unproved` prints.

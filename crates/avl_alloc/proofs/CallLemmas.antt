@@ -12,7 +12,7 @@ use Rattle.avl_alloc.specs.declared.best_fit.BestFit.{BestFit}
 use Rattle.avl_alloc.specs.Words.{Words, place_at, with_word, within, IsNode}
 use Rattle.avl_tree.specs.Tree.{Tree, high, found}
 use Rattle.avl_tree.specs.View.{AreNodes}
-use Rattle.avl_alloc.specs.Holes.{Fits, key, by_key, heads, links}
+use Rattle.avl_alloc.specs.FreeBlocks.{Fits, key, by_key, heads, links}
 use Rattle.avl_alloc.specs.Fit.{IsPlaceOf}
 use Rattle.avl_alloc.specs.Found.{block_addr}
 use Rattle.avl_alloc.specs.Layout.{Laid, heap_of, sizes_of, bytes_of, hole_count, weigh_all, none, whole, IsChunk, AreChunks, IsLaidOut, IsSound, ChangesHoles}

@@ -7,7 +7,7 @@ use Rattle.own_model.specs.Heap.{Block, Used, Hole, bytes_in, Heap}
 use Rattle.avl_alloc.specs.declared.best_fit.BestFit.{BestFit}
 use Rattle.avl_alloc.specs.Words.{Words, place_at, within, IsNode}
 use Rattle.avl_tree.specs.Tree.{Tree}
-use Rattle.avl_alloc.specs.Holes.{heads, links}
+use Rattle.avl_alloc.specs.FreeBlocks.{heads, links}
 use Rattle.avl_alloc.specs.Layout.{Laid, weigh_all, none, whole, sizes_of, bytes_of, IsChunk, AreChunks, IsLaidOut}
 use Rattle.avl_alloc.specs.Context.{Context, heap_with, start_of, around}
 use Rattle.avl_alloc.proofs.LayoutLemmas.{chunk_there}

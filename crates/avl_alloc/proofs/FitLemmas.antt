@@ -8,7 +8,7 @@ use Rattle.own_model.specs.BestFit.{Spot, holes_in, holes_from, holes_of, comes_
 use Rattle.avl_alloc.specs.Fit.{AreShort, IsPlaceOf}
 use Rattle.avl_alloc.specs.Words.{place_at}
 use Rattle.avl_tree.specs.Tree.{Tree, tally, found, same, is_at, at_least, between, IsFirst, nowhere, somewhere, IsOrdered}
-use Rattle.avl_alloc.specs.Holes.{key, by_key}
+use Rattle.avl_alloc.specs.FreeBlocks.{key, by_key}
 use Rattle.avl_alloc.specs.Layout.{weigh, weigh_all, none, weigh_holes, hole_count}
 use Rattle.avl_tree.proofs.TreeLemmas.{one}
 use Rattle.avl_tree.proofs.OrderLemmas.{same-same, found-first}

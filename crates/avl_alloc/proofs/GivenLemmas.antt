@@ -12,7 +12,7 @@ use Rattle.own_model.specs.BestFit.{chunk_of, given_in, given, used_at, payload_
 use Rattle.avl_alloc.specs.declared.best_fit.BestFit.{BestFit}
 use Rattle.avl_alloc.specs.declared.chunk.Block.{Block as BlockFound}
 use Rattle.avl_alloc.specs.Words.{Words, place_at}
-use Rattle.avl_alloc.specs.Holes.{heads}
+use Rattle.avl_alloc.specs.FreeBlocks.{heads}
 use Rattle.avl_alloc.specs.Layout.{heap_of, hole_count, sizes_of, whole, kept_at, AreChunks, IsLaidOut, IsSound, ChangesHoles}
 use Rattle.avl_alloc.specs.Context.{Context, heap_with, Stand, Turn, gap, first_hole, start_of}
 use Rattle.avl_alloc.specs.Walk.{block_there}

@@ -7,7 +7,7 @@ use Rattle.avl_tree.specs.Tree.{Tree, Leaf, Node, tally, is_at, ranked}
 use Rattle.avl_tree.specs.View.{IsRelinked, Holds, AreNodes, covered}
 use Rattle.avl_tree.proofs.ViewLemmas.{nodes_in}
 use Rattle.avl_alloc.specs.Words.{Words, with_word, IsPlace, IsNode, within}
-use Rattle.avl_alloc.specs.Holes.{key, view_of, heads, links, cover, hole_plan, Fits}
+use Rattle.avl_alloc.specs.FreeBlocks.{key, view_of, heads, links, cover, hole_plan, Fits}
 
 -- a test that holds, and one that doesn't
 pub leb-true : {m n : ℕ} → m ≤ n → nat_le m n ≡ true

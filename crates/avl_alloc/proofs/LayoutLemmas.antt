@@ -14,7 +14,7 @@ use Rattle.avl_alloc.specs.declared.best_fit.BestFit.{BestFit}
 use Rattle.avl_alloc.specs.declared.chunk.Block.{Block as BlockFound}
 use Rattle.avl_alloc.specs.Words.{Words, place_at}
 use Rattle.avl_tree.specs.Tree.{Tree}
-use Rattle.avl_alloc.specs.Holes.{heads, links, cover, Fits}
+use Rattle.avl_alloc.specs.FreeBlocks.{heads, links, cover, Fits}
 use Rattle.avl_alloc.specs.Layout.{Laid, IsHeader, block_from, blocks_from, weigh_all, whole, kept_at, chunks_from, heap_of, sizes_of, bytes_of, IsChunk, AreChunks, IsRoom, IsLaidOut, IsSound}
 use Rattle.avl_alloc.specs.Walk.{block_over}
 use Rattle.avl_alloc.proofs.HoleLemmas.{holds_kept, ltb-true, ltb-false}

@@ -7,7 +7,7 @@ use Rattle.avl_alloc.specs.declared.best_fit.BestFit.{BestFit}
 use Rattle.avl_alloc.specs.Words.{Words, place_at, with_word, within, IsNode}
 use Rattle.avl_tree.specs.Tree.{Tree, root_of, tally, is_at, inserted, removed, same, ranked, IsBalanced, IsOrdered}
 use Rattle.avl_tree.specs.View.{AreNodes, Holds, Becomes, Stands, IsNew}
-use Rattle.avl_alloc.specs.Holes.{key, by_key, view_of, hole_plan, heads, links, cover}
+use Rattle.avl_alloc.specs.FreeBlocks.{key, by_key, view_of, hole_plan, heads, links, cover}
 use Rattle.avl_alloc.specs.Layout.{Laid, weigh, none, whole, sizes_of, bytes_of, weigh_holes, IsLaidOut}
 use Rattle.avl_alloc.specs.Context.{Context, heap_with, start_of, around, Stand, Turn, AreUsed}
 use Rattle.avl_tree.proofs.TreeLemmas.{one, tally-inserted, tally-removed_le, inserted-grows, removed-shrinks, high_bound}

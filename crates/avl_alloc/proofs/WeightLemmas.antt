@@ -5,7 +5,7 @@ use Rattle.std.proofs.lemmas.Bool.Decides.{nat_tests}
 use Rattle.own_model.proofs.ListLemmas.{all_left, all_right}
 use Rattle.own_model.specs.Heap.{Block, Used, Hole, size_of, bytes_in, Heap}
 use Rattle.avl_alloc.specs.Words.{Words, place_at, within}
-use Rattle.avl_alloc.specs.Holes.{heads, links}
+use Rattle.avl_alloc.specs.FreeBlocks.{heads, links}
 use Rattle.avl_alloc.specs.Layout.{Laid, weigh, weigh_all, none, whole, AreChunks}
 use Rattle.avl_alloc.specs.Context.{Context, heap_with, start_of, around}
 use Rattle.avl_tree.proofs.TreeLemmas.{one}

@@ -1,4 +1,4 @@
--- A part of a heap, by its context: what stands around it.
+-- A part of a heap, by its context: what is around it.
 use Rattle.std.specs.Prelude.{◌≡◌, ℕ, ◌+◌, ◌*◌, ◌^◌, ◌<◌, ◌≤◌, ◌==◌, if◌then◌else◌, List, [], ◌∷◌, ◌++◌, length}
 use Rattle.own_model.specs.Heap.{Block, Used, Hole, bytes_in, Heap}
 use Rattle.avl_alloc.specs.declared.best_fit.BestFit.{BestFit}
@@ -6,7 +6,7 @@ use Rattle.avl_alloc.specs.Words.{Words, place_at, within}
 use Rattle.avl_tree.specs.Tree.{Tree}
 use Rattle.avl_alloc.specs.Layout.{weigh, weigh_all, none, whole, sizes_of, hole_count, IsLaidOut}
 
--- the chunks before, the blocks before in the same chunk, the blocks behind, the chunks behind
+-- the chunks before, the blocks before in the same chunk, the blocks after, the chunks after
 pub record Context : Type 0 where
   pub older : Heap
   pub left : List Block
@@ -29,7 +29,7 @@ around used hole at bytes =
     + weigh used hole (start_of at + bytes) at.right
     + weigh_all used hole (length at.older + 1) at.newer
 
--- blocks stand at a place of the heap in the words, and the tree has all holes
+-- blocks are at a place of the heap in the words, and the tree has all holes
 pub record Stand (fit : BestFit) (words : Words) (at : Context) (place : ℕ) (blocks : List Block) : Type 0 where
   pub start : start_of at ≡ place
   pub tree : Tree
@@ -42,11 +42,11 @@ pub record Turn (old new : BestFit) (w v : Words) (at : Context) (place : ℕ) (
   pub sizes : sizes_of new ≡ sizes_of old
   pub kept : (q : ℕ) → within place (place + bytes_in from) q + around none (whole q) at (bytes_in from) ≡ 0 → v q ≡ w q
 
--- such blocks stand at a place, somewhere in the heap
+-- such blocks are at a place, somewhere in the heap
 abbrev pub StandSomewhere : BestFit → Words → ℕ → List Block → Type 0
 StandSomewhere fit words place blocks = (at : Context) × Stand fit words at place blocks
 
--- blocks that stand at a place become others, wherever that is in the heap
+-- blocks that are at a place become others, wherever that is in the heap
 abbrev pub Turns : BestFit → BestFit → Words → Words → ℕ → List Block → List Block → Type 0
 Turns old new w v place from to = (at : Context) → Stand old w at place from → Turn old new w v at place from to
 
@@ -61,14 +61,14 @@ AreUsed [] = Unit {0}
 AreUsed (Used n ∷ rest) = AreUsed rest
 AreUsed (Hole n ∷ rest) = ⊥
 
--- used blocks stand there, of so many bytes together
+-- used blocks are there, of so many bytes together
 pub record StandUsed (fit : BestFit) (words : Words) (at : Context) (place : ℕ) (blocks : List Block) (bytes : ℕ) : Type 0 where
   pub stand : Stand fit words at place blocks
   pub used : AreUsed blocks
   pub total : bytes_in blocks ≡ bytes
   pub some : 0 < bytes
 
--- a hole of so many bytes, nothing where they are 0
+-- a hole of so many bytes, nothing if they are 0
 abbrev pub gap : ℕ → List Block
 gap bytes = if bytes == 0 then [] else Hole bytes ∷ []
 
@@ -76,7 +76,7 @@ gap bytes = if bytes == 0 then [] else Hole bytes ∷ []
 abbrev pub filled : ℕ → List Block
 filled bytes = if bytes == 0 then [] else Used bytes ∷ []
 
--- the size of the hole that comes first among blocks, 0 where none does
+-- the size of the hole that comes first among blocks, 0 if none does
 abbrev pub first_hole : List Block → ℕ
 first_hole [] = 0
 first_hole (Used n ∷ rest) = 0

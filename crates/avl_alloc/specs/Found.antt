@@ -1,4 +1,4 @@
--- Blocks as calls tell them.
+-- Blocks as calls return them.
 use Rattle.std.specs.Prelude.{ℕ}
 use Rattle.own_model.specs.BestFit.{Spot}
 use Rattle.avl_alloc.specs.declared.best_fit.BlockAddr.{BlockAddr}
@@ -8,6 +8,6 @@ use Rattle.avl_alloc.specs.declared.best_fit.UsedBlock.{UsedBlock}
 abbrev pub used_block : ℕ → ℕ × ℕ → UsedBlock
 used_block chunk block = record { chunk = chunk; offset = block.0; size = block.1 }
 
--- where a hole stands
+-- the address of a hole
 abbrev pub block_addr : Spot → BlockAddr
 block_addr hole = record { chunk = hole.chunk; offset = hole.offset }

@@ -8,7 +8,7 @@ use Rattle.avl_alloc.specs.declared.best_fit.BestFit.{BestFit}
 use Rattle.avl_tree.specs.Tree.{Tree, tally, IsOrdered}
 use Rattle.avl_tree.specs.View.{AreNodes, Stands}
 use Rattle.avl_alloc.specs.Words.{Words, place_at, within, IsNode}
-use Rattle.avl_alloc.specs.Holes.{heads, by_key, view_of, hole_plan}
+use Rattle.avl_alloc.specs.FreeBlocks.{heads, by_key, view_of, hole_plan}
 
 -- ---- blocks
 
@@ -86,11 +86,11 @@ chunks_from words number (size ∷ sizes) = blocks_from size words (place_at num
 abbrev pub sizes_of : BestFit → List ℕ
 sizes_of fit = take fit.count fit.sizes
 
--- the bytes of each chunk by its number, 0 where there is no such chunk
+-- the bytes of each chunk by its number, 0 if there is no such chunk
 abbrev pub bytes_of : BestFit → ℕ → ℕ
 bytes_of fit chunk = slice_index (sizes_of fit) chunk
 
--- the heap that stands in the words
+-- the heap that is in the words
 unfoldable pub heap_of : BestFit → Words → Heap
 heap_of fit words = chunks_from words 0 (sizes_of fit)
 

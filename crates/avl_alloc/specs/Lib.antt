@@ -1,5 +1,5 @@
 pub mod Words
-pub mod Holes
+pub mod FreeBlocks
 pub mod Layout
 pub mod Context
 pub mod Walk

@@ -4,7 +4,7 @@ use Rattle.own_model.specs.Heap as heap
 use Rattle.own_model.specs.Heap.{Used, Hole, bytes_in}
 use Rattle.avl_alloc.specs.declared.chunk.Block.{Block}
 
--- the block that has an offset, among blocks from an offset on, behind a hole of the size `before`, or behind none where that is 0
+-- the block that has an offset, among blocks from an offset on, after a hole of the size `before`, or after none if that is 0
 abbrev pub block_over : ℕ → ℕ → ℕ → List heap.Block → Block
 block_over from before target [] = record { offset = from; size = 0; used = false; before = before }
 block_over from before target (Used n ∷ rest) =

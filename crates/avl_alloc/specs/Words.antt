@@ -9,7 +9,7 @@ Words = ℕ → ℕ
 unfoldable pub with_word : Words → ℕ → ℕ → Words
 with_word words place word = λ q. if q == place then word else words q
 
--- the place of an offset of a chunk: chunks stand far apart, and 0 is no place
+-- the place of an offset of a chunk: chunks are far apart, and 0 is no place
 abbrev pub place_at : ℕ → ℕ → ℕ
 place_at chunk offset = (chunk + 1) * 2 ^ 32 + offset
 

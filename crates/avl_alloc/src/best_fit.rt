@@ -3,55 +3,55 @@ ghost use Rattle.std.specs.Prelude.{◌≡◌, ℕ, ◌+◌, ◌-◌, ◌*◌, �
 ghost use Rattle.std.specs.Option.{option_map};
 ghost use Rattle.own_model.specs.Heap.{Block as ModelBlock, Used, Hole, bytes_in, IsBlockSize};
 ghost use Rattle.own_model.specs.BestFit.{block_size, best_hole, holes_of, chunk_of, cut, taken, used_at, given, payload_at, binary_digits};
-ghost use Rattle.avl_alloc.specs.Holes.{Fits};
+ghost use Rattle.avl_alloc.specs.FreeBlocks.{Fits};
 ghost use Rattle.avl_alloc.specs.Layout.{heap_of, sizes_of, bytes_of, hole_count, IsSound, ChangesHoles};
 ghost use Rattle.avl_alloc.specs.Context.{Context, heap_with, Stand, StandSomewhere, StandUsed, Turn, Turns, LoadsFew, gap, filled, first_hole};
 ghost use Rattle.avl_alloc.specs.Walk.{block_there};
 ghost use Rattle.avl_alloc.specs.Found.{used_block, block_addr};
 
 use super::chunk::{Block, HOLE, USED, hole_at, set_header, set_state, walk};
-use super::holes::{HoleKey, Holes};
+use super::free_blocks::{FreeBlockKey, FreeBlocks};
 use super::memory::{SPAN, WordMemory, load, place_of};
 use avl_tree::{find, insert, remove};
 use trade_base::{BLOCK_HEADER, LEAST_BLOCK};
 
-/// The most chunks of a heap.
+/// The maximum number of chunks of a heap.
 pub const MOST_CHUNKS: usize = 64;
 
-/// Where a block starts. Its payload is 16 bytes on.
+/// The address of a block. The payload is 16 bytes after it.
 #[derive(Clone, Copy, PartialEq, Eq)]
 pub struct BlockAddr {
-    /// The number of its chunk.
+    /// The number of the block's chunk.
     pub chunk: usize,
-    /// The offset of its first byte in the chunk.
+    /// The offset of the block's first byte in the chunk.
     pub offset: u64,
 }
 
-/// A used block.
+/// A used block of a heap, by its chunk, offset and size.
 #[derive(Clone, Copy, PartialEq, Eq)]
 pub struct UsedBlock {
-    /// The number of its chunk.
+    /// The number of the block's chunk.
     pub chunk: usize,
-    /// The offset of its first byte in the chunk. Its payload is 16 bytes on.
+    /// The offset of the block's first byte in the chunk. The payload is 16 bytes after it.
     pub offset: u64,
-    /// Its bytes, those of the header among them.
+    /// The size of the block in bytes, with its header.
     pub size: u64,
 }
 
-/// The chunks of a heap, and the tree inside its holes. Blocks, links and sizes of blocks stand in
-/// the words of a `WordMemory`, which is the same one in all calls.
+/// The chunks of a heap, and the tree of its free blocks. Headers and links are stored in the words of a `WordMemory`,
+/// which must be the same one in all calls.
 #[derive(Drop)]
 pub struct BestFit {
-    /// The tree's root, or 0 while there is no hole.
+    /// The tree's root, or 0 if there is no free block.
     root: u64,
-    /// How many chunks there are.
+    /// The number of chunks.
     count: usize,
-    /// The bytes of each chunk.
+    /// The size of each chunk, in bytes.
     sizes: [u64; MOST_CHUNKS],
 }
 
 impl BestFit {
-    /// A heap without a chunk.
+    /// Creates a heap that has no chunk and no block.
     pub fn new() -> BestFit
         ensures empty { (words : ℕ → ℕ) → heap_of result words ≡ [] }
         ensures sound { (words : ℕ → ℕ) → IsSound result words }
@@ -64,7 +64,7 @@ impl BestFit {
         }
     }
 
-    /// The bytes of a chunk.
+    /// Returns the size of a chunk, in bytes.
     pub fn chunk_size(&self, chunk: usize) -> u64
         requires { chunk < length (sizes_of self.now) }
         ensures { result ≡ bytes_of self.now chunk }
@@ -72,8 +72,8 @@ impl BestFit {
         self.sizes[chunk]
     }
 
-    /// One chunk more, behind the others, as one hole. Its bytes are words already. It comes as one
-    /// used block, which is then made a hole.
+    /// Adds a chunk after the others, as one free block. `memory` already has its words. The chunk is first written as
+    /// one used block, which is then freed.
     pub fn add_chunk<M: WordMemory>(&mut self, memory: &mut M, ordinal: usize, bytes: u64)
         requires sound { IsSound self.old (M.word memory.old) }
         requires fits { Fits (bytes_of self.old) (M.bytes (M.rest memory.old)) }
@@ -99,8 +99,8 @@ impl BestFit {
         self.put_in(memory, place, bytes);
     }
 
-    /// Takes the best hole for `bytes` bytes, or answers `None` where no hole is large enough. What is
-    /// left of the hole stays one, unless it is less than a block.
+    /// Allocates a block in the best-fitting free block for `bytes` bytes of payload, or returns `None` if no free block
+    /// is large enough. The remainder stays a free block, unless it is below the minimum block size of 48 bytes.
     pub fn alloc<M: WordMemory>(&mut self, memory: &mut M, bytes: u64) -> Option<BlockAddr>
         requires sound { IsSound self.old (M.word memory.old) }
         requires fits { Fits (bytes_of self.old) (M.bytes (M.rest memory.old)) }
@@ -120,8 +120,8 @@ impl BestFit {
             M.loads memory.new ≤ M.loads memory.old + 256 * (binary_digits holes + 2) }
     {
         let size = block_bytes(bytes);
-        let key = HoleKey { size, place: 0 };
-        let place = find(&Holes::<M>::new(), memory, self.root, key);
+        let key = FreeBlockKey { size, place: 0 };
+        let place = find(&FreeBlocks::<M>::new(), memory, self.root, key);
         if place == 0 {
             return None;
         }
@@ -132,8 +132,8 @@ impl BestFit {
         })
     }
 
-    /// Gives back the used block that starts at an address and tells its size, or answers `None`
-    /// where none does. The hole that it makes takes in the holes directly before and behind it.
+    /// Frees the used block that starts at an address and returns its size in bytes, or returns `None` if no used block
+    /// starts there. The new free block is merged with the free blocks directly before and after it.
     pub fn free<M: WordMemory>(&mut self, memory: &mut M, addr: BlockAddr) -> Option<u64>
         requires sound { IsSound self.old (M.word memory.old) }
         requires fits { Fits (bytes_of self.old) (M.bytes (M.rest memory.old)) }
@@ -170,8 +170,8 @@ impl BestFit {
         Some(block.size)
     }
 
-    /// The used block whose payload holds an address, or `None` where no payload does. It believes
-    /// no header but those that it reaches from the chunk's first byte.
+    /// Returns the used block whose payload contains an address, or `None` if no payload does. It trusts only the headers
+    /// that it reaches from the chunk's first byte.
     pub fn block_at<M: WordMemory>(&self, memory: &mut M, addr: BlockAddr) -> Option<UsedBlock>
         requires sound { IsSound self.now (M.word memory.old) }
         requires fits { Fits (bytes_of self.now) (M.bytes (M.rest memory.old)) }
@@ -194,8 +194,8 @@ impl BestFit {
         }
     }
 
-    /// The block in which an address lies, found by walking its chunk from the first byte, or `None`
-    /// where it lies in no chunk.
+    /// Returns the block that contains an address, found by a walk from the chunk's first byte, or `None` if the address
+    /// is in no chunk.
     fn reach<M: WordMemory>(&self, memory: &mut M, addr: BlockAddr) -> Option<Block>
         requires sound { IsSound self.now (M.word memory.old) }
         requires fits { Fits (bytes_of self.now) (M.bytes (M.rest memory.old)) }
@@ -216,8 +216,8 @@ impl BestFit {
         Some(walk(memory, addr.chunk, addr.offset))
     }
 
-    /// Takes the hole at a place for a block of `size` bytes. What is left stays a hole, unless it is
-    /// less than a block.
+    /// Allocates `size` bytes of the free block at a place. The remainder stays a free block, unless it is below the
+    /// minimum block size.
     fn take<M: WordMemory>(&mut self, memory: &mut M, place: u64, size: u64)
         requires stand { (at : Context) × (n : ℕ) ×
             Stand self.old (M.word memory.old) at place (Hole n ∷ []) × (size ≤ n) }
@@ -243,7 +243,8 @@ impl BestFit {
         self.put_in(memory, place + size, left);
     }
 
-    /// Makes a used block, with the holes of these bytes directly before and behind it, one hole.
+    /// Merges a used block with the free blocks of `before` and `behind` bytes directly before and after it into one free
+    /// block.
     fn give_back<M: WordMemory>(
         &mut self,
         memory: &mut M,
@@ -267,7 +268,7 @@ impl BestFit {
         self.put_in(memory, place, before + size + behind);
     }
 
-    /// Makes the hole of so many bytes at a place a used block. No bytes are no hole.
+    /// Makes the free block of `size` bytes at a place a used block. Does nothing if `size` is 0.
     fn clear<M: WordMemory>(&mut self, memory: &mut M, place: u64, size: u64)
         requires stand { StandSomewhere self.old (M.word memory.old) place (gap size) }
         requires fits { Fits (bytes_of self.old) (M.bytes (M.rest memory.old)) }
@@ -282,7 +283,7 @@ impl BestFit {
         }
     }
 
-    /// Takes the hole at a place out of the tree and makes it a used block.
+    /// Removes the free block at a place from the tree and makes it a used block.
     fn take_out<M: WordMemory>(&mut self, memory: &mut M, place: u64, size: u64)
         requires stand { StandSomewhere self.old (M.word memory.old) place (Hole size ∷ []) }
         requires fits { Fits (bytes_of self.old) (M.bytes (M.rest memory.old)) }
@@ -292,12 +293,12 @@ impl BestFit {
         ensures loads { LoadsFew self.old (M.word memory.old) place (Hole size ∷ [])
             60 30 (M.loads memory.old) (M.loads memory.new) }
     {
-        let key = HoleKey { size, place };
-        self.root = remove(&Holes::<M>::new(), memory, self.root, key);
+        let key = FreeBlockKey { size, place };
+        self.root = remove(&FreeBlocks::<M>::new(), memory, self.root, key);
         set_state(memory, place, USED);
     }
 
-    /// Cuts the used block at a place in two.
+    /// Splits the used block at a place into two used blocks of `size` and `left` bytes.
     fn split<M: WordMemory>(&self, memory: &mut M, place: u64, size: u64, left: u64)
         requires stand { StandSomewhere self.now (M.word memory.old) place
             (Used (size + left) ∷ []) }
@@ -313,7 +314,7 @@ impl BestFit {
         set_header(memory, place + size, left, USED);
     }
 
-    /// Makes used blocks side by side, of so many bytes together, one hole, and enters it in the tree.
+    /// Makes adjacent used blocks of `size` bytes in all one free block, and inserts it into the tree.
     fn put_in<M: WordMemory>(&mut self, memory: &mut M, place: u64, size: u64)
         requires stand { (at : Context) × (blocks : List ModelBlock) ×
             StandUsed self.old (M.word memory.old) at place blocks size }
@@ -329,11 +330,11 @@ impl BestFit {
             M.loads memory.new ≤ M.loads memory.old + 60 * b + 30 }
     {
         set_header(memory, place, size, HOLE);
-        let key = HoleKey { size, place };
-        self.root = insert(&Holes::<M>::new(), memory, self.root, key, place);
+        let key = FreeBlockKey { size, place };
+        self.root = insert(&FreeBlocks::<M>::new(), memory, self.root, key, place);
     }
 
-    /// The size of the hole at a place, or 0 where a used block stands there or the chunk is at its end.
+    /// Returns the size of the free block at a place, or 0 if the block there is used or the chunk ends there.
     fn hole_behind<M: WordMemory>(&self, memory: &mut M, place: u64, end: u64) -> u64
         requires stand { (at : Context) × (blocks : List ModelBlock) ×
             Stand self.now (M.word memory.old) at place blocks ×

@@ -1,4 +1,4 @@
-//! The blocks of a chunk, by their headers.
+//! The blocks of a chunk, read and written by their headers.
 ghost use Rattle.std.specs.Prelude.{◌≡◌, ℕ, ◌+◌, ◌*◌, ◌%◌, ◌<◌, ◌≤◌, ◌==◌, if◌then◌else◌, List, length};
 ghost use Rattle.own_model.specs.Heap.{Block as ModelBlock, bytes_in};
 ghost use Rattle.avl_alloc.specs.Words.{IsNode, place_at, with_word};
@@ -8,29 +8,29 @@ ghost use Rattle.avl_alloc.specs.Walk.{block_over};
 use super::memory::{WordMemory, load, load_of, store};
 use trade_base::BLOCK_HEADER;
 
-/// Where a header says whether its block is used.
+/// The offset in a header of the word that has the block's state.
 const STATE: u64 = 8;
 
-/// What stands there for a hole.
+/// The state of a free block.
 pub const HOLE: u64 = 0;
 
-/// What stands there for a used block.
+/// The state of a used block.
 pub const USED: u64 = 1;
 
-/// A block of a chunk.
+/// A block of a chunk, used or free.
 #[derive(Clone, Copy)]
 pub struct Block {
-    /// The offset of its first byte.
+    /// The offset of the block's first byte in the chunk.
     pub offset: u64,
-    /// Its bytes, those of the header among them.
+    /// The size of the block in bytes, with its header.
     pub size: u64,
-    /// Whether it is used.
+    /// Whether the block is used.
     pub used: bool,
-    /// The size of the hole directly before it, or 0 where none is.
+    /// The size of the free block directly before this block, or 0 if there is none.
     pub before: u64,
 }
 
-/// Writes a header.
+/// Stores the header of a block: its size in bytes, and its state.
 pub fn set_header<M: WordMemory>(memory: &mut M, place: u64, size: u64, state: u64)
     requires { IsNode (M.bytes (M.rest memory.old)) place }
     ensures words { M.word memory.new ≡ with_word (with_word (M.word memory.old) place size)
@@ -42,7 +42,7 @@ pub fn set_header<M: WordMemory>(memory: &mut M, place: u64, size: u64, state: u
     store(memory, place + STATE, state);
 }
 
-/// Writes whether the block at a place is used.
+/// Stores the state of the block at a place.
 pub fn set_state<M: WordMemory>(memory: &mut M, place: u64, state: u64)
     requires { IsNode (M.bytes (M.rest memory.old)) place }
     ensures words { M.word memory.new ≡ with_word (M.word memory.old) (place + 8) state }
@@ -52,7 +52,7 @@ pub fn set_state<M: WordMemory>(memory: &mut M, place: u64, state: u64)
     store(memory, place + STATE, state);
 }
 
-/// The size of the hole at a place, or 0 where a used block stands there.
+/// Returns the size of the free block at a place, or 0 if the block there is used.
 pub fn hole_at<M: WordMemory>(memory: &mut M, place: u64) -> u64
     requires { IsNode (M.bytes (M.rest memory.old)) place }
     ensures size { result
@@ -68,9 +68,9 @@ pub fn hole_at<M: WordMemory>(memory: &mut M, place: u64) -> u64
     }
 }
 
-/// The block in which an offset of a chunk lies, found by walking the headers from the chunk's first byte. It loads by chunk
-/// and offset, not by place, so that where the chunk's words are is looked up once, and by an offset that is told to be whole,
-/// so that both words of a header are seen to lie in one page.
+/// Returns the block that contains an offset of a chunk, found by a walk over the headers from the chunk's first byte. It
+/// loads by chunk and offset, so that the chunk's words are looked up once. Each header's offset is visibly a multiple of
+/// 16, so that the compiler knows both words of a header to be in one page.
 pub fn walk<M: WordMemory>(memory: &mut M, chunk: usize, target: u64) -> Block
     requires { (blocks : List ModelBlock) × Laid (M.word memory.old) (place_at chunk 0) blocks ×
         IsRoom (M.bytes (M.rest memory.old)) (place_at chunk 0) (bytes_in blocks) ×
@@ -104,7 +104,7 @@ pub fn walk<M: WordMemory>(memory: &mut M, chunk: usize, target: u64) -> Block
     }
 }
 
-/// The same offset. Where it is taken in, the compiler knows that its lowest bits are 0.
+/// Returns the same offset, rounded to a multiple of 16. After inlining, the compiler knows that its low bits are 0.
 fn whole(offset: u64) -> u64
     requires { offset % BLOCK_HEADER ≡ 0 }
     ensures { result ≡ offset }

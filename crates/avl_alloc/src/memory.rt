@@ -1,24 +1,24 @@
-//! The words under the heap, named by their places.
+//! The words under the heap, denoted by their places.
 ghost use Rattle.std.specs.Prelude.{◌≡◌, ℕ, ◌+◌, ◌%◌, ◌<◌, ◌≤◌};
 ghost use Rattle.avl_alloc.specs.Words.{IsWord, IsPlace, IsNode, place_at, with_word};
 
 /// Words of eight bytes at the multiples of 8 of numbered chunks.
 ///
-/// Contracts see a memory as its `word`s by their places (`place_at` of a chunk and an offset), the
-/// `rest`, which is all else that it holds, and how many words were loaded so far.
+/// Contracts see a memory as its `word`s by their places (`place_at` of a chunk and an offset). They also see the `rest`,
+/// which is all its other content, and the number of loads so far.
 pub trait WordMemory {
-    /// What lies around the words. No load and no store changes it.
+    /// The content other than the words. No load and no store changes it.
     ghost Rest: { Type 0 };
 
     ghost rest: { Self → Rest };
 
-    /// How many bytes of each chunk are words, 0 where there is no such chunk.
+    /// The number of bytes of each chunk that are words, or 0 if there is no such chunk.
     ghost bytes: { Rest → ℕ → ℕ };
 
     /// The word at each place.
     ghost word: { Self → ℕ → ℕ };
 
-    /// How many words were loaded.
+    /// The number of words loaded so far.
     ghost loads: { Self → ℕ };
 
     /// The word at an offset of a chunk.
@@ -29,7 +29,7 @@ pub trait WordMemory {
         ensures rest { rest self.new ≡ rest self.old }
         ensures loads { loads self.new ≡ loads self.old + 1 };
 
-    /// Puts a word at an offset of a chunk. No other word changes.
+    /// Stores a word at an offset of a chunk. No other word changes.
     fn store(&mut self, chunk: usize, offset: u64, value: u64)
         requires { IsWord (bytes (rest self.old)) chunk offset }
         ensures words { word self.new ≡ with_word (word self.old) (place_at chunk offset) value }
@@ -37,10 +37,10 @@ pub trait WordMemory {
         ensures loads { loads self.new ≡ loads self.old };
 }
 
-/// How far the places of one chunk lie from those of the next: the most bytes of a chunk.
+/// The distance between the places of two consecutive chunks, and the maximum size of a chunk in bytes.
 pub const SPAN: u64 = 0x1_0000_0000;
 
-/// The place of a chunk's first byte. A place is never 0.
+/// Returns the place of a chunk's first byte. A place is never 0.
 pub fn place_of(chunk: usize) -> u64
     requires { chunk < 64 }
     ensures { result ≡ place_at chunk 0 }
@@ -48,7 +48,7 @@ pub fn place_of(chunk: usize) -> u64
     (chunk as u64 + 1) * SPAN
 }
 
-/// The word at a place.
+/// Loads the word at a place of the memory.
 pub fn load<M: WordMemory>(memory: &mut M, place: u64) -> u64
     requires { IsPlace (M.bytes (M.rest memory.old)) place }
     ensures value { result ≡ M.word memory.old place }
@@ -59,8 +59,8 @@ pub fn load<M: WordMemory>(memory: &mut M, place: u64) -> u64
     memory.load((place / SPAN - 1) as usize, place % SPAN)
 }
 
-/// The word of a hole's node so many bytes behind its place. Where it is taken in, the compiler sees by this form that all
-/// words of a node lie in one chunk, and those of the same 16 bytes in one page.
+/// Loads the word of a free block's node at the offset `field`. After inlining, the compiler knows that all words of a
+/// node lie in one chunk, and those of the same 16 bytes in one page.
 pub fn load_of<M: WordMemory>(memory: &mut M, node: u64, field: u64) -> u64
     requires node { IsNode (M.bytes (M.rest memory.old)) node }
     requires aligned { field % 8 ≡ 0 }
@@ -73,7 +73,7 @@ pub fn load_of<M: WordMemory>(memory: &mut M, node: u64, field: u64) -> u64
     memory.load((node / SPAN - 1) as usize, node % SPAN / 16 * 16 + field)
 }
 
-/// Puts a word at a place.
+/// Stores a word at a place of the memory.
 pub fn store<M: WordMemory>(memory: &mut M, place: u64, value: u64)
     requires { IsPlace (M.bytes (M.rest memory.old)) place }
     ensures words { M.word memory.new ≡ with_word (M.word memory.old) place value }

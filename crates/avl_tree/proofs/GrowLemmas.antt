@@ -2,8 +2,8 @@
 use Rattle.std.proofs.Common.{◌≡◌, ◌≢◌, ℕ, ◌+◌, ◌*◌, ◌≤◌, true, false, Option, Some, refl, sym, subst, arith}
 use Rattle.std.specs.Prelude.{◌==◌}
 use Rattle.std.proofs.lemmas.Bool.Decides.{nat_tests}
-use Rattle.avl_tree.specs.declared.node.Limb.{Limb}
-use Rattle.avl_tree.specs.declared.node.Step.TheVariants.{Left, Here, Right}
+use Rattle.avl_tree.specs.declared.node.Subtree.{Subtree}
+use Rattle.avl_tree.specs.declared.node.SearchStep.TheVariants.{Left, Here, Right}
 use Rattle.avl_tree.specs.Tree.{Tree, Leaf, Node, high, tally, is_at, ranked, forked, inserted}
 use Rattle.avl_tree.specs.View.{View, Plan, IsStep, AreNodes, Stands, IsNew, LacksNode}
 use Rattle.avl_tree.specs.Made.{IsLeftNew, IsRightNew, Forms, Reforms}
@@ -29,7 +29,7 @@ module _ {Rest : Type 0} (plan : Plan) (w : View Rest) (a k : ℕ) where
   right_of_new l root s h r new = record { some = new.some; rank = new.rank; fresh = omega (arith, new.fresh); apart = λ q. omega (arith, new.apart q) }
 
   -- the tree without a node
-  pub grow-leaf_made : (u : View Rest) (limb : Limb) (root : ℕ) → root ≡ 0 → (IsNew plan w Leaf a k → Forms plan w u (forked Leaf a k Leaf) limb) →
+  pub grow-leaf_made : (u : View Rest) (limb : Subtree) (root : ℕ) → root ≡ 0 → (IsNew plan w Leaf a k → Forms plan w u (forked Leaf a k Leaf) limb) →
       (t : Tree) → Stands plan w t root → IsNew plan w t a k → Reforms plan w u t (inserted a k t) (Some limb)
   unfolding inserted
   grow-leaf_made u limb root none forms t stands new =
@@ -48,10 +48,10 @@ module _ {Rest : Type 0} (plan : Plan) (w : View Rest) (a k : ℕ) where
           (λ l s h r stands new nodes one. (r, right_stands plan w l root s h r stands child (step_right plan w k l root s h r stands child is).2, right_of_new l root s h r new, nodes_in IsNode r (Node l root s h r) (λ x. omega arith) nodes, one))
 
     -- what an insertion makes
-    abbrev pub Grows : View Rest → ℕ → Option Limb → Type 0
+    abbrev pub Grows : View Rest → ℕ → Option Subtree → Type 0
     Grows v at change = (t : Tree) → Stands plan w t at → IsNew plan w t a k → Reforms plan w v t (inserted a k t) change
 
-    module _ (v : View Rest) (change : Option Limb) (grows : Grows v child change) where
+    module _ (v : View Rest) (change : Option Subtree) (grows : Grows v child change) where
       grow-left_new : (is : IsStep w k root (Left child)) (l : Tree) (s h : ℕ) (r : Tree) (stands : Stands plan w (Node l root s h r) root) → IsNew plan w (Node l root s h r) a k →
           IsLeftNew plan v l (inserted a k l) root s h r change
       grow-left_new is l s h r stands new =
@@ -92,7 +92,7 @@ module _ {Rest : Type 0} (plan : Plan) (w : View Rest) (a k : ℕ) where
             nodes_with IsNode a k (Node l root s h r) (Node l root s h (inserted a k r)) nodes one (λ x. omega (arith, tally-inserted (is_at x) a k r)),
           ))
 
-      pub grow-left_made : (u : View Rest) (result : Option Limb) → IsStep w k root (Left child) → LeftMakes plan v u root change result →
+      pub grow-left_made : (u : View Rest) (result : Option Subtree) → IsStep w k root (Left child) → LeftMakes plan v u root change result →
           (t : Tree) → Stands plan w t root → IsNew plan w t a k → Reforms plan w u t (inserted a k t) result
       unfolding inserted
       grow-left_made u result is makes = opened plan w root (λ t. IsNew plan w t a k → Reforms plan w u t (inserted a k t) result) some
@@ -103,7 +103,7 @@ module _ {Rest : Type 0} (plan : Plan) (w : View Rest) (a k : ℕ) where
           rw step.0 (left_made plan w l root s h r stands v (inserted a k l) change (grows l (left_stands plan w l root s h r stands child step.1) (left_of_new l root s h r new)) up.balanced (omega (arith, up.least)) up.most made.apart u result
           (makes l (inserted a k l) s h r made)))
 
-      pub grow-right_made : (u : View Rest) (result : Option Limb) → IsStep w k root (Right child) → RightMakes plan v u root change result →
+      pub grow-right_made : (u : View Rest) (result : Option Subtree) → IsStep w k root (Right child) → RightMakes plan v u root change result →
           (t : Tree) → Stands plan w t root → IsNew plan w t a k → Reforms plan w u t (inserted a k t) result
       unfolding inserted
       grow-right_made u result is makes = opened plan w root (λ t. IsNew plan w t a k → Reforms plan w u t (inserted a k t) result) some

@@ -1,18 +1,18 @@
 -- A node one of whose trees has become another one.
 use Rattle.std.proofs.Common.{◌≡◌, ◌≢◌, ℕ, ◌+◌, ◌≤◌, Option, Some, None, refl, sym, ◌∙◌, subst, arith}
 use Rattle.std.specs.Prelude.{max}
-use Rattle.avl_tree.specs.declared.node.Limb.{Limb}
+use Rattle.avl_tree.specs.declared.node.Subtree.{Subtree}
 use Rattle.avl_tree.specs.Tree.{Tree, Leaf, Node, root_of, high, forked, balanced, IsBalanced}
 use Rattle.avl_tree.specs.View.{View, Plan, covered, Stands}
-use Rattle.avl_tree.specs.Made.{IsLimb, IsTold, IsSame, IsSlope, IsLeftNew, IsRightNew, Forms, Reforms}
+use Rattle.avl_tree.specs.Made.{IsSubtree, IsTold, IsSame, IsSlope, IsLeftNew, IsRightNew, Forms, Reforms}
 use Rattle.avl_tree.proofs.TreeLemmas.{tally-balanced}
 use Rattle.avl_tree.proofs.TurnLemmas.{balanced-is_fork}
 use Rattle.avl_tree.proofs.ViewLemmas.{holds_apart, changes_none, changes_then}
 
 -- a balanced tree that is told, or is as it was
-same_told : (t t' : Tree) (limb : Limb) (root height : ℕ) (result : Option Limb) → IsLimb t' limb → root_of t ≡ root → high t ≡ height → IsSame limb root height result → IsTold t t' result
+same_told : (t t' : Tree) (limb : Subtree) (root height : ℕ) (result : Option Subtree) → IsSubtree t' limb → root_of t ≡ root → high t ≡ height → IsSame limb root height result → IsTold t t' result
 same_told t t' limb root height None is at tall same = (is.root ∙ same.0 ∙ sym at, is.high ∙ same.1 ∙ sym tall)
-same_told t t' limb root height (Some other) is at tall same = subst (IsLimb t') (sym same) is
+same_told t t' limb root height (Some other) is at tall same = subst (IsSubtree t') (sym same) is
 
 module _ {Rest : Type 0} (plan : Plan) (w : View Rest) where
   -- ---- the left one
@@ -38,7 +38,7 @@ module _ {Rest : Type 0} (plan : Plan) (w : View Rest) where
           changes = changes_none plan w (forked l' a s r);
         })
 
-    pub left-slope : (left right : Limb) → IsLeftNew plan w l l' a s h r (Some left) → IsLimb r right → IsSlope plan w l' a s r left right
+    pub left-slope : (left right : Subtree) → IsLeftNew plan w l l' a s h r (Some left) → IsSubtree r right → IsSlope plan w l' a s r left right
     left-slope left right new is_right =
         let level = new.level in
         record {
@@ -52,7 +52,7 @@ module _ {Rest : Type 0} (plan : Plan) (w : View Rest) where
           low = omega (arith, new.most, new.low, level.high);
         }
 
-    pub left-formed : (v : View Rest) (left tree : Limb) (height : ℕ) (result : Option Limb) → IsLeftNew plan w l l' a s h r (Some left) → (w.links a).high ≡ height →
+    pub left-formed : (v : View Rest) (left tree : Subtree) (height : ℕ) (result : Option Subtree) → IsLeftNew plan w l l' a s h r (Some left) → (w.links a).high ≡ height →
         Forms plan w v (balanced l' a s r) tree → IsSame tree a height result → Reforms plan w v (Node l a s h r) (balanced l' a s r) result
     left-formed v left tree height result new at forms same = record {
       told = same_told (Node l a s h r) (balanced l' a s r) tree a height result forms.is refl ((λ i. (sym new.here.links i).high) ∙ at) same;
@@ -82,7 +82,7 @@ module _ {Rest : Type 0} (plan : Plan) (w : View Rest) where
           changes = changes_none plan w (forked l a s r');
         })
 
-    pub right-slope : (left right : Limb) → IsRightNew plan w l a s h r r' (Some right) → IsLimb l left → IsSlope plan w l a s r' left right
+    pub right-slope : (left right : Subtree) → IsRightNew plan w l a s h r r' (Some right) → IsSubtree l left → IsSlope plan w l a s r' left right
     right-slope left right new is_left =
         let level = new.level in
         record {
@@ -96,7 +96,7 @@ module _ {Rest : Type 0} (plan : Plan) (w : View Rest) where
           low = omega (arith, new.low, level.high);
         }
 
-    pub right-formed : (v : View Rest) (right tree : Limb) (height : ℕ) (result : Option Limb) → IsRightNew plan w l a s h r r' (Some right) → (w.links a).high ≡ height →
+    pub right-formed : (v : View Rest) (right tree : Subtree) (height : ℕ) (result : Option Subtree) → IsRightNew plan w l a s h r r' (Some right) → (w.links a).high ≡ height →
         Forms plan w v (balanced l a s r') tree → IsSame tree a height result → Reforms plan w v (Node l a s h r) (balanced l a s r') result
     right-formed v right tree height result new at forms same = record {
       told = same_told (Node l a s h r) (balanced l a s r') tree a height result forms.is refl ((λ i. (sym new.here.links i).high) ∙ at) same;
@@ -118,7 +118,7 @@ module _ {Rest : Type 0} (plan : Plan) (w : View Rest) where
         record { at = at; holds = stands.holds.2; balanced = stands.balanced.2; low = omega (arith, stands.low); apart = λ q. omega (arith, stands.apart q) }
 
     -- the left one becomes another one
-    module _ (v : View Rest) (l' : Tree) (change : Option Limb) (made : Reforms plan w v l l' change) (even : IsBalanced l') (least : high l ≤ high l' + 1) (most : high l' ≤ high l + 1)
+    module _ (v : View Rest) (l' : Tree) (change : Option Subtree) (made : Reforms plan w v l l' change) (even : IsBalanced l') (least : high l ≤ high l' + 1) (most : high l' ≤ high l + 1)
         (apart : (q : ℕ) → covered plan q l' + plan.cover q a + covered plan q r ≤ 1) where
       pub left_new : IsLeftNew plan v l l' a s h r change
       left_new = record {
@@ -139,7 +139,7 @@ module _ {Rest : Type 0} (plan : Plan) (w : View Rest) where
         low = stands.low;
       }
 
-      pub left_made : (u : View Rest) (result : Option Limb) → Reforms plan v u (Node l a s h r) (balanced l' a s r) result → Reforms plan w u (Node l a s h r) (balanced l' a s r) result
+      pub left_made : (u : View Rest) (result : Option Subtree) → Reforms plan v u (Node l a s h r) (balanced l' a s r) result → Reforms plan w u (Node l a s h r) (balanced l' a s r) result
       left_made u result last = record {
         told = last.told;
         holds = last.holds;
@@ -147,7 +147,7 @@ module _ {Rest : Type 0} (plan : Plan) (w : View Rest) where
       }
 
     -- the right one does
-    module _ (v : View Rest) (r' : Tree) (change : Option Limb) (made : Reforms plan w v r r' change) (even : IsBalanced r') (least : high r ≤ high r' + 1) (most : high r' ≤ high r + 1)
+    module _ (v : View Rest) (r' : Tree) (change : Option Subtree) (made : Reforms plan w v r r' change) (even : IsBalanced r') (least : high r ≤ high r' + 1) (most : high r' ≤ high r + 1)
         (apart : (q : ℕ) → covered plan q l + plan.cover q a + covered plan q r' ≤ 1) where
       pub right_new : IsRightNew plan v l a s h r r' change
       right_new = record {
@@ -168,7 +168,7 @@ module _ {Rest : Type 0} (plan : Plan) (w : View Rest) where
         low = stands.low;
       }
 
-      pub right_made : (u : View Rest) (result : Option Limb) → Reforms plan v u (Node l a s h r) (balanced l a s r') result → Reforms plan w u (Node l a s h r) (balanced l a s r') result
+      pub right_made : (u : View Rest) (result : Option Subtree) → Reforms plan v u (Node l a s h r) (balanced l a s r') result → Reforms plan w u (Node l a s h r) (balanced l a s r') result
       right_made u result last = record {
         told = last.told;
         holds = last.holds;

@@ -3,7 +3,7 @@ use Rattle.std.proofs.Common.{◌≡◌, ◌≢◌, ℕ, ◌+◌, ◌<◌, ◌�
 use Rattle.std.specs.Prelude.{nat_lt, nat_le, if◌then◌else◌, ◌==◌}
 use Rattle.std.proofs.lemmas.Bool.{cases_lt}
 use Rattle.std.proofs.lemmas.Bool.Decides.{nat_tests}
-use Rattle.avl_tree.specs.Tree.{Tree, Leaf, Node, high, tally, forked, raised_left, raised_inner_left, raised_right, raised_inner_right, turned_right, turned_left, balanced, inserted, first_of, rest_of, joined, removed, or_else, found, IsOrdered, same, ranked, is_at, at_least, between, IsFirst, nowhere, somewhere}
+use Rattle.avl_tree.specs.Tree.{Tree, Leaf, Node, high, tally, forked, raised_left, raised_inner_left, raised_right, raised_inner_right, rotated_right, rotated_left, balanced, inserted, first_of, rest_of, joined, removed, or_else, found, IsOrdered, same, ranked, is_at, at_least, between, IsFirst, nowhere, somewhere}
 use Rattle.avl_tree.proofs.TreeLemmas.{tally_le, tally-balanced, tally-joined}
 
 -- where the ranks differ that is 0
@@ -33,11 +33,11 @@ bounds low Leaf up o = o
 bounds low (Node l a s h r) up o = omega (arith, bounds low l s o.0, bounds (s + 1) r up o.1)
 
 pub balanced-ordered : (low : ℕ) (l : Tree) (a s : ℕ) (r : Tree) (up : ℕ) → IsOrdered low l s → IsOrdered (s + 1) r up → IsOrdered low (balanced l a s r) up
-unfolding balanced turned_right turned_left
+unfolding balanced rotated_right rotated_left
 balanced-ordered low l a s r up left right =
-    elim (nat_lt (high r + 1) (high l)) as (λ v. IsOrdered low (if v then turned_right l a s r else (if nat_lt (high l + 1) (high r) then turned_left l a s r else forked l a s r)) up) [
+    elim (nat_lt (high r + 1) (high l)) as (λ v. IsOrdered low (if v then rotated_right l a s r else (if nat_lt (high l + 1) (high r) then rotated_left l a s r else forked l a s r)) up) [
       | true ↦ turn l left
-      | false ↦ elim (nat_lt (high l + 1) (high r)) as (λ v. IsOrdered low (if v then turned_left l a s r else forked l a s r) up) [
+      | false ↦ elim (nat_lt (high l + 1) (high r)) as (λ v. IsOrdered low (if v then rotated_left l a s r else forked l a s r) up) [
         | true ↦ turn_back r right
         | false ↦ (left, right)
       ]
@@ -47,7 +47,7 @@ balanced-ordered low l a s r up left right =
     inner ll b t Leaf o p = (o, (p, right))
     inner ll b t (Node m c u h n) o p = ((o, p.0), (p.1, right))
 
-    turn : (l : Tree) → IsOrdered low l s → IsOrdered low (turned_right l a s r) up
+    turn : (l : Tree) → IsOrdered low l s → IsOrdered low (rotated_right l a s r) up
     turn Leaf o = (o, right)
     turn (Node ll b t h lr) o =
         elim (nat_le (high lr) (high ll)) as (λ v. IsOrdered low (if v then raised_left ll b t lr a s r else raised_inner_left ll b t lr a s r) up) [
@@ -59,7 +59,7 @@ balanced-ordered low l a s r up left right =
     inner_back Leaf b t rr o p = ((left, o), p)
     inner_back (Node m c u h n) b t rr o p = ((left, o.0), (o.1, p))
 
-    turn_back : (r : Tree) → IsOrdered (s + 1) r up → IsOrdered low (turned_left l a s r) up
+    turn_back : (r : Tree) → IsOrdered (s + 1) r up → IsOrdered low (rotated_left l a s r) up
     turn_back Leaf o = (left, o)
     turn_back (Node rl b t h rr) o =
         elim (nat_le (high rl) (high rr)) as (λ v. IsOrdered low (if v then raised_right l a s rl b t rr else raised_inner_right l a s rl b t rr) up) [

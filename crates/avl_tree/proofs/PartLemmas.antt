@@ -1,10 +1,10 @@
 -- Taking the first node out of a tree in a memory, and joining two trees.
 use Rattle.std.proofs.Common.{◌≡◌, ◌≢◌, ℕ, ◌+◌, ◌*◌, ◌<◌, ◌≤◌, Option, Some, refl, sym, ◌∙◌, subst, arith}
-use Rattle.avl_tree.specs.declared.node.Limb.{Limb}
+use Rattle.avl_tree.specs.declared.node.Subtree.{Subtree}
 use Rattle.avl_tree.specs.declared.node.Links.{Links}
 use Rattle.avl_tree.specs.Tree.{Tree, Leaf, Node, root_of, high, is_at, balanced, joined, first_of, rest_of}
 use Rattle.avl_tree.specs.View.{View, Plan, Holds, AreNodes, Stands, height_at}
-use Rattle.avl_tree.specs.Made.{IsLimb, IsTold, IsLeftNew, IsSlope, Forms, Reforms}
+use Rattle.avl_tree.specs.Made.{IsSubtree, IsTold, IsLeftNew, IsSlope, Forms, Reforms}
 use Rattle.avl_tree.proofs.TreeLemmas.{tally-balanced, tally-rest_of, rest_of-shrinks}
 use Rattle.avl_tree.proofs.ViewLemmas.{holds_apart, changes_none, changes_then, nodes_in, height_is}
 use Rattle.avl_tree.proofs.NewLemmas.{opened, left_stands, right_stands, left_new, left_made}
@@ -23,7 +23,7 @@ first_holds w Leaf a s h r held = (held.0.some, held.0.rank)
 first_holds w (Node ll b t i lr) a s h r held = first_holds w ll b t i lr held.1
 
 module _ {Rest : Type 0} (plan : Plan) (w : View Rest) where
-  abbrev pub Parts : View Rest → ℕ → Option Limb → Type 0
+  abbrev pub Parts : View Rest → ℕ → Option Subtree → Type 0
   Parts v at change = (t : Tree) → Stands plan w t at → Reforms plan w v t (rest_of t) change
 
   module _ (root : ℕ) (read : Links) (some : root ≢ 0) (is : read ≡ w.links root) where
@@ -41,7 +41,7 @@ module _ {Rest : Type 0} (plan : Plan) (w : View Rest) where
         let leaf = leaf_none w l stands.holds.1 (left_is l s h r stands ∙ none) in
         subst (λ z. root ≡ (first_of (Node z root s h r)).0) (sym leaf) refl)
 
-    pub part-here_made : (limb : Limb) → read.left ≡ 0 → ((r : Tree) → Holds w r → root_of r ≡ read.right → IsLimb r limb) → (t : Tree) → Stands plan w t root → Reforms plan w w t (rest_of t) (Some limb)
+    pub part-here_made : (limb : Subtree) → read.left ≡ 0 → ((r : Tree) → Holds w r → root_of r ≡ read.right → IsSubtree r limb) → (t : Tree) → Stands plan w t root → Reforms plan w w t (rest_of t) (Some limb)
     unfolding rest_of
     part-here_made limb none limbs = opened plan w root (λ t. Reforms plan w w t (rest_of t) (Some limb)) some
         (λ l s h r stands.
@@ -68,7 +68,7 @@ module _ {Rest : Type 0} (plan : Plan) (w : View Rest) where
         go Leaf s h r stands = absurd (left (sym (left_is Leaf s h r stands)))
         go (Node ll b t i lr) s h r stands = under (Node ll b t i lr) (left_stands plan w (Node ll b t i lr) root s h r stands read.left (left_is (Node ll b t i lr) s h r stands))
 
-    module _ (v : View Rest) (change : Option Limb) (left : read.left ≢ 0) (parts : Parts v read.left change) where
+    module _ (v : View Rest) (change : Option Subtree) (left : read.left ≢ 0) (parts : Parts v read.left change) where
       part_new : (ll : Tree) (b t i : ℕ) (lr : Tree) (s h : ℕ) (r : Tree) → Stands plan w (Node (Node ll b t i lr) root s h r) root →
           IsLeftNew plan v (Node ll b t i lr) (rest_of (Node ll b t i lr)) root s h r change
       part_new ll b t i lr s h r stands =
@@ -93,7 +93,7 @@ module _ {Rest : Type 0} (plan : Plan) (w : View Rest) where
             nodes_in IsNode (Node (rest_of (Node ll b t i lr)) root s h r) (Node (Node ll b t i lr) root s h r) (λ a. omega (arith, tally-rest_of (is_at a) ll b t i lr)) nodes,
           )
 
-      pub part-left_made : (u : View Rest) (result : Option Limb) → LeftMakes plan v u root change result → (t : Tree) → Stands plan w t root → Reforms plan w u t (rest_of t) result
+      pub part-left_made : (u : View Rest) (result : Option Subtree) → LeftMakes plan v u root change result → (t : Tree) → Stands plan w t root → Reforms plan w u t (rest_of t) result
       unfolding rest_of
       part-left_made u result makes = opened plan w root (λ t. Reforms plan w u t (rest_of t) result) some go
         where
@@ -128,23 +128,23 @@ module _ {Rest : Type 0} (plan : Plan) (w : View Rest) where
     pub join_right_stands : Stands plan w r read.right
     join_right_stands = right_stands plan w l a s h r stands read.right join_right
 
-    pub join-left_none : (limb : Limb) → read.left ≡ 0 → IsLimb r limb → Forms plan w w (joined l r) limb
+    pub join-left_none : (limb : Subtree) → read.left ≡ 0 → IsSubtree r limb → Forms plan w w (joined l r) limb
     unfolding joined
     join-left_none limb none is_limb =
         subst (λ z. Forms plan w w (joined z r) limb) (sym (leaf_none w l stands.holds.1 (join_left ∙ none)))
         (record { is = is_limb; holds = stands.holds.2; changes = changes_none plan w r })
 
-    pub join-right_none : (limb : Limb) → read.left ≢ 0 → read.right ≡ 0 → IsLimb l limb → Forms plan w w (joined l r) limb
+    pub join-right_none : (limb : Subtree) → read.left ≢ 0 → read.right ≡ 0 → IsSubtree l limb → Forms plan w w (joined l r) limb
     unfolding joined
     join-right_none limb some none is_limb =
         subst (λ z. Forms plan w w (joined l z) limb) (sym (leaf_none w r stands.holds.2 (join_right ∙ none)))
-        (elim l as (λ z. root_of z ≡ read.left → IsLimb z limb → Holds w z → Forms plan w w (joined z Leaf) limb) [
+        (elim l as (λ z. root_of z ≡ read.left → IsSubtree z limb → Holds w z → Forms plan w w (joined z Leaf) limb) [
           | Leaf ↦ λ at e held. absurd (some (sym at))
           | Node ll b t i lr ↦ λ at e held. record { is = e; holds = held; changes = changes_none plan w (Node ll b t i lr) }
         ] join_left is_limb stands.holds.1)
 
-  module _ (l rl : Tree) (a s h c u i : ℕ) (rr : Tree) (stands : Stands plan w (Node l a s h (Node rl c u i rr)) a) (v : View Rest) (first : ℕ) (left right : Limb) (change : Option Limb)
-      (at : first ≡ (first_of (Node rl c u i rr)).0) (made : Reforms plan w v (Node rl c u i rr) (rest_of (Node rl c u i rr)) change) (is_left : IsLimb l left) (is_right : IsLimb (rest_of (Node rl c u i rr)) right) where
+  module _ (l rl : Tree) (a s h c u i : ℕ) (rr : Tree) (stands : Stands plan w (Node l a s h (Node rl c u i rr)) a) (v : View Rest) (first : ℕ) (left right : Subtree) (change : Option Subtree)
+      (at : first ≡ (first_of (Node rl c u i rr)).0) (made : Reforms plan w v (Node rl c u i rr) (rest_of (Node rl c u i rr)) change) (is_left : IsSubtree l left) (is_right : IsSubtree (rest_of (Node rl c u i rr)) right) where
     pub join_slope : IsSlope plan v l first (first_of (Node rl c u i rr)).1 (rest_of (Node rl c u i rr)) left right
     join_slope =
         let node = first_holds w rl c u i rr stands.holds.2 in
@@ -169,8 +169,8 @@ module _ {Rest : Type 0} (plan : Plan) (w : View Rest) where
 
   -- so the two trees are joined
   module _ (a : ℕ) (read : Links) (is : read ≡ w.links a) (some : read.right ≢ 0) where
-    pub join_rest_asks : (IsNode : ℕ → Type 0) (v : View Rest) (first : ℕ) (left right : Limb) (change : Option Limb) → ((t : Tree) → Stands plan w t read.right → first ≡ (first_of t).0) → Parts v read.right change →
-        ((t : Tree) → Holds v t → root_of t ≡ read.left → IsLimb t left) → ((old new : Tree) → IsTold old new change → Holds v new → root_of old ≡ read.right → IsLimb new right) →
+    pub join_rest_asks : (IsNode : ℕ → Type 0) (v : View Rest) (first : ℕ) (left right : Subtree) (change : Option Subtree) → ((t : Tree) → Stands plan w t read.right → first ≡ (first_of t).0) → Parts v read.right change →
+        ((t : Tree) → Holds v t → root_of t ≡ read.left → IsSubtree t left) → ((old new : Tree) → IsTold old new change → Holds v new → root_of old ≡ read.right → IsSubtree new right) →
         (l : Tree) (s h : ℕ) (r : Tree) → Stands plan w (Node l a s h r) a → AreNodes IsNode (Node l a s h r) →
         (x : Tree) × (y : ℕ) × (z : Tree) × IsSlope plan v x first y z left right × AreNodes IsNode (Node x first y 0 z)
     join_rest_asks IsNode v first left right change firsts parts lefts rights l s h Leaf stands nodes = absurd (some (sym (join_right l a s h Leaf read stands is)))
@@ -188,8 +188,8 @@ module _ {Rest : Type 0} (plan : Plan) (w : View Rest) where
               (nodes_in IsNode (Node l (first_of (Node rl c u i rr)).0 (first_of (Node rl c u i rr)).1 0 (rest_of (Node rl c u i rr))) (Node l a s h (Node rl c u i rr)) (λ x. omega (arith, tally-rest_of (is_at x) rl c u i rr)) nodes),
         )
 
-    pub join_rest_made : (v u : View Rest) (first : ℕ) (left right limb : Limb) (change : Option Limb) → read.left ≢ 0 → ((t : Tree) → Stands plan w t read.right → first ≡ (first_of t).0) → Parts v read.right change →
-        ((t : Tree) → Holds v t → root_of t ≡ read.left → IsLimb t left) → ((old new : Tree) → IsTold old new change → Holds v new → root_of old ≡ read.right → IsLimb new right) →
+    pub join_rest_made : (v u : View Rest) (first : ℕ) (left right limb : Subtree) (change : Option Subtree) → read.left ≢ 0 → ((t : Tree) → Stands plan w t read.right → first ≡ (first_of t).0) → Parts v read.right change →
+        ((t : Tree) → Holds v t → root_of t ≡ read.left → IsSubtree t left) → ((old new : Tree) → IsTold old new change → Holds v new → root_of old ≡ read.right → IsSubtree new right) →
         ((x : Tree) (y : ℕ) (z : Tree) → IsSlope plan v x first y z left right → Forms plan v u (balanced x first y z) limb) →
         (l : Tree) (s h : ℕ) (r : Tree) → Stands plan w (Node l a s h r) a → Forms plan w u (joined l r) limb
     unfolding joined

@@ -2,11 +2,11 @@
 use Rattle.std.proofs.Common.{◌≡◌, ◌≢◌, ℕ, ◌+◌, ◌*◌, ◌<◌, ◌≤◌, true, false, Option, Some, None, refl, sym, ◌∙◌, subst, arith}
 use Rattle.std.specs.Prelude.{nat_lt, if◌then◌else◌, ◌==◌}
 use Rattle.std.proofs.lemmas.Bool.Decides.{nat_tests}
-use Rattle.avl_tree.specs.declared.node.Limb.{Limb}
-use Rattle.avl_tree.specs.declared.node.Step.TheVariants.{Left, Here, Right}
+use Rattle.avl_tree.specs.declared.node.Subtree.{Subtree}
+use Rattle.avl_tree.specs.declared.node.SearchStep.TheVariants.{Left, Here, Right}
 use Rattle.avl_tree.specs.Tree.{Tree, Leaf, Node, root_of, high, tally, is_at, balanced, removed, joined, found, or_else, IsBalanced}
 use Rattle.avl_tree.specs.View.{View, Plan, IsStep, AreNodes, Stands, HasTree, Becomes, height_at}
-use Rattle.avl_tree.specs.Made.{IsLeftNew, IsRightNew, Forms, Reforms, root_told}
+use Rattle.avl_tree.specs.Made.{IsLeftNew, IsRightNew, Forms, Reforms, root_after}
 use Rattle.avl_tree.proofs.TreeLemmas.{tally-removed_le, removed-shrinks}
 use Rattle.avl_tree.proofs.TurnLemmas.{ltb-true, ltb-false}
 use Rattle.avl_tree.proofs.ViewLemmas.{root_node, nodes_in, height_is, leaf_is, changes_none}
@@ -17,17 +17,17 @@ pub level_more : (c m n : ℕ) → m + 1 ≤ n → c * m + c ≤ c * n
 level_more c m n le = grind (arith)
 
 -- what a tree's other left tree asks, and its other right tree
-abbrev pub LeftAsks : {Rest : Type 0} → (ℕ → Type 0) → Plan → View Rest → ℕ → Option Limb → Type 0
+abbrev pub LeftAsks : {Rest : Type 0} → (ℕ → Type 0) → Plan → View Rest → ℕ → Option Subtree → Type 0
 LeftAsks IsNode plan w root change = (l l' : Tree) × (s h : ℕ) × (r : Tree) × IsLeftNew plan w l l' root s h r change × AreNodes IsNode (Node l' root s h r)
 
-abbrev pub RightAsks : {Rest : Type 0} → (ℕ → Type 0) → Plan → View Rest → ℕ → Option Limb → Type 0
+abbrev pub RightAsks : {Rest : Type 0} → (ℕ → Type 0) → Plan → View Rest → ℕ → Option Subtree → Type 0
 RightAsks IsNode plan w root change = (l : Tree) × (s h : ℕ) × (r r' : Tree) × IsRightNew plan w l root s h r r' change × AreNodes IsNode (Node l root s h r')
 
 -- and what they make
-abbrev pub LeftMakes : {Rest : Type 0} → Plan → View Rest → View Rest → ℕ → Option Limb → Option Limb → Type 0
+abbrev pub LeftMakes : {Rest : Type 0} → Plan → View Rest → View Rest → ℕ → Option Subtree → Option Subtree → Type 0
 LeftMakes plan v u root change result = (l l' : Tree) (s h : ℕ) (r : Tree) → IsLeftNew plan v l l' root s h r change → Reforms plan v u (Node l root s h r) (balanced l' root s r) result
 
-abbrev pub RightMakes : {Rest : Type 0} → Plan → View Rest → View Rest → ℕ → Option Limb → Option Limb → Type 0
+abbrev pub RightMakes : {Rest : Type 0} → Plan → View Rest → View Rest → ℕ → Option Subtree → Option Subtree → Type 0
 RightMakes plan v u root change result = (l : Tree) (s h : ℕ) (r r' : Tree) → IsRightNew plan v l root s h r r' change → Reforms plan v u (Node l root s h r) (balanced l root s r') result
 
 module _ {Rest : Type 0} (plan : Plan) (w : View Rest) where
@@ -81,10 +81,10 @@ module _ {Rest : Type 0} (plan : Plan) (w : View Rest) where
           (λ l s h r stands nodes. (l, s, h, r, stands, nodes))
 
     -- what a removal makes
-    abbrev pub Prunes : View Rest → ℕ → Option Limb → Type 0
+    abbrev pub Prunes : View Rest → ℕ → Option Subtree → Type 0
     Prunes v at change = (t : Tree) → Stands plan w t at → Reforms plan w v t (removed k t) change
 
-    module _ (child : ℕ) (v : View Rest) (change : Option Limb) (prunes : Prunes v child change) where
+    module _ (child : ℕ) (v : View Rest) (change : Option Subtree) (prunes : Prunes v child change) where
       prune-left_new : (is : IsStep w k root (Left child)) (l : Tree) (s h : ℕ) (r : Tree) (stands : Stands plan w (Node l root s h r) root) →
           IsLeftNew plan v l (removed k l) root s h r change
       prune-left_new is l s h r stands =
@@ -109,7 +109,7 @@ module _ {Rest : Type 0} (plan : Plan) (w : View Rest) where
       prune-right_new_asks IsNode is = opened plan w root (λ t. AreNodes IsNode t → RightAsks IsNode plan v root change) some
           (λ l s h r stands nodes. (l, s, h, r, removed k r, prune-right_new is l s h r stands, nodes_in IsNode (Node l root s h (removed k r)) (Node l root s h r) (λ a. omega (arith, tally-removed_le (is_at a) k r)) nodes))
 
-      pub prune-left_made : (u : View Rest) (result : Option Limb) → IsStep w k root (Left child) → LeftMakes plan v u root change result → (t : Tree) → Stands plan w t root → Reforms plan w u t (removed k t) result
+      pub prune-left_made : (u : View Rest) (result : Option Subtree) → IsStep w k root (Left child) → LeftMakes plan v u root change result → (t : Tree) → Stands plan w t root → Reforms plan w u t (removed k t) result
       unfolding removed
       prune-left_made u result is makes = opened plan w root (λ t. Reforms plan w u t (removed k t) result) some
           (λ l s h r stands.
@@ -119,7 +119,7 @@ module _ {Rest : Type 0} (plan : Plan) (w : View Rest) where
           rw step.0 (left_made plan w l root s h r stands v (removed k l) change (prunes l (left_stands plan w l root s h r stands child step.1)) shrinks.balanced shrinks.least (omega (arith, shrinks.most)) new.apart u result
           (makes l (removed k l) s h r new)))
 
-      pub prune-right_made : (u : View Rest) (result : Option Limb) → IsStep w k root (Right child) → RightMakes plan v u root change result → (t : Tree) → Stands plan w t root → Reforms plan w u t (removed k t) result
+      pub prune-right_made : (u : View Rest) (result : Option Subtree) → IsStep w k root (Right child) → RightMakes plan v u root change result → (t : Tree) → Stands plan w t root → Reforms plan w u t (removed k t) result
       unfolding removed
       prune-right_made u result is makes = opened plan w root (λ t. Reforms plan w u t (removed k t) result) some
           (λ l s h r stands.
@@ -135,7 +135,7 @@ module _ {Rest : Type 0} (plan : Plan) (w : View Rest) where
     join_asks IsNode = opened plan w root (λ t. AreNodes IsNode t → (l : Tree) × (s h : ℕ) × (r : Tree) × Stands plan w (Node l root s h r) root × AreNodes IsNode (Node l root s h r)) some
         (λ l s h r stands nodes. (l, s, h, r, stands, nodes))
 
-    pub prune-here_made : (u : View Rest) (limb : Limb) → IsStep w k root Here → ((l : Tree) (s h : ℕ) (r : Tree) → Stands plan w (Node l root s h r) root → Forms plan w u (joined l r) limb) →
+    pub prune-here_made : (u : View Rest) (limb : Subtree) → IsStep w k root Here → ((l : Tree) (s h : ℕ) (r : Tree) → Stands plan w (Node l root s h r) root → Forms plan w u (joined l r) limb) →
         (t : Tree) → Stands plan w t root → Reforms plan w u t (removed k t) (Some limb)
     unfolding removed
     prune-here_made u limb is joins = opened plan w root (λ t. Reforms plan w u t (removed k t) (Some limb)) some
@@ -254,7 +254,7 @@ module _ {Rest : Type 0} (plan : Plan) (w : View Rest) where
       (subst (λ z. or_else (found k z) best ≡ found k t) leaf f.2, omega (arith, f.3))
 
   -- what has been told of a tree, by its root
-  pub becomes_told : (v : View Rest) (t t' : Tree) (root : ℕ) (change : Option Limb) (at : ℕ) → Stands plan w t root → IsBalanced t' → Reforms plan w v t t' change → at ≡ root_told root change → Becomes plan w v t' at
+  pub becomes_told : (v : View Rest) (t t' : Tree) (root : ℕ) (change : Option Subtree) (at : ℕ) → Stands plan w t root → IsBalanced t' → Reforms plan w v t t' change → at ≡ root_after root change → Becomes plan w v t' at
   becomes_told v t t' root None at stands even made is =
       record { at = made.told.0 ∙ stands.at ∙ sym is; holds = made.holds; balanced = even; changes = made.changes }
   becomes_told v t t' root (Some limb) at stands even made is =

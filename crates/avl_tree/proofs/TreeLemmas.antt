@@ -3,7 +3,7 @@ use Rattle.std.proofs.Common.{◌≡◌, pow-suc, ℕ, zero, suc, ◌+◌, ◌*�
 use Rattle.std.specs.Prelude.{nat_lt, nat_le, max, if◌then◌else◌}
 use Rattle.std.proofs.lemmas.Bool.{cases_lt}
 use Rattle.std.proofs.lemmas.Bool.Decides.{nat_tests}
-use Rattle.avl_tree.specs.Tree.{Tree, Leaf, Node, high, tally, forked, raised_left, raised_inner_left, raised_right, raised_inner_right, turned_right, turned_left, balanced, inserted, first_of, rest_of, joined, removed, IsLevel, IsBalanced}
+use Rattle.avl_tree.specs.Tree.{Tree, Leaf, Node, high, tally, forked, raised_left, raised_inner_left, raised_right, raised_inner_right, rotated_right, rotated_left, balanced, inserted, first_of, rest_of, joined, removed, IsLevel, IsBalanced}
 
 -- ---- the nodes, by any weight
 
@@ -18,19 +18,19 @@ module _ (f : ℕ → ℕ → ℕ) where
   tally-raised_inner_right l a s Leaf b t rr = omega arith
   tally-raised_inner_right l a s (Node m c u h n) b t rr = omega arith
 
-  pub tally-turned_right : (l : Tree) (a s : ℕ) (r : Tree) → tally f (turned_right l a s r) ≡ tally f l + f a s + tally f r
-  unfolding turned_right
-  tally-turned_right Leaf a s r = refl
-  tally-turned_right (Node ll b t h lr) a s r =
+  pub tally-rotated_right : (l : Tree) (a s : ℕ) (r : Tree) → tally f (rotated_right l a s r) ≡ tally f l + f a s + tally f r
+  unfolding rotated_right
+  tally-rotated_right Leaf a s r = refl
+  tally-rotated_right (Node ll b t h lr) a s r =
       elim (nat_le (high lr) (high ll)) as (λ v. tally f (if v then raised_left ll b t lr a s r else raised_inner_left ll b t lr a s r) ≡ tally f ll + f b t + tally f lr + f a s + tally f r) [
         | true ↦ omega arith
         | false ↦ tally-raised_inner_left ll b t lr a s r
       ]
 
-  pub tally-turned_left : (l : Tree) (a s : ℕ) (r : Tree) → tally f (turned_left l a s r) ≡ tally f l + f a s + tally f r
-  unfolding turned_left
-  tally-turned_left l a s Leaf = refl
-  tally-turned_left l a s (Node rl b t h rr) =
+  pub tally-rotated_left : (l : Tree) (a s : ℕ) (r : Tree) → tally f (rotated_left l a s r) ≡ tally f l + f a s + tally f r
+  unfolding rotated_left
+  tally-rotated_left l a s Leaf = refl
+  tally-rotated_left l a s (Node rl b t h rr) =
       elim (nat_le (high rl) (high rr)) as (λ v. tally f (if v then raised_right l a s rl b t rr else raised_inner_right l a s rl b t rr) ≡ tally f l + f a s + (tally f rl + f b t + tally f rr)) [
         | true ↦ omega arith
         | false ↦ omega (arith, tally-raised_inner_right l a s rl b t rr)
@@ -39,10 +39,10 @@ module _ (f : ℕ → ℕ → ℕ) where
   pub tally-balanced : (l : Tree) (a s : ℕ) (r : Tree) → tally f (balanced l a s r) ≡ tally f l + f a s + tally f r
   unfolding balanced
   tally-balanced l a s r =
-      elim (nat_lt (high r + 1) (high l)) as (λ v. tally f (if v then turned_right l a s r else (if nat_lt (high l + 1) (high r) then turned_left l a s r else forked l a s r)) ≡ tally f l + f a s + tally f r) [
-        | true ↦ tally-turned_right l a s r
-        | false ↦ elim (nat_lt (high l + 1) (high r)) as (λ v. tally f (if v then turned_left l a s r else forked l a s r) ≡ tally f l + f a s + tally f r) [
-          | true ↦ tally-turned_left l a s r
+      elim (nat_lt (high r + 1) (high l)) as (λ v. tally f (if v then rotated_right l a s r else (if nat_lt (high l + 1) (high r) then rotated_left l a s r else forked l a s r)) ≡ tally f l + f a s + tally f r) [
+        | true ↦ tally-rotated_right l a s r
+        | false ↦ elim (nat_lt (high l + 1) (high r)) as (λ v. tally f (if v then rotated_left l a s r else forked l a s r) ≡ tally f l + f a s + tally f r) [
+          | true ↦ tally-rotated_left l a s r
           | false ↦ refl
         ]
       ]
@@ -81,10 +81,10 @@ pub record Balances (t : Tree) (i j : ℕ) : Type 0 where
 level : (i j : ℕ) → i ≤ j + 1 → j ≤ i + 1 → IsLevel (1 + max i j) i j
 level i j left right = record { high = refl; left = left; right = right }
 
-pub turned_right-balances : (l : Tree) (a s : ℕ) (r : Tree) → IsBalanced l → IsBalanced r → high l ≡ high r + 2 → Balances (turned_right l a s r) (high l) (high r)
-unfolding turned_right
-turned_right-balances Leaf a s r bl br far = absurd (omega arith)
-turned_right-balances (Node ll b t h lr) a s r bl br far =
+pub rotated_right-balances : (l : Tree) (a s : ℕ) (r : Tree) → IsBalanced l → IsBalanced r → high l ≡ high r + 2 → Balances (rotated_right l a s r) (high l) (high r)
+unfolding rotated_right
+rotated_right-balances Leaf a s r bl br far = absurd (omega arith)
+rotated_right-balances (Node ll b t h lr) a s r bl br far =
     elim (nat_le (high lr) (high ll)) as (λ v. nat_le (high lr) (high ll) ≡ v → Balances (if v then raised_left ll b t lr a s r else raised_inner_left ll b t lr a s r) h (high r)) [
       | true ↦ λ is. single (grind (arith, nat_tests))
       | false ↦ λ is. double lr bl.0 bl.2 (grind (arith, nat_tests))
@@ -111,10 +111,10 @@ turned_right-balances (Node ll b t h lr) a s r bl br far =
           near = λ x y. absurd (omega arith);
         }
 
-pub turned_left-balances : (l : Tree) (a s : ℕ) (r : Tree) → IsBalanced l → IsBalanced r → high r ≡ high l + 2 → Balances (turned_left l a s r) (high l) (high r)
-unfolding turned_left
-turned_left-balances l a s Leaf bl br far = absurd (omega arith)
-turned_left-balances l a s (Node rl b t h rr) bl br far =
+pub rotated_left-balances : (l : Tree) (a s : ℕ) (r : Tree) → IsBalanced l → IsBalanced r → high r ≡ high l + 2 → Balances (rotated_left l a s r) (high l) (high r)
+unfolding rotated_left
+rotated_left-balances l a s Leaf bl br far = absurd (omega arith)
+rotated_left-balances l a s (Node rl b t h rr) bl br far =
     elim (nat_le (high rl) (high rr)) as (λ v. nat_le (high rl) (high rr) ≡ v → Balances (if v then raised_right l a s rl b t rr else raised_inner_right l a s rl b t rr) (high l) h) [
       | true ↦ λ is. single (grind (arith, nat_tests))
       | false ↦ λ is. double rl br.0 br.1 (grind (arith, nat_tests))
@@ -153,10 +153,10 @@ forked-balances l a s r bl br left right = record {
 pub balanced-balances : (l : Tree) (a s : ℕ) (r : Tree) → IsBalanced l → IsBalanced r → high l ≤ high r + 2 → high r ≤ high l + 2 → Balances (balanced l a s r) (high l) (high r)
 unfolding balanced
 balanced-balances l a s r bl br left right =
-    elim (nat_lt (high r + 1) (high l)) as (λ v. nat_lt (high r + 1) (high l) ≡ v → Balances (if v then turned_right l a s r else (if nat_lt (high l + 1) (high r) then turned_left l a s r else forked l a s r)) (high l) (high r)) [
-      | true ↦ λ is. turned_right-balances l a s r bl br (grind (arith, nat_tests))
-      | false ↦ λ no. elim (nat_lt (high l + 1) (high r)) as (λ v. nat_lt (high l + 1) (high r) ≡ v → Balances (if v then turned_left l a s r else forked l a s r) (high l) (high r)) [
-        | true ↦ λ is. turned_left-balances l a s r bl br (grind (arith, nat_tests))
+    elim (nat_lt (high r + 1) (high l)) as (λ v. nat_lt (high r + 1) (high l) ≡ v → Balances (if v then rotated_right l a s r else (if nat_lt (high l + 1) (high r) then rotated_left l a s r else forked l a s r)) (high l) (high r)) [
+      | true ↦ λ is. rotated_right-balances l a s r bl br (grind (arith, nat_tests))
+      | false ↦ λ no. elim (nat_lt (high l + 1) (high r)) as (λ v. nat_lt (high l + 1) (high r) ≡ v → Balances (if v then rotated_left l a s r else forked l a s r) (high l) (high r)) [
+        | true ↦ λ is. rotated_left-balances l a s r bl br (grind (arith, nat_tests))
         | false ↦ λ is. forked-balances l a s r bl br (grind (arith, nat_tests)) (grind (arith, nat_tests))
       ] refl
     ] refl

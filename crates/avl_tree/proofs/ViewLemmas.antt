@@ -3,10 +3,10 @@ use Rattle.std.proofs.Common.{◌≡◌, ◌≢◌, ℕ, ◌+◌, ◌≤◌, tru
 use Rattle.std.specs.Prelude.{max, ◌==◌, if◌then◌else◌}
 use Rattle.std.proofs.lemmas.Bool.Decides.{nat_tests}
 use Rattle.avl_tree.specs.declared.node.Links.{Links}
-use Rattle.avl_tree.specs.declared.node.Limb.{Limb}
+use Rattle.avl_tree.specs.declared.node.Subtree.{Subtree}
 use Rattle.avl_tree.specs.Tree.{Tree, Leaf, Node, root_of, high, tally, is_at, ranked, same, forked}
 use Rattle.avl_tree.specs.View.{View, Plan, covered, trodden, IsRelinked, Holds, AreNodes, Stands, ChangesLinks, height_at}
-use Rattle.avl_tree.specs.Made.{IsLimb, IsPlot, Forms}
+use Rattle.avl_tree.specs.Made.{IsSubtree, IsPlot, Forms}
 
 module _ {Rest : Type 0} (plan : Plan) where
   -- a tree that stands apart from one whose links change is still there
@@ -46,7 +46,7 @@ module _ {Rest : Type 0} (plan : Plan) where
   }
 
   -- a node put over two trees makes one tree of them
-  pub fork_forms : (w v : View Rest) (l : Tree) (a s : ℕ) (r : Tree) (left right limb : Limb) → IsPlot plan w l a s r → IsLimb l left → IsLimb r right →
+  pub fork_forms : (w v : View Rest) (l : Tree) (a s : ℕ) (r : Tree) (left right limb : Subtree) → IsPlot plan w l a s r → IsSubtree l left → IsSubtree r right →
       limb ≡ record { root = a; high = 1 + max left.high right.high } →
       IsRelinked plan w v a (record { left = left.root; right = right.root; high = 1 + max left.high right.high }) → Forms plan w v (forked l a s r) limb
   fork_forms w v l a s r left right limb plot is_left is_right limb_is is =
@@ -83,7 +83,7 @@ pub nodes_in : (IsNode : ℕ → Type 0) (t u : Tree) → ((a : ℕ) → tally (
 nodes_in IsNode t u in_u nodes a there = nodes a (omega (arith, there, in_u a))
 
 -- a tree with a height has a root
-pub limb_some : {Rest : Type 0} (w : View Rest) (t : Tree) (limb : Limb) → Holds w t → IsLimb t limb → 1 ≤ limb.high → limb.root ≢ 0
+pub limb_some : {Rest : Type 0} (w : View Rest) (t : Tree) (limb : Subtree) → Holds w t → IsSubtree t limb → 1 ≤ limb.high → limb.root ≢ 0
 limb_some w Leaf limb held is some = absurd (omega (arith, is.high))
 limb_some w (Node l a s h r) limb held is some = λ none. omega (arith, held.0.some, is.root)
 

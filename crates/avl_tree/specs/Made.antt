@@ -1,22 +1,22 @@
--- What the steps of the functions ask and make.
+-- What the steps of the functions require and produce.
 use Rattle.std.specs.Prelude.{◌≡◌, ℕ, ◌+◌, ◌^◌, ◌<◌, ◌≤◌, Option, Some, None}
-use Rattle.avl_tree.specs.declared.node.Limb.{Limb}
-use Rattle.avl_tree.specs.declared.node.Arms.{Arms}
+use Rattle.avl_tree.specs.declared.node.Subtree.{Subtree}
+use Rattle.avl_tree.specs.declared.node.Subtrees.{Subtrees}
 use Rattle.avl_tree.specs.Tree.{Tree, Node, root_of, high, IsLevel, IsBalanced}
 use Rattle.avl_tree.specs.View.{View, Plan, covered, IsHere, Holds, AreNodes, ChangesLinks}
 
 -- a tree's root and height
-pub record IsLimb (t : Tree) (limb : Limb) : Type 0 where
+pub record IsSubtree (t : Tree) (limb : Subtree) : Type 0 where
   pub root : root_of t ≡ limb.root
   pub high : high t ≡ limb.high
 
 -- those of the two trees below a node
-pub record AreArms (l r : Tree) (arms : Arms) : Type 0 where
-  pub left : IsLimb l arms.left
-  pub right : IsLimb r arms.right
+pub record AreSubtrees (l r : Tree) (arms : Subtrees) : Type 0 where
+  pub left : IsSubtree l arms.left
+  pub right : IsSubtree r arms.right
 
--- a balanced tree stands at a root that is a node
-pub record ReadsArms {Rest : Type 0} (IsNode : ℕ → Type 0) (view : View Rest) (node : ℕ) : Type 0 where
+-- a balanced tree is at a root that is a node
+pub record ReadsSubtrees {Rest : Type 0} (IsNode : ℕ → Type 0) (view : View Rest) (node : ℕ) : Type 0 where
   pub l : Tree
   pub s : ℕ
   pub h : ℕ
@@ -26,10 +26,10 @@ pub record ReadsArms {Rest : Type 0} (IsNode : ℕ → Type 0) (view : View Rest
   pub balanced : IsBalanced (Node l node s h r)
   pub low : h < 2 ^ 18
 
--- those of a tree that has come in the place of another one; none where they are the same
-abbrev pub IsTold : Tree → Tree → Option Limb → Type 0
+-- those of a tree that has come in the place of another one; none if they are the same
+abbrev pub IsTold : Tree → Tree → Option Subtree → Type 0
 IsTold old new None = (root_of new ≡ root_of old) × (high new ≡ high old)
-IsTold old new (Some limb) = IsLimb new limb
+IsTold old new (Some limb) = IsSubtree new limb
 
 -- a node between two trees, all in the memory, and no two nodes share a place
 pub record IsPlot {Rest : Type 0} (plan : Plan) (view : View Rest) (l : Tree) (a s : ℕ) (r : Tree) : Type 0 where
@@ -40,30 +40,30 @@ pub record IsPlot {Rest : Type 0} (plan : Plan) (view : View Rest) (l : Tree) (a
   pub apart : (q : ℕ) → covered plan q l + plan.cover q a + covered plan q r ≤ 1
 
 -- two balanced trees and a node between them; the heights differ by two at most
-pub record IsSlope {Rest : Type 0} (plan : Plan) (view : View Rest) (l : Tree) (a s : ℕ) (r : Tree) (under other : Limb) : Type 0 where
+pub record IsSlope {Rest : Type 0} (plan : Plan) (view : View Rest) (l : Tree) (a s : ℕ) (r : Tree) (under other : Subtree) : Type 0 where
   pub plot : IsPlot plan view l a s r
-  pub left : IsLimb l under
-  pub right : IsLimb r other
+  pub left : IsSubtree l under
+  pub right : IsSubtree r other
   pub left_balanced : IsBalanced l
   pub right_balanced : IsBalanced r
   pub left_near : high l ≤ high r + 2
   pub right_near : high r ≤ high l + 2
   pub low : high l < 2 ^ 17
 
--- a tree has been made of nodes that stand in the memory
-pub record Forms {Rest : Type 0} (plan : Plan) (old new : View Rest) (t : Tree) (limb : Limb) : Type 0 where
-  pub is : IsLimb t limb
+-- a tree has been made of nodes that are in the memory
+pub record Forms {Rest : Type 0} (plan : Plan) (old new : View Rest) (t : Tree) (limb : Subtree) : Type 0 where
+  pub is : IsSubtree t limb
   pub holds : Holds new t
   pub changes : ChangesLinks plan old new t
 
 -- a tree has been made of another one
-pub record Reforms {Rest : Type 0} (plan : Plan) (old new : View Rest) (t t' : Tree) (limb : Option Limb) : Type 0 where
+pub record Reforms {Rest : Type 0} (plan : Plan) (old new : View Rest) (t t' : Tree) (limb : Option Subtree) : Type 0 where
   pub told : IsTold t t' limb
   pub holds : Holds new t'
   pub changes : ChangesLinks plan old new t'
 
--- a tree stands in the place of a node's left tree, as high or one higher or lower; the node doesn't know of it yet
-pub record IsLeftNew {Rest : Type 0} (plan : Plan) (view : View Rest) (l l' : Tree) (a s h : ℕ) (r : Tree) (change : Option Limb) : Type 0 where
+-- a tree is in the place of a node's left tree, as high or one higher or lower; the node doesn't know of it yet
+pub record IsLeftNew {Rest : Type 0} (plan : Plan) (view : View Rest) (l l' : Tree) (a s h : ℕ) (r : Tree) (change : Option Subtree) : Type 0 where
   pub told : IsTold l l' change
   pub here : IsHere view a s h (root_of l) (root_of r)
   pub holds : Holds view l'
@@ -77,7 +77,7 @@ pub record IsLeftNew {Rest : Type 0} (plan : Plan) (view : View Rest) (l l' : Tr
   pub low : h < 2 ^ 16
 
 -- the same on the right
-pub record IsRightNew {Rest : Type 0} (plan : Plan) (view : View Rest) (l : Tree) (a s h : ℕ) (r r' : Tree) (change : Option Limb) : Type 0 where
+pub record IsRightNew {Rest : Type 0} (plan : Plan) (view : View Rest) (l : Tree) (a s h : ℕ) (r r' : Tree) (change : Option Subtree) : Type 0 where
   pub told : IsTold r r' change
   pub here : IsHere view a s h (root_of l) (root_of r)
   pub left : Holds view l
@@ -90,12 +90,12 @@ pub record IsRightNew {Rest : Type 0} (plan : Plan) (view : View Rest) (l : Tree
   pub most : high r' ≤ high r + 1
   pub low : h < 2 ^ 16
 
--- a tree, or none where it has this root and height
-abbrev pub IsSame : Limb → ℕ → ℕ → Option Limb → Type 0
+-- a tree, or none if it has this root and height
+abbrev pub IsSame : Subtree → ℕ → ℕ → Option Subtree → Type 0
 IsSame limb root high None = (limb.root ≡ root) × (limb.high ≡ high)
 IsSame limb root high (Some other) = other ≡ limb
 
 -- the root of a tree that has come in the place of the one with this root
-abbrev pub root_told : ℕ → Option Limb → ℕ
-root_told root None = root
-root_told root (Some limb) = limb.root
+abbrev pub root_after : ℕ → Option Subtree → ℕ
+root_after root None = root
+root_after root (Some limb) = limb.root

@@ -6,7 +6,7 @@ pub data Tree : Type 0 where
   Leaf : Tree
   Node : Tree → ℕ → ℕ → ℕ → Tree → Tree
 
--- the number of the root, 0 where there is none
+-- the number of the root, 0 if there is none
 abbrev pub root_of : Tree → ℕ
 root_of Leaf = 0
 root_of (Node l a s h r) = a
@@ -37,9 +37,9 @@ raised_inner_left ll b t Leaf a s r = raised_left ll b t Leaf a s r
 raised_inner_left ll b t (Node m c u h n) a s r = forked (forked ll b t m) c u (forked n a s r)
 
 -- a node between two trees of which the left one is too high
-unfoldable pub turned_right : Tree → ℕ → ℕ → Tree → Tree
-turned_right Leaf a s r = forked Leaf a s r
-turned_right (Node ll b t h lr) a s r =
+unfoldable pub rotated_right : Tree → ℕ → ℕ → Tree → Tree
+rotated_right Leaf a s r = forked Leaf a s r
+rotated_right (Node ll b t h lr) a s r =
     if nat_le (high lr) (high ll) then raised_left ll b t lr a s r else raised_inner_left ll b t lr a s r
 
 -- the mirror images
@@ -50,16 +50,16 @@ abbrev pub raised_inner_right : Tree → ℕ → ℕ → Tree → ℕ → ℕ �
 raised_inner_right l a s Leaf b t rr = raised_right l a s Leaf b t rr
 raised_inner_right l a s (Node m c u h n) b t rr = forked (forked l a s m) c u (forked n b t rr)
 
-unfoldable pub turned_left : Tree → ℕ → ℕ → Tree → Tree
-turned_left l a s Leaf = forked l a s Leaf
-turned_left l a s (Node rl b t h rr) =
+unfoldable pub rotated_left : Tree → ℕ → ℕ → Tree → Tree
+rotated_left l a s Leaf = forked l a s Leaf
+rotated_left l a s (Node rl b t h rr) =
     if nat_le (high rl) (high rr) then raised_right l a s rl b t rr else raised_inner_right l a s rl b t rr
 
 -- a node between two trees whose heights differ by two at most
 unfoldable pub balanced : Tree → ℕ → ℕ → Tree → Tree
 balanced l a s r =
-    if nat_lt (high r + 1) (high l) then turned_right l a s r
-    else (if nat_lt (high l + 1) (high r) then turned_left l a s r else forked l a s r)
+    if nat_lt (high r + 1) (high l) then rotated_right l a s r
+    else (if nat_lt (high l + 1) (high r) then rotated_left l a s r else forked l a s r)
 
 -- ---- operations
 
@@ -95,11 +95,11 @@ removed s (Node l b t h r) =
     if nat_lt s t then balanced (removed s l) b t r
     else (if nat_lt t s then balanced l b t (removed s r) else joined l r)
 
--- a node, or another one where it is 0
+-- a node, or another one if it is 0
 abbrev pub or_else : ℕ → ℕ → ℕ
 or_else node other = if node == 0 then other else node
 
--- the first node of at least a rank, 0 where there is none
+-- the first node of at least a rank, 0 if there is none
 unfoldable pub found : ℕ → Tree → ℕ
 found s Leaf = 0
 found s (Node l b t h r) =
@@ -146,7 +146,7 @@ at_least k b t = if nat_le k t then 1 else 0
 abbrev pub between : ℕ → ℕ → ℕ → ℕ → ℕ
 between k n b t = if nat_le k t && nat_lt t n then 1 else 0
 
--- the first node of at least a rank, or 0 where there is none
+-- the first node of at least a rank, or 0 if there is none
 pub data IsFirst (k : ℕ) (t : Tree) : ℕ → Type 0 where
   nowhere : tally (at_least k) t ≡ 0 → IsFirst k t 0
   somewhere : (a s : ℕ) → k ≤ s → 1 ≤ tally (same a s) t → tally (between k s) t ≡ 0 → IsFirst k t a

@@ -1,11 +1,11 @@
--- What the functions see of a memory in which nodes stand, and a tree in it.
+-- What the functions see of a memory with nodes, and a tree in it.
 use Rattle.std.specs.Prelude.{◌≡◌, ℕ, ◌+◌, ◌^◌, ◌<◌, ◌≤◌, ◌==◌, if◌then◌else◌}
 use Rattle.avl_tree.specs.declared.node.Links.{Links}
-use Rattle.avl_tree.specs.declared.node.Step.{Step}
-use Rattle.avl_tree.specs.declared.node.Step.TheVariants.{Left, Here, Right}
+use Rattle.avl_tree.specs.declared.node.SearchStep.{SearchStep}
+use Rattle.avl_tree.specs.declared.node.SearchStep.TheVariants.{Left, Here, Right}
 use Rattle.avl_tree.specs.Tree.{Tree, Leaf, Node, root_of, high, tally, is_at, ranked, IsBalanced}
 
--- what each node's number has, and what stands at each place beside links and ranks
+-- what each node's number has, and what is at each place in addition to links and ranks
 pub record View (Rest : Type 0) : Type 0 where
   pub links : ℕ → Links
   pub rank : ℕ → ℕ
@@ -16,8 +16,8 @@ pub record Plan : Type 0 where
   pub cover : ℕ → ℕ → ℕ
   pub feet : ℕ → ℕ → ℕ
 
--- where a search for a rank goes on from a node
-abbrev pub IsStep : {Rest : Type 0} → View Rest → ℕ → ℕ → Step → Type 0
+-- where a search for a rank continues from a node
+abbrev pub IsStep : {Rest : Type 0} → View Rest → ℕ → ℕ → SearchStep → Type 0
 IsStep view s node (Left child) = (s < view.rank node) × ((view.links node).left ≡ child)
 IsStep view s node Here = view.rank node ≡ s
 IsStep view s node (Right child) = (view.rank node < s) × ((view.links node).right ≡ child)
@@ -44,7 +44,7 @@ pub record IsHere {Rest : Type 0} (view : View Rest) (a s h l r : ℕ) : Type 0 
   pub rank : view.rank a ≡ s
   pub links : view.links a ≡ record { left = l; right = r; high = h }
 
--- a tree stands in the memory
+-- a tree is in the memory
 abbrev pub Holds : {Rest : Type 0} → View Rest → Tree → Type 0
 Holds view Leaf = Unit {0}
 Holds view (Node l a s h r) = IsHere view a s h (root_of l) (root_of r) × Holds view l × Holds view r
@@ -68,11 +68,11 @@ pub record IsNew {Rest : Type 0} (plan : Plan) (view : View Rest) (t : Tree) (a 
   pub fresh : tally (ranked s) t ≡ 0
   pub apart : (q : ℕ) → plan.cover q a + covered plan q t ≤ 1
 
--- a tree stands at a root
+-- a tree is at a root
 abbrev pub HasTree : {Rest : Type 0} → (ℕ → Type 0) → Plan → View Rest → ℕ → Type 0
 HasTree IsNode plan view root = (t : Tree) × Stands plan view t root × AreNodes IsNode t
 
--- a tree stands there that has not this node nor its rank
+-- a tree is at the root that has neither this node nor its rank
 abbrev pub LacksNode : {Rest : Type 0} → (ℕ → Type 0) → Plan → View Rest → ℕ → ℕ → ℕ → Type 0
 LacksNode IsNode plan view root a s =
     (t : Tree) × Stands plan view t root × IsNew plan view t a s × AreNodes IsNode t × IsNode a
@@ -83,13 +83,13 @@ pub record ChangesLinks {Rest : Type 0} (plan : Plan) (old new : View Rest) (t :
   pub rank : (b : ℕ) → ((q : ℕ) → plan.cover q b + covered plan q t ≤ 1) → new.rank b ≡ old.rank b
   pub rest : (q : ℕ) → trodden plan q t ≡ 0 → new.rest q ≡ old.rest q
 
--- a tree has come to stand in the memory
+-- a tree is now in the memory
 pub record Becomes {Rest : Type 0} (plan : Plan) (old new : View Rest) (t : Tree) (root : ℕ) : Type 0 where
   pub at : root_of t ≡ root
   pub holds : Holds new t
   pub balanced : IsBalanced t
   pub changes : ChangesLinks plan old new t
 
--- the height that stands in a tree's root
+-- the height that is in a tree's root
 abbrev pub height_at : {Rest : Type 0} → View Rest → ℕ → ℕ
 height_at view root = if root == 0 then 0 else (view.links root).high

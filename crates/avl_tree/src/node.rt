@@ -1,9 +1,8 @@
-//! Nodes in a memory, as their owner shows them.
+//! Nodes in a memory, as their owner presents them.
 ghost use Rattle.std.specs.Prelude.{◌≡◌, ℕ, ◌+◌, ◌≤◌};
 ghost use Rattle.avl_tree.specs.View.{View, Plan, IsRelinked, IsStep};
 
-/// The children of a node, each by its number or 0 where there is none, and the height of the tree
-/// below and with the node.
+/// The children of a node, each by its number or 0 for none, and the height of the node's subtree.
 #[derive(Clone, Copy)]
 pub struct Links {
     pub left: u64,
@@ -11,36 +10,35 @@ pub struct Links {
     pub high: u64,
 }
 
-/// Where a search for a key goes on from a node.
+/// The direction in which a search for a key continues at a node.
 #[derive(Clone, Copy)]
-pub enum Step {
-    /// To the left child: the key comes before the node's.
+pub enum SearchStep {
+    /// Continue at the left child: the key is before the node's key.
     Left(u64),
-    /// The node has the key.
+    /// Stop: the node has the key.
     Here,
-    /// To the right child: the key comes behind the node's.
+    /// Continue at the right child: the key is after the node's key.
     Right(u64),
 }
 
-/// Nodes by their numbers in a memory. No node is number 0.
+/// Nodes by their numbers in a memory. No node has number 0.
 ///
-/// Contracts see a memory as a `View`: the links and the rank of each number, and the rest, by
-/// places. What of these places a node takes, and what of them writing its links may change, is told
-/// by the `plan`. Keys come in the order of their ranks.
+/// Contracts see a memory as a `View`: the links and the rank of each number, and the rest, by places. The `plan` states
+/// which places a node occupies, and which of them a change of its links may change. Keys are ordered by their ranks.
 pub trait Nodes {
-    /// Where the nodes stand.
+    /// The memory in which the nodes are stored.
     type Memory;
 
-    /// By what they are ordered.
+    /// The key by which the nodes are ordered.
     type Key: Copy;
 
-    /// What stands at a place beside links and ranks.
+    /// The content of a place other than links and ranks.
     ghost Rest: { Type 0 };
 
     /// Which numbers are nodes.
     ghost IsNode: { Self → Self.Memory → ℕ → Type 0 };
 
-    /// What is as it was after a call, beside what the view tells.
+    /// What a call preserves in addition to the view.
     ghost Keeps: { Self → Self.Memory → Self.Memory → Type 0 };
 
     ghost rank: { Self.Key → ℕ };
@@ -49,21 +47,21 @@ pub trait Nodes {
 
     ghost plan: { Plan };
 
-    /// How much was loaded.
+    /// The number of loads so far.
     ghost loads: { Self.Memory → ℕ };
 
-    /// The most that one call loads.
+    /// The maximum number of loads of one call.
     ghost cost: { ℕ };
 
-    /// Where the search for a key goes on from a node.
-    fn step(&self, memory: &mut Self::Memory, key: Self::Key, node: u64) -> Step
+    /// Compares a key with that of a node, and returns the direction in which the search continues.
+    fn step(&self, memory: &mut Self::Memory, key: Self::Key, node: u64) -> SearchStep
         requires { IsNode self.now memory.old node }
         ensures step { IsStep (view self.now memory.old) (rank key) node result }
         ensures view { view self.now memory.new ≡ view self.now memory.old }
         ensures keeps { Keeps self.now memory.old memory.new }
         ensures loads { loads memory.new ≤ loads memory.old + cost };
 
-    /// The links of a node.
+    /// Loads the links and the height of a node.
     fn links(&self, memory: &mut Self::Memory, node: u64) -> Links
         requires { IsNode self.now memory.old node }
         ensures links { result ≡ (view self.now memory.old).links node }
@@ -71,7 +69,7 @@ pub trait Nodes {
         ensures keeps { Keeps self.now memory.old memory.new }
         ensures loads { loads memory.new ≤ loads memory.old + cost };
 
-    /// The height of the tree below and with a node.
+    /// Loads the height of a node's subtree.
     fn high(&self, memory: &mut Self::Memory, node: u64) -> u64
         requires { IsNode self.now memory.old node }
         ensures high { result ≡ ((view self.now memory.old).links node).high }
@@ -79,7 +77,7 @@ pub trait Nodes {
         ensures keeps { Keeps self.now memory.old memory.new }
         ensures loads { loads memory.new ≤ loads memory.old + cost };
 
-    /// Gives a node other links. Nothing else changes.
+    /// Stores the links and the height of a node. Nothing else changes.
     fn set_links(&self, memory: &mut Self::Memory, node: u64, links: Links)
         requires { IsNode self.now memory.old node }
         ensures links { IsRelinked plan (view self.now memory.old)
@@ -87,28 +85,28 @@ pub trait Nodes {
         ensures keeps { Keeps self.now memory.old memory.new }
         ensures loads { loads memory.new ≡ loads memory.old };
 
-    /// A memory that nothing was done to is kept.
+    /// An unchanged memory is preserved.
     ghost keeps_same: { (nodes : Self) (memory : Self.Memory) → Keeps nodes memory memory };
 
-    /// What two calls keep one after the other is kept.
+    /// Preservation is transitive.
     ghost keeps_then: { (nodes : Self) (old between new : Self.Memory) →
         Keeps nodes old between → Keeps nodes between new → Keeps nodes old new };
 
-    /// A node stays one.
+    /// A preserved node stays a node.
     ghost keeps_node: { (nodes : Self) (old new : Self.Memory) (node : ℕ) →
         Keeps nodes old new → IsNode nodes old node → IsNode nodes new node };
 }
 
-/// A tree, by its root and its height; 0 and 0 where it has no node.
+/// A tree, by its root and its height; both are 0 for the empty tree.
 #[derive(Clone, Copy)]
-pub(crate) struct Limb {
+pub(crate) struct Subtree {
     pub(crate) root: u64,
     pub(crate) high: u64,
 }
 
-/// The trees below a node.
+/// The two subtrees of a node.
 #[derive(Clone, Copy)]
-pub(crate) struct Arms {
-    pub(crate) left: Limb,
-    pub(crate) right: Limb,
+pub(crate) struct Subtrees {
+    pub(crate) left: Subtree,
+    pub(crate) right: Subtree,
 }

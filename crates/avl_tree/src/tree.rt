@@ -1,14 +1,14 @@
-//! The search tree. A tree is named by its root, and the tree without a node by 0.
+//! The search tree. Its root denotes a tree, and 0 denotes the empty tree.
 ghost use Rattle.std.specs.Prelude.{◌≡◌, ◌≢◌, ℕ, ◌+◌, ◌*◌, ◌≤◌};
 ghost use Rattle.avl_tree.specs.Tree.{Tree, Node, high, found, inserted, removed, joined, first_of, rest_of};
 ghost use Rattle.avl_tree.specs.View.{Stands, AreNodes, IsNew, HasTree, LacksNode, Becomes};
-ghost use Rattle.avl_tree.specs.Made.{Forms, Reforms, root_told};
+ghost use Rattle.avl_tree.specs.Made.{Forms, Reforms, root_after};
 
-use super::limb::{NO_LIMB, fork, limb_now, limb_of};
-use super::node::{Limb, Nodes, Step};
-use super::turns::{balance, with_left, with_right};
+use super::node::{Nodes, SearchStep, Subtree};
+use super::rotations::{balance, with_left, with_right};
+use super::subtree::{NO_LIMB, fork, subtree_now, subtree_of};
 
-/// The first node whose key doesn't come before this one, or 0 where there is none.
+/// Returns the first node whose key is not before `key`, or 0 if there is none.
 pub fn find<N: Nodes>(nodes: &N, memory: &mut N::Memory, root: u64, key: N::Key) -> u64
     requires { HasTree (N.IsNode nodes.now memory.old) N.plan
         (N.view nodes.now memory.old) root }
@@ -23,18 +23,18 @@ pub fn find<N: Nodes>(nodes: &N, memory: &mut N::Memory, root: u64, key: N::Key)
     let mut best = 0;
     while node != 0 {
         match nodes.step(memory, key, node) {
-            Step::Left(child) => {
+            SearchStep::Left(child) => {
                 best = node;
                 node = child;
             }
-            Step::Here => return node,
-            Step::Right(child) => node = child,
+            SearchStep::Here => return node,
+            SearchStep::Right(child) => node = child,
         }
     }
     best
 }
 
-/// Enters a node in the tree, and answers the root of what the tree then is.
+/// Inserts a node with this key into the tree, and returns the new root.
 pub fn insert<N: Nodes>(nodes: &N, memory: &mut N::Memory, root: u64, key: N::Key, node: u64) -> u64
     requires { LacksNode (N.IsNode nodes.now memory.old) N.plan
         (N.view nodes.now memory.old) root node (N.rank key) }
@@ -50,7 +50,7 @@ pub fn insert<N: Nodes>(nodes: &N, memory: &mut N::Memory, root: u64, key: N::Ke
     root_now(root, grow(nodes, memory, root, key, node))
 }
 
-/// Takes the node of a key out of the tree, if there is one, and answers the root of what is left.
+/// Removes the node of a key from the tree, if there is one, and returns the new root.
 pub fn remove<N: Nodes>(nodes: &N, memory: &mut N::Memory, root: u64, key: N::Key) -> u64
     requires { HasTree (N.IsNode nodes.now memory.old) N.plan
         (N.view nodes.now memory.old) root }
@@ -64,9 +64,9 @@ pub fn remove<N: Nodes>(nodes: &N, memory: &mut N::Memory, root: u64, key: N::Ke
     root_now(root, prune(nodes, memory, root, key))
 }
 
-/// The root of a tree that has come in the place of the one with this root.
-fn root_now(root: u64, change: Option<Limb>) -> u64
-    ensures { result ≡ root_told root change }
+/// Returns the root after a change of the tree with this root.
+fn root_now(root: u64, change: Option<Subtree>) -> u64
+    ensures { result ≡ root_after root change }
 {
     match change {
         Some(limb) => limb.root,
@@ -74,14 +74,14 @@ fn root_now(root: u64, change: Option<Limb>) -> u64
     }
 }
 
-/// Enters a node in the tree of a root, and tells the tree, or `None` where root and height stay.
+/// Inserts a node into the tree of a root. Returns the new tree, or `None` if root and height are unchanged.
 fn grow<N: Nodes>(
     nodes: &N,
     memory: &mut N::Memory,
     root: u64,
     key: N::Key,
     node: u64,
-) -> Option<Limb>
+) -> Option<Subtree>
     requires { LacksNode (N.IsNode nodes.now memory.old) N.plan
         (N.view nodes.now memory.old) root node (N.rank key) }
     ensures made { (t : Tree) → Stands N.plan (N.view nodes.now memory.old) t root →
@@ -97,20 +97,20 @@ fn grow<N: Nodes>(
         return Some(fork(nodes, memory, NO_LIMB, node, NO_LIMB));
     }
     match nodes.step(memory, key, root) {
-        Step::Left(child) => {
+        SearchStep::Left(child) => {
             let left = grow(nodes, memory, child, key, node);
             with_left(nodes, memory, root, left)
         }
-        Step::Here => None,
-        Step::Right(child) => {
+        SearchStep::Here => None,
+        SearchStep::Right(child) => {
             let right = grow(nodes, memory, child, key, node);
             with_right(nodes, memory, root, right)
         }
     }
 }
 
-/// Takes the node of a key out of the tree of a root, and tells the tree as `grow` does.
-fn prune<N: Nodes>(nodes: &N, memory: &mut N::Memory, root: u64, key: N::Key) -> Option<Limb>
+/// Removes the node of a key from the tree of a root. Returns the new tree, or `None` if root and height are unchanged.
+fn prune<N: Nodes>(nodes: &N, memory: &mut N::Memory, root: u64, key: N::Key) -> Option<Subtree>
     requires { HasTree (N.IsNode nodes.now memory.old) N.plan
         (N.view nodes.now memory.old) root }
     ensures made { (t : Tree) → Stands N.plan (N.view nodes.now memory.old) t root →
@@ -124,20 +124,20 @@ fn prune<N: Nodes>(nodes: &N, memory: &mut N::Memory, root: u64, key: N::Key) ->
         return None;
     }
     match nodes.step(memory, key, root) {
-        Step::Left(child) => {
+        SearchStep::Left(child) => {
             let left = prune(nodes, memory, child, key);
             with_left(nodes, memory, root, left)
         }
-        Step::Here => Some(join(nodes, memory, root)),
-        Step::Right(child) => {
+        SearchStep::Here => Some(join(nodes, memory, root)),
+        SearchStep::Right(child) => {
             let right = prune(nodes, memory, child, key);
             with_right(nodes, memory, root, right)
         }
     }
 }
 
-/// One tree of the two below a node.
-fn join<N: Nodes>(nodes: &N, memory: &mut N::Memory, node: u64) -> Limb
+/// Joins the two subtrees of a node into one tree.
+fn join<N: Nodes>(nodes: &N, memory: &mut N::Memory, node: u64) -> Subtree
     requires { (l : Tree) × (s h : ℕ) × (r : Tree) ×
         Stands N.plan (N.view nodes.now memory.old) (Node l node s h r) node ×
         AreNodes (N.IsNode nodes.now memory.old) (Node l node s h r) }
@@ -152,26 +152,26 @@ fn join<N: Nodes>(nodes: &N, memory: &mut N::Memory, node: u64) -> Limb
 {
     let links = nodes.links(memory, node);
     if links.left == 0 {
-        return limb_of(nodes, memory, links.right);
+        return subtree_of(nodes, memory, links.right);
     }
     if links.right == 0 {
-        return limb_of(nodes, memory, links.left);
+        return subtree_of(nodes, memory, links.left);
     }
     let parted = part_first(nodes, memory, links.right);
-    let left = limb_of(nodes, memory, links.left);
-    let right = limb_now(nodes, memory, links.right, parted.rest);
+    let left = subtree_of(nodes, memory, links.left);
+    let right = subtree_now(nodes, memory, links.right, parted.rest);
     balance(nodes, memory, left, parted.first, right)
 }
 
-/// A tree's first node, and the tree that is left, or `None` where root and height stay.
+/// The first node of a tree, and the remaining tree, or `None` if root and height are unchanged.
 #[derive(Clone, Copy)]
-struct Parted {
+struct FirstAndRest {
     first: u64,
-    rest: Option<Limb>,
+    rest: Option<Subtree>,
 }
 
-/// Takes the first node out of a tree that has one.
-fn part_first<N: Nodes>(nodes: &N, memory: &mut N::Memory, root: u64) -> Parted
+/// Removes the first node from a nonempty tree, and returns both.
+fn part_first<N: Nodes>(nodes: &N, memory: &mut N::Memory, root: u64) -> FirstAndRest
     requires { (t : Tree) × Stands N.plan (N.view nodes.now memory.old) t root ×
         AreNodes (N.IsNode nodes.now memory.old) t × (root ≢ 0) }
     ensures first { (t : Tree) → Stands N.plan (N.view nodes.now memory.old) t root →
@@ -185,14 +185,14 @@ fn part_first<N: Nodes>(nodes: &N, memory: &mut N::Memory, root: u64) -> Parted
 {
     let links = nodes.links(memory, root);
     if links.left == 0 {
-        return Parted {
+        return FirstAndRest {
             first: root,
-            rest: Some(limb_of(nodes, memory, links.right)),
+            rest: Some(subtree_of(nodes, memory, links.right)),
         };
     }
     let parted = part_first(nodes, memory, links.left);
     let rest = with_left(nodes, memory, root, parted.rest);
-    Parted {
+    FirstAndRest {
         first: parted.first,
         rest,
     }

@@ -8,10 +8,10 @@ use Rattle.own_model.specs.OwnState.{OwnState}
 use Rattle.own_model.specs.OwnStep.{opened_by, session_opened, unless}
 use Rattle.own_model.specs.Reply.{reply_text}
 use Rattle.own_model.specs.Routes.{Level, ServerAt, provider}
-use Rattle.own_model.specs.Session.{Wish, wish_in, wish_of, session_ram, session_caps}
+use Rattle.own_model.specs.Session.{Wish, resolved_request, routed_request, session_ram, session_caps}
 use Rattle.own_model.specs.SessionArgs.{Arguments}
-use Rattle.budget_laws.specs.Test.{arguments_tests, test_of, wish_tests}
-use Rattle.budget_meter.specs.Asked.{asked_tests}
+use Rattle.budget_theorems.specs.Test.{arguments_tests, test_of, donation_tests}
+use Rattle.budget_meter.specs.NeededAmounts.{amount_tests}
 use Rattle.budget_meter.specs.declared.budget.Budget.{Budget}
 
 -- a reply is that no route leads to a provider
@@ -28,16 +28,16 @@ module _ (s : OwnState) (asked : Option Budget) (reply : List ℕ) (denied : is_
   granted_by wish false false false true = refl
   granted_by wish false false false false = refl
 
-  routed : (client : List ℕ) (more : Arguments) (server : Option ServerAt) → reply ≡ reply_text (opened_by (wish_of client more server) s).reply →
-      (is_denied reply ≡ false → asked_tests asked ≡ test_of more.ram more.caps ∷ []) → asked_tests asked ≡ wish_tests (wish_of client more server)
-  routed client more None told named = ap asked_tests (denied (ap is_denied told))
+  routed : (client : List ℕ) (more : Arguments) (server : Option ServerAt) → reply ≡ reply_text (opened_by (routed_request client more server) s).reply →
+      (is_denied reply ≡ false → amount_tests asked ≡ test_of more.ram more.caps ∷ []) → amount_tests asked ≡ donation_tests (routed_request client more server)
+  routed client more None told named = ap amount_tests (denied (ap is_denied told))
   routed client more (Some server) told named =
       named (ap is_denied told ∙ granted_by _
       (nat_lt s.account.ram_limit (s.account.ram_used + more.ram)) (nat_lt s.account.caps_limit (s.account.caps_used + more.caps))
       (nat_lt more.ram session_ram) (nat_lt more.caps session_caps))
 
   pub open_asks : (client : List ℕ) (routes : List Level) (service : List ℕ) (arguments : Option Arguments) →
-      reply ≡ reply_text (opened_by (wish_in client routes service arguments) s).reply →
-      (is_denied reply ≡ false → asked_tests asked ≡ arguments_tests arguments) → asked_tests asked ≡ wish_tests (wish_in client routes service arguments)
+      reply ≡ reply_text (opened_by (resolved_request client routes service arguments) s).reply →
+      (is_denied reply ≡ false → amount_tests asked ≡ arguments_tests arguments) → amount_tests asked ≡ donation_tests (resolved_request client routes service arguments)
   open_asks client routes service None told named = named (ap is_denied told)
   open_asks client routes service (Some more) told named = routed client more (provider routes service more.label) told named

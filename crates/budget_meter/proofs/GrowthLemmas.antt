@@ -10,12 +10,12 @@ use Rattle.own_model.specs.Growth.{Growth, most_chunks, is_large, hole_for, leas
 use Rattle.own_model.specs.OwnState.{OwnState}
 use Rattle.own_model.specs.OwnStep.{Outcome, unless, refused, own_heap_gap, grown_in, small_new, newed, block_taken}
 use Rattle.own_model.specs.Reply.{reply_text}
-use Rattle.budget_laws.specs.Test.{Test, small_tests, growth_tests, heap_tests}
-use Rattle.budget_meter.specs.Asked.{tells_growth}
+use Rattle.budget_theorems.specs.Test.{Test, small_tests, growth_tests, heap_tests}
+use Rattle.budget_meter.specs.NeededAmounts.{shows_growth}
 
 module _ (n : ℕ) (s : OwnState) where
   abbrev told : Outcome → Bool
-  told o = tells_growth (reply_text o.reply) s.account o.next.account
+  told o = shows_growth (reply_text o.reply) s.account o.next.account
 
   -- the growth number after it, where the heap was to grow
   abbrev number : Outcome → ℕ

@@ -25,11 +25,11 @@ use Rattle.own_model.specs.Sliced.{sliced_size, sliced_refusal}
 use Rattle.own_model.specs.StartList.{Entry, Kind}
 use Rattle.own_model.specs.StartList.Kind.{Script, Server, Init}
 use Rattle.pd_core.specs.Answer.{quotas_account}
-use Rattle.calls.specs.declared.quotas.Quotas.{Quotas}
-use Rattle.budget_laws.specs.Need.{Need, budgeted, limited, needs}
-use Rattle.budget_laws.specs.Test.{test_of, entry_tests, growth_tests, tests_unless, tests}
-use Rattle.budget_meter.specs.Asked.{asked_tests, is_of_chunk, tells_growth}
-use Rattle.budget_meter.specs.Metered.{is_script, Stands, Knows, HasHeard, IsToldBy}
+use Rattle.core_calls.specs.declared.quotas.Quotas.{Quotas}
+use Rattle.budget_theorems.specs.Need.{Need, budgeted, limited, needs}
+use Rattle.budget_theorems.specs.Test.{test_of, entry_tests, growth_tests, tests_unless, tests}
+use Rattle.budget_meter.specs.NeededAmounts.{amount_tests, is_of_chunk, shows_growth}
+use Rattle.budget_meter.specs.Metered.{is_script, Stands, Knows, HasObserved, HasReply}
 use Rattle.budget_meter.specs.Needs.{Shown, amounts_of, shown_by, shown_in, shown_of, together}
 use Rattle.budget_meter.specs.declared.account.AccountMeter.{AccountMeter}
 use Rattle.budget_meter.specs.declared.budget.Budget.{Budget}
@@ -170,22 +170,22 @@ module _ (s : OwnState) where
 -- ---- a block of a chunk
 
 module _ (n : ℕ) (entry : Entry) (s : OwnState) (reply : List ℕ) (left : Quotas) (account : Account) (small : n < 65536) (same : account ≡ s.account)
-    (said : IsToldBy reply left (entry_step entry (New n) s)) where
+    (said : HasReply reply left (entry_step entry (New n) s)) where
   abbrev grown : Outcome
   grown = entry_step entry (New n) s
 
-  tells_same : tells_growth reply account (quotas_account left) ≡ tells_growth (reply_text grown.reply) s.account grown.next.account
-  tells_same = λ i. tells_growth (said.told i) (same i) (said.leaves i)
+  tells_same : shows_growth reply account (quotas_account left) ≡ shows_growth (reply_text grown.reply) s.account grown.next.account
+  tells_same = λ i. shows_growth (said.told i) (same i) (said.leaves i)
 
   is_small : is_large n ≡ false
   is_small = grind (arith, nat_tests, small)
 
   -- where no growth is told nothing is tested
-  pub chunk_quiet : tells_growth reply account (quotas_account left) ≡ false → (entry_tests entry (New n) s ≡ []) × (grown.next.heap.shape.growth ≡ s.heap.shape.growth)
+  pub chunk_quiet : shows_growth reply account (quotas_account left) ≡ false → (entry_tests entry (New n) s ≡ []) × (grown.next.heap.shape.growth ≡ s.heap.shape.growth)
   chunk_quiet is = (chunk_tells n s is_small).quiet (sym tells_same ∙ is)
 
   -- and where one is, both sizes
-  pub chunk_grows : tells_growth reply account (quotas_account left) ≡ true →
+  pub chunk_grows : shows_growth reply account (quotas_account left) ≡ true →
       (entry_tests entry (New n) s ≡ growth_tests n s.heap.shape s.account)
       × (grown.next.heap.shape.growth
       ≡ (if nat_lt account.caps_used left.caps_used.0 && nat_le (account.ram_used + (larger_growth n s.heap.shape).bytes) account.ram_limit
@@ -201,7 +201,7 @@ module _ (n : ℕ) (entry : Entry) (s : OwnState) (reply : List ℕ) (left : Quo
 
 -- what a meter has counted then
 module _ (call : Call) (entry : Entry) (s : OwnState) (reply : List ℕ) (left : Quotas) (account : Account) (same : account ≡ s.account)
-    (said : IsToldBy reply left (entry_step entry call s)) (start : Amounts) (before after : Shown) where
+    (said : HasReply reply left (entry_step entry call s)) (start : Amounts) (before after : Shown) where
   abbrev all_of_it : Shown
   all_of_it = together before (shown_of start s.account (entry_tests entry call s))
 
@@ -209,36 +209,36 @@ module _ (call : Call) (entry : Entry) (s : OwnState) (reply : List ℕ) (left :
   none_of_it none still = still ∙ sym (together_nothing before) ∙ ap (λ each. together before (shown_of start s.account each)) none
 
   module _ (n : ℕ) (is : call ≡ New n) (small : n < 65536) where
-    said_new : IsToldBy reply left (entry_step entry (New n) s)
-    said_new = subst (λ x. IsToldBy reply left (entry_step entry x s)) is said
+    said_new : HasReply reply left (entry_step entry (New n) s)
+    said_new = subst (λ x. HasReply reply left (entry_step entry x s)) is said
 
-    pub grown_shown : tells_growth reply account (quotas_account left) ≡ true →
+    pub grown_shown : shows_growth reply account (quotas_account left) ≡ true →
         after ≡ together before (shown_of start account (growth_tests n s.heap.shape account)) → after ≡ all_of_it
     grown_shown tells shown =
         shown ∙ (λ i. together before (shown_of start (same i) (growth_tests n s.heap.shape (same i))))
         ∙ ap (λ each. together before (shown_of start s.account each))
         (sym (chunk_grows n entry s reply left account small same said_new tells).0 ∙ ap (λ x. entry_tests entry x s) (sym is))
 
-    pub grown_pages : (pages : ℕ) → tells_growth reply account (quotas_account left) ≡ true →
+    pub grown_pages : (pages : ℕ) → shows_growth reply account (quotas_account left) ≡ true →
         pages ≡ (if nat_lt account.caps_used left.caps_used.0 && nat_le (account.ram_used + (larger_growth n s.heap.shape).bytes) account.ram_limit
         then (larger_growth n s.heap.shape).next else s.heap.shape.growth) →
         pages ≡ (entry_step entry call s).next.heap.shape.growth
     grown_pages pages tells is_so =
         is_so ∙ sym (chunk_grows n entry s reply left account small same said_new tells).1 ∙ ap (λ x. (entry_step entry x s).next.heap.shape.growth) (sym is)
 
-    pub quiet_shown : tells_growth reply account (quotas_account left) ≡ false → after ≡ before → after ≡ all_of_it
+    pub quiet_shown : shows_growth reply account (quotas_account left) ≡ false → after ≡ before → after ≡ all_of_it
     quiet_shown tells still =
         none_of_it (sym (chunk_quiet n entry s reply left account small same said_new tells).0 ∙ ap (λ x. entry_tests entry x s) (sym is)) still
 
-    pub quiet_pages : (pages : ℕ) → tells_growth reply account (quotas_account left) ≡ false → pages ≡ s.heap.shape.growth →
+    pub quiet_pages : (pages : ℕ) → shows_growth reply account (quotas_account left) ≡ false → pages ≡ s.heap.shape.growth →
         pages ≡ (entry_step entry call s).next.heap.shape.growth
     quiet_pages pages tells is_so =
         is_so ∙ sym (chunk_quiet n entry s reply left account small same said_new tells).1 ∙ ap (λ x. (entry_step entry x s).next.heap.shape.growth) (sym is)
 
-  pub nothing_shown : asked_tests None ≡ entry_tests entry call s → after ≡ before → after ≡ all_of_it
+  pub nothing_shown : amount_tests None ≡ entry_tests entry call s → after ≡ before → after ≡ all_of_it
   nothing_shown none still = none_of_it none still
 
-  pub asked_shown : (asked : Budget) → asked_tests (Some asked) ≡ entry_tests entry call s →
+  pub asked_shown : (asked : Budget) → amount_tests (Some asked) ≡ entry_tests entry call s →
       after ≡ together before (shown_of start account (test_of asked.ram asked.caps ∷ [])) → after ≡ all_of_it
   asked_shown asked tests shown =
       shown ∙ (λ i. together before (shown_of start (same i) (tests i)))
@@ -289,7 +289,7 @@ module _ (entry : Entry) (calls : List Call) (call : Call) (budget : Amounts) (s
   so_far = needs entry budget calls (budgeted budget s)
 
   -- by who isn't answered
-  pub unheard : (meter : AccountMeter) → (meter.is_script ≡ true → meter.is_gone ≡ true) → HasHeard entry calls budget s meter → HasHeard entry (calls ++ call ∷ []) budget s meter
+  pub unheard : (meter : AccountMeter) → (meter.is_script ≡ true → meter.is_gone ≡ true) → HasObserved entry calls budget s meter → HasObserved entry (calls ++ call ∷ []) budget s meter
   unheard meter out heard =
       let knows = heard.knows in
       let no = turned entry call now (λ is. sym knows.gone ∙ out (knows.script ∙ is)) in
@@ -303,13 +303,13 @@ module _ (entry : Entry) (calls : List Call) (call : Call) (budget : Amounts) (s
       }
 
   -- by who is
-  pub heard : (old taken : AccountMeter) (reply : List ℕ) (left : Quotas) → HasHeard entry calls budget s old → old.is_script ≡ true → old.is_gone ≡ false →
-      IsToldBy reply left (own_step entry call now) →
-      (Stands old now → IsToldBy reply left (entry_step entry call now) →
+  pub heard : (old taken : AccountMeter) (reply : List ℕ) (left : Quotas) → HasObserved entry calls budget s old → old.is_script ≡ true → old.is_gone ≡ false →
+      HasReply reply left (own_step entry call now) →
+      (Stands old now → HasReply reply left (entry_step entry call now) →
       shown_in taken.meter ≡ together (shown_in old.meter) (shown_of (amounts_of old.meter.start) now.account (entry_tests entry call now))) →
-      (Stands old now → IsToldBy reply left (entry_step entry call now) → is_exit call ≡ false → taken.pages ≡ (entry_step entry call now).next.heap.shape.growth) →
+      (Stands old now → HasReply reply left (entry_step entry call now) → is_exit call ≡ false → taken.pages ≡ (entry_step entry call now).next.heap.shape.growth) →
       taken.meter.start ≡ old.meter.start → taken.is_script ≡ old.is_script →
-      HasHeard entry (calls ++ call ∷ []) budget s (record taken { account = left; is_gone = is_exit call })
+      HasObserved entry (calls ++ call ∷ []) budget s (record taken { account = left; is_gone = is_exit call })
   heard old taken reply left before is on told shown pages start script =
       let knows = before.knows in
       let here : now.gone ≡ false = sym knows.gone ∙ on in
@@ -317,7 +317,7 @@ module _ (entry : Entry) (calls : List Call) (call : Call) (budget : Amounts) (s
       let answered = there entry call now scripted here in
       let stands = knows.stands here in
       let each : entry_tests entry call now ≡ tests entry call now = sym answered.0 in
-      let told_so : IsToldBy reply left (entry_step entry call now) = subst (IsToldBy reply left) answered.1 told in
+      let told_so : HasReply reply left (entry_step entry call now) = subst (HasReply reply left) answered.1 told in
       record {
         start = ap amounts_of start ∙ before.start;
         shown =
@@ -341,7 +341,7 @@ pub begun : (entry : Entry) (s : OwnState) (account : Quotas) (meter : AccountMe
     amounts_of meter.meter.start ≡ record { ram = account.ram_limit.0; caps = account.caps_limit.0 } → shown_in meter.meter ≡ record { ram = 0; caps = 0; choice = 0 } →
     meter.is_script ≡ is_script entry.kind → meter.is_gone ≡ false → meter.account ≡ account → meter.pages ≡ 4 →
     s.gone ≡ false → quotas_account account ≡ s.account → s.heap.shape.growth ≡ 4 →
-    HasHeard entry [] (record { ram = account.ram_limit.0; caps = account.caps_limit.0 }) s meter
+    HasObserved entry [] (record { ram = account.ram_limit.0; caps = account.caps_limit.0 }) s meter
 begun entry s account meter start shown script gone kept pages here same growth = record {
   start = start;
   shown = shown;

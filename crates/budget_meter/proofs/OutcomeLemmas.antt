@@ -6,20 +6,20 @@ use Rattle.trade_base.specs.declared.refusal.Refusal.{Refusal}
 use Rattle.trade_base.specs.declared.refusal.Refusal.TheVariants as refusal
 use Rattle.own_model.specs.FileText.{file_reply}
 use Rattle.own_model.specs.FileText as model
-use Rattle.calls.specs.FileError.{model_error}
-use Rattle.calls.specs.Outcome.{IsText}
-use Rattle.calls.specs.declared.file_error.FileError.{FileError}
-use Rattle.calls.specs.declared.file_error.FileError.TheVariants as error
-use Rattle.calls.specs.declared.outcome.Outcome.{Outcome}
-use Rattle.calls.specs.declared.outcome.Outcome.TheVariants.{Selected, Attached, Bytes, Done, Quotas, Reserved, Served, Refused}
-use Rattle.calls.specs.declared.outcome.ServiceOutcome.TheVariants.{Done as ServiceDone, Count, Bytes as ServiceBytes, Name, Quotas as ServiceQuotas, Lent, Refused as ServiceRefused}
-use Rattle.budget_laws.specs.Request.{tells_short}
+use Rattle.core_calls.specs.FileError.{model_error}
+use Rattle.core_calls.specs.Outcome.{IsText}
+use Rattle.core_calls.specs.declared.file_error.FileError.{FileError}
+use Rattle.core_calls.specs.declared.file_error.FileError.TheVariants as error
+use Rattle.core_calls.specs.declared.outcome.Outcome.{Outcome}
+use Rattle.core_calls.specs.declared.outcome.Outcome.TheVariants.{Selected, Attached, Bytes, Done, Quotas, Reserved, Served, Refused}
+use Rattle.core_calls.specs.declared.outcome.ServiceOutcome.TheVariants.{Done as ServiceDone, Count, Bytes as ServiceBytes, Name, Quotas as ServiceQuotas, Lent, Refused as ServiceRefused}
+use Rattle.budget_theorems.specs.Request.{shows_session_short}
 use Rattle.budget_meter.specs.Outcomes.{grants, is_done, lacks_session, lacks, is_denied, is_unnamed}
-use Rattle.budget_meter.specs.Told.{is_granted}
+use Rattle.budget_meter.specs.RequestTests.{is_granted}
 
 abbrev pub Reads : Outcome → List ℕ → Type 0
 Reads outcome text =
-    (grants outcome ≡ is_granted text) × (is_done outcome ≡ bytes_eq text (codes "OK")) × (lacks_session outcome ≡ tells_short text)
+    (grants outcome ≡ is_granted text) × (is_done outcome ≡ bytes_eq text (codes "OK")) × (lacks_session outcome ≡ shows_session_short text)
     × (lacks outcome ≡ (bytes_eq text (refusal_name refusal.OutOfRam) || bytes_eq text (refusal_name refusal.OutOfCaps)))
     × (is_denied outcome ≡ bytes_eq text (refusal_name refusal.ServiceDenied)) × (is_unnamed outcome ≡ bytes_eq text (refusal_name refusal.InvalidSession))
 

@@ -7,23 +7,23 @@ use Rattle.std.proofs.Math.Bool.{or-false}
 use Rattle.trade_base.specs.declared.refusal.Refusal.TheVariants.{InsufficientRamQuota, InsufficientCapQuota}
 use Rattle.own_model.specs.Amounts.{Amounts}
 use Rattle.own_model.specs.Session.{Session, session_ram, session_caps}
-use Rattle.budget_laws.proofs.CellLemmas.{Leads}
-use Rattle.budget_laws.proofs.EachLemmas.{of_first, of_second, of_both}
-use Rattle.budget_laws.proofs.SessionRunLemmas.{Donated, EachAlike, session_alike, session_moved, session_decides, first_donated}
-use Rattle.budget_laws.proofs.StretchLemmas.{exact}
-use Rattle.budget_laws.proofs.WantLemmas.{or_left, or_right, within_by, below_by}
-use Rattle.budget_laws.specs.Need.{Need, HasRam, IsBelow, ComesOutAlike, cell_by, greatest_choice}
-use Rattle.budget_laws.specs.Request.{donating}
-use Rattle.budget_laws.specs.RequestLaws.{Reaches, session_after, needs_of_one, session_needs, OneAlike, one_in_want, session_in_want}
-use Rattle.budget_meter.specs.Reached.{Sent, reaches, buffer_after, reaching_to_want, run_needs, run_in_want, opens_none, opening_need, opened_needs, opened_in_want, SessionRunsAreExact}
-use Rattle.budget_meter.specs.Reached.Sent.{Asks, Raises}
+use Rattle.budget_theorems.proofs.CellLemmas.{Leads}
+use Rattle.budget_theorems.proofs.EachLemmas.{of_first, of_second, of_both}
+use Rattle.budget_theorems.proofs.SessionRunLemmas.{Donated, EachAlike, session_alike, session_moved, session_decides, first_donated}
+use Rattle.budget_theorems.proofs.StretchLemmas.{exact}
+use Rattle.budget_theorems.proofs.WantLemmas.{or_left, or_right, within_by, below_by}
+use Rattle.budget_theorems.specs.Need.{Need, HasRam, IsBelow, ComesOutAlike, cell_by, greatest_choice}
+use Rattle.budget_theorems.specs.Request.{donating}
+use Rattle.budget_theorems.specs.RequestTheorems.{Reaches, session_after, needs_of_one, session_needs, OneAlike, one_is_short, session_is_short}
+use Rattle.budget_meter.specs.SessionRuns.{Sent, reaches, buffer_after, reaching_to_want, run_needs, run_in_want, opens_none, opening_need, opened_needs, opened_in_want, SessionRunsAreExact}
+use Rattle.budget_meter.specs.SessionRuns.Sent.{Asks, Raises}
 
 module _ (one other : Amounts) where
   -- one request or donation, and what it leaves
   record Once (buffer : Option (List ℕ)) (sent : Sent) (s t : Session) : Type 0 where
     buffers : buffer_after buffer sent t ≡ buffer_after buffer sent s
     next : Donated one other (session_after (reaches buffer sent) s) (session_after (reaches buffer sent) t)
-    want : one_in_want (reaches buffer sent) t ≡ one_in_want (reaches buffer sent) s
+    want : one_is_short (reaches buffer sent) t ≡ one_is_short (reaches buffer sent) s
 
   same_buffer : (buffer : Option (List ℕ)) (sent : Sent) (s t : Session) → OneAlike (reaches buffer sent) s t → buffer_after buffer sent t ≡ buffer_after buffer sent s
   same_buffer buffer (Asks request) s t told = told.buffer
@@ -37,7 +37,7 @@ module _ (one other : Amounts) where
       record {
         buffers = same_buffer buffer sent s t alike.told.0;
         next = session_moved one other (x ∷ []) s t before alone;
-        want = sym (or-false (one_in_want x t)) ∙ alike.want ∙ or-false (one_in_want x s);
+        want = sym (or-false (one_is_short x t)) ∙ alike.want ∙ or-false (one_is_short x s);
       }
 
   -- tests that come out alike bring the same
@@ -48,9 +48,9 @@ module _ (one other : Amounts) where
       let x = reaches buffer sent in
       let first = needs_of_one one x s in
       let more : Bool → List Reaches = λ w. cond w [] (reaching_to_want rest (buffer_after buffer sent s) (session_after x s)) in
-      let here = once buffer sent s t before (of_first (ComesOutAlike one other) first (session_needs one (more (one_in_want x s)) (session_after x s)) each) in
+      let here = once buffer sent s t before (of_first (ComesOutAlike one other) first (session_needs one (more (one_is_short x s)) (session_after x s)) each) in
       ap (λ w. x ∷ cond w [] (reaching_to_want rest (buffer_after buffer sent t) (session_after x t))) here.want
-      ∙ elim (one_in_want x s) as
+      ∙ elim (one_is_short x s) as
       (λ w. EachAlike one other (first ++ session_needs one (more w) (session_after x s)) →
       x ∷ cond w [] (reaching_to_want rest (buffer_after buffer sent t) (session_after x t)) ≡ x ∷ more w) [
         | true ↦ λ _. refl
@@ -63,29 +63,29 @@ module _ (one other : Amounts) where
   -- tests that lead come out alike, or the other is in want
   reaching_decides : (sents : List Sent) (buffer : Option (List ℕ)) (s t : Session) → Donated one other s t →
       AllByRecursion (Leads one other) (session_needs one (reaching_to_want sents buffer s) s) →
-      EachAlike one other (session_needs one (reaching_to_want sents buffer s) s) ⊎ (session_in_want (reaching_to_want sents buffer t) t ≡ true)
+      EachAlike one other (session_needs one (reaching_to_want sents buffer s) s) ⊎ (session_is_short (reaching_to_want sents buffer t) t ≡ true)
   reaching_decides [] buffer s t before each = inl tt
   reaching_decides (sent ∷ rest) buffer s t before each =
       let x = reaches buffer sent in
       let first = needs_of_one one x s in
       let more : Bool → List Reaches = λ w. cond w [] (reaching_to_want rest (buffer_after buffer sent s) (session_after x s)) in
       let there : Bool → List Reaches = λ w. cond w [] (reaching_to_want rest (buffer_after buffer sent t) (session_after x t)) in
-      let later : Bool → Bool = λ w. session_in_want (there w) (session_after x t) in
-      let led = of_first (Leads one other) first (session_needs one (more (one_in_want x s)) (session_after x s)) each in
+      let later : Bool → Bool = λ w. session_is_short (there w) (session_after x t) in
+      let led = of_first (Leads one other) first (session_needs one (more (one_is_short x s)) (session_after x s)) each in
       elim (session_decides one other (x ∷ []) s t before (of_both (Leads one other) first [] led tt)) [
-        | inr short ↦ inr (or_left (one_in_want x t) (later (one_in_want x t)) (sym (or-false (one_in_want x t)) ∙ short))
+        | inr short ↦ inr (or_left (one_is_short x t) (later (one_is_short x t)) (sym (or-false (one_is_short x t)) ∙ short))
         | inl alone ↦
             let alike = of_first (ComesOutAlike one other) first [] alone in
             let here = once buffer sent s t before alike in
-            elim (one_in_want x s) as
-            (λ w. one_in_want x t ≡ w → AllByRecursion (Leads one other) (first ++ session_needs one (more w) (session_after x s)) →
-            EachAlike one other (first ++ session_needs one (more w) (session_after x s)) ⊎ ((one_in_want x t || later (one_in_want x t)) ≡ true)) [
+            elim (one_is_short x s) as
+            (λ w. one_is_short x t ≡ w → AllByRecursion (Leads one other) (first ++ session_needs one (more w) (session_after x s)) →
+            EachAlike one other (first ++ session_needs one (more w) (session_after x s)) ⊎ ((one_is_short x t || later (one_is_short x t)) ≡ true)) [
               | true ↦ λ is all. inl alone
               | false ↦ λ is all.
                   elim (reaching_decides rest (buffer_after buffer sent s) (session_after x s) (session_after x t) here.next
                   (of_second (Leads one other) first (session_needs one (more false) (session_after x s)) all)) [
-                    | inr short ↦ inr (or_right (one_in_want x t) (later (one_in_want x t))
-                        (ap later is ∙ ap (λ b. session_in_want (reaching_to_want rest b (session_after x t)) (session_after x t)) here.buffers ∙ short))
+                    | inr short ↦ inr (or_right (one_is_short x t) (later (one_is_short x t))
+                        (ap later is ∙ ap (λ b. session_is_short (reaching_to_want rest b (session_after x t)) (session_after x t)) here.buffers ∙ short))
                     | inl same ↦ inl (of_both (ComesOutAlike one other) first (session_needs one (more false) (session_after x s)) alike same)
                   ]
             ] here.want each
@@ -131,7 +131,7 @@ module _ (sents : List Sent) (session : Session) (one other : Amounts) where
   alike : AllByRecursion (ComesOutAlike one other) each → there ≡ here
   alike same =
       let before = first_donated one other session in
-      ap (λ all. session_in_want all (donating other session)) (reaching_same one other sents None (donating one session) (donating other session) before same)
+      ap (λ all. session_is_short all (donating other session)) (reaching_same one other sents None (donating one session) (donating other session) before same)
       ∙ (session_alike one other (reaching_to_want sents None (donating one session)) (donating one session) (donating other session) before same).want
 
   decides : AllByRecursion (Leads one other) each → AllByRecursion (ComesOutAlike one other) each ⊎ (there ≡ true)

@@ -6,10 +6,10 @@ use Rattle.own_model.specs.Call.{Call}
 use Rattle.own_model.specs.OwnState.{OwnState}
 use Rattle.own_model.specs.OwnStep.{own_step, own_run}
 use Rattle.own_model.specs.StartList.{Entry}
-use Rattle.budget_laws.specs.Need.{budgeted, needs}
-use Rattle.budget_laws.specs.Stretches.{up_to_want}
-use Rattle.budget_laws.specs.Want.{wants, in_want}
-use Rattle.budget_meter.specs.Metered.{HasHeard}
+use Rattle.budget_theorems.specs.Need.{budgeted, needs}
+use Rattle.budget_theorems.specs.Intervals.{up_to_shortfall}
+use Rattle.budget_theorems.specs.Shortfall.{wants, run_is_short}
+use Rattle.budget_meter.specs.Metered.{HasObserved}
 use Rattle.budget_meter.specs.Needs.{shown_by}
 use Rattle.budget_meter.specs.Run.{IsLeft, Shows}
 use Rattle.budget_meter.specs.declared.account.AccountMeter.{AccountMeter}
@@ -17,7 +17,7 @@ use Rattle.budget_meter.proofs.ShownLemmas.{run-more}
 
 module _ (entry : Entry) (calls : List Call) (budget : Amounts) (s : OwnState) (meter : AccountMeter) where
   -- before the first
-  pub all_left : HasHeard entry [] budget s meter → IsLeft entry calls calls budget s (budgeted budget s) meter
+  pub all_left : HasObserved entry [] budget s meter → IsLeft entry calls calls budget s (budgeted budget s) meter
   all_left has = record { heard = []; has = has; here = refl; part = refl; want = refl }
 
   -- after the last
@@ -29,14 +29,14 @@ module _ (entry : Entry) (calls : List Call) (budget : Amounts) (s : OwnState) (
   }
 
   module _ (call : Call) (rest : List Call) (now : OwnState) (old : AccountMeter) (before : IsLeft entry calls (call ∷ rest) budget s now old)
-      (hears : (heard : List Call) → HasHeard entry heard budget s old → own_run entry heard (budgeted budget s) ≡ now →
-      HasHeard entry (heard ++ call ∷ []) budget s meter) where
-    has_more : HasHeard entry (before.heard ++ call ∷ []) budget s meter
+      (hears : (heard : List Call) → HasObserved entry heard budget s old → own_run entry heard (budgeted budget s) ≡ now →
+      HasObserved entry (heard ++ call ∷ []) budget s meter) where
+    has_more : HasObserved entry (before.heard ++ call ∷ []) budget s meter
     has_more = hears before.heard before.has before.here
 
     -- the part up to the first want, where this call is in want or not
     abbrev behind : Bool → List Call
-    behind w = call ∷ cond w [] (up_to_want entry rest (own_step entry call now).next)
+    behind w = call ∷ cond w [] (up_to_shortfall entry rest (own_step entry call now).next)
 
     -- a call that is in no want goes on
     pub one_less : wants call (own_step entry call now).reply ≡ false → IsLeft entry calls rest budget s (own_step entry call now).next meter
@@ -46,8 +46,8 @@ module _ (entry : Entry) (calls : List Call) (budget : Amounts) (s : OwnState) (
       here = run-more entry before.heard call (budgeted budget s) ∙ ap (λ t. (own_step entry call t).next) before.here;
       part =
           before.part ∙ ap (λ w. before.heard ++ behind w) is
-          ∙ sym (append_assoc before.heard (call ∷ []) (up_to_want entry rest (own_step entry call now).next));
-      want = before.want ∙ ap (λ w. w || in_want entry rest (own_step entry call now).next) is;
+          ∙ sym (append_assoc before.heard (call ∷ []) (up_to_shortfall entry rest (own_step entry call now).next));
+      want = before.want ∙ ap (λ w. w || run_is_short entry rest (own_step entry call now).next) is;
     }
 
     -- and one that is ends the run
@@ -57,5 +57,5 @@ module _ (entry : Entry) (calls : List Call) (budget : Amounts) (s : OwnState) (
       shown =
           has_more.shown
           ∙ ap (λ each. shown_by budget (needs entry budget each (budgeted budget s))) (sym (before.part ∙ ap (λ w. before.heard ++ behind w) is));
-      want = sym (before.want ∙ ap (λ w. w || in_want entry rest (own_step entry call now).next) is);
+      want = sym (before.want ∙ ap (λ w. w || run_is_short entry rest (own_step entry call now).next) is);
     }

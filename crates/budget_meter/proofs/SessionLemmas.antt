@@ -8,15 +8,15 @@ use Rattle.own_model.specs.BufferService.{SessionRequest, session_request}
 use Rattle.own_model.specs.OwnState.{NamedBuffer, bytes_of_buffer}
 use Rattle.own_model.specs.Session.{Session, Served, served, upgraded}
 use Rattle.pd_core.specs.Answer.{quotas_account}
-use Rattle.calls.specs.declared.quotas.Quotas.{Quotas}
-use Rattle.budget_laws.specs.Request.{donating, tells_short}
-use Rattle.budget_laws.specs.RequestLaws.{Reaches, session_after, needs_of_one, session_needs, session_run, one_in_want, session_in_want}
-use Rattle.budget_laws.specs.RequestLaws.Reaches.{Asked, Raised}
+use Rattle.core_calls.specs.declared.quotas.Quotas.{Quotas}
+use Rattle.budget_theorems.specs.Request.{donating, shows_session_short}
+use Rattle.budget_theorems.specs.RequestTheorems.{Reaches, session_after, needs_of_one, session_needs, session_run, one_is_short, session_is_short}
+use Rattle.budget_theorems.specs.RequestTheorems.Reaches.{Asked, Raised}
 use Rattle.budget_meter.specs.Needs.{amounts_of, shown_by, shown_in, shown_of, together}
-use Rattle.budget_meter.specs.Reached.{Sent, reaches, buffer_after, reaching_to_want, opening_need}
+use Rattle.budget_meter.specs.SessionRuns.{Sent, reaches, buffer_after, reaching_to_want, opening_need}
 use Rattle.budget_meter.specs.Sessions.{IsAt, IsServedBy, HasReached, IsLeft, Shows}
 use Rattle.budget_meter.specs.Sizes.{Keeps}
-use Rattle.budget_meter.specs.Told.{files_in, told_tests, told_growth, Changes}
+use Rattle.budget_meter.specs.RequestTests.{files_in, tests_by_reply, growth_by_reply, Changes}
 use Rattle.budget_meter.specs.declared.meter.Meter.{Meter}
 use Rattle.budget_meter.specs.declared.session.SessionMeter.{SessionMeter}
 use Rattle.budget_meter.proofs.ShownLemmas.{shown-append, together_nothing}
@@ -83,14 +83,14 @@ module _ (all : List Reaches) (donation : Amounts) (session : Session) where
       tells : TellsSession request buffer here here.state reply o
       tells = subst (λ text. TellsSession request buffer here here.state text o) (sym served_so.told) (session_told request buffer here few_now served_so.selector)
 
-      pub short_told : tells_short reply ≡ tells_short o.reply
+      pub short_told : shows_session_short reply ≡ shows_session_short o.reply
       short_told = tells.short
 
       pub heard : (new : SessionMeter) (asked : Option SessionRequest) → asked ≡ session_request request →
           shown_in new.meter
           ≡ together (shown_in old.meter)
-          (shown_of (amounts_of old.meter.start) (quotas_account old.account) (told_tests asked reply (quotas_account old.account) (quotas_account left) (files_in here.state))) →
-          new.pages ≡ told_growth asked reply (quotas_account old.account) (quotas_account left) (files_in here.state) →
+          (shown_of (amounts_of old.meter.start) (quotas_account old.account) (tests_by_reply asked reply (quotas_account old.account) (quotas_account left) (files_in here.state))) →
+          new.pages ≡ growth_by_reply asked reply (quotas_account old.account) (quotas_account left) (files_in here.state) →
           (Changes asked reply (files_in here.state).files (files_in o.session.state).files → Keeps new.sizes (files_in o.session.state).files) →
           new.meter.start ≡ old.meter.start → left.ram_limit.0 < 2 ^ 64 → new.account ≡ left → HasReached (all ++ Asked (bytes_of_buffer buffer) request ∷ []) donation session new
       heard new asked is shown pages sizes start few account =
@@ -103,14 +103,14 @@ module _ (all : List Reaches) (donation : Amounts) (session : Session) where
             opens = before.opens;
             shown =
                 shown
-                ∙ (λ i. together (before.shown i) (shown_of (before.start i) (same i) (told_tests (is i) reply (same i) (leaves i) (files_in here.state))))
+                ∙ (λ i. together (before.shown i) (shown_of (before.start i) (same i) (tests_by_reply (is i) reply (same i) (leaves i) (files_in here.state))))
                 ∙ ap (λ each. together (shown_by donation (opening_need donation ∷ session_needs donation all s)) (shown_of donation here.account each)) tells.tests
                 ∙ sym (shown_more donation all x s);
             at = subst (IsAt new) (sym (run_more all x s))
                 (record {
                   account = ap quotas_account account ∙ leaves;
                   few = subst (λ (q : Quotas). q.ram_limit.0 < 2 ^ 64) (sym account) few;
-                  growth = pages ∙ (λ i. told_growth (is i) reply (same i) (leaves i) (files_in here.state)) ∙ tells.growth;
+                  growth = pages ∙ (λ i. growth_by_reply (is i) reply (same i) (leaves i) (files_in here.state)) ∙ tells.growth;
                   sizes = sizes (subst (λ a. Changes a reply (files_in here.state).files (files_in o.session.state).files) (sym is) tells.changes);
                 });
           }
@@ -120,9 +120,9 @@ module _ (all : List Reaches) (donation : Amounts) (session : Session) where
 -- whether a request is in want, as its client is told
 pub want_told : (heard : List Reaches) (donation : Amounts) (session now : Session) (buffer : Option NamedBuffer) (request reply : List ℕ) (left : Quotas) (old : SessionMeter) →
     HasReached heard donation session old → session_run heard (donating donation session) ≡ now →
-    IsServedBy reply left buffer (served (bytes_of_buffer buffer) now request) → tells_short (served (bytes_of_buffer buffer) now request).reply ≡ tells_short reply
+    IsServedBy reply left buffer (served (bytes_of_buffer buffer) now request) → shows_session_short (served (bytes_of_buffer buffer) now request).reply ≡ shows_session_short reply
 want_told heard donation session now buffer request reply left old has here told =
-    ap (λ (t : Session). tells_short (served (bytes_of_buffer buffer) t request).reply) (sym here)
+    ap (λ (t : Session). shows_session_short (served (bytes_of_buffer buffer) t request).reply) (sym here)
     ∙ sym (short_told heard donation session buffer request reply left old has
     (subst (λ (t : Session). IsServedBy reply left buffer (served (bytes_of_buffer buffer) t request)) (sym here) told))
 
@@ -136,13 +136,13 @@ module _ (sent : List Sent) (donation : Amounts) (session : Session) (meter : Se
 
   -- what a run shows that heard all of it
   shown_whole : (heard : List Reaches) → HasReached heard donation session meter → reaching_to_want sent None start ≡ heard → (wanting : Bool) →
-      session_in_want (reaching_to_want sent None start) start ≡ wanting → Shows sent session donation wanting meter.meter
+      session_is_short (reaching_to_want sent None start) start ≡ wanting → Shows sent session donation wanting meter.meter
   shown_whole heard has whole wanting want = record {
     start = has.start;
     shown =
         has.shown
         ∙ (λ i. shown_by donation (opening_need donation ∷ cond (sym has.opens i) [] (session_needs donation (sym whole i) start)));
-    want = sym want ∙ ap (λ b. b || session_in_want (reaching_to_want sent None start) start) (sym has.opens);
+    want = sym want ∙ ap (λ b. b || session_is_short (reaching_to_want sent None start) start) (sym has.opens);
   }
 
   -- after the last
@@ -165,10 +165,10 @@ module _ (sent : List Sent) (donation : Amounts) (session : Session) (meter : Se
     behind w = reaches buffer x ∷ cond w [] to_come
 
     abbrev wants_behind : Bool → Bool
-    wants_behind w = one_in_want (reaches buffer x) now || session_in_want (cond w [] to_come) next
+    wants_behind w = one_is_short (reaches buffer x) now || session_is_short (cond w [] to_come) next
 
     -- what is in no want goes on
-    pub one_less : one_in_want (reaches buffer x) now ≡ false → IsLeft sent rest donation session (buffer_after buffer x now) next meter
+    pub one_less : one_is_short (reaches buffer x) now ≡ false → IsLeft sent rest donation session (buffer_after buffer x now) next meter
     one_less is = record {
       heard = before.heard ++ reaches buffer x ∷ [];
       has = has_more;
@@ -176,11 +176,11 @@ module _ (sent : List Sent) (donation : Amounts) (session : Session) (meter : Se
       part =
           before.part ∙ ap (λ w. before.heard ++ behind w) is
           ∙ sym (append_assoc before.heard (reaches buffer x ∷ []) to_come);
-      want = before.want ∙ ap wants_behind is ∙ ap (λ w. w || session_in_want to_come next) is;
+      want = before.want ∙ ap wants_behind is ∙ ap (λ w. w || session_is_short to_come next) is;
     }
 
     -- and what is ends the run
-    pub ended : one_in_want (reaches buffer x) now ≡ true → Shows sent session donation true meter.meter
+    pub ended : one_is_short (reaches buffer x) now ≡ true → Shows sent session donation true meter.meter
     ended is =
         shown_whole (before.heard ++ reaches buffer x ∷ []) has_more (before.part ∙ ap (λ w. before.heard ++ behind w) is) true
         (before.want ∙ ap wants_behind is ∙ ap (λ w. w || false) is)

@@ -7,8 +7,8 @@ use Rattle.own_model.specs.Call.{Call}
 use Rattle.own_model.specs.OwnState.{OwnState}
 use Rattle.own_model.specs.OwnStep.{own_step, own_run}
 use Rattle.own_model.specs.StartList.{Entry}
-use Rattle.budget_laws.specs.Need.{Need, needs, need_of, cell_by, covers_ram, covers_caps, greatest_choice}
-use Rattle.budget_laws.specs.Test.{tests}
+use Rattle.budget_theorems.specs.Need.{Need, needs, need_of, cell_by, covers_ram, covers_caps, greatest_choice}
+use Rattle.budget_theorems.specs.Test.{tests}
 use Rattle.budget_meter.specs.Needs.{Shown, shown_by, together, shown_of}
 
 max_on : (b : Bool) (n x y : ℕ) → (if b then max n (max x y) else max x y) ≡ max (if b then max n x else x) y

@@ -8,7 +8,7 @@ use Rattle.std.specs.Str.{bytes_eq}
 use Rattle.own_model.specs.FileService as model
 use Rattle.own_model.specs.FileService.{is_named, rewritten, without}
 use Rattle.budget_meter.specs.Sizes.{Size, kept_size, size_of}
-use Rattle.budget_meter.specs.declared.sizes.File.{File}
+use Rattle.budget_meter.specs.declared.file_sizes.File.{File}
 
 module _ (name : List ℕ) where
   abbrev has : Size → Bool

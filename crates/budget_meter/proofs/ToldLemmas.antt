@@ -33,9 +33,9 @@ use Rattle.own_model.specs.Session.{ServiceState, Session, Served, served, serve
 use Rattle.own_model.specs.Services.ServiceState.{Filing, Logging}
 use Rattle.own_model.specs.Sliced.{sliced_size}
 use Rattle.own_model.specs.Text.{is_name}
-use Rattle.budget_laws.specs.Request.{create_tests, filing_tests, put_tests, write_tests, tests_where_none, tests_by, tells_short}
-use Rattle.budget_laws.specs.Test.{Test, test_of, tested_where, small_tests, growth_tests}
-use Rattle.budget_meter.specs.Told.{files_in, tells_charge, told_tests, told_growth, is_granted, IsCreated, IsWritten, IsDone, Changes}
+use Rattle.budget_theorems.specs.Request.{create_tests, filing_tests, put_tests, write_tests, tests_where_none, tests_by, shows_session_short}
+use Rattle.budget_theorems.specs.Test.{Test, test_of, tested_where, small_tests, growth_tests}
+use Rattle.budget_meter.specs.RequestTests.{files_in, shows_charge, tests_by_reply, growth_by_reply, is_granted, IsCreated, IsWritten, IsDone, Changes}
 
 none_more : (c : ℕ) → nat_lt c c ≡ false
 none_more c = grind (arith, nat_tests)
@@ -51,7 +51,7 @@ not_lt a b false is = grind (arith, nat_tests)
 
 module _ (name : List ℕ) (files : Files) (a : Account) where
   abbrev charge : FileServed → Bool
-  charge o = tells_charge o.reply a o.account
+  charge o = shows_charge o.reply a o.account
 
   abbrev number : FileServed → ℕ
   number o =
@@ -67,7 +67,7 @@ module _ (name : List ℕ) (files : Files) (a : Account) where
   refuses e = told (Refused e) files a
 
   -- refused for another reason, or done without a growth
-  stays : (o : FileServed) → tells_short o.reply ≡ false → o.account ≡ a → o.files.shape.growth ≡ files.shape.growth → Tells [] o
+  stays : (o : FileServed) → shows_session_short o.reply ≡ false → o.account ≡ a → o.files.shape.growth ≡ files.shape.growth → Tells [] o
   stays o short same growth =
       let quiet : charge o ≡ false = ap (λ b. b || nat_lt a.caps_used o.account.caps_used) short ∙ ap (λ x. nat_lt a.caps_used x.caps_used) same ∙ none_more a.caps_used in
       record { quiet = λ _. (refl, growth); grows = λ e. absurd (true≢false (sym e ∙ quiet)) }
@@ -139,8 +139,8 @@ module _ (name : List ℕ) (files : Files) (a : Account) where
 
   pub create_told :
       let o = request_served (Some (Create name)) files a in
-      (told_tests (Some (OfFiles (Create name))) o.reply a o.account files ≡ create_tests name files a)
-      × (told_growth (Some (OfFiles (Create name))) o.reply a o.account files ≡ o.files.shape.growth)
+      (tests_by_reply (Some (OfFiles (Create name))) o.reply a o.account files ≡ create_tests name files a)
+      × (growth_by_reply (Some (OfFiles (Create name))) o.reply a o.account files ≡ o.files.shape.growth)
   create_told = let o = request_served (Some (Create name)) files a in by_charge (create_tests name files a) o (charge o) refl node_tells
 
 -- the last file is new where that is told
@@ -219,7 +219,7 @@ module _ (files : Files) (a : Account) (name : List ℕ) (offset count : ℕ) wh
     write_changes false false u v after few gap longer short = done _ refl (grind (arith, nat_tests, gap)) (λ less. absurd (grind (arith, nat_tests, longer, less)))
 
     -- whether it was to be charged is told wherever the offset is within the file
-    write_tells : (l u v : Bool) (after : Account) → (is_granted (written_by false l u v after).reply || tells_short (written_by false l u v after).reply) ≡ true
+    write_tells : (l u v : Bool) (after : Account) → (is_granted (written_by false l u v after).reply || shows_session_short (written_by false l u v after).reply) ≡ true
     write_tells true true v after = refl
     write_tells true false true after = refl
     write_tells true false false after = refl
@@ -237,8 +237,8 @@ module _ (files : Files) (a : Account) (few : a.ram_limit < 2 ^ 64) where
 
 -- what a request tests, how far its heap grows, and what it does to files is told by a reply
 pub record AllTold (request : Option SessionRequest) (buffer : Option (List ℕ)) (files : Files) (a : Account) (reply : List ℕ) (o : BufferServed) : Type 0 where
-  pub tests : told_tests request reply a o.account files ≡ filing_tests request buffer files a
-  pub growth : told_growth request reply a o.account files ≡ o.files.shape.growth
+  pub tests : tests_by_reply request reply a o.account files ≡ filing_tests request buffer files a
+  pub growth : growth_by_reply request reply a o.account files ≡ o.files.shape.growth
   pub changes : Changes request reply files.files o.files.files
 
 module _ (files : Files) (a : Account) (few : a.ram_limit < 2 ^ 64) (buffer : Option (List ℕ)) where
@@ -294,8 +294,8 @@ module _ (files : Files) (a : Account) (few : a.ram_limit < 2 ^ 64) (buffer : Op
   drops_shaped None = refl
   drops_shaped (Some file) = refl
 
-  leaves : (request : FileRequest) (o : FileServed) → Left o → told_tests (Some (OfFiles request)) o.reply a o.account files ≡ filing_tests (Some (OfFiles request)) buffer files a →
-      told_growth (Some (OfFiles request)) o.reply a o.account files ≡ files.shape.growth → (files.files ≡ files.files → Changes (Some (OfFiles request)) o.reply files.files files.files) →
+  leaves : (request : FileRequest) (o : FileServed) → Left o → tests_by_reply (Some (OfFiles request)) o.reply a o.account files ≡ filing_tests (Some (OfFiles request)) buffer files a →
+      growth_by_reply (Some (OfFiles request)) o.reply a o.account files ≡ files.shape.growth → (files.files ≡ files.files → Changes (Some (OfFiles request)) o.reply files.files files.files) →
       Told (OfFiles request) (beside buffer o)
   leaves request o left tests growth changes = record {
     tests = tests;
@@ -324,7 +324,7 @@ module _ (files : Files) (a : Account) (few : a.ram_limit < 2 ^ 64) (buffer : Op
     abbrev Puts : Option File → Type 0
     Puts found =
         let o = put offset place count buffer found files a in
-        (cond (is_granted o.reply || tells_short o.reply) (write_tests offset count found) [] ≡ put_tests offset place count buffer found)
+        (cond (is_granted o.reply || shows_session_short o.reply) (write_tests offset count found) [] ≡ put_tests offset place count buffer found)
         × (files.shape.growth ≡ o.files.shape.growth) × IsWritten name offset count o.reply files.files o.files.files
 
     put_none : file_named name files ≡ None → Puts None
@@ -339,7 +339,7 @@ module _ (files : Files) (a : Account) (few : a.ram_limit < 2 ^ 64) (buffer : Op
 
       abbrev PutsBy : Option FileError → Type 0
       PutsBy why =
-          (cond (is_granted (putting why).reply || tells_short (putting why).reply) (write_tests offset count (Some file)) [] ≡ tests_where_none why (write_tests offset (length part) (Some file)))
+          (cond (is_granted (putting why).reply || shows_session_short (putting why).reply) (write_tests offset count (Some file)) [] ≡ tests_where_none why (write_tests offset (length part) (Some file)))
           × (files.shape.growth ≡ (putting why).files.shape.growth) × IsWritten name offset count (putting why).reply files.files (putting why).files.files
 
       put_accepted : nat_lt (length file.bytes) offset ≡ false → length part ≡ count → PutsBy None
@@ -349,7 +349,7 @@ module _ (files : Files) (a : Account) (few : a.ram_limit < 2 ^ 64) (buffer : Op
           let u = nat_lt a.ram_limit (a.ram_used + sliced_size (offset + length part)) in
           let v = nat_lt a.caps_limit (a.caps_used + 1) in
           let after = write_charged offset (length part) file a in (
-            ap (λ g. cond (is_granted (written_by files a name offset count file part is long g longer u v after).reply || tells_short (written_by files a name offset count file part is long g longer u v after).reply)
+            ap (λ g. cond (is_granted (written_by files a name offset count file part is long g longer u v after).reply || shows_session_short (written_by files a name offset count file part is long g longer u v after).reply)
                 (write_tests offset count (Some file)) []) within
                 ∙ ap (λ b. cond b (write_tests offset count (Some file)) []) (told_so longer u v after)
                 ∙ ap (λ n. write_tests offset n (Some file)) (sym long),
@@ -359,7 +359,7 @@ module _ (files : Files) (a : Account) (few : a.ram_limit < 2 ^ 64) (buffer : Op
                 (written_changes files a few name offset part (file_named name files) refl)),
           )
 
-      put_refused : (e : FileError) → tells_short (file_reply (Refused e)) ≡ false → PutsBy (Some e)
+      put_refused : (e : FileError) → shows_session_short (file_reply (Refused e)) ≡ false → PutsBy (Some e)
       put_refused e not_short = (
         ap (λ b. cond (false || b) (write_tests offset count (Some file)) []) not_short,
         refl,
@@ -404,8 +404,8 @@ module _ (files : Files) (a : Account) (few : a.ram_limit < 2 ^ 64) (buffer : Op
 
     abbrev Makes : Bool → Bool → BufferServed → Type 0
     Makes bad has o =
-        tells_short reply ≡ tells_short o.reply →
-        (cond (tells_charge reply a o.account) (cond (not bad) (test_of (page_of n) 1 ∷ []) []) [] ≡ cond bad [] (cond has [] (test_of (page_of n) 1 ∷ []))) × (o.files ≡ files)
+        shows_session_short reply ≡ shows_session_short o.reply →
+        (cond (shows_charge reply a o.account) (cond (not bad) (test_of (page_of n) 1 ∷ []) []) [] ≡ cond bad [] (cond has [] (test_of (page_of n) 1 ∷ []))) × (o.files ≡ files)
 
     make_by : (bad has u v : Bool) → Makes bad has (making bad has u v)
     make_by true has u v = λ short. (ap (λ b. cond (b || nat_lt a.caps_used a.caps_used) [] []) short ∙ ap (λ b. cond b [] []) (none_more a.caps_used), refl)
@@ -420,12 +420,12 @@ module _ (files : Files) (a : Account) (few : a.ram_limit < 2 ^ 64) (buffer : Op
     valid_by true test = refl
     valid_by false test = refl
 
-    make_told : let o = buffer_served (Make n) buffer files a in tells_short reply ≡ tells_short o.reply → AllTold (Some (OfBuffer (Make n))) buffer files a reply o
+    make_told : let o = buffer_served (Make n) buffer files a in shows_session_short reply ≡ shows_session_short o.reply → AllTold (Some (OfBuffer (Make n))) buffer files a reply o
     make_told short =
         let o = buffer_served (Make n) buffer files a in
         let made_so = make_by (not (is_valid_size n)) (is_some buffer) (nat_lt a.ram_limit (a.ram_used + page_of n)) (nat_lt a.caps_limit (a.caps_used + 1)) short in
         record {
-          tests = ap (λ each. cond (tells_charge reply a o.account) each []) (valid_by (is_valid_size n) (test_of (page_of n) 1)) ∙ made_so.0;
+          tests = ap (λ each. cond (shows_charge reply a o.account) each []) (valid_by (is_valid_size n) (test_of (page_of n) 1)) ∙ made_so.0;
           growth = ap (λ (f : Files). f.shape.growth) (sym made_so.1);
           changes = ap (λ (f : Files). f.files) made_so.1;
         }
@@ -487,11 +487,11 @@ module _ (files : Files) (a : Account) (few : a.ram_limit < 2 ^ 64) (selector : 
   by_server request buffer none all = subst (λ reply. AllTold request (bytes_of_buffer buffer) files a reply (server request buffer)) (sym (same_reply request buffer none)) all
 
   -- and where a buffer was made it is short no more than it was
-  short_by : (made : Option (List ℕ)) (reply : List ℕ) → ((bytes : List ℕ) → made ≡ Some bytes → reply ≡ codes "OK cap ") → tells_short (completed None made selector reply) ≡ tells_short reply
+  short_by : (made : Option (List ℕ)) (reply : List ℕ) → ((bytes : List ℕ) → made ≡ Some bytes → reply ≡ codes "OK cap ") → shows_session_short (completed None made selector reply) ≡ shows_session_short reply
   short_by None reply waits = refl
-  short_by (Some bytes) reply waits = let is = waits bytes refl in ap (λ text. tells_short (text ++ decimal selector)) is ∙ ap tells_short (sym is)
+  short_by (Some bytes) reply waits = let is = waits bytes refl in ap (λ text. shows_session_short (text ++ decimal selector)) is ∙ ap shows_session_short (sym is)
 
-  pub short_same : (request : Option SessionRequest) (buffer : Option NamedBuffer) → tells_short (told_reply request buffer) ≡ tells_short (server request buffer).reply
+  pub short_same : (request : Option SessionRequest) (buffer : Option NamedBuffer) → shows_session_short (told_reply request buffer) ≡ shows_session_short (server request buffer).reply
   short_same request (Some buffer) = refl
   short_same request None = short_by (server request None).buffer (server request None).reply (λ bytes is. (request_new files a request bytes is).1)
 
@@ -510,10 +510,10 @@ module _ (files : Files) (a : Account) (few : a.ram_limit < 2 ^ 64) (selector : 
 
 -- what its client is told of a request tells what that tests, how far the heap of files grows, and what becomes of them
 pub record TellsSession (request : List ℕ) (buffer : Option NamedBuffer) (session : Session) (state : ServiceState) (reply : List ℕ) (o : Served) : Type 0 where
-  pub tests : told_tests (session_request request) reply session.account o.session.account (files_in state) ≡ tests_by state (bytes_of_buffer buffer) session.account request
-  pub growth : told_growth (session_request request) reply session.account o.session.account (files_in state) ≡ (files_in o.session.state).shape.growth
+  pub tests : tests_by_reply (session_request request) reply session.account o.session.account (files_in state) ≡ tests_by state (bytes_of_buffer buffer) session.account request
+  pub growth : growth_by_reply (session_request request) reply session.account o.session.account (files_in state) ≡ (files_in o.session.state).shape.growth
   pub changes : Changes (session_request request) reply (files_in state).files (files_in o.session.state).files
-  pub short : tells_short reply ≡ tells_short o.reply
+  pub short : shows_session_short reply ≡ shows_session_short o.reply
 
 module _ (request : List ℕ) (buffer : Option NamedBuffer) (session : Session) (few : session.account.ram_limit < 2 ^ 64) (selector : ℕ) where
   abbrev told_by : Served → List ℕ
@@ -521,7 +521,7 @@ module _ (request : List ℕ) (buffer : Option NamedBuffer) (session : Session) 
 
   -- a log tells no charge, and nothing that a file's making does
   record OfLog (reply : List ℕ) : Type 0 where
-    short : tells_short reply ≡ false
+    short : shows_session_short reply ≡ false
     other : bytes_eq reply (codes "OK") ≡ false
 
   log_by : (partial : List ℕ) (bytes : Option (List ℕ)) → OfLog (log_served_bytes partial bytes).reply
@@ -539,15 +539,15 @@ module _ (request : List ℕ) (buffer : Option NamedBuffer) (session : Session) 
   abbrev account : Account
   account = session.account
 
-  log_quiet : (reply : List ℕ) → OfLog reply → tells_charge reply account account ≡ false
+  log_quiet : (reply : List ℕ) → OfLog reply → shows_charge reply account account ≡ false
   log_quiet reply log = ap (λ b. b || nat_lt account.caps_used account.caps_used) log.short ∙ none_more account.caps_used
 
   nothing_written : (name : List ℕ) (offset count : ℕ) (reply : List ℕ) → IsWritten name offset count reply [] []
   nothing_written name offset count reply = record { left = λ _. refl; none = λ _. refl; some = λ file is. absurd (none-some file is) }
 
   record LogTells (asked : Option SessionRequest) (reply : List ℕ) : Type 0 where
-    tests : told_tests asked reply account account no_files ≡ []
-    growth : told_growth asked reply account account no_files ≡ 4
+    tests : tests_by_reply asked reply account account no_files ≡ []
+    growth : growth_by_reply asked reply account account no_files ≡ 4
     changes : Changes asked reply [] []
 
   log_tells : (asked : Option SessionRequest) (reply : List ℕ) → OfLog reply → LogTells asked reply
@@ -565,7 +565,7 @@ module _ (request : List ℕ) (buffer : Option NamedBuffer) (session : Session) 
     growth = refl;
     changes = refl;
   }
-  log_tells (Some (OfBuffer (Put name offset place count))) reply log = record { tests = either (is_granted reply || tells_short reply) []; growth = refl; changes = nothing_written name offset count reply }
+  log_tells (Some (OfBuffer (Put name offset place count))) reply log = record { tests = either (is_granted reply || shows_session_short reply) []; growth = refl; changes = nothing_written name offset count reply }
   log_tells (Some (OfBuffer GiveBack)) reply log = record { tests = refl; growth = refl; changes = refl }
   log_tells (Some (OfBuffer (Get name offset place count))) reply log = record { tests = refl; growth = refl; changes = refl }
   log_tells (Some (OfFiles (Read name offset count))) reply log = record { tests = refl; growth = refl; changes = refl }

@@ -1,9 +1,9 @@
 pub mod Sizes
 pub mod Needs
-pub mod Asked
+pub mod NeededAmounts
 pub mod Metered
 pub mod Run
-pub mod Reached
-pub mod Told
+pub mod SessionRuns
+pub mod RequestTests
 pub mod Sessions
 pub mod Outcomes

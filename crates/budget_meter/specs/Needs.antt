@@ -2,21 +2,21 @@
 use Rattle.std.specs.Prelude.{ℕ, List, map, max}
 use Rattle.own_model.specs.Account.{Account}
 use Rattle.own_model.specs.Amounts.{Amounts}
-use Rattle.budget_laws.specs.Need.{Need, need_of, cell_by, greatest_choice}
-use Rattle.budget_laws.specs.Test.{Test, test_of}
+use Rattle.budget_theorems.specs.Need.{Need, need_of, cell_by, greatest_choice}
+use Rattle.budget_theorems.specs.Test.{Test, test_of}
 use Rattle.budget_meter.specs.declared.budget.Budget.{Budget}
 use Rattle.budget_meter.specs.declared.meter.Meter.{Meter}
 
 abbrev pub amounts_of : Budget → Amounts
 amounts_of budget = record { ram = budget.ram; caps = budget.caps }
 
--- the need of a test that asks an account for so much, which started with a budget
+-- the need of a test of these amounts on an account, which started with a budget
 abbrev pub need_in : Budget → Account → Budget → Need
 need_in start account asked = need_of (amounts_of start) account (test_of asked.ram asked.caps)
 
 -- ---- what a run shows
 
--- where its cell begins, in bytes and in capabilities, and the greatest choice that passed
+-- the begin of the cell, in bytes and in capabilities, and the greatest choice that passed
 pub record Shown : Type 0 where
   pub ram : ℕ
   pub caps : ℕ

@@ -1,9 +1,9 @@
 -- What outcomes state of the tests of an account.
 use Rattle.std.specs.Prelude.{Bool, true, false}
-use Rattle.calls.specs.declared.file_error.FileError.TheVariants.{OutOfRam as SessionOutOfRam, OutOfCaps as SessionOutOfCaps}
-use Rattle.calls.specs.declared.outcome.Outcome.{Outcome}
-use Rattle.calls.specs.declared.outcome.Outcome.TheVariants.{Served, Refused}
-use Rattle.calls.specs.declared.outcome.ServiceOutcome.TheVariants.{Done, Refused as ServiceRefused}
+use Rattle.core_calls.specs.declared.file_error.FileError.TheVariants.{OutOfRam as SessionOutOfRam, OutOfCaps as SessionOutOfCaps}
+use Rattle.core_calls.specs.declared.outcome.Outcome.{Outcome}
+use Rattle.core_calls.specs.declared.outcome.Outcome.TheVariants.{Served, Refused}
+use Rattle.core_calls.specs.declared.outcome.ServiceOutcome.TheVariants.{Done, Refused as ServiceRefused}
 use Rattle.trade_base.specs.declared.refusal.Refusal.{Refusal}
 use Rattle.trade_base.specs.declared.refusal.Refusal.TheVariants.{OutOfRam, OutOfCaps, ServiceDenied, InvalidSession}
 
@@ -24,13 +24,13 @@ lacks_session (Served (ServiceRefused SessionOutOfRam)) = true
 lacks_session (Served (ServiceRefused SessionOutOfCaps)) = true
 lacks_session outcome = false
 
--- the caller's account is
+-- the caller's account is short of quota
 abbrev pub lacks : Outcome → Bool
 lacks (Refused OutOfRam) = true
 lacks (Refused OutOfCaps) = true
 lacks outcome = false
 
--- no route leads to a provider
+-- no route leads to a provider: the service is denied
 abbrev pub is_denied : Outcome → Bool
 is_denied (Refused ServiceDenied) = true
 is_denied outcome = false

@@ -1,17 +1,17 @@
--- What a meter knows of the session whose requests it hears, and of its runs up to the first in want.
+-- The state of a meter of a session whose requests it observes, and of its runs up to the first shortfall.
 use Rattle.std.specs.Prelude.{◌≡◌, ◌<◌, ◌^◌, ℕ, false, Bool, List, ◌∷◌, ◌++◌, Option, None}
 use Rattle.own_model.specs.Amounts.{Amounts}
 use Rattle.own_model.specs.OwnState.{NamedBuffer}
 use Rattle.own_model.specs.OwnStep.{completed}
 use Rattle.own_model.specs.Session.{Session, Served}
 use Rattle.pd_core.specs.Answer.{quotas_account}
-use Rattle.calls.specs.declared.quotas.Quotas.{Quotas}
-use Rattle.budget_laws.specs.Request.{donating}
-use Rattle.budget_laws.specs.RequestLaws.{Reaches, session_needs, session_run, session_in_want}
+use Rattle.core_calls.specs.declared.quotas.Quotas.{Quotas}
+use Rattle.budget_theorems.specs.Request.{donating}
+use Rattle.budget_theorems.specs.RequestTheorems.{Reaches, session_needs, session_run, session_is_short}
 use Rattle.budget_meter.specs.Needs.{amounts_of, shown_by, shown_in}
-use Rattle.budget_meter.specs.Reached.{Sent, reaching_to_want, run_in_want, opens_none, opening_need, opened_needs, opened_in_want}
+use Rattle.budget_meter.specs.SessionRuns.{Sent, reaching_to_want, run_in_want, opens_none, opening_need, opened_needs, opened_in_want}
 use Rattle.budget_meter.specs.Sizes.{Keeps}
-use Rattle.budget_meter.specs.Told.{files_in}
+use Rattle.budget_meter.specs.RequestTests.{files_in}
 use Rattle.budget_meter.specs.declared.meter.Meter.{Meter}
 use Rattle.budget_meter.specs.declared.session.SessionMeter.{SessionMeter}
 
@@ -22,14 +22,14 @@ pub record IsAt (meter : SessionMeter) (session : Session) : Type 0 where
   pub growth : meter.pages ≡ (files_in session.state).shape.growth
   pub sizes : Keeps meter.sizes (files_in session.state).files
 
--- a request was served, of a session that had this buffer, told by this reply, and left this account
+-- a request of a session with this buffer was served, with this reply, and left this account
 pub record IsServedBy (reply : List ℕ) (left : Quotas) (buffer : Option NamedBuffer) (o : Served) : Type 0 where
   pub selector : ℕ
   pub told : reply ≡ completed buffer o.buffer selector o.reply
   pub leaves : quotas_account left ≡ o.session.account
 
--- it has heard all this, of a session that was opened with a donation: it tells where the cell of the donation begins, the opening's
--- test among those that passed, and the greatest choice
+-- the meter has observed all this of a session that was opened with a donation: it states the begin of the donation's cell,
+-- with the opening's test among those that passed, and the greatest choice
 pub record HasReached (all : List Reaches) (donation : Amounts) (session : Session) (meter : SessionMeter) : Type 0 where
   pub start : amounts_of meter.meter.start ≡ donation
   pub opens : opens_none donation ≡ false
@@ -38,17 +38,17 @@ pub record HasReached (all : List Reaches) (donation : Amounts) (session : Sessi
 
 -- ---- runs
 
--- of what is sent to a session in a run from a donation this is left, with this buffer and this session, and nothing that its meter
--- heard was in want
+-- this is left of what is sent to a session in a run from a donation, with this buffer and this session; its meter observed
+-- no shortfall
 pub record IsLeft (sent rest : List Sent) (donation : Amounts) (session : Session) (buffer : Option (List ℕ)) (now : Session) (meter : SessionMeter) : Type 0 where
   pub heard : List Reaches
   pub has : HasReached heard donation session meter
   pub here : session_run heard (donating donation session) ≡ now
   pub part : reaching_to_want sent None (donating donation session) ≡ heard ++ reaching_to_want rest buffer now
-  pub want : run_in_want sent session donation ≡ session_in_want (reaching_to_want rest buffer now) now
+  pub want : run_in_want sent session donation ≡ session_is_short (reaching_to_want rest buffer now) now
 
--- the run of a session with its opening, from a donation up to its first want: whether it is in want, where its cell begins, and the
--- greatest choice
+-- the run of a session with its opening, from a donation up to its first shortfall: whether it has one, the begin of its
+-- cell, and the greatest choice
 pub record Shows (sent : List Sent) (session : Session) (donation : Amounts) (wanting : Bool) (meter : Meter) : Type 0 where
   pub start : amounts_of meter.start ≡ donation
   pub shown : shown_in meter ≡ shown_by donation (opened_needs sent session donation)

@@ -1,8 +1,8 @@
 -- The files of a session, by their names and sizes.
 use Rattle.std.specs.Prelude.{◌≡◌, ℕ, List, [], length, map}
 use Rattle.own_model.specs.FileService as model
-use Rattle.budget_meter.specs.declared.sizes.File.{File}
-use Rattle.budget_meter.specs.declared.sizes.Sizes.{Sizes}
+use Rattle.budget_meter.specs.declared.file_sizes.File.{File}
+use Rattle.budget_meter.specs.declared.file_sizes.FileSizes.{FileSizes}
 
 pub record Size : Type 0 where
   pub name : List ℕ
@@ -15,7 +15,7 @@ abbrev pub size_of : model.File → Size
 size_of file = record { name = file.name; size = length file.bytes }
 
 -- these files are kept, in this order
-abbrev pub Keeps : Sizes → List model.File → Type 0
+abbrev pub Keeps : FileSizes → List model.File → Type 0
 Keeps sizes files = map kept_size sizes.files.items ≡ map size_of files
 
 -- an empty file, with its node at a place

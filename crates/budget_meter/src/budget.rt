@@ -1,8 +1,8 @@
-//! Budgets, and how their bytes are told.
+//! Budgets, and how their bytes are printed.
 
 use std::fmt;
 
-/// What an account starts with.
+/// A budget of an account: RAM in bytes, and capabilities.
 #[derive(Clone, Copy, PartialEq, Eq)]
 pub struct Budget {
     /// Bytes of RAM.
@@ -11,7 +11,7 @@ pub struct Budget {
     pub caps: u64,
 }
 
-/// Bytes as they are told: in K where they are whole K.
+/// A number of bytes that prints in K if it is a multiple of 1024.
 #[derive(Clone, Copy)]
 pub struct Bytes(pub u64);
 

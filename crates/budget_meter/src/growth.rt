@@ -1,23 +1,23 @@
-//! How far a heap grows.
+//! The growth of a heap.
 ghost use Rattle.std.specs.Prelude.{◌≡◌, ◌<◌, ◌&&◌, ◌+◌, if◌then◌else◌, nat_le, nat_lt};
 ghost use Rattle.own_model.specs.Growth.{Shape, larger_growth};
 ghost use Rattle.pd_core.specs.Answer.{quotas_account};
-ghost use Rattle.budget_laws.specs.Test.{growth_tests};
+ghost use Rattle.budget_theorems.specs.Test.{growth_tests};
 ghost use Rattle.budget_meter.specs.Needs.{amounts_of, shown_in, shown_of, together};
 
-use crate::asked::least_chunk;
 use crate::budget::Budget;
 use crate::meter::Meter;
+use crate::needed_amounts::least_chunk;
 use pd_core::Quotas;
 use trade_base::PAGE;
 
-/// The growth number of a heap that has nothing, and the most that it becomes.
+/// The growth number of an empty heap. The largest growth number is `MOST_PAGES`.
 pub(crate) const FIRST_PAGES: u32 = 4;
 
 const MOST_PAGES: u32 = 64;
 
-/// Takes the tests in of a heap of this growth number that is to grow for so many bytes: the larger chunk, and where its bytes fail
-/// the least. Answers the growth number after them.
+/// Measures the tests of a heap with this growth number that must grow for `n` bytes: the larger chunk, and then the minimum
+/// chunk if the account does not cover the larger one's bytes. Returns the growth number afterwards.
 pub(crate) fn take_growth(
     meter: &mut Meter,
     pages: u32,
@@ -54,7 +54,7 @@ pub(crate) fn take_growth(
     pages
 }
 
-// Whether an account covers so many bytes.
+// Whether an account covers `ram` bytes more.
 fn has_room(account: Quotas, ram: u64) -> bool
     ensures { result ≡ nat_le (account.ram_used.0 + ram) account.ram_limit.0 }
 {

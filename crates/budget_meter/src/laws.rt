@@ -1,8 +1,9 @@
-//! Laws of the runs that are measured.
-ghost use Rattle.budget_meter.specs.Reached.{SessionRunsAreExact};
+//! Theorems of the runs that are measured.
+ghost use Rattle.budget_meter.specs.SessionRuns.{SessionRunsAreExact};
 
-/// The donations that open a session and leave its run in no want are those that are covered by the stretches of a few runs, each up
-/// to its first want: of what a client asks of it and donates for it, where the client covers that.
+/// States which donations open a session and suffice for its run: exactly those that the intervals of a few runs cover. Each
+/// of these runs ends at its first shortfall. A run is what a client requests of the session and donates to it, if the
+/// client covers that.
 pub fn session_runs_are_exact()
     ensures { SessionRunsAreExact }
 {}

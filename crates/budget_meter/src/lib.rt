@@ -1,19 +1,21 @@
-//! What calls and requests ask of accounts, and the least budgets that the tests of an account need.
+//! Meters of budgets: the amounts that calls and requests need of accounts, and the minimum budgets that suffice for an
+//! account's tests. Searches for minimum budgets and observers of runs call it. Example: `meter.hear(call, answer, after)`
+//! observes a call, and `meter.least()` is the minimum budget so far.
 #![tactic(auto)]
 
 mod account;
-mod asked;
 mod budget;
+mod file_sizes;
 mod growth;
 mod laws;
 mod meter;
+mod needed_amounts;
+mod outcomes;
 mod session;
-mod sizes;
-mod told;
 
 pub use account::AccountMeter;
-pub use asked::{asked_by_call, named_by};
 pub use budget::{Budget, Bytes};
 pub use laws::session_runs_are_exact;
 pub use meter::Meter;
+pub use needed_amounts::{call_amounts, named_by};
 pub use session::SessionMeter;

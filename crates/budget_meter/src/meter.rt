@@ -1,28 +1,28 @@
-//! The least start budget that the tests of an account need.
+//! The minimum start budget that suffices for the tests of an account.
 ghost use Rattle.std.specs.Prelude.{◌≡◌, ◌+◌, ◌^◌, ◌<◌, ◌∷◌, [], IfSome, IfNone};
 ghost use Rattle.pd_core.specs.Answer.{quotas_account};
 ghost use Rattle.budget_meter.specs.Needs.{amounts_of, need_in, shown_by, shown_in, shown_of, together};
-ghost use Rattle.budget_meter.specs.Reached.{opening_need};
+ghost use Rattle.budget_meter.specs.SessionRuns.{opening_need};
 
 use crate::budget::Budget;
 use pd_core::Quotas;
 
-/// What a session uses of its account from the start.
+/// The amounts that a session uses of its account from the start.
 const SESSION: Budget = Budget { ram: 4096, caps: 2 };
 
-/// What the tests that passed so far need of the budget that an account started with.
+/// A meter of a budget: what the tests that passed so far need of the budget with which an account started.
 #[derive(Clone, Copy)]
 pub struct Meter {
-    /// What the account started with.
+    /// The budget with which the account started.
     pub start: Budget,
-    /// The greatest needs, of each column by itself.
+    /// The greatest needs of the tests, RAM and capabilities separately.
     pub least: Budget,
-    /// The greatest need of bytes of a choice, or 0.
+    /// The greatest need in bytes of a test with a choice, or 0.
     pub choice: u64,
 }
 
 impl Meter {
-    /// No test was made.
+    /// Creates a meter of a start budget, before any test.
     pub fn new(start: Budget) -> Meter
         ensures start { result.start ≡ start }
         ensures shown { shown_in result ≡ record { ram = 0; caps = 0; choice = 0 } }
@@ -34,7 +34,7 @@ impl Meter {
         }
     }
 
-    /// The test of a session's opening was made, of what was donated for it.
+    /// Creates a meter of a session's donation, after the test of the opening.
     pub fn opened(donation: Budget) -> Meter
         ensures start { result.start ≡ donation }
         ensures shown { shown_in result
@@ -50,8 +50,8 @@ impl Meter {
         meter
     }
 
-    /// The need of a test that asks for so much beside what an account uses: that, and what is asked, less what the limit is above
-    /// the start budget.
+    /// Returns the need of a test of `asked` on an account: the use plus `asked`, less the amount by which the limit is
+    /// above the start budget.
     pub fn need(&self, account: Quotas, asked: Budget) -> Budget
         ensures ram { account.ram_used.0 + asked.ram + self.now.start.ram < 2 ^ 64
             → result.ram ≡ (need_in self.now.start (quotas_account account) asked).ram }
@@ -70,7 +70,8 @@ impl Meter {
         }
     }
 
-    /// Takes a test in that asks an account for so much: where its bytes pass, and where its capabilities do then.
+    /// Measures a test of `asked` on an account: its bytes if they are covered, and then its capabilities if they are
+    /// covered too.
     pub fn take(&mut self, account: Quotas, asked: Budget, is_choice: bool)
         ensures shown { shown_in self.new ≡ together (shown_in self.old)
             (shown_of (amounts_of self.old.start) (quotas_account account)
@@ -95,7 +96,7 @@ impl Meter {
     }
 }
 
-// How much is left of a limit behind what is used and what is asked, if that is covered.
+// The rest of a limit after the use and what is asked for, if the limit covers both.
 fn covered(used: u64, asked: u64, limit: u64) -> Option<u64>
     ensures some { IfSome result (λ left. used + asked + left ≡ limit) }
     ensures none { IfNone result (limit < used + asked) }
@@ -103,7 +104,7 @@ fn covered(used: u64, asked: u64, limit: u64) -> Option<u64>
     limit.checked_sub(used.checked_add(asked)?)
 }
 
-/// The limits of an account.
+/// Returns the limits of an account as a budget.
 pub fn limits_of(account: Quotas) -> Budget
     ensures { amounts_of result
         ≡ record { ram = account.ram_limit.0; caps = account.caps_limit.0 } }

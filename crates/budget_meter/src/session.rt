@@ -1,4 +1,4 @@
-//! What a session's account needs, request by request.
+//! The meter of a session's account, request by request.
 ghost use Rattle.std.specs.Prelude.{◌≡◌, ◌<◌, ◌^◌, ◌∷◌, ◌++◌, [], ℕ, true, false, List, Some, IfOk, OnOk, Option};
 ghost use Rattle.own_model.specs.Amounts.{Amounts};
 ghost use Rattle.own_model.specs.FileService.{Files};
@@ -6,44 +6,44 @@ ghost use Rattle.own_model.specs.OwnState.{NamedBuffer, bytes_of_buffer};
 ghost use Rattle.own_model.specs.Session.{Session, Wish, new_session, served, too_small, upgraded};
 ghost use Rattle.pd_core.specs.Answer.{quotas_account};
 ghost use Rattle.session_proto.specs.File.{HasHex, model_request};
-ghost use Rattle.budget_laws.specs.Request.{donating};
-ghost use Rattle.budget_laws.specs.RequestLaws.{Reaches, session_run};
-ghost use Rattle.budget_laws.specs.RequestLaws.Reaches.{Asked, Raised};
-ghost use Rattle.budget_laws.specs.Request.{write_tests};
+ghost use Rattle.budget_theorems.specs.Request.{donating};
+ghost use Rattle.budget_theorems.specs.RequestTheorems.{Reaches, session_run};
+ghost use Rattle.budget_theorems.specs.RequestTheorems.Reaches.{Asked, Raised};
+ghost use Rattle.budget_theorems.specs.Request.{write_tests};
 ghost use Rattle.own_model.specs.FileService.{file_named};
-ghost use Rattle.budget_meter.specs.Asked.{AsksAs, is_create};
+ghost use Rattle.budget_meter.specs.NeededAmounts.{AsksAs, is_create};
 ghost use Rattle.budget_meter.specs.Needs.{amounts_of, shown_in, shown_of, together};
-ghost use Rattle.budget_meter.specs.Reached.{Sent};
-ghost use Rattle.budget_meter.specs.Reached.Sent.{Asks, Raises};
+ghost use Rattle.budget_meter.specs.SessionRuns.{Sent};
+ghost use Rattle.budget_meter.specs.SessionRuns.Sent.{Asks, Raises};
 ghost use Rattle.budget_meter.specs.Sessions.{HasReached, IsLeft, IsServedBy, Shows};
 ghost use Rattle.budget_meter.specs.Sizes.{Keeps};
-ghost use Rattle.budget_meter.specs.Told.{told_growth, told_tests};
+ghost use Rattle.budget_meter.specs.RequestTests.{growth_by_reply, tests_by_reply};
 
-use crate::asked::{NODE, asked_by_request, file_written, longer, whole_pages};
 use crate::budget::Budget;
+use crate::file_sizes::FileSizes;
 use crate::growth::{FIRST_PAGES, take_growth};
 use crate::meter::{Meter, limits_of};
-use crate::sizes::Sizes;
-use crate::told::{is_granted, is_short, tells_charge};
-use calls::Answer;
+use crate::needed_amounts::{NODE, file_written, longer, request_amounts, whole_pages};
+use crate::outcomes::{is_granted, is_short, shows_charge};
+use core_calls::Answer;
 use pd_core::Quotas;
 use session_proto::FileRequest;
 use std::alloc::{AllocError, Global};
 
-/// The least opening donation that passes all tests which a session's account passed so far, that of its opening among them.
+/// A meter of a session's account: the minimum opening donation that passes all tests so far, including that of the opening.
 #[derive(Drop)]
 pub struct SessionMeter {
     pub meter: Meter,
     alloc: Global,
-    /// The account after the last line.
+    /// The account after the last request or upgrade.
     account: Quotas,
-    /// The growth number of the heap of its files.
+    /// The growth number of the heap of the session's files.
     pages: u32,
-    sizes: Sizes,
+    sizes: FileSizes,
 }
 
 impl SessionMeter {
-    /// A session that was just opened.
+    /// Creates the meter of a session that was just opened.
     pub fn new(alloc: Global, account: Quotas) -> SessionMeter
         ensures { (wish : Wish) → too_small wish.ram wish.caps ≡ None →
             quotas_account account ≡ (new_session wish).account →
@@ -54,27 +54,27 @@ impl SessionMeter {
             alloc,
             account,
             pages: FIRST_PAGES,
-            sizes: Sizes::new(alloc),
+            sizes: FileSizes::new(alloc),
         }
     }
 
-    /// The least donation.
+    /// Returns the minimum donation that passes the tests so far.
     pub fn least(&self) -> Budget
         ensures { result ≡ self.now.meter.least }
     {
         self.meter.least
     }
 
-    /// What a request asks of the session's account, by the size of the file that it writes.
+    /// Returns the amounts that a request needs of the session's account, by the size of the file that it writes.
     pub fn asked(&self, request: &[u8]) -> Option<Budget> {
         let request = FileRequest::read(request)?;
         match file_written(request) {
-            Some(file) => asked_by_request(request, self.sizes.size(file)?),
-            None => asked_by_request(request, 0),
+            Some(file) => request_amounts(request, self.sizes.size(file)?),
+            None => request_amounts(request, 0),
         }
     }
 
-    /// Takes in that more was donated, or not, which left this account.
+    /// Observes the account after an upgrade, whether the upgrade was refused or not.
     pub fn raise(&mut self, account: Quotas)
         ensures raised { (all : List Reaches) (donation more : Amounts) (session : Session) →
             HasReached all donation session self.old →
@@ -94,7 +94,7 @@ impl SessionMeter {
         self.account = account;
     }
 
-    /// Takes a request in, with its reply and the account that it left.
+    /// Observes a request, with its reply and the account that it left. Returns an error if the host is out of memory.
     pub fn hear(
         &mut self,
         request: &[u8],
@@ -119,7 +119,8 @@ impl SessionMeter {
         Ok(())
     }
 
-    /// Takes a request of a run in, and answers whether it is in want.
+    /// Observes a request of a run, and returns whether the account is short of quota for it. Returns an error if the host
+    /// is out of memory.
     pub fn follow(
         &mut self,
         request: &[u8],
@@ -147,23 +148,23 @@ impl SessionMeter {
         Ok(is_short(reply))
     }
 
-    // Takes the tests of a request in that is answered.
+    // Measures the tests of a request that is answered.
     fn take(&mut self, request: FileRequest<'_>, reply: Answer<'_>, after: Quotas)
         requires { HasHex request }
         ensures shown { (files : Files) → self.old.account.ram_limit.0 < 2 ^ 64 →
             self.old.pages ≡ files.shape.growth → Keeps self.old.sizes files.files →
             shown_in self.new.meter ≡ together (shown_in self.old.meter)
             (shown_of (amounts_of self.old.meter.start) (quotas_account self.old.account)
-            (told_tests (Some (model_request request.entry)) reply.entry.text.now
+            (tests_by_reply (Some (model_request request.entry)) reply.entry.text.now
             (quotas_account self.old.account) (quotas_account after) files)) }
         ensures pages { (files : Files) → self.old.pages ≡ files.shape.growth →
-            self.new.pages ≡ told_growth (Some (model_request request.entry)) reply.entry.text.now
+            self.new.pages ≡ growth_by_reply (Some (model_request request.entry)) reply.entry.text.now
             (quotas_account self.old.account) (quotas_account after) files }
         ensures start { self.new.meter.start ≡ self.old.meter.start }
         ensures sizes { self.new.sizes ≡ self.old.sizes }
     {
         if is_create(request) {
-            if tells_charge(reply, self.account, after) {
+            if shows_charge(reply, self.account, after) {
                 let before = self.account;
                 self.pages = take_growth(&mut self.meter, self.pages, NODE, before, after);
             }
@@ -172,7 +173,7 @@ impl SessionMeter {
         }
     }
 
-    // What a request that is answered so tests, if it makes one test and no more: all requests but those for a file.
+    // The amounts that an answered request tests, if it makes exactly one test: all requests except those for a new file.
     fn asked_when_told(
         &self,
         request: FileRequest<'_>,
@@ -182,7 +183,7 @@ impl SessionMeter {
         requires { HasHex request }
         ensures { is_create (model_request request.entry) ≡ false → (files : Files) →
             Keeps self.now.sizes files.files →
-            AsksAs result (told_tests (Some (model_request request.entry)) reply.entry.text.now
+            AsksAs result (tests_by_reply (Some (model_request request.entry)) reply.entry.text.now
             (quotas_account self.now.account) (quotas_account after) files) }
     {
         match request {
@@ -202,7 +203,7 @@ impl SessionMeter {
                 }
             }
             FileRequest::Buffer(n) => {
-                if tells_charge(reply, self.account, after) {
+                if shows_charge(reply, self.account, after) {
                     whole_pages(n)
                 } else {
                     None
@@ -212,7 +213,7 @@ impl SessionMeter {
         }
     }
 
-    // What so many bytes from an offset of a file on ask, where they make it longer.
+    // The amounts for `count` bytes of a file from an offset on, if they lengthen the file.
     fn content(&self, file: &[u8], offset: u64, count: u64) -> Option<Budget>
         ensures { (files : Files) → Keeps self.now.sizes files.files →
             AsksAs result (write_tests offset count (file_named file.now files)) }
@@ -225,7 +226,7 @@ impl SessionMeter {
     }
 }
 
-// Whether a request makes a file.
+// Whether a request creates a file.
 fn is_create(request: FileRequest<'_>) -> bool
     ensures { result ≡ is_create (model_request request.entry) }
 {

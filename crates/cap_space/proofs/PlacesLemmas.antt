@@ -5,7 +5,7 @@ use Rattle.std.proofs.lemmas.Bool.{cases_eq, cases_lt}
 use Rattle.std.proofs.lemmas.List.{get_or-replicate, get_or_past, length-replicate}
 use Rattle.std.proofs.lemmas.Nat.{or_lt, and_le_l}
 use Rattle.std.proofs.lemmas.Nat.Bits.{bit_at-zero, bit_at_ones, bit_at-trailing_ones, bit_at_set_same, bit_at_set_other, bit_at_clear_same, bit_at_clear_other}
-use Rattle.cap_space.specs.Places.{mark_at, AreSummed, IsMarked}
+use Rattle.cap_space.specs.PlaceBitmap.{mark_at, AreSummed, IsMarked}
 
 -- a word that gets one bit, and keeps its others, marks one place
 marked : (words : List ℕ) (place word mark : ℕ) → place / 64 < length words → bit_at word (place % 64) ≡ mark → ((i : ℕ) → i < 64 → i ≢ place % 64 → bit_at word i ≡ bit_at (get_or words (place / 64) 0) i) → IsMarked words (set words (place / 64) word) place mark

@@ -15,7 +15,7 @@ use Rattle.own_model.proofs.NatMapLemmas.{same, get-insert, get-remove, get-empt
 use Rattle.own_model.proofs.NewSelector.{new_selector_is}
 use Rattle.own_model.proofs.SlotLemmas.{get-held_from, get-held_from_below, len-held_from}
 use Rattle.cap_space.specs.Slots.{padded, held, space_of, IsTakenBefore, IsKept}
-use Rattle.cap_space.specs.Places.{mark_at, AreSummed, IsMarked}
+use Rattle.cap_space.specs.PlaceBitmap.{mark_at, AreSummed, IsMarked}
 use Rattle.cap_space.proofs.PaddedLemmas.{get_or-padded, length-padded}
 use Rattle.cap_space.proofs.PlacesLemmas.{taken-full, IsLeast}
 use Rattle.cap_space.specs.Space.{Space, fresh_space, with_cap, without_cap}

@@ -1,3 +1,3 @@
 pub mod Space
 pub mod Slots
-pub mod Places
+pub mod PlaceBitmap

@@ -1,12 +1,12 @@
--- How slots keep a capability space: the slot of a selector stands at the place that is one less.
+-- How slots keep a capability space: the slot of a selector is at the place that is one less.
 use Rattle.std.specs.Prelude.{◌≡◌, ℕ, ◌-◌, ◌<◌, ◌≤◌, List, ◌++◌, length, replicate, Option, None, is_some, IsSome, count_by, slice_index_or}
 use Rattle.own_model.specs.NatMap.{NatMap}
 use Rattle.own_model.specs.Slots.{held_from}
 use Rattle.cap_space.specs.declared.cap.Cap.{Cap}
 use Rattle.cap_space.specs.Space.{Space}
-use Rattle.cap_space.specs.Places.{mark_at}
+use Rattle.cap_space.specs.PlaceBitmap.{mark_at}
 
--- the slots of so many places: those of places that have been in use, and behind them free ones
+-- the slots of so many places: those of places that have been in use, and after them free ones
 abbrev pub padded : {X : Type 0} → List (Option X) → ℕ → List (Option X)
 padded slots places = slots ++ replicate (places - length slots) None
 

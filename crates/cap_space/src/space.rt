@@ -1,4 +1,4 @@
-//! The capability space: a table with a place for each selector.
+//! The capability space: a table with one place for each selector.
 ghost use Rattle.std.specs.Prelude.{◌≡◌, ℕ, [], ◌<◌, ◌≤◌, ◌↔◌, Some, None, IsTrue, IsFalse, IsSome, IfOk, IfSome, IfNone, slice_set, vec_len, vec_capacity};
 ghost use Rattle.std.specs.FinMap.{get, len};
 ghost use Rattle.own_model.specs.OwnState.{new_selector, IsLeastUnused};
@@ -6,21 +6,22 @@ ghost use Rattle.cap_space.specs.Space.{dataspace_of, is_rpc_object, session_of,
 ghost use Rattle.cap_space.specs.Slots.{IsTakenBefore, padded};
 
 use crate::cap::Cap;
-use crate::places::Places;
+use crate::place_bitmap::PlaceBitmap;
 use std::alloc::Global;
 use std::marker::Model;
 use trade_base::{DsId, NoMemory, Selector, SessionId};
 
-/// The capabilities of one component, each under its selector: a positive number.
+/// The capabilities of one component, each under its selector, a positive number.
 ///
-/// All memory is taken at the boot, so that no later call fails for want of it.
+/// Boot reserves all memory, so that no later call fails for lack of host memory.
 #[derive(Drop)]
 pub struct CapSpace {
-    // Of the places that have been in use, with room for all: the place of a selector is one less.
+    // The places that were in use at least once; the capacity is that of all places. The place of a selector is the
+    // selector minus 1.
     slots: Vec<Option<Cap>>,
-    // Which of them are taken. Places past the last one are free.
-    taken: Places,
-    // How many places are taken.
+    // The set of used places. Places after the last slot are free.
+    taken: PlaceBitmap,
+    // The number of places in use.
     used: usize,
 }
 
@@ -42,9 +43,9 @@ impl Model for CapSpace {
 
 #[tactic(auto, using(crate::proofs::SlotsLemmas::slots))]
 impl CapSpace {
-    /// An empty space of so many places.
+    /// Creates an empty space of `places` places.
     ///
-    /// It fails where the host has no memory for them.
+    /// Fails with `NoMemory` if the host has too little memory.
     pub fn boot(alloc: Global, places: usize) -> Result<CapSpace, NoMemory>
         requires { places ≤ 4096 }
         ensures { IfOk result (λ space. space ≡ fresh_space places) }
@@ -52,12 +53,12 @@ impl CapSpace {
         let slots = no_slots(alloc, places)?;
         Ok(CapSpace {
             slots,
-            taken: Places::all_free(),
+            taken: PlaceBitmap::all_free(),
             used: 0,
         })
     }
 
-    /// Takes a capability in under a new selector: the least positive number that isn't in use.
+    /// Stores a capability under a new selector, the least positive number that is not in use, and returns the selector.
     pub fn insert(&mut self, cap: Cap) -> Selector
         requires room { len self.old.caps < self.old.places }
         ensures least { result.0 ≡ new_selector self.old.caps }
@@ -72,9 +73,9 @@ impl CapSpace {
         Selector((place + 1) as u32)
     }
 
-    /// The capability under a selector, or `None` where that isn't in use.
+    /// Returns the capability under a selector, or `None` if the selector is not in use.
     ///
-    /// It takes any number, as a line of text may tell any: 0 and those past the last place are never in use.
+    /// Accepts any number, as a line may contain any: 0 and numbers above the number of places are never in use.
     pub fn get(&self, selector: u64) -> Option<Cap>
         ensures found { result ≡ get self.now.caps selector }
         ensures within { IfSome result (λ _. (1 ≤ selector) × (selector ≤ self.now.places)) }
@@ -85,7 +86,7 @@ impl CapSpace {
     }
 
     /// Removes the capability under a selector and returns it, which frees the selector. Returns `None` and changes
-    /// nothing if the selector isn't in use. Accepts any number, as `get` does.
+    /// nothing if the selector is not in use. Accepts any number, as `get` does.
     pub fn remove(&mut self, selector: u64) -> Option<Cap>
         ensures found { result ≡ get self.old.caps selector }
         ensures gone { IfSome result (λ _. self.new ≡ without_cap self.old selector) }
@@ -100,8 +101,8 @@ impl CapSpace {
         Some(cap)
     }
 
-    /// Takes the dataspace that a selector names out again, which frees the selector. It takes any number, as `get`
-    /// does, and changes nothing where that names no dataspace.
+    /// Removes the dataspace under a selector and returns its key, which frees the selector. Returns `None` and changes
+    /// nothing if the selector names no dataspace. Accepts any number, as `get` does.
     pub fn take_dataspace(&mut self, selector: u64) -> Option<DsId>
         ensures found { result ≡ dataspace_of (get self.old.caps selector) }
         ensures gone { IfSome result (λ _. self.new ≡ without_cap self.old selector) }
@@ -116,8 +117,8 @@ impl CapSpace {
         }
     }
 
-    /// Takes the RPC object that a selector names out again, and tells whether it names one. It takes any number, and
-    /// changes nothing where that names none.
+    /// Removes the RPC object under a selector and returns true, which frees the selector. Returns false and changes
+    /// nothing if the selector names no RPC object. Accepts any number.
     pub fn take_rpc_object(&mut self, selector: u64) -> bool
         ensures found { result ≡ is_rpc_object (get self.old.caps selector) }
         ensures gone { IsTrue result → self.new ≡ without_cap self.old selector }
@@ -132,8 +133,8 @@ impl CapSpace {
         }
     }
 
-    /// Takes the session that a selector names out again, which frees the selector, and tells its server's entry and its
-    /// key there. It takes any number, and changes nothing where that names no session.
+    /// Removes the session under a selector, which frees the selector. Returns its server's entry and its key in the
+    /// server's table, or `None` without a change if the selector names no session. Accepts any number.
     pub fn take_session(&mut self, selector: u64) -> Option<(usize, SessionId)>
         ensures found { result ≡ session_of (get self.old.caps selector) }
         ensures gone { IfSome result (λ _. self.new ≡ without_cap self.old selector) }
@@ -148,8 +149,8 @@ impl CapSpace {
         }
     }
 
-    /// Takes the buffer that has this dataspace out again, the one with the least selector, which frees the selector, and
-    /// tells it. It changes nothing where there is none. It looks at each selector in turn.
+    /// Removes the buffer with this dataspace and returns its selector, the least if there are several. Returns `None`
+    /// and changes nothing if there is none. The search tests each selector in order.
     pub fn take_buffer(&mut self, space: DsId) -> Option<Selector>
         ensures found { IfSome result (λ s. IsTrue (is_buffer space.0 (get self.old.caps s.0))) }
         ensures first { IfSome result
@@ -165,7 +166,7 @@ impl CapSpace {
         Some(Selector(selector))
     }
 
-    // The least selector of a buffer that has this dataspace.
+    // Returns the least selector of a buffer with this dataspace.
     fn buffer(&self, space: DsId) -> Option<u32>
         ensures found { IfSome result (λ s. IsTrue (is_buffer space.0 (get self.now.caps s))) }
         ensures first { IfSome result
@@ -186,7 +187,7 @@ impl CapSpace {
         None
     }
 
-    /// How many places there are: at most 4096. Each selector in use is one of 1 to so many.
+    /// Returns the number of places, at most 4096. Each selector in use is between 1 and this number.
     pub fn places(&self) -> usize
         ensures count { result ≡ self.now.places }
         ensures most { result ≤ 4096 }
@@ -197,7 +198,7 @@ impl CapSpace {
         self.slots.capacity()
     }
 
-    /// Whether each place has a capability.
+    /// Returns whether each place of the space has a capability.
     pub fn is_full(&self) -> bool
         ensures full { IsTrue result ↔ (len self.now.caps ≡ self.now.places) }
         ensures within { len self.now.caps ≤ self.now.places }
@@ -206,7 +207,7 @@ impl CapSpace {
     }
 }
 
-// No slots, with room for so many.
+// Allocates an empty table with space for `places` slots.
 fn no_slots(alloc: Global, places: usize) -> Result<Vec<Option<Cap>>, NoMemory>
     ensures none { IfOk result (λ slots. slots.items ≡ []) }
     ensures room { IfOk result (λ slots. vec_capacity slots ≡ places) }
@@ -214,7 +215,7 @@ fn no_slots(alloc: Global, places: usize) -> Result<Vec<Option<Cap>>, NoMemory>
     Vec::with_capacity(alloc, places).map_err(|_| NoMemory)
 }
 
-// Puts a capability at a place that has been in use, or at the next one.
+// Stores a capability at a place that was in use before, or at the next new place.
 #[tactic(auto, using(crate::proofs::PaddedLemmas::padded_slots))]
 fn put(slots: &mut Vec<Option<Cap>>, place: usize, cap: Cap)
     requires next { place ≤ vec_len slots.old }

@@ -1,25 +1,26 @@
-//! Whether lines are coloured.
+//! Colours of lines on standard output and standard error.
+use cli_options::Color;
 use std::env;
 use std::io::IsTerminal;
-use workbench_options::Color;
 
-/// Where lines are coloured.
+/// Whether lines are coloured, on each of the two output streams.
 #[derive(Clone, Copy)]
 pub struct Coloring {
-    /// On standard output.
+    /// Whether lines on standard output are coloured.
     pub out: bool,
-    /// On standard error.
+    /// Whether lines on standard error are coloured.
     pub err: bool,
 }
 
 impl Coloring {
-    /// Nowhere.
+    /// Colours on neither stream.
     pub const NOWHERE: Coloring = Coloring {
         out: false,
         err: false,
     };
 
-    /// As it is asked for, or none for a word that says nothing. By itself a terminal has colours, unless `NO_COLOR` is set.
+    /// Returns which streams are coloured, or none for `Color::Unknown`. `Auto` colours the streams that are terminals, unless
+    /// the environment variable `NO_COLOR` is set and not empty.
     pub fn asked(rt: &HostRuntime, color: Color) -> Option<Coloring> {
         match color {
             Color::Always => Some(Coloring {
@@ -39,7 +40,7 @@ impl Coloring {
     }
 }
 
-// Whether the environment says that no colours are wanted.
+// Returns whether `NO_COLOR` in the environment excludes colours.
 fn is_unwanted(rt: &HostRuntime) -> bool {
     match env::var(rt, "NO_COLOR") {
         Ok(value) => !value.is_empty(),

@@ -1,113 +1,116 @@
 //! Files by their paths, and standard input by `-`.
 use crate::lines::LineStarts;
-use crate::list_fault::{Placed, fault_spot};
-use crate::reports::{Reason, Spot, report_error};
+use crate::list_fault::{ListFaultMessage, fault_spot};
+use crate::reports::{Spot, SystemReason, report_error};
 use crate::settings::Settings;
 use crate::status::{OUT_OF_MEMORY, REFUSED, UNWRITTEN};
 use crate::streams::Origin;
+use cli_engine::{ConfigFault, Input, Source, read_config};
 use init_core::BootFault;
-use list_names::{Unfilled, UnknownName, fill_list};
-use scenario::{ConfigFault, Input, Source, read_config};
-use scenario_names::token_at;
-use start_review::{Fault, Review, Whereabouts};
+use line_names::{Unfilled, UnknownName, fill_list, token_at};
+use list_review::{FaultPlace, ListFault, Review};
 use std::alloc::{AllocError, Global};
 use std::{fmt, fs, io};
-use view_diagnostics::Form;
+use view_diagnostics::DiagnosticForm;
 
 /// The path that denotes standard input.
 pub const STANDARD_INPUT: &str = "-";
 
-/// How many bytes of a scenario are asked for at once.
+/// The number of bytes of a scenario that one read asks for.
 const BLOCK: usize = 4096;
 
-/// How many bytes of a scenario are read before its first line is played; of a longer one no rounds are unfolded.
+/// The most bytes of a scenario that is read whole before its first line is run. The rounds of a longer one aren't unfolded.
 const LONGEST_WHOLE: usize = 64 << 20;
 
-/// Why a file isn't read.
+/// The reason for which a file can't be read.
 #[derive(Clone, Copy)]
-pub enum Unread {
-    /// It can't be opened.
+pub enum ReadFailure {
+    /// The file can't be opened.
     Closed(io::Error),
     /// A read failed.
     Broken,
-    /// It has too many bytes.
+    /// The file has too many bytes.
     TooLong,
     /// The host is out of memory.
     NoMemory,
 }
 
-impl From<AllocError> for Unread {
-    fn from(_fault: AllocError) -> Unread {
-        Unread::NoMemory
+impl From<AllocError> for ReadFailure {
+    fn from(_fault: AllocError) -> ReadFailure {
+        ReadFailure::NoMemory
     }
 }
 
-impl Unread {
-    /// Returns the message about the file of a path.
-    pub fn about(self, path: &str) -> UnreadFile<'_> {
-        UnreadFile { path, why: self }
+impl ReadFailure {
+    /// Returns the message that names the file by its path.
+    pub fn about(self, path: &str) -> FileReadMessage<'_> {
+        FileReadMessage { path, why: self }
     }
 }
 
-/// Why the file of a path isn't read, as people read it.
+/// The message of a file that can't be read: its path and the reason.
 #[derive(Clone, Copy)]
-pub struct UnreadFile<'a> {
+pub struct FileReadMessage<'a> {
     path: &'a str,
-    why: Unread,
+    why: ReadFailure,
 }
 
-impl fmt::Display for UnreadFile<'_> {
+impl fmt::Display for FileReadMessage<'_> {
     fn fmt<W: fmt::Write>(&self, f: &mut fmt::Formatter<W>) -> fmt::Result {
         let path = self.path;
         match self.why {
-            Unread::Closed(error) => write!(f, "cannot open {path}: {}", Reason(error)),
-            Unread::Broken => write!(f, "cannot read {path}"),
-            Unread::TooLong => write!(f, "{path} is too long"),
-            Unread::NoMemory => f.write_str(OUT_OF_MEMORY),
+            ReadFailure::Closed(error) => write!(f, "cannot open {path}: {}", SystemReason(error)),
+            ReadFailure::Broken => write!(f, "cannot read {path}"),
+            ReadFailure::TooLong => write!(f, "{path} is too long"),
+            ReadFailure::NoMemory => f.write_str(OUT_OF_MEMORY),
         }
     }
 }
 
-/// Opens a file, or standard input.
-pub(crate) fn open<'a>(rt: &'a HostRuntime, path: &str) -> Result<Origin<'a>, Unread> {
+/// Opens the file of a path, or standard input for `-`. Returns `Closed` if the file can't be opened.
+pub(crate) fn open<'a>(rt: &'a HostRuntime, path: &str) -> Result<Origin<'a>, ReadFailure> {
     if path == STANDARD_INPUT {
         return Ok(Origin::Typed(rt.reader()));
     }
     match fs::open(rt, path) {
         Ok(file) => Ok(Origin::File(file)),
-        Err(error) => Err(Unread::Closed(error)),
+        Err(error) => Err(ReadFailure::Closed(error)),
     }
 }
 
-/// Reads the text of a start list or a policy, as many bytes as show that it is too long.
-pub fn read_list(rt: &HostRuntime, path: &str) -> Result<Vec<u8>, Unread> {
+/// Reads the text of a start list or a policy, no further than shows that it is too long. Errors: `Closed`, `Broken`, `NoMemory`.
+pub fn read_list(rt: &HostRuntime, path: &str) -> Result<Vec<u8>, ReadFailure> {
     let origin = open(rt, path)?;
     match read_config(rt.alloc(), &mut Input::new(origin)) {
         Ok(text) => Ok(text),
-        Err(ConfigFault::Unreadable) => Err(Unread::Broken),
-        Err(ConfigFault::NoMemory) => Err(Unread::NoMemory),
+        Err(ConfigFault::Unreadable) => Err(ReadFailure::Broken),
+        Err(ConfigFault::NoMemory) => Err(ReadFailure::NoMemory),
     }
 }
 
-/// Reads the text of a scenario to its end.
-pub(crate) fn read_scenario(rt: &HostRuntime, path: &str) -> Result<Vec<u8>, Unread> {
+/// Reads the text of a scenario to its end. Errors: `Closed`, `Broken`, `NoMemory`.
+pub(crate) fn read_scenario(rt: &HostRuntime, path: &str) -> Result<Vec<u8>, ReadFailure> {
     let origin = open(rt, path)?;
     read_up_to(rt.alloc(), &mut Input::new(origin), usize::MAX)
 }
 
-/// Reads the text of a scenario's file, unless it can't be read to its end or has more than 64 MiB.
+/// Reads the text of a scenario's file. Returns none if the file can't be read to its end or has more than 64 MiB.
 pub fn read_whole(rt: &HostRuntime, path: &str) -> Option<Vec<u8>> {
     let file = fs::open(rt, path).ok()?;
     read_up_to(rt.alloc(), &mut Input::new(file), LONGEST_WHOLE).ok()
 }
 
-// Reads a source to its end, unless it has more than so many bytes. A source that has failed isn't read again.
-fn read_up_to<S: Source>(alloc: Global, source: &mut S, most: usize) -> Result<Vec<u8>, Unread> {
+// Reads a source to its end. Errors: `TooLong` after more than `most` bytes, `Broken` after a failed read, and `NoMemory`.
+fn read_up_to<S: Source>(
+    alloc: Global,
+    source: &mut S,
+    most: usize,
+) -> Result<Vec<u8>, ReadFailure> {
     let mut text = Vec::new(alloc);
     let mut block = [0; BLOCK];
     for _ in 0..u64::MAX {
         if text.len() > most {
-            return Err(Unread::TooLong);
+            return Err(ReadFailure::TooLong);
         }
         if source.failed() {
             break;
@@ -118,95 +121,101 @@ fn read_up_to<S: Source>(alloc: Global, source: &mut S, most: usize) -> Result<V
             Err(_) => break,
         }
     }
-    Err(Unread::Broken)
+    Err(ReadFailure::Broken)
 }
 
-/// Reads a scenario as `read_scenario` does, or returns the exit status if it isn't read, which is printed.
-pub fn scenario_text(rt: &HostRuntime, form: Form, path: &str) -> Result<Vec<u8>, u8> {
+/// Reads the text of a scenario to its end. If that fails, prints why, and returns the exit status: 2 if the file can't be
+/// opened, else 1.
+pub fn scenario_text(rt: &HostRuntime, form: DiagnosticForm, path: &str) -> Result<Vec<u8>, u8> {
     match read_scenario(rt, path) {
         Ok(text) => Ok(text),
         Err(why) => {
             report_error(rt, form, Spot::nowhere(), &why.about(path));
             Err(match why {
-                Unread::Closed(_) => REFUSED,
-                Unread::Broken | Unread::TooLong | Unread::NoMemory => UNWRITTEN,
+                ReadFailure::Closed(_) => REFUSED,
+                ReadFailure::Broken | ReadFailure::TooLong | ReadFailure::NoMemory => UNWRITTEN,
             })
         }
     }
 }
 
-/// Why a start list isn't there, and what that is about.
+/// The reason for which there is no start list, and the path that the message is about.
 #[derive(Drop)]
-pub struct NoList<'a> {
+pub struct StartListFailure<'a> {
     path: &'a str,
-    why: Why,
+    why: ListFailureKind,
 }
 
 #[derive(Drop)]
-enum Why {
-    Unread(Unread),
+enum ListFailureKind {
+    ReadFailure(ReadFailure),
     // A name without a value, and its text.
     Unfilled(UnknownName, String),
     // The fault of a file's list.
-    Faulty(Fault),
-    // Why the built-in machine isn't there.
+    Faulty(ListFault),
+    // The fault of the built-in machine's boot.
     Unbooted(BootFault),
 }
 
-impl<'a> NoList<'a> {
-    /// Returns why the text of a file, or of the built-in machine, is no start list, which has this fault.
+impl<'a> StartListFailure<'a> {
+    /// Returns the failure of a text with this boot fault: with its place for a file's text, and without for the built-in
+    /// machine's.
     pub(crate) fn of_fault(
         rt: &HostRuntime,
         path: Option<&'a str>,
         text: &[u8],
         fault: BootFault,
-    ) -> NoList<'a> {
+    ) -> StartListFailure<'a> {
         match path {
-            Some(path) => NoList {
+            Some(path) => StartListFailure {
                 path,
-                why: Why::Faulty(placed_fault(rt, text, fault)),
+                why: ListFailureKind::Faulty(placed_fault(rt, text, fault)),
             },
-            None => NoList {
+            None => StartListFailure {
                 path: "",
-                why: Why::Unbooted(fault),
+                why: ListFailureKind::Unbooted(fault),
             },
         }
     }
 
-    /// Returns what the message is about.
+    /// Returns the place that the message is about: a byte of the list, the whole file, or no file.
     pub fn spot(&self) -> Spot<'a> {
         match &self.why {
-            Why::Unread(_) | Why::Unbooted(_) => Spot::nowhere(),
-            Why::Unfilled(name, _) => Spot::byte(self.path, name.line as u64, name.column),
-            Why::Faulty(fault) => fault_spot(self.path, fault),
+            ListFailureKind::ReadFailure(_) | ListFailureKind::Unbooted(_) => Spot::nowhere(),
+            ListFailureKind::Unfilled(name, _) => Spot::byte(
+                self.path,
+                name.line as u64,
+                name.column,
+            ),
+            ListFailureKind::Faulty(fault) => fault_spot(self.path, fault),
         }
     }
 }
 
-/// The message.
-impl fmt::Display for NoList<'_> {
+/// Writes the message that people read.
+impl fmt::Display for StartListFailure<'_> {
     fn fmt<W: fmt::Write>(&self, f: &mut fmt::Formatter<W>) -> fmt::Result {
         match &self.why {
-            Why::Unread(why) => write!(f, "{}", why.about(self.path)),
-            Why::Unfilled(_, name) => write!(f, "unknown name `{name}`"),
-            Why::Faulty(fault) => write!(f, "{}", Placed(fault)),
-            Why::Unbooted(fault) => write!(f, "boot: {fault}"),
+            ListFailureKind::ReadFailure(why) => write!(f, "{}", why.about(self.path)),
+            ListFailureKind::Unfilled(_, name) => write!(f, "unknown name `{name}`"),
+            ListFailureKind::Faulty(fault) => write!(f, "{}", ListFaultMessage(fault)),
+            ListFailureKind::Unbooted(fault) => write!(f, "boot: {fault}"),
         }
     }
 }
 
-// The fault of a text that is no start list, with its place.
-fn placed_fault(rt: &HostRuntime, text: &[u8], fault: BootFault) -> Fault {
+// Returns the fault of a text that is no start list, with its place.
+fn placed_fault(rt: &HostRuntime, text: &[u8], fault: BootFault) -> ListFault {
     match Review::read(rt.alloc(), text) {
         Err(placed) => placed,
-        Ok(_) => Fault {
+        Ok(_) => ListFault {
             fault,
-            place: Whereabouts::Nowhere,
+            place: FaultPlace::Nowhere,
         },
     }
 }
 
-/// Returns the text of a start list with the values of its names, or nothing if it isn't there, which is printed.
+/// Reads a start list and fills in the values of its names. If that fails, prints why and returns none.
 pub fn start_list(rt: &HostRuntime, path: &str, settings: Settings<'_>) -> Option<Vec<u8>> {
     match filled_list(rt, path, settings) {
         Ok(text) => Some(text),
@@ -217,43 +226,48 @@ pub fn start_list(rt: &HostRuntime, path: &str, settings: Settings<'_>) -> Optio
     }
 }
 
-/// Returns the text of a start list with the values of its names.
+/// Reads a start list and fills in the values of its names. Errors: the file can't be read, the host is out of memory, a name
+/// has no value.
 pub(crate) fn filled_list<'a>(
     rt: &HostRuntime,
     path: &'a str,
     settings: Settings<'_>,
-) -> Result<Vec<u8>, NoList<'a>> {
+) -> Result<Vec<u8>, StartListFailure<'a>> {
     match fill_file(rt, path, settings) {
         Ok(text) => Ok(text),
-        Err(why) => Err(NoList { path, why }),
+        Err(why) => Err(StartListFailure { path, why }),
     }
 }
 
-// The same.
-fn fill_file(rt: &HostRuntime, path: &str, settings: Settings<'_>) -> Result<Vec<u8>, Why> {
+// Fills a start list as `filled_list` does, and returns errors without the path.
+fn fill_file(
+    rt: &HostRuntime,
+    path: &str,
+    settings: Settings<'_>,
+) -> Result<Vec<u8>, ListFailureKind> {
     let text = match read_list(rt, path) {
         Ok(text) => text,
-        Err(why) => return Err(Why::Unread(why)),
+        Err(why) => return Err(ListFailureKind::ReadFailure(why)),
     };
     let Ok(known) = settings.known(rt.alloc()) else {
-        return Err(Why::Unread(Unread::NoMemory));
+        return Err(ListFailureKind::ReadFailure(ReadFailure::NoMemory));
     };
     match fill_list(rt.alloc(), &text, &known) {
         Ok(filled) => Ok(filled),
         Err(Unfilled::Unknown(name)) => Err(unfilled(rt, &text, name)),
-        Err(Unfilled::NoMemory) => Err(Why::Unread(Unread::NoMemory)),
+        Err(Unfilled::NoMemory) => Err(ListFailureKind::ReadFailure(ReadFailure::NoMemory)),
     }
 }
 
-// Why a text isn't filled that has this name without a value.
-fn unfilled(rt: &HostRuntime, text: &[u8], name: UnknownName) -> Why {
+// Returns the failure of a text in which this name has no value.
+fn unfilled(rt: &HostRuntime, text: &[u8], name: UnknownName) -> ListFailureKind {
     match name_in(rt, text, name) {
-        Ok(token) => Why::Unfilled(name, token),
-        Err(AllocError) => Why::Unread(Unread::NoMemory),
+        Ok(token) => ListFailureKind::Unfilled(name, token),
+        Err(AllocError) => ListFailureKind::ReadFailure(ReadFailure::NoMemory),
     }
 }
 
-// The text of such a name.
+// Returns the token of a name in a text.
 fn name_in(rt: &HostRuntime, text: &[u8], name: UnknownName) -> Result<String, AllocError> {
     let lines = LineStarts::of(rt, text)?;
     let line = lines.line(name.line as u64);

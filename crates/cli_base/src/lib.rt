@@ -9,30 +9,31 @@ mod files;
 mod lines;
 mod list_fault;
 mod machine;
+mod policy_verdict;
 mod replacing;
 mod reports;
 mod settings;
-mod standing;
 mod status;
 mod streams;
 mod unfolding;
 
 pub use coloring::Coloring;
 pub use files::{
-    NoList, STANDARD_INPUT, Unread, UnreadFile, read_list, read_whole, scenario_text, start_list,
+    FileReadMessage, ReadFailure, STANDARD_INPUT, StartListFailure, read_list, read_whole,
+    scenario_text, start_list,
 };
 pub use lines::LineStarts;
-pub use list_fault::{Placed, fault_spot, tell_fault};
-pub use machine::{Machine, tell_unbooted};
+pub use list_fault::{ListFaultMessage, fault_spot, tell_fault};
+pub use machine::{Machine, report_boot_fault};
+pub use policy_verdict::{PolicyDiagnostic, PolicyVerdict, check_policy};
 pub use replacing::{replace_file, write_file};
 pub use reports::{
     Spot, error_line, report, report_error, report_write_failure, summarize, summarize_errors,
 };
 pub use settings::Settings;
-pub use standing::{Noted, Standing, hold_against};
 pub use status::{
-    OUT_OF_MEMORY, REFUSED, Stopped, UNREAD, UNWRITTEN, made_or_told, no_memory, print_documents,
-    spot_of, status_of, unread_status,
+    OUT_OF_MEMORY, REFUSED, StopMessage, UNREAD, UNWRITTEN, made_or_status, no_memory,
+    print_documents, spot_of, status_of, unread_status,
 };
-pub use streams::{Origin, Place, Reader, Writer, plain_writer, text_of, writer};
+pub use streams::{Origin, OutputStream, Reader, Writer, plain_writer, text_of, writer};
 pub use unfolding::{rounds_spot, rounds_token, unfolded};

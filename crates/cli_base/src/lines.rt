@@ -1,7 +1,7 @@
 //! Lines of a scenario's text by their numbers.
 use std::alloc::AllocError;
 
-/// Where the lines of a text begin.
+/// The positions at which the lines of a text begin.
 #[derive(Drop)]
 pub struct LineStarts<'a> {
     text: &'a [u8],
@@ -9,7 +9,7 @@ pub struct LineStarts<'a> {
 }
 
 impl<'a> LineStarts<'a> {
-    /// Returns those of a text.
+    /// Finds the first bytes of all lines of a text. Returns an error if the host is out of memory.
     pub fn of(rt: &HostRuntime, text: &'a [u8]) -> Result<LineStarts<'a>, AllocError> {
         let mut starts = vec![in rt.alloc(); 0]?;
         for (place, byte) in text.iter().enumerate() {
@@ -20,7 +20,7 @@ impl<'a> LineStarts<'a> {
         Ok(LineStarts { text, starts })
     }
 
-    /// Returns the line of a number, from 1 on, without its newline. It is empty if there is none.
+    /// Returns the line with this number, from 1 on, without its newline. The line is empty if no line has the number.
     pub fn line(&self, number: u64) -> &'a [u8] {
         let place = number.saturating_sub(1) as usize;
         let Some(start) = self.starts.get(place) else {

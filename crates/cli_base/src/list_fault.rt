@@ -1,31 +1,31 @@
 //! The fault of a start list at its place.
 use crate::reports::{Spot, report_error};
-use start_review::{Fault, Whereabouts};
+use list_review::{FaultPlace, ListFault};
 use std::fmt;
-use view_diagnostics::Form;
+use view_diagnostics::DiagnosticForm;
 
-/// Prints the fault of a start list.
-pub fn tell_fault(rt: &HostRuntime, form: Form, path: &str, fault: &Fault) {
-    report_error(rt, form, fault_spot(path, fault), &Placed(fault));
+/// Prints the fault of a start list as an error at its place.
+pub fn tell_fault(rt: &HostRuntime, form: DiagnosticForm, path: &str, fault: &ListFault) {
+    report_error(rt, form, fault_spot(path, fault), &ListFaultMessage(fault));
 }
 
-/// Returns where the fault of a start list is.
-pub fn fault_spot<'a>(path: &'a str, fault: &Fault) -> Spot<'a> {
+/// Returns the place of a start list's fault: a byte of its text if one is known, else the whole file.
+pub fn fault_spot<'a>(path: &'a str, fault: &ListFault) -> Spot<'a> {
     match &fault.place {
-        Whereabouts::Text(line, column, _) => Spot::byte(path, *line as u64, *column),
+        FaultPlace::Text(line, column, _) => Spot::byte(path, *line as u64, *column),
         _ => Spot::file(path),
     }
 }
 
-/// The fault of a start list, as people read it at its place.
+/// The message of a start list's fault, as it follows the fault's place.
 #[derive(Clone, Copy)]
-pub struct Placed<'a>(pub &'a Fault);
+pub struct ListFaultMessage<'a>(pub &'a ListFault);
 
-impl fmt::Display for Placed<'_> {
+impl fmt::Display for ListFaultMessage<'_> {
     fn fmt<W: fmt::Write>(&self, f: &mut fmt::Formatter<W>) -> fmt::Result {
         let placed = self.0;
         match &placed.place {
-            Whereabouts::Text(_, _, reason) => write!(f, "{}: {reason}", placed.fault),
+            FaultPlace::Text(_, _, reason) => write!(f, "{}: {reason}", placed.fault),
             _ => write!(f, "{placed}"),
         }
     }

@@ -1,70 +1,70 @@
 //! Machines: those of start lists, and the built-in one.
-use crate::files::{NoList, filled_list};
+use crate::files::{StartListFailure, filled_list};
 use crate::list_fault::tell_fault;
 use crate::reports::{Spot, report_error};
 use crate::settings::Settings;
 use crate::status::REFUSED;
 use init_core::{BootFault, MACHINE_A, StartList};
-use start_review::Review;
-use view_diagnostics::Form;
+use list_review::Review;
+use view_diagnostics::DiagnosticForm;
 
-/// A machine: the path of its start list if that is a file's, the text, and the list that the text is.
+/// A machine: the path of its start list, none for the built-in machine, with the text and the list that is parsed from it.
 #[derive(Drop)]
 pub struct Machine<'a> {
     path: Option<&'a str>,
-    text: Text,
+    text: MachineText,
     list: StartList,
 }
 
 // The text of a start list.
 #[derive(Drop)]
-enum Text {
-    // That of the built-in machine.
+enum MachineText {
+    // The text of the built-in machine.
     BuiltIn,
-    // That of a file, with the values of its names.
+    // The text of a file, with the values of its names.
     Read(Vec<u8>),
 }
 
-impl Text {
-    // Its bytes.
+impl MachineText {
+    // Returns the bytes of the text.
     fn bytes(&self) -> &[u8] {
         match self {
-            Text::BuiltIn => MACHINE_A.as_bytes(),
-            Text::Read(text) => text,
+            MachineText::BuiltIn => MACHINE_A.as_bytes(),
+            MachineText::Read(text) => text,
         }
     }
 }
 
 impl<'a> Machine<'a> {
-    /// Reads the machine of a start list's path, or the built-in machine if there is no path. Returns why the list can't be read
-    /// otherwise.
+    /// Reads the machine of a start list's path, or the built-in machine if `path` is none. Errors: the file can't be read, a
+    /// name has no value, the text is no start list.
     pub fn find(
         rt: &HostRuntime,
         path: Option<&'a str>,
         settings: Settings<'_>,
-    ) -> Result<Machine<'a>, NoList<'a>> {
+    ) -> Result<Machine<'a>, StartListFailure<'a>> {
         let Some(file) = path else {
-            return Machine::of_text(rt, None, Text::BuiltIn);
+            return Machine::of_text(rt, None, MachineText::BuiltIn);
         };
         match filled_list(rt, file, settings) {
-            Ok(text) => Machine::of_text(rt, path, Text::Read(text)),
+            Ok(text) => Machine::of_text(rt, path, MachineText::Read(text)),
             Err(fault) => Err(fault),
         }
     }
 
-    // The machine of a start list's text.
+    // Parses the machine of a start list's text. Returns the list's fault if there is one.
     fn of_text(
         rt: &HostRuntime,
         path: Option<&'a str>,
-        text: Text,
-    ) -> Result<Machine<'a>, NoList<'a>> {
+        text: MachineText,
+    ) -> Result<Machine<'a>, StartListFailure<'a>> {
         match StartList::read(rt.alloc(), text.bytes()) {
             Ok(list) => Ok(Machine { path, text, list }),
-            Err(fault) => Err(NoList::of_fault(rt, path, text.bytes(), fault)),
+            Err(fault) => Err(StartListFailure::of_fault(rt, path, text.bytes(), fault)),
         }
     }
 
-    /// Reads it as `find` does, or returns the exit status if the list can't be read, which is printed.
+    /// Reads a machine as `find` does. If that fails, prints why and returns the exit status 2.
     pub fn read(
         rt: &HostRuntime,
         path: Option<&'a str>,
@@ -79,24 +79,29 @@ impl<'a> Machine<'a> {
         }
     }
 
-    /// Returns the path of its start list, or none for the built-in machine.
+    /// Returns the path of the machine's start list, or none for the built-in machine.
     pub fn path(&self) -> Option<&'a str> {
         self.path
     }
 
-    /// Returns the text of its start list.
+    /// Returns the text of the machine's start list, in bytes.
     pub fn text(&self) -> &[u8] {
         self.text.bytes()
     }
 
-    /// Returns its start list.
+    /// Returns the start list that describes the machine.
     pub fn list(&self) -> &StartList {
         &self.list
     }
 }
 
-/// Tells why no machine was booted, with the place in its start list where that is a file's, and answers the exit status.
-pub fn tell_unbooted(rt: &HostRuntime, form: Form, machine: &Machine<'_>, fault: &BootFault) -> u8 {
+/// Prints why no machine was booted, at the place in its start list if that is a file's. Returns the exit status 2.
+pub fn report_boot_fault(
+    rt: &HostRuntime,
+    form: DiagnosticForm,
+    machine: &Machine<'_>,
+    fault: &BootFault,
+) -> u8 {
     if let Some(path) = machine.path() {
         if let Err(placed) = Review::read(rt.alloc(), machine.text()) {
             tell_fault(rt, form, path, &placed);

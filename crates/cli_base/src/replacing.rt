@@ -4,13 +4,14 @@ use std::io::{ErrorKind, Write};
 use std::os::unix::fs::OpenOptionsExt;
 use std::{fs, io};
 
-/// How many names are tried for a new file.
+/// The number of names that are tried for a new file.
 const MOST_NAMES: usize = 100;
 
-/// The rights of a new file until it is written: its owner alone reads and writes it.
+/// The rights of a new file until it is written: only its owner reads and writes it.
 const OWN: u32 = 0o600;
 
-/// Replaces a regular file by one with this text and the same rights. Until then it is as it was; a file that is not regular stays.
+/// Replaces the content of a regular file, and keeps its rights. The old content stays until the new content is complete. Errors:
+/// the path can't be resolved, the file isn't regular, a write fails.
 pub fn replace_file(rt: &HostRuntime, path: &str, text: &[u8]) -> io::Result<()> {
     let path = fs::canonicalize(rt, path)?;
     let found = fs::metadata(rt, path.as_str())?;
@@ -20,7 +21,8 @@ pub fn replace_file(rt: &HostRuntime, path: &str, text: &[u8]) -> io::Result<()>
     write_by_new(rt, path.as_str(), text, Some(found.permissions()))
 }
 
-/// Writes a file with this text, which takes the place of a regular file of this path. A device or a pipe is written to.
+/// Writes a file: a regular or a new file whole or not at all, a device or a pipe directly. Returns the error of the step that
+/// fails.
 pub fn write_file(rt: &HostRuntime, path: &str, text: &[u8]) -> io::Result<()> {
     match fs::metadata(rt, path) {
         Ok(found) if found.is_file() => replace_file(rt, path, text),
@@ -30,7 +32,7 @@ pub fn write_file(rt: &HostRuntime, path: &str, text: &[u8]) -> io::Result<()> {
     }
 }
 
-// Writes a text into a new file with these rights, which then takes a path. A write that fails removes the new file.
+// Writes a text into a new file with these rights, and renames it to the path. A write that fails removes the new file.
 fn write_by_new(
     rt: &HostRuntime,
     path: &str,
@@ -45,7 +47,7 @@ fn write_by_new(
     written
 }
 
-// Makes a new file next to a path: by the first name that nothing has.
+// Creates a new file next to a path, under the first name that isn't taken.
 fn new_file(rt: &HostRuntime, path: &str, is_own: bool) -> io::Result<(String, File)> {
     let mut options = OpenOptions::new();
     options.write(true).create_new(true);
@@ -64,7 +66,7 @@ fn new_file(rt: &HostRuntime, path: &str, is_own: bool) -> io::Result<(String, F
     Err(taken)
 }
 
-// Fills a new file, and gives it its rights and its path.
+// Writes a new file, sets its rights, and renames it to its path.
 fn fill(
     rt: &HostRuntime,
     file: &mut File,
@@ -83,7 +85,7 @@ fn fill(
     Ok(())
 }
 
-// Has the name of a file written to its folder on the disk, where the file system can do so.
+// Writes the folder of a path to the disk, so that the file's new name lasts. Some file systems can't do this.
 fn sync_folder(rt: &HostRuntime, path: &str) -> io::Result<()> {
     let folder = match path.rsplit_once('/') {
         Some(("", _)) => "/",

@@ -1,62 +1,67 @@
 //! Diagnostics of a command, on standard error or in a text.
-use crate::streams::{Place as Stream, Writer, plain_writer, text_of};
+use crate::streams::{OutputStream as Stream, Writer, plain_writer, text_of};
 use arrayvec::ArrayString;
-use scenario::Sink;
+use cli_engine::Sink;
 use std::alloc::AllocError;
 use std::fmt::{Display, Write};
 use std::{fmt, io};
-use view_diagnostics::{Counts, Diagnostics, Form, Place, Severity, Subject};
+use view_diagnostics::{Counts, DiagnosticForm, Diagnostics, FilePlace, Severity, Subject};
 
 /// The most bytes of an operating system's reason; the message of an error has at most 256.
 const LONGEST_REASON: usize = 300;
 
-/// What a diagnostic is about: a place in a file, or no file.
+/// The place that a diagnostic is about: a file, a line or a byte of it, or no file.
 #[derive(Clone, Copy)]
 pub struct Spot<'a> {
     file: &'a str,
-    place: Place,
+    place: FilePlace,
 }
 
 impl<'a> Spot<'a> {
-    /// Returns no file.
+    /// Returns the place of a diagnostic that is about no file.
     pub fn nowhere() -> Spot<'a> {
         Spot::file("")
     }
 
-    /// Returns a whole file.
+    /// Returns the place of a diagnostic about a whole file.
     pub fn file(file: &'a str) -> Spot<'a> {
         Spot {
             file,
-            place: Place::Whole,
+            place: FilePlace::Whole,
         }
     }
 
-    /// Returns a line of a file, from 1 on.
+    /// Returns the place of a diagnostic about a line, from 1 on.
     pub fn line(file: &'a str, line: u64) -> Spot<'a> {
         Spot {
             file,
-            place: Place::Line(line),
+            place: FilePlace::Line(line),
         }
     }
 
-    /// Returns a byte of a line of a file, both from 1 on.
+    /// Returns the place of a diagnostic about a byte of a line, both from 1 on.
     pub fn byte(file: &'a str, line: u64, column: usize) -> Spot<'a> {
         Spot {
             file,
-            place: Place::Byte(line, column as u64),
+            place: FilePlace::Byte(line, column as u64),
         }
     }
 }
 
-/// Prints an error.
-pub fn report_error<D: Display>(rt: &HostRuntime, form: Form, spot: Spot<'_>, message: &D) {
+/// Prints an error at its place on standard error, as text or JSON.
+pub fn report_error<D: Display>(
+    rt: &HostRuntime,
+    form: DiagnosticForm,
+    spot: Spot<'_>,
+    message: &D,
+) {
     report(rt, form, Severity::Error, spot, message);
 }
 
-/// Prints a diagnostic.
+/// Prints a diagnostic at its place on standard error, as text or JSON. A write that fails loses it.
 pub fn report<D: Display>(
     rt: &HostRuntime,
-    form: Form,
+    form: DiagnosticForm,
     severity: Severity,
     spot: Spot<'_>,
     message: &D,
@@ -66,20 +71,20 @@ pub fn report<D: Display>(
 }
 
 /// Prints that a file can't be written, with the operating system's reason.
-pub fn report_write_failure(rt: &HostRuntime, form: Form, path: &str, error: &io::Error) {
+pub fn report_write_failure(rt: &HostRuntime, form: DiagnosticForm, path: &str, error: &io::Error) {
     report_error(
         rt,
         form,
         Spot::nowhere(),
-        &format_args!("cannot write {path}: {}", Reason(*error)),
+        &format_args!("cannot write {path}: {}", SystemReason(*error)),
     );
 }
 
 /// The operating system's reason of a failure, without its number.
 #[derive(Clone, Copy)]
-pub(crate) struct Reason(pub(crate) io::Error);
+pub(crate) struct SystemReason(pub(crate) io::Error);
 
-impl fmt::Display for Reason {
+impl fmt::Display for SystemReason {
     fn fmt<W: fmt::Write>(&self, f: &mut fmt::Formatter<W>) -> fmt::Result {
         let mut reason = ArrayString::<LONGEST_REASON>::new();
         let _ = write!(reason, "{}", self.0);
@@ -90,15 +95,15 @@ impl fmt::Display for Reason {
     }
 }
 
-/// Prints how many errors and warnings a command has printed, if there are some. Documents are counted by their reader.
-pub fn summarize(rt: &HostRuntime, form: Form, counts: Counts) {
-    if form == Form::Text && !counts.is_nothing() {
+/// Prints how many errors and warnings a command has printed. Prints nothing if there are none, and nothing in the JSON form.
+pub fn summarize(rt: &HostRuntime, form: DiagnosticForm, counts: Counts) {
+    if form == DiagnosticForm::Text && !counts.is_nothing() {
         let _ = eprintln!(rt; "{counts}");
     }
 }
 
-/// Prints how many errors a command has printed, if there are some.
-pub fn summarize_errors(rt: &HostRuntime, form: Form, errors: u64) {
+/// Prints how many errors a command has printed, as `summarize` does.
+pub fn summarize_errors(rt: &HostRuntime, form: DiagnosticForm, errors: u64) {
     let counts = Counts {
         errors,
         warnings: 0,
@@ -106,22 +111,29 @@ pub fn summarize_errors(rt: &HostRuntime, form: Form, errors: u64) {
     summarize(rt, form, counts);
 }
 
-/// Returns the line of an error.
+/// Renders an error at its place as a line of text. Returns an error if the host is out of memory.
 pub fn error_line<D: Display>(
     rt: &HostRuntime,
     spot: Spot<'_>,
     message: &D,
 ) -> Result<Vec<u8>, AllocError> {
     let mut writer = plain_writer(rt, Stream::text(rt));
-    write(rt, &mut writer, Form::Text, Severity::Error, spot, message)?;
+    write(
+        rt,
+        &mut writer,
+        DiagnosticForm::Text,
+        Severity::Error,
+        spot,
+        message,
+    )?;
     Ok(text_of(rt, writer))
 }
 
-// Writes a diagnostic; a write that fails loses it, and so does a writer that has failed.
+// Writes a diagnostic. A write that fails loses it, and a writer that has failed isn't written to.
 fn write<D: Display>(
     rt: &HostRuntime,
     writer: &mut Writer<'_>,
-    form: Form,
+    form: DiagnosticForm,
     severity: Severity,
     spot: Spot<'_>,
     message: &D,

@@ -1,17 +1,17 @@
-//! The exit status, and what is printed of a result that can't be written or a scenario that can't be read.
+//! Exit statuses, and messages for results that can't be written and scenarios that can't be read.
 ghost use Rattle.std.specs.Prelude.{◌≡◌, if◌then◌else◌, nat_lt};
 
 use crate::reports::{Spot, report_error, report_write_failure};
-use scenario_lines::PlayFault;
+use run_lines::LineRunFault;
 use std::alloc::AllocError;
 use std::io::{ErrorKind, Write};
 use std::{fmt, io};
-use view_diagnostics::Form;
+use view_diagnostics::DiagnosticForm;
 
 /// The exit status of a result that can't be written.
 pub const UNWRITTEN: u8 = 1;
 
-/// The exit status of a start list that is none, doesn't boot or, where that is asked for, has findings.
+/// The exit status of an invalid start list, one that doesn't boot, or one with findings in a strict check.
 pub const REFUSED: u8 = 2;
 
 // The exit status of a scenario with lines that aren't read.
@@ -20,10 +20,10 @@ const UNREAD_LINES: u8 = 3;
 /// The message of a host that is out of memory.
 pub const OUT_OF_MEMORY: &str = "out of memory";
 
-/// The exit status where nobody reads the result: that of a program which a closed pipe ends, as shells tell it.
+/// The exit status if nobody reads the result: shells report it for a program that a closed pipe ends.
 pub const UNREAD: u8 = 141;
 
-/// Returns the exit status of what was printed. A fault is printed, except of a pipe that nobody reads.
+/// Returns the exit status after a write: 0, 141 for a closed pipe, or 1 for another failure, which is printed.
 pub fn status_of(rt: &HostRuntime, printed: io::Result<()>) -> u8 {
     match printed {
         Ok(()) => 0,
@@ -31,60 +31,60 @@ pub fn status_of(rt: &HostRuntime, printed: io::Result<()>) -> u8 {
             if error.kind() == ErrorKind::BrokenPipe {
                 UNREAD
             } else {
-                report_write_failure(rt, Form::Text, "standard output", &error);
+                report_write_failure(rt, DiagnosticForm::Text, "standard output", &error);
                 UNWRITTEN
             }
         }
     }
 }
 
-/// Prints that the host is out of memory, and returns the exit status.
+/// Prints that the host is out of memory, and returns the exit status 1.
 pub fn no_memory(rt: &HostRuntime) -> u8 {
-    report_error(rt, Form::Text, Spot::nowhere(), &OUT_OF_MEMORY);
+    report_error(rt, DiagnosticForm::Text, Spot::nowhere(), &OUT_OF_MEMORY);
     UNWRITTEN
 }
 
-/// Returns what was made, or the exit status if the host is out of memory, which is printed.
-pub fn made_or_told<T>(rt: &HostRuntime, made: Result<T, AllocError>) -> Result<T, u8> {
+/// Returns the value that was made. If the host is out of memory, prints that and returns the exit status 1.
+pub fn made_or_status<T>(rt: &HostRuntime, made: Result<T, AllocError>) -> Result<T, u8> {
     match made {
         Ok(made) => Ok(made),
         Err(AllocError) => Err(no_memory(rt)),
     }
 }
 
-/// Returns where a run stopped by a fault after so many lines of a scenario: at the next line if it wasn't read.
-pub fn spot_of(scenario: &str, lines: u64, fault: PlayFault) -> Spot<'_> {
+/// Returns the place of a fault that stopped a run after `lines` lines: the next line if it wasn't read, else no file.
+pub fn spot_of(scenario: &str, lines: u64, fault: LineRunFault) -> Spot<'_> {
     match fault {
-        PlayFault::ReadFault | PlayFault::TooManyLines => {
+        LineRunFault::ReadFault | LineRunFault::TooManyLines => {
             Spot::line(scenario, lines.saturating_add(1))
         }
-        PlayFault::WriteFault | PlayFault::NoMemory => Spot::nowhere(),
+        LineRunFault::WriteFault | LineRunFault::NoMemory => Spot::nowhere(),
     }
 }
 
-/// The fault that stopped a run, as people read it.
+/// The message of the fault that stopped a run.
 #[derive(Clone, Copy)]
-pub struct Stopped(pub PlayFault);
+pub struct StopMessage(pub LineRunFault);
 
-impl fmt::Display for Stopped {
+impl fmt::Display for StopMessage {
     fn fmt<W: fmt::Write>(&self, f: &mut fmt::Formatter<W>) -> fmt::Result {
         f.write_str(match self.0 {
-            PlayFault::ReadFault => "cannot read this line",
-            PlayFault::TooManyLines => "more than 1000000 lines",
-            PlayFault::WriteFault => "cannot write standard output",
-            PlayFault::NoMemory => OUT_OF_MEMORY,
+            LineRunFault::ReadFault => "cannot read this line",
+            LineRunFault::TooManyLines => "more than 1000000 lines",
+            LineRunFault::WriteFault => "cannot write standard output",
+            LineRunFault::NoMemory => OUT_OF_MEMORY,
         })
     }
 }
 
-/// Returns the exit status of a scenario of which so many lines aren't read: 3 if there are some, else 0.
+/// Returns the exit status of a scenario with this number of unread lines: 3 if there are any, else 0.
 pub fn unread_status(lines: usize) -> u8
     ensures { result ≡ (if nat_lt 0 lines then 3 else 0) }
 {
     if lines > 0 { UNREAD_LINES } else { 0 }
 }
 
-/// Prints documents, and answers the exit status.
+/// Prints documents on standard output. Returns the exit status, also if the host is out of memory.
 pub fn print_documents(rt: &HostRuntime, documents: Result<Vec<u8>, AllocError>) -> u8 {
     match documents {
         Ok(text) => status_of(rt, io::writer(rt).write_all(text.as_slice())),

@@ -1,20 +1,20 @@
-//! The streams between which a scenario is played: what it is read from, and where what is told of it goes.
-use colors::{Lines, Painted};
-use json_documents::Rows;
-use scenario::{Input, Output};
+//! The streams of a run: what a scenario is read from, and what replies and diagnostics are written to.
+use cli_engine::{Input, Output};
 use std::alloc::Global;
 use std::fs::File;
 use std::io;
 use std::io::{Printer, Read, Stderr, StdinLock, Write};
+use view_colors::{ColorSink, Lines};
+use view_json::DocumentWriter;
 
-/// What a scenario is read from.
+/// The source of a scenario's bytes.
 #[derive(Drop)]
 pub enum Origin<'a> {
     /// Standard input.
     Typed(StdinLock<'a>),
     /// A file.
     File(File),
-    /// Bytes that are there.
+    /// Bytes in memory.
     Held(&'a [u8]),
 }
 
@@ -28,29 +28,29 @@ impl Read for Origin<'_> {
     }
 }
 
-/// Where lines go.
+/// The destination of lines.
 #[derive(Drop)]
-pub enum Place<'a> {
+pub enum OutputStream<'a> {
     /// Standard output.
     Printed(Printer<'a, HostRuntime>),
     /// Standard output, a document for each row of a table.
-    Documents(Rows<Printer<'a, HostRuntime>>),
+    Documents(DocumentWriter<Printer<'a, HostRuntime>>),
     /// Standard error.
     Complained(Stderr),
-    /// A text.
+    /// A text in memory.
     Kept(Vec<u8>),
-    /// Nowhere.
+    /// No destination: lines are dropped.
     Dropped,
 }
 
-impl Write for Place<'_> {
+impl Write for OutputStream<'_> {
     fn write(&mut self, buffer: &[u8]) -> io::Result<usize> {
         match self {
-            Place::Printed(printer) => printer.write(buffer),
-            Place::Documents(rows) => rows.write(buffer),
-            Place::Complained(stderr) => stderr.write(buffer),
-            Place::Kept(text) => text.write(buffer),
-            Place::Dropped => Ok(buffer.len()),
+            OutputStream::Printed(printer) => printer.write(buffer),
+            OutputStream::Documents(rows) => rows.write(buffer),
+            OutputStream::Complained(stderr) => stderr.write(buffer),
+            OutputStream::Kept(text) => text.write(buffer),
+            OutputStream::Dropped => Ok(buffer.len()),
         }
     }
 
@@ -59,42 +59,47 @@ impl Write for Place<'_> {
     }
 }
 
-impl Place<'_> {
-    /// A text without lines.
+impl OutputStream<'_> {
+    /// Returns a text in memory that has no lines yet.
     pub fn text(rt: &HostRuntime) -> Self {
-        Place::Kept(Vec::new(rt.alloc()))
+        OutputStream::Kept(Vec::new(rt.alloc()))
     }
 
-    // The lines of a text; of any other place none.
+    // Returns the lines of a text in memory, and none of any other destination.
     fn into_text(self, alloc: Global) -> Vec<u8> {
         match self {
-            Place::Kept(text) => text,
+            OutputStream::Kept(text) => text,
             _ => Vec::new(alloc),
         }
     }
 }
 
-/// A scenario's lines on their way into a play.
+/// The reader of a scenario's lines.
 pub type Reader<'a> = Input<Origin<'a>>;
 
-/// Lines on their way to their place.
-pub type Writer<'a> = Painted<Output<Place<'a>>>;
+/// The writer of lines to their destination, with or without colours.
+pub type Writer<'a> = ColorSink<Output<OutputStream<'a>>>;
 
-/// A writer to a place whose lines have no colours.
-pub fn plain_writer<'a>(rt: &HostRuntime, place: Place<'a>) -> Writer<'a> {
-    Painted::plain(rt.alloc(), Output::new(place))
+/// Returns a writer to a destination whose lines have no colours.
+pub fn plain_writer<'a>(rt: &HostRuntime, place: OutputStream<'a>) -> Writer<'a> {
+    ColorSink::plain(rt.alloc(), Output::new(place))
 }
 
-/// A writer to a place whose lines are coloured, or aren't.
-pub fn writer<'a>(rt: &HostRuntime, place: Place<'a>, lines: Lines, colored: bool) -> Writer<'a> {
+/// Returns a writer to a destination, which colours these lines if `colored` is set.
+pub fn writer<'a>(
+    rt: &HostRuntime,
+    place: OutputStream<'a>,
+    lines: Lines,
+    colored: bool,
+) -> Writer<'a> {
     if colored {
-        Painted::new(rt.alloc(), Output::new(place), lines)
+        ColorSink::new(rt.alloc(), Output::new(place), lines)
     } else {
         plain_writer(rt, place)
     }
 }
 
-/// The lines that were written to a text.
+/// Returns the lines that were written to a text in memory.
 pub fn text_of(rt: &HostRuntime, writer: Writer<'_>) -> Vec<u8> {
     writer.into_sink().into_inner().into_text(rt.alloc())
 }

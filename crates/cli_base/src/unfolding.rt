@@ -2,38 +2,39 @@
 use crate::lines::LineStarts;
 use crate::reports::{Spot, report_error, summarize_errors};
 use crate::settings::Settings;
-use crate::status::{made_or_told, no_memory};
-use rounds::{RoundsFault, Unfit, Unfolded, unfold};
-use scenario_names::token_at;
+use crate::status::{made_or_status, no_memory};
+use line_names::token_at;
+use line_rounds::{RoundsFault, UnfoldError, UnfoldedText, unfold};
 use std::alloc::AllocError;
-use view_diagnostics::Form;
+use view_diagnostics::DiagnosticForm;
 
 // The exit status of a scenario whose rounds can't be unfolded.
 const UNUNFOLDED: u8 = 3;
 
-/// The text of a scenario with its rounds unfolded, or the exit status where it can't be, which is told.
+/// Unfolds the rounds of a scenario's text. Prints a fault of the rounds and returns the exit status 3. If the host is out of
+/// memory, prints that and returns the exit status 1.
 pub fn unfolded<'a>(
     rt: &HostRuntime,
     scenario: &str,
     text: &'a [u8],
     settings: Settings<'_>,
-) -> Result<Unfolded<'a>, u8> {
-    let known = settings.known_or_told(rt)?;
+) -> Result<UnfoldedText<'a>, u8> {
+    let known = settings.known_or_status(rt)?;
     match unfold(rt.alloc(), text, known) {
         Ok(unfolded) => Ok(unfolded),
-        Err(Unfit::Fault(fault)) => {
+        Err(UnfoldError::Fault(fault)) => {
             let told = tell_rounds(rt, settings.form, scenario, text, fault);
-            made_or_told(rt, told)?;
+            made_or_status(rt, told)?;
             Err(UNUNFOLDED)
         }
-        Err(Unfit::NoMemory) => Err(no_memory(rt)),
+        Err(UnfoldError::NoMemory) => Err(no_memory(rt)),
     }
 }
 
-// Prints what is wrong with the rounds of a scenario.
+// Prints the fault of a scenario's rounds, and the number of errors.
 fn tell_rounds(
     rt: &HostRuntime,
-    form: Form,
+    form: DiagnosticForm,
     scenario: &str,
     text: &[u8],
     fault: RoundsFault,
@@ -45,12 +46,12 @@ fn tell_rounds(
     Ok(())
 }
 
-/// Returns the place of what is wrong with the rounds of a scenario.
+/// Returns the place of the fault of a scenario's rounds.
 pub fn rounds_spot(scenario: &str, fault: RoundsFault) -> Spot<'_> {
     Spot::byte(scenario, fault.at.line as u64, fault.at.column)
 }
 
-/// Returns the text of what is wrong with the rounds of a scenario.
+/// Returns the token of a scenario's text at which its rounds have a fault. The error is out of memory.
 pub fn rounds_token(
     rt: &HostRuntime,
     text: &[u8],

@@ -1,51 +1,57 @@
-//! What the accounts of a scenario need.
+//! The command `least`: the sufficient budgets of a scenario's accounts.
+use budget_least::{BudgetQuery, BudgetReport};
 use cli_base::{
-    LineStarts, Machine, Settings, Spot, UNWRITTEN, made_or_told, print_documents, report_error,
-    scenario_text, status_of, summarize_errors, tell_unbooted, unfolded, unread_status,
+    LineStarts, Machine, Settings, Spot, UNWRITTEN, made_or_status, print_documents,
+    report_boot_fault, report_error, scenario_text, status_of, summarize_errors, unfolded,
+    unread_status,
 };
+use cli_options::LeastOptions;
 use init_core::BootFault;
-use least::{Question, Report};
-use scenario_names::token_at;
+use line_names::token_at;
 use std::alloc::AllocError;
 use std::io;
 use std::io::Write;
-use view_diagnostics::Form;
-use workbench_options::Least;
+use view_diagnostics::DiagnosticForm;
 
-// In which form it is told.
+// The form in which a report is printed.
 #[derive(Clone, Copy)]
-enum Telling {
+enum BudgetFormat {
     /// As text.
     Text,
     /// As comma-separated values.
     Values,
     /// As a document of JSON.
     Documents,
-    /// As the start list with the least budgets.
+    /// As the start list with the minimum budgets.
     List,
-    /// As the scenario with the least donations.
+    /// As the scenario with the minimum donations.
     Scenario,
 }
 
-impl Telling {
-    // That of four flags, of which the first that is set counts.
-    fn asked(asked: &Least<'_>) -> Telling {
+impl BudgetFormat {
+    // Returns the form that the flags of a command line ask for. The first flag that is set decides.
+    fn asked(asked: &LeastOptions<'_>) -> BudgetFormat {
         if asked.csv {
-            Telling::Values
+            BudgetFormat::Values
         } else if asked.json {
-            Telling::Documents
+            BudgetFormat::Documents
         } else if asked.list {
-            Telling::List
+            BudgetFormat::List
         } else if asked.donations {
-            Telling::Scenario
+            BudgetFormat::Scenario
         } else {
-            Telling::Text
+            BudgetFormat::Text
         }
     }
 }
 
-/// Tells what the accounts of a scenario need on the machine of a start list, or on the built-in machine. Answers the exit status.
-pub fn least_budgets(rt: &HostRuntime, asked: &Least<'_>, settings: Settings<'_>) -> u8 {
+/// Prints the sufficient budgets of a scenario's accounts on the machine of a start list, or on the built-in machine. Returns the
+/// exit status: 0, 3 if a line is no call, 2 if the list is refused.
+pub fn print_minimum_budgets(
+    rt: &HostRuntime,
+    asked: &LeastOptions<'_>,
+    settings: Settings<'_>,
+) -> u8 {
     let machine = match Machine::read(rt, asked.machine, settings) {
         Ok(machine) => machine,
         Err(status) => return status,
@@ -56,57 +62,57 @@ pub fn least_budgets(rt: &HostRuntime, asked: &Least<'_>, settings: Settings<'_>
     }
 }
 
-// The same on a machine, for a scenario of a text.
+// Computes and prints the budgets for a scenario of a text on a machine. Returns the exit status.
 fn least_on(
     rt: &HostRuntime,
     machine: &Machine<'_>,
     text: &[u8],
-    asked: &Least<'_>,
+    asked: &LeastOptions<'_>,
     settings: Settings<'_>,
 ) -> u8 {
     let lines = match unfolded(rt, asked.scenario, text, settings) {
         Ok(lines) => lines,
         Err(status) => return status,
     };
-    let start = match settings.start_or_told(rt, lines.marks()) {
+    let start = match settings.start_or_status(rt, lines.marks()) {
         Ok(start) => start,
         Err(status) => return status,
     };
-    let question = Question {
+    let question = BudgetQuery {
         machine: machine.text(),
         scenario: lines.bytes(),
         as_donated: asked.as_donated,
     };
-    match Report::of(rt.alloc(), question, start) {
+    match BudgetReport::of(rt.alloc(), question, start) {
         Ok(report) => tell_report(rt, machine.text(), text, asked, settings.form, report),
-        Err(fault) => tell_unbooted(rt, settings.form, machine, &fault),
+        Err(fault) => report_boot_fault(rt, settings.form, machine, &fault),
     }
 }
 
-// Tells a report of a scenario's text, and before it the lines that are no calls.
+// Prints the lines of a scenario's text that are no calls, and then a report. Returns the exit status.
 fn tell_report(
     rt: &HostRuntime,
     machine: &[u8],
     text: &[u8],
-    asked: &Least<'_>,
-    form: Form,
-    report: Report,
+    asked: &LeastOptions<'_>,
+    form: DiagnosticForm,
+    report: BudgetReport,
 ) -> u8 {
     let misread = tell_misread(rt, form, asked.scenario, text, &report);
-    let status = match made_or_told(rt, misread) {
+    let status = match made_or_status(rt, misread) {
         Ok(status) | Err(status) => status,
     };
-    let told = tell(rt, machine, text, Telling::asked(asked), report);
+    let told = tell(rt, machine, text, BudgetFormat::asked(asked), report);
     if told == 0 { status } else { told }
 }
 
 // Prints the lines of a scenario's text that are no calls, and returns the exit status.
 fn tell_misread(
     rt: &HostRuntime,
-    form: Form,
+    form: DiagnosticForm,
     scenario: &str,
     text: &[u8],
-    report: &Report,
+    report: &BudgetReport,
 ) -> Result<u8, AllocError> {
     let all = report.misread();
     if all.is_empty() {
@@ -124,31 +130,37 @@ fn tell_misread(
     Ok(unread_status(all.len()))
 }
 
-// Tells a report in a form, and answers the exit status.
-fn tell(rt: &HostRuntime, machine: &[u8], scenario: &[u8], telling: Telling, report: Report) -> u8 {
+// Prints a report in a form, and returns the exit status.
+fn tell(
+    rt: &HostRuntime,
+    machine: &[u8],
+    scenario: &[u8],
+    telling: BudgetFormat,
+    report: BudgetReport,
+) -> u8 {
     match telling {
-        Telling::Text => status_of(rt, print!(rt; "{report}")),
-        Telling::Values => {
+        BudgetFormat::Text => status_of(rt, print!(rt; "{report}")),
+        BudgetFormat::Values => {
             let values = report.into_csv();
             status_of(rt, print!(rt; "{values}"))
         }
-        Telling::Documents => print_documents(rt, report.documents(rt.alloc())),
-        Telling::List => match report.start_list(rt.alloc(), machine) {
+        BudgetFormat::Documents => print_documents(rt, report.documents(rt.alloc())),
+        BudgetFormat::List => match report.start_list(rt.alloc(), machine) {
             Ok(text) => status_of(rt, println!(rt; "{text}")),
             Err(fault) => tell_fault_of_run(rt, &fault),
         },
-        Telling::Scenario => match report.scenario(rt.alloc(), scenario) {
+        BudgetFormat::Scenario => match report.scenario(rt.alloc(), scenario) {
             Ok(text) => status_of(rt, io::writer(rt).write_all(text.as_slice())),
             Err(fault) => tell_fault_of_run(rt, &fault),
         },
     }
 }
 
-// Tells a fault of the run.
+// Prints a fault of the run, and returns the exit status.
 fn tell_fault_of_run(rt: &HostRuntime, fault: &BootFault) -> u8 {
     report_error(
         rt,
-        Form::Text,
+        DiagnosticForm::Text,
         Spot::nowhere(),
         &format_args!("run: {fault}"),
     );

@@ -1,9 +1,9 @@
 //! The command `least` of `nethrywel`: the budgets that suffice for a scenario are computed and printed.
 //!
-//! `nethrywel` calls `least_budgets(rt, asked, settings)` with what the command line says, and ends with the exit status that
+//! `nethrywel` calls `print_minimum_budgets(rt, asked, settings)` with what the command line says, and ends with the exit status that
 //! this returns.
 #![tactic(auto)]
 
 mod least_command;
 
-pub use least_command::least_budgets;
+pub use least_command::print_minimum_budgets;

@@ -1,19 +1,20 @@
-//! What is wrong with a start list, also against a policy.
+//! The command `check`: findings of a start list, and its breaches of a policy.
 ghost use Rattle.std.specs.Prelude.{◌≡◌, ◌&&◌, nat_lt};
 
 use crate::check_documents::check_documents;
 use crate::review::review;
 use cli_base::{
-    Noted, REFUSED, Settings, Spot, Standing, hold_against, no_memory, report, report_error,
-    status_of, summarize,
+    PolicyDiagnostic, PolicyVerdict, REFUSED, Settings, Spot, check_policy, no_memory, report,
+    report_error, status_of, summarize,
 };
-use start_review::{Finding, Part, Review};
+use cli_options::CheckOptions;
+use list_review::{Finding, ListPart, Review};
 use std::fmt;
-use view_diagnostics::{Counts, Form, Severity};
-use workbench_options::Check;
+use view_diagnostics::{Counts, DiagnosticForm, Severity};
 
-/// Tells what is wrong with a start list, and answers the exit status.
-pub fn check_list(rt: &HostRuntime, asked: &Check<'_>, settings: Settings<'_>) -> u8 {
+/// Checks a start list, also against a policy if one is named, and prints what is found. Returns the exit status: 0, 2 if the
+/// list or the policy is refused, 3 if the list breaks the policy.
+pub fn check_list(rt: &HostRuntime, asked: &CheckOptions<'_>, settings: Settings<'_>) -> u8 {
     if asked.json {
         return check_documents(rt, asked, settings);
     }
@@ -23,8 +24,8 @@ pub fn check_list(rt: &HostRuntime, asked: &Check<'_>, settings: Settings<'_>) -
     }
 }
 
-// Prints what is wrong with a start list on standard error, and `ok` if nothing counts: findings count if the check is strict,
-// advice never does. Returns the exit status.
+// Prints the findings of a start list on standard error, and `ok` if nothing counts. Findings count in a strict check, and advice
+// never does. Returns the exit status.
 fn check(rt: &HostRuntime, path: &str, settings: Settings<'_>, strict: bool) -> u8 {
     match checked(rt, path, settings, strict) {
         Ok(review) => {
@@ -38,7 +39,7 @@ fn check(rt: &HostRuntime, path: &str, settings: Settings<'_>, strict: bool) -> 
     }
 }
 
-// Returns how many findings a start list has, beside so many errors.
+// Returns the number of findings of a start list, next to this number of errors.
 fn counts_of(review: &Review, errors: usize) -> Counts {
     Counts {
         errors: errors as u64,
@@ -46,8 +47,8 @@ fn counts_of(review: &Review, errors: usize) -> Counts {
     }
 }
 
-// Returns the start list of a path, once its findings and advice are printed; or how many errors and warnings were printed if it
-// has a fault, or findings that count.
+// Prints the findings and the advice of a start list, and returns its review. If the list has a fault, or findings that count,
+// returns the number of errors and warnings that were printed.
 fn checked(
     rt: &HostRuntime,
     path: &str,
@@ -76,19 +77,19 @@ pub(crate) fn is_refused(strict: bool, findings: usize) -> bool
 }
 
 // Prints the findings and the advice of a start list.
-fn tell_review(rt: &HostRuntime, form: Form, path: &str, review: &Review) {
+fn tell_review(rt: &HostRuntime, form: DiagnosticForm, path: &str, review: &Review) {
     for finding in review.findings() {
         let spot = spot_of(path, &finding.part);
-        report(rt, form, Severity::Warning, spot, &Noticed(finding));
+        report(rt, form, Severity::Warning, spot, &FindingMessage(finding));
     }
     if let Some(advice) = review.advice() {
         report(rt, form, Severity::Note, Spot::file(path), &advice);
     }
 }
 
-// Tells what is wrong with a start list, as a check does, and then which lines of a policy it breaks, a line each on standard
-// error, and `ok` where it breaks none. Answers the exit status.
-fn hold(rt: &HostRuntime, asked: &Check<'_>, settings: Settings<'_>, path: &str) -> u8 {
+// Prints the findings of a start list, as `check` does, and then each line of a policy that the list breaks. Prints `ok` if no
+// line is broken. Returns the exit status.
+fn hold(rt: &HostRuntime, asked: &CheckOptions<'_>, settings: Settings<'_>, path: &str) -> u8 {
     let review = match checked(rt, asked.list, settings, asked.strict) {
         Ok(review) => review,
         Err(counts) => {
@@ -96,7 +97,7 @@ fn hold(rt: &HostRuntime, asked: &Check<'_>, settings: Settings<'_>, path: &str)
             return REFUSED;
         }
     };
-    match hold_against(rt, review.list(), path) {
+    match check_policy(rt, review.list(), path) {
         Ok(standing) => {
             let errors = tell_errors(rt, settings.form, path, &standing);
             summarize(rt, settings.form, counts_of(&review, errors));
@@ -106,16 +107,21 @@ fn hold(rt: &HostRuntime, asked: &Check<'_>, settings: Settings<'_>, path: &str)
     }
 }
 
-// Prints what is wrong with a policy, or which lines of it are broken. Returns the number of errors.
-fn tell_errors(rt: &HostRuntime, form: Form, path: &str, standing: &Standing) -> usize {
+// Prints the faults of a policy, or its broken lines. Returns the number of errors.
+fn tell_errors(
+    rt: &HostRuntime,
+    form: DiagnosticForm,
+    path: &str,
+    standing: &PolicyVerdict,
+) -> usize {
     match standing {
-        Standing::Held(notes) | Standing::Faulty(notes) => {
+        PolicyVerdict::Held(notes) | PolicyVerdict::Faulty(notes) => {
             for noted in notes.as_slice() {
                 tell_noted(rt, form, path, noted);
             }
             notes.len()
         }
-        Standing::Unread(why) => {
+        PolicyVerdict::ReadFailure(why) => {
             report_error(rt, form, Spot::nowhere(), why);
             1
         }
@@ -123,35 +129,35 @@ fn tell_errors(rt: &HostRuntime, form: Form, path: &str, standing: &Standing) ->
 }
 
 // Prints `ok` if a policy is kept, and returns the exit status.
-fn status(rt: &HostRuntime, standing: &Standing) -> u8 {
+fn status(rt: &HostRuntime, standing: &PolicyVerdict) -> u8 {
     match standing.exit_status() {
         0 => status_of(rt, println!(rt; "ok")),
         status => status,
     }
 }
 
-// Prints a line of a policy.
-fn tell_noted(rt: &HostRuntime, form: Form, path: &str, noted: &Noted) {
+// Prints the diagnostic of a policy's line.
+fn tell_noted(rt: &HostRuntime, form: DiagnosticForm, path: &str, noted: &PolicyDiagnostic) {
     report_error(rt, form, noted.spot(path), &noted.text);
 }
 
-// Where a part of a start list is.
-fn spot_of<'a>(path: &'a str, part: &Part) -> Spot<'a> {
+// Returns the place of a part of a start list.
+fn spot_of<'a>(path: &'a str, part: &ListPart) -> Spot<'a> {
     match part {
-        Part::Text(line, column) => Spot::byte(path, *line as u64, *column),
+        ListPart::Text(line, column) => Spot::byte(path, *line as u64, *column),
         _ => Spot::file(path),
     }
 }
 
-// A finding, as people read it at its place.
+// The message of a finding, as it follows the finding's place.
 #[derive(Clone, Copy)]
-struct Noticed<'a>(&'a Finding);
+struct FindingMessage<'a>(&'a Finding);
 
-impl fmt::Display for Noticed<'_> {
+impl fmt::Display for FindingMessage<'_> {
     fn fmt<W: fmt::Write>(&self, f: &mut fmt::Formatter<W>) -> fmt::Result {
         let finding = self.0;
         match &finding.part {
-            Part::Text(_, _) => write!(f, "{}", finding.remark),
+            ListPart::Text(_, _) => write!(f, "{}", finding.remark),
             _ => write!(f, "{finding}"),
         }
     }

@@ -1,15 +1,20 @@
-//! What a check tells of a start list, as documents of JSON.
+//! The results of a check of a start list, as documents of JSON.
 use crate::check::is_refused;
 use cli_base::{
-    Noted, REFUSED, Settings, Standing, hold_against, no_memory, print_documents, start_list,
+    PolicyDiagnostic, PolicyVerdict, REFUSED, Settings, check_policy, no_memory, print_documents,
+    start_list,
 };
-use json_documents::{Field, Listing};
-use start_review::{Fault, Finding, Part, Review, Whereabouts};
+use cli_options::CheckOptions;
+use list_review::{FaultPlace, Finding, ListFault, ListPart, Review};
 use std::alloc::{AllocError, Global};
-use workbench_options::Check;
+use view_json::{JsonField, Listing};
 
-/// Tells what a check tells, a document each of a list, and answers the exit status.
-pub(crate) fn check_documents(rt: &HostRuntime, check: &Check<'_>, settings: Settings<'_>) -> u8 {
+/// Checks a start list as `check_list` does, and prints a list of JSON documents. Returns the exit status.
+pub(crate) fn check_documents(
+    rt: &HostRuntime,
+    check: &CheckOptions<'_>,
+    settings: Settings<'_>,
+) -> u8 {
     let mut listing = Listing::new(rt.alloc());
     match start_list(rt, check.list, settings) {
         Some(text) => {
@@ -20,10 +25,10 @@ pub(crate) fn check_documents(rt: &HostRuntime, check: &Check<'_>, settings: Set
     }
 }
 
-// Adds all that is told of a start list's text, and answers the exit status.
+// Adds the documents of a start list's text, and returns the exit status.
 fn add_all(
     rt: &HostRuntime,
-    check: &Check<'_>,
+    check: &CheckOptions<'_>,
     text: &[u8],
     listing: &mut Listing,
 ) -> Result<u8, AllocError> {
@@ -36,10 +41,10 @@ fn add_all(
     }
 }
 
-// Adds what is told of a start list, and answers the exit status.
+// Adds the findings and the advice of a start list, and its breaches of a policy. Returns the exit status.
 fn add_review(
     rt: &HostRuntime,
-    check: &Check<'_>,
+    check: &CheckOptions<'_>,
     review: &Review,
     listing: &mut Listing,
 ) -> Result<u8, AllocError> {
@@ -52,22 +57,22 @@ fn add_review(
         return Ok(REFUSED);
     }
     match check.policy {
-        Some(path) => add_standing(listing, path, &hold_against(rt, review.list(), path)?),
+        Some(path) => add_standing(listing, path, &check_policy(rt, review.list(), path)?),
         None => Ok(0),
     }
 }
 
-// Adds how a start list stands to the policy of a path, and answers the exit status.
+// Adds the breaches or the faults of the policy of a path, and returns the exit status.
 fn add_standing<'a>(
     listing: &mut Listing,
     path: &'a str,
-    standing: &'a Standing,
+    standing: &'a PolicyVerdict,
 ) -> Result<u8, AllocError> {
     match standing {
-        Standing::Held(broken) => add_notes(listing, "breach", path, broken.as_slice())?,
-        Standing::Faulty(faults) => add_notes(listing, "fault", path, faults.as_slice())?,
-        Standing::Unread(why) => listing.add(&[
-            ("kind", Field::Word("fault")),
+        PolicyVerdict::Held(broken) => add_notes(listing, "breach", path, broken.as_slice())?,
+        PolicyVerdict::Faulty(faults) => add_notes(listing, "fault", path, faults.as_slice())?,
+        PolicyVerdict::ReadFailure(why) => listing.add(&[
+            ("kind", JsonField::Word("fault")),
             ("file", text_of(path)),
             ("text", text_of(why.as_str())),
         ])?,
@@ -80,7 +85,7 @@ fn add_notes<'a>(
     listing: &mut Listing,
     kind: &'static str,
     path: &'a str,
-    notes: &'a [Noted],
+    notes: &'a [PolicyDiagnostic],
 ) -> Result<(), AllocError> {
     for noted in notes {
         add_noted(listing, kind, path, noted)?;
@@ -88,15 +93,15 @@ fn add_notes<'a>(
     Ok(())
 }
 
-// Adds a line of a policy.
+// Adds the diagnostic of a policy's line.
 fn add_noted<'a>(
     listing: &mut Listing,
     kind: &'static str,
     path: &'a str,
-    noted: &'a Noted,
+    noted: &'a PolicyDiagnostic,
 ) -> Result<(), AllocError> {
     listing.add(&[
-        ("kind", Field::Word(kind)),
+        ("kind", JsonField::Word(kind)),
         ("file", text_of(path)),
         ("line", number_of(noted.line)),
         ("text", text_of(noted.text.as_str())),
@@ -108,9 +113,9 @@ fn add_fault(
     alloc: Global,
     listing: &mut Listing,
     path: &str,
-    fault: &Fault,
+    fault: &ListFault,
 ) -> Result<(), AllocError> {
-    if let Whereabouts::Text(line, column, reason) = &fault.place {
+    if let FaultPlace::Text(line, column, reason) = &fault.place {
         let what = &fault.fault;
         let text = format!(in alloc; "{what}: {reason}")?;
         let place = (number_of(*line), number_of(*column));
@@ -129,37 +134,37 @@ fn add_flaw<'a>(
     text: &'a str,
 ) -> Result<(), AllocError> {
     listing.add(&[
-        ("kind", Field::Word("fault")),
+        ("kind", JsonField::Word("fault")),
         ("file", text_of(path)),
-        ("line", Field::Nothing),
-        ("column", Field::Nothing),
+        ("line", JsonField::Nothing),
+        ("column", JsonField::Nothing),
         ("part", text_of(part)),
         ("text", text_of(text)),
     ])
 }
 
-// The part of a list at a place, with the member that is meant, as a finding has it; empty if the place is none in a list.
-fn part_at(alloc: Global, place: &Whereabouts) -> Result<String, AllocError> {
+// Returns the part of a list at a place, with its member as a finding names it. The part is empty if the place is in no list.
+fn part_at(alloc: Global, place: &FaultPlace) -> Result<String, AllocError> {
     match place {
-        Whereabouts::List(flaw) => match flaw.member {
+        FaultPlace::List(flaw) => match flaw.member {
             Some(member) => format!(in alloc; "{}: {member}", flaw.part),
             None => flaw.part.to_string(alloc),
         },
-        Whereabouts::Budget(lack) => lack.steps.to_string(alloc),
+        FaultPlace::Budget(lack) => lack.steps.to_string(alloc),
         _ => Ok(String::new(alloc)),
     }
 }
 
-// Adds what is told of a fault, or of a finding, by a place in the text.
+// Adds a fault or a finding with its place in the text.
 fn add_told<'a>(
     listing: &mut Listing,
     kind: &'static str,
     path: &'a str,
-    (line, column): (Field<'a>, Field<'a>),
+    (line, column): (JsonField<'a>, JsonField<'a>),
     told: &'a str,
 ) -> Result<(), AllocError> {
     listing.add(&[
-        ("kind", Field::Word(kind)),
+        ("kind", JsonField::Word(kind)),
         ("file", text_of(path)),
         ("line", line),
         ("column", column),
@@ -175,7 +180,7 @@ fn add_finding(
     finding: &Finding,
 ) -> Result<(), AllocError> {
     let text = finding.remark.to_string(alloc)?;
-    if let Part::Text(line, column) = &finding.part {
+    if let ListPart::Text(line, column) = &finding.part {
         let place = (number_of(*line), number_of(*column));
         return add_told(listing, "finding", path, place, text.as_str());
     }
@@ -183,7 +188,7 @@ fn add_finding(
     add_remark(listing, path, part.as_str(), text.as_str())
 }
 
-// Adds a finding's part and what is told of it.
+// Adds a finding with its part and its text.
 fn add_remark<'a>(
     listing: &mut Listing,
     path: &'a str,
@@ -191,14 +196,14 @@ fn add_remark<'a>(
     text: &'a str,
 ) -> Result<(), AllocError> {
     listing.add(&[
-        ("kind", Field::Word("finding")),
+        ("kind", JsonField::Word("finding")),
         ("file", text_of(path)),
         ("part", text_of(part)),
         ("text", text_of(text)),
     ])
 }
 
-// Adds what servers have that nothing uses, if they have something.
+// Adds the advice on servers with unused budgets, if there is any.
 fn add_advice(
     alloc: Global,
     listing: &mut Listing,
@@ -211,30 +216,30 @@ fn add_advice(
     }
 }
 
-// Adds what is advised.
+// Adds the text of the advice.
 fn add_advised<'a>(
     listing: &mut Listing,
     path: &'a str,
     advised: &'a str,
 ) -> Result<(), AllocError> {
     listing.add(&[
-        ("kind", Field::Word("advice")),
+        ("kind", JsonField::Word("advice")),
         ("file", text_of(path)),
         ("text", text_of(advised)),
     ])
 }
 
-// A text as a field.
-fn text_of(text: &str) -> Field<'_> {
-    Field::Text(text.as_bytes())
+// Returns a text as a field.
+fn text_of(text: &str) -> JsonField<'_> {
+    JsonField::Text(text.as_bytes())
 }
 
-// A place in a text as a field.
-fn number_of(place: usize) -> Field<'static> {
-    Field::Number(place as u64)
+// Returns a position in a text as a field.
+fn number_of(place: usize) -> JsonField<'static> {
+    JsonField::Number(place as u64)
 }
 
-// Prints a list that was made, and answers the exit status: the one that goes with it.
+// Prints a list of documents, and returns its exit status, or that of a failed write.
 fn printed(rt: &HostRuntime, added: Result<u8, AllocError>, listing: Listing) -> u8 {
     let status = match added {
         Ok(status) => status,

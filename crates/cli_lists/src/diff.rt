@@ -1,62 +1,67 @@
-//! What a change of a start list changes.
+//! The command `diff`: differences between two start lists.
 ghost use Rattle.std.specs.Prelude.{◌≡◌, ◌||◌, if◌then◌else◌, nat_lt, not};
 
+use budget_least::{AccountBudgets, Budget, BudgetQuery, BudgetReport};
 use cli_base::{
-    Origin, Place, REFUSED, Settings, Spot, Stopped, UNWRITTEN, Unread, made_or_told, plain_writer,
-    read_list, report_error, spot_of, status_of, tell_fault, unfolded,
+    Origin, OutputStream, REFUSED, ReadFailure, Settings, Spot, StopMessage, UNWRITTEN,
+    made_or_status, plain_writer, read_list, report_error, spot_of, status_of, tell_fault,
+    unfolded,
 };
-use init_core::{BootFault, Entry, StartList};
-use json_documents::Listing;
-use least::{Account, Budget, Question, Report};
+use cli_engine::Input;
+use cli_options::DiffOptions;
+use init_core::{BootFault, ListEntry, StartList};
+use line_rounds::UnfoldedText;
 use list_diff::{
-    Differences, Lack, Means, Need, ReplyChange, Side, changed_replies, changes, lacks, leads,
+    ComponentNeed, ListDifferences, NeedChange, QuotaAmounts, ReachSide, ReplyChange,
+    changed_replies, changes, lacks, leads,
 };
-use reach::Table;
-use rounds::Unfolded;
-use scenario::Input;
-use start_review::Review;
+use list_reach::ReachTable;
+use list_review::Review;
+use run_exchanges::Exchange;
+use run_lines::LineRunFault;
+use run_scenario::ScenarioInput;
 use std::alloc::{AllocError, Global};
 use std::io::Write;
 use std::{fs, io};
-use view_diagnostics::Form;
-use workbench::{Exchange, Play, PlayFault, answers};
-use workbench_options::Diff;
+use view_diagnostics::DiagnosticForm;
+use view_json::Listing;
+use view_runs::answers;
 
-/// The exit status where something is changed.
+/// The exit status if something is changed.
 const CHANGED: u8 = 4;
 
-/// Tells what the second of two start lists has otherwise, and with a scenario which replies are other ones, a line each or as
-/// documents of JSON. Answers the exit status.
-pub fn compare_lists(rt: &HostRuntime, asked: &Diff<'_>, form: Form) -> u8 {
-    let before = Policy::at(rt, form, asked.before);
-    let after = Policy::at(rt, form, asked.after);
+/// Prints the differences between two start lists, and with a scenario those of its replies, as lines or documents of JSON.
+/// Returns the exit status: 0 if nothing is changed, 4 if something is, 2 if a list is refused.
+pub fn compare_lists(rt: &HostRuntime, asked: &DiffOptions<'_>, form: DiagnosticForm) -> u8 {
+    let before = ListFile::at(rt, form, asked.before);
+    let after = ListFile::at(rt, form, asked.after);
     match (&before, &after) {
         (Some(before), Some(after)) => compare_policies(rt, before, after, asked.scenario, form),
         _ => REFUSED,
     }
 }
 
-// Tells what one list has otherwise than the other, with what a scenario shows of both if there is one.
+// Compares two lists, with the replies of a scenario on both if there is one.
 fn compare_policies(
     rt: &HostRuntime,
-    before: &Policy<'_>,
-    after: &Policy<'_>,
+    before: &ListFile<'_>,
+    after: &ListFile<'_>,
     scenario: Option<&str>,
-    form: Form,
+    form: DiagnosticForm,
 ) -> u8 {
     match scenario {
         Some(path) => tell_played(rt, path, before, after, form),
-        None => tell(rt, before, after, &Played::nothing(rt.alloc()), form),
+        None => tell(rt, before, after, &DiffRuns::nothing(rt.alloc()), form),
     }
 }
 
-// Tells the differences with what a scenario shows of both lists.
+// Runs a scenario on both lists, and prints all differences.
 fn tell_played(
     rt: &HostRuntime,
     path: &str,
-    before: &Policy<'_>,
-    after: &Policy<'_>,
-    form: Form,
+    before: &ListFile<'_>,
+    after: &ListFile<'_>,
+    form: DiagnosticForm,
 ) -> u8 {
     match play_both(rt, form, path, before, after) {
         Ok(played) => tell(rt, before, after, &played, form),
@@ -64,29 +69,29 @@ fn tell_played(
     }
 }
 
-// Tells all differences, and answers the exit status.
+// Prints all differences, and returns the exit status.
 fn tell(
     rt: &HostRuntime,
-    before: &Policy<'_>,
-    after: &Policy<'_>,
-    played: &Played<'_>,
-    form: Form,
+    before: &ListFile<'_>,
+    after: &ListFile<'_>,
+    played: &DiffRuns<'_>,
+    form: DiagnosticForm,
 ) -> u8 {
-    match made_or_told(rt, differences(rt.alloc(), before, after, played, form)) {
+    match made_or_status(rt, differences(rt.alloc(), before, after, played, form)) {
         Ok(told) => told.print(rt),
         Err(status) => status,
     }
 }
 
-// What is told of all differences, and whether there are some.
+// The text of all differences, and whether there are any.
 #[derive(Drop)]
-struct Text {
+struct DiffText {
     text: Vec<u8>,
     is_changed: bool,
 }
 
-impl Text {
-    // Prints it, and answers the exit status.
+impl DiffText {
+    // Prints the text, and returns the exit status.
     fn print(&self, rt: &HostRuntime) -> u8 {
         let status = status_of(rt, io::writer(rt).write_all(self.text.as_slice()));
         if status == 0 {
@@ -97,18 +102,18 @@ impl Text {
     }
 }
 
-// What a scenario shows of both lists.
+// The replies of a scenario on both lists, and the shortfalls of components.
 #[derive(Drop)]
-struct Played<'a> {
+struct DiffRuns<'a> {
     before: Vec<Exchange>,
     after: Vec<Exchange>,
-    lacks: Vec<Lack<'a>>,
+    lacks: Vec<NeedChange<'a>>,
 }
 
-impl<'a> Played<'a> {
-    // Nothing, where none is played.
-    fn nothing(alloc: Global) -> Played<'a> {
-        Played {
+impl<'a> DiffRuns<'a> {
+    // Returns no replies and no shortfalls, for a comparison without a scenario.
+    fn nothing(alloc: Global) -> DiffRuns<'a> {
+        DiffRuns {
             before: Vec::new(alloc),
             after: Vec::new(alloc),
             lacks: Vec::new(alloc),
@@ -118,18 +123,18 @@ impl<'a> Played<'a> {
 
 // A start list that boots, with its text.
 #[derive(Drop)]
-struct Policy<'a> {
+struct ListFile<'a> {
     path: &'a str,
     text: Vec<u8>,
     review: Review,
 }
 
-impl<'a> Policy<'a> {
-    // That of a path, or none where that is told on standard error.
-    fn at(rt: &HostRuntime, form: Form, path: &'a str) -> Option<Policy<'a>> {
+impl<'a> ListFile<'a> {
+    // Reads the start list of a path. If the list can't be read or has a fault, prints why and returns none.
+    fn at(rt: &HostRuntime, form: DiagnosticForm, path: &'a str) -> Option<ListFile<'a>> {
         match read_list(rt, path) {
             Ok(text) => match Review::read(rt.alloc(), &text) {
-                Ok(review) => Some(Policy { path, text, review }),
+                Ok(review) => Some(ListFile { path, text, review }),
                 Err(fault) => {
                     tell_fault(rt, form, path, &fault);
                     None
@@ -143,48 +148,48 @@ impl<'a> Policy<'a> {
     }
 }
 
-// What is told of entries, of who reaches whom, of needs, and of replies.
+// Compares entries, reachability, needs and replies of two lists.
 fn differences(
     alloc: Global,
-    before: &Policy<'_>,
-    after: &Policy<'_>,
-    played: &Played<'_>,
-    form: Form,
-) -> Result<Text, AllocError> {
+    before: &ListFile<'_>,
+    after: &ListFile<'_>,
+    played: &DiffRuns<'_>,
+    form: DiagnosticForm,
+) -> Result<DiffText, AllocError> {
     let (before, after) = (before.review.list(), after.review.list());
-    let olds = Table::of(alloc, before)?;
-    let news = Table::of(alloc, after)?;
-    let was = Side {
+    let olds = ReachTable::of(alloc, before)?;
+    let news = ReachTable::of(alloc, after)?;
+    let was = ReachSide {
         list: before,
         cells: olds.cells(),
     };
-    let now = Side {
+    let now = ReachSide {
         list: after,
         cells: news.cells(),
     };
     compare(alloc, was, now, played, form)
 }
 
-// The same, by the cells of both tables.
+// Compares two lists by the cells of their tables of reachability.
 fn compare<'a>(
     alloc: Global,
-    was: Side<'a>,
-    now: Side<'a>,
-    played: &'a Played<'a>,
-    form: Form,
-) -> Result<Text, AllocError> {
+    was: ReachSide<'a>,
+    now: ReachSide<'a>,
+    played: &'a DiffRuns<'a>,
+    form: DiagnosticForm,
+) -> Result<DiffText, AllocError> {
     let changes = changes(alloc, was.list, now.list)?;
     let leads = leads(alloc, was, now)?;
     let replies = changed_replies(alloc, played.before.as_slice(), played.after.as_slice())?;
-    let told = Differences {
+    let told = ListDifferences {
         before: was.list,
         after: now.list,
         changes: changes.as_slice(),
         leads: leads.as_slice(),
     };
     let lacks = played.lacks.as_slice();
-    Ok(Text {
-        text: if form == Form::Json {
+    Ok(DiffText {
+        text: if form == DiagnosticForm::Json {
             documents(alloc, told, lacks, replies.as_slice())?
         } else {
             lines(alloc, told, lacks, replies.as_slice())?
@@ -193,25 +198,25 @@ fn compare<'a>(
     })
 }
 
-// Whether something is changed: the lists, so many shortfalls, or so many replies.
+// Returns whether something is changed: the lists, so many shortfalls, or so many replies.
 fn is_changed(is_same_list: bool, lacks: usize, replies: usize) -> bool
     ensures { result ≡ (not is_same_list || nat_lt 0 lacks || nat_lt 0 replies) }
 {
     !is_same_list || lacks > 0 || replies > 0
 }
 
-// The exit status of a comparison: 4 if something is changed, else 0.
+// Returns the exit status of a comparison: 4 if something is changed, else 0.
 fn diff_status(is_changed: bool) -> u8
     ensures { result ≡ (if is_changed then 4 else 0) }
 {
     if is_changed { CHANGED } else { 0 }
 }
 
-// A line for each difference.
+// Returns a line for each difference.
 fn lines(
     alloc: Global,
-    told: Differences<'_>,
-    lacks: &[Lack<'_>],
+    told: ListDifferences<'_>,
+    lacks: &[NeedChange<'_>],
     replies: &[ReplyChange<'_>],
 ) -> Result<Vec<u8>, AllocError> {
     let mut text = told.to_string(alloc)?.into_bytes();
@@ -224,11 +229,11 @@ fn lines(
     Ok(text)
 }
 
-// A document for each difference.
+// Returns a document for each difference.
 fn documents(
     alloc: Global,
-    told: Differences<'_>,
-    lacks: &[Lack<'_>],
+    told: ListDifferences<'_>,
+    lacks: &[NeedChange<'_>],
     replies: &[ReplyChange<'_>],
 ) -> Result<Vec<u8>, AllocError> {
     let mut listing = Listing::new(alloc);
@@ -242,77 +247,77 @@ fn documents(
     listing.into_text()
 }
 
-// What a scenario shows of both lists, or the exit status of one that can't be played to its end.
+// Runs a scenario on both lists. Returns the exit status if the scenario can't be run to its end.
 fn play_both<'a>(
     rt: &HostRuntime,
-    form: Form,
+    form: DiagnosticForm,
     path: &str,
-    before: &'a Policy<'_>,
-    after: &'a Policy<'_>,
-) -> Result<Played<'a>, u8> {
+    before: &'a ListFile<'_>,
+    after: &'a ListFile<'_>,
+) -> Result<DiffRuns<'a>, u8> {
     let settings = Settings::without_values(form);
     let scenario = match fs::read(rt, path) {
         Ok(scenario) => scenario,
         Err(error) => {
-            let unread = Unread::Closed(error);
+            let unread = ReadFailure::Closed(error);
             report_error(rt, form, Spot::nowhere(), &unread.about(path));
             return Err(REFUSED);
         }
     };
     let lines = unfolded(rt, path, &scenario, settings)?;
-    Ok(Played {
+    Ok(DiffRuns {
         before: answers_on(rt, form, path, &lines, before)?,
         after: answers_on(rt, form, path, &lines, after)?,
         lacks: lacks_of(rt, form, &lines, before, after)?,
     })
 }
 
-// What components lack of either list.
+// Returns the shortfalls of components under either list.
 fn lacks_of<'a>(
     rt: &HostRuntime,
-    form: Form,
-    lines: &Unfolded<'_>,
-    before: &'a Policy<'_>,
-    after: &'a Policy<'_>,
-) -> Result<Vec<Lack<'a>>, u8> {
+    form: DiagnosticForm,
+    lines: &UnfoldedText<'_>,
+    before: &'a ListFile<'_>,
+    after: &'a ListFile<'_>,
+) -> Result<Vec<NeedChange<'a>>, u8> {
     let had = needs(rt, form, lines, before)?;
     let has = needs(rt, form, lines, after)?;
-    made_or_told(rt, lacks(rt.alloc(), had.as_slice(), has.as_slice()))
+    made_or_status(rt, lacks(rt.alloc(), had.as_slice(), has.as_slice()))
 }
 
-// What the components of a list need for a scenario, or the exit status where there is no memory for it. Sessions aren't
-// looked at: what they are given the scenario says.
+// Returns the needs of a list's components for a scenario. If no machine boots or the host is out of memory, returns the exit
+// status. The scenario itself states the donations of sessions, so they aren't computed.
 fn needs<'a>(
     rt: &HostRuntime,
-    form: Form,
-    lines: &Unfolded<'_>,
-    policy: &'a Policy<'_>,
-) -> Result<Vec<Need<'a>>, u8> {
+    form: DiagnosticForm,
+    lines: &UnfoldedText<'_>,
+    policy: &'a ListFile<'_>,
+) -> Result<Vec<ComponentNeed<'a>>, u8> {
     let alloc = rt.alloc();
-    let start = Settings::without_values(form).start_or_told(rt, lines.marks())?;
-    let question = Question {
+    let start = Settings::without_values(form).start_or_status(rt, lines.marks())?;
+    let question = BudgetQuery {
         machine: &policy.text,
         scenario: lines.bytes(),
         as_donated: true,
     };
-    match Report::of(alloc, question, start) {
-        Ok(report) => made_or_told(rt, needs_told(alloc, &report, policy.review.list())),
+    match BudgetReport::of(alloc, question, start) {
+        Ok(report) => made_or_status(rt, needs_told(alloc, &report, policy.review.list())),
         Err(fault) => Err(tell_unplayed(rt, form, policy.path, &fault)),
     }
 }
 
-// Tells why nothing is played on a list, and answers the exit status.
-fn tell_unplayed(rt: &HostRuntime, form: Form, path: &str, fault: &BootFault) -> u8 {
+// Prints why a list boots no machine, and returns the exit status.
+fn tell_unplayed(rt: &HostRuntime, form: DiagnosticForm, path: &str, fault: &BootFault) -> u8 {
     report_error(rt, form, Spot::file(path), fault);
     REFUSED
 }
 
-// What a report tells of the components' own accounts.
+// Returns the needs of the components' own accounts by a report.
 fn needs_told<'a>(
     alloc: Global,
-    report: &Report,
+    report: &BudgetReport,
     list: &'a StartList,
-) -> Result<Vec<Need<'a>>, AllocError> {
+) -> Result<Vec<ComponentNeed<'a>>, AllocError> {
     let mut needs = Vec::new(alloc);
     for account in report.accounts() {
         if let (None, Some(entry)) = (account.session(), list.entries().get(account.component())) {
@@ -322,10 +327,10 @@ fn needs_told<'a>(
     Ok(needs)
 }
 
-// What is told of a component's account.
-fn need_of<'a>(account: &Account, entry: &'a Entry) -> Need<'a> {
+// Returns the budget and the need of a component's account.
+fn need_of<'a>(account: &AccountBudgets, entry: &'a ListEntry) -> ComponentNeed<'a> {
     let given = account.given();
-    Need {
+    ComponentNeed {
         name: entry.path(),
         has: means_of(given.budget),
         needs: account.least().map(means_of),
@@ -333,32 +338,32 @@ fn need_of<'a>(account: &Account, entry: &'a Entry) -> Need<'a> {
     }
 }
 
-// The same budget, as differences tell it.
-fn means_of(budget: Budget) -> Means {
-    Means {
+// Returns a budget in the form of differences.
+fn means_of(budget: Budget) -> QuotaAmounts {
+    QuotaAmounts {
         ram: budget.ram,
         caps: budget.caps,
     }
 }
 
-// The calls of a scenario with their replies, or the exit status of one that can't be played to its end. What it expects isn't
-// looked at.
+// Returns the calls of a scenario with their replies on a list, or the exit status if it can't be run to its end. Expectations of
+// the scenario are ignored.
 fn answers_on(
     rt: &HostRuntime,
-    form: Form,
+    form: DiagnosticForm,
     path: &str,
-    lines: &Unfolded<'_>,
-    policy: &Policy<'_>,
+    lines: &UnfoldedText<'_>,
+    policy: &ListFile<'_>,
 ) -> Result<Vec<Exchange>, u8> {
     let settings = Settings::without_values(form);
-    let play = Play {
+    let play = ScenarioInput {
         machine: &policy.text,
         scenario: settings.subject(path),
-        start: settings.start_or_told(rt, lines.marks())?,
+        start: settings.start_or_status(rt, lines.marks())?,
     };
     let mut reader = Input::new(Origin::Held(lines.bytes()));
-    let mut nowhere = plain_writer(rt, Place::Dropped);
-    let mut complaints = plain_writer(rt, Place::Dropped);
+    let mut nowhere = plain_writer(rt, OutputStream::Dropped);
+    let mut complaints = plain_writer(rt, OutputStream::Dropped);
     match answers(rt.alloc(), play, &mut reader, &mut nowhere, &mut complaints) {
         Ok(answered) => match answered.ending.fault {
             Some(fault) => Err(tell_stopped(rt, form, path, answered.ending.lines, fault)),
@@ -368,8 +373,14 @@ fn answers_on(
     }
 }
 
-// Tells a fault that stopped a play after so many lines, and answers the exit status.
-fn tell_stopped(rt: &HostRuntime, form: Form, path: &str, lines: u64, fault: PlayFault) -> u8 {
-    report_error(rt, form, spot_of(path, lines, fault), &Stopped(fault));
+// Prints the fault that stopped a run after so many lines, and returns the exit status.
+fn tell_stopped(
+    rt: &HostRuntime,
+    form: DiagnosticForm,
+    path: &str,
+    lines: u64,
+    fault: LineRunFault,
+) -> u8 {
+    report_error(rt, form, spot_of(path, lines, fault), &StopMessage(fault));
     UNWRITTEN
 }

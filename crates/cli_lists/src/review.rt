@@ -1,8 +1,8 @@
 //! The review of a start list's file.
 use cli_base::{Settings, start_list, tell_fault};
-use start_review::Review;
+use list_review::Review;
 
-/// The start list of a path, or none where that is told on standard error.
+/// Reads the start list of a path, and reviews it. If the list can't be read or has a fault, prints that and returns none.
 pub(crate) fn review(rt: &HostRuntime, path: &str, settings: Settings<'_>) -> Option<Review> {
     let text = start_list(rt, path, settings)?;
     match Review::read(rt.alloc(), &text) {

@@ -1,28 +1,33 @@
-//! Where a request of a script for a session is routed.
+//! The command `route`: the route path of a script's session request.
 ghost use Rattle.std.specs.Prelude.{◌≡◌, if◌then◌else◌, is_some};
 
 use crate::review::review;
 use cli_base::{OUT_OF_MEMORY, REFUSED, Settings, Spot, report_error, status_of};
+use cli_options::RouteOptions;
 use init_core::StartList;
-use reach::{Course, NoCourse};
-use view_diagnostics::Form;
-use workbench_options::Route;
+use list_reach::{RoutePath, RoutePathFault};
+use view_diagnostics::DiagnosticForm;
 
-/// The exit status of a wish that leads nowhere.
+/// The exit status of a request that is denied.
 const DENIED: u8 = 3;
 
-/// Shows where a wish of a script for a session leads, and answers the exit status: where it leads nowhere that of what isn't
-/// as expected.
-pub fn show_route(rt: &HostRuntime, wish: &Route<'_>, settings: Settings<'_>) -> u8 {
+/// Prints the route path of a script's session request. Returns the exit status: 0, 3 if the request is denied, 2 if the list,
+/// the script or the arguments are refused.
+pub fn show_route(rt: &HostRuntime, wish: &RouteOptions<'_>, settings: Settings<'_>) -> u8 {
     match review(rt, wish.list, settings) {
         Some(review) => route_in(rt, settings.form, review.list(), wish),
         None => REFUSED,
     }
 }
 
-// Shows where a wish leads in a start list, and answers the exit status.
-fn route_in(rt: &HostRuntime, form: Form, list: &StartList, wish: &Route<'_>) -> u8 {
-    match Course::read(
+// Prints the route path of a request in a start list, and returns the exit status.
+fn route_in(
+    rt: &HostRuntime,
+    form: DiagnosticForm,
+    list: &StartList,
+    wish: &RouteOptions<'_>,
+) -> u8 {
+    match RoutePath::read(
         rt.alloc(),
         list,
         wish.client.as_bytes(),
@@ -34,36 +39,41 @@ fn route_in(rt: &HostRuntime, form: Form, list: &StartList, wish: &Route<'_>) ->
     }
 }
 
-// Prints why no course is shown, and returns the exit status.
-fn tell_no_course(rt: &HostRuntime, form: Form, wish: &Route<'_>, fault: NoCourse) -> u8 {
+// Prints why a request has no route path, and returns the exit status.
+fn tell_no_course(
+    rt: &HostRuntime,
+    form: DiagnosticForm,
+    wish: &RouteOptions<'_>,
+    fault: RoutePathFault,
+) -> u8 {
     let spot = Spot::file(wish.list);
     match fault {
-        NoCourse::Nobody => report_error(
+        RoutePathFault::Nobody => report_error(
             rt,
             form,
             spot,
             &format_args!("unknown script `{}`", wish.client),
         ),
-        NoCourse::BadArgs => report_error(
+        RoutePathFault::BadArgs => report_error(
             rt,
             form,
             spot,
             &format_args!("Bad_args: `{}`", wish.args),
         ),
-        NoCourse::NoMemory => report_error(rt, form, Spot::nowhere(), &OUT_OF_MEMORY),
+        RoutePathFault::NoMemory => report_error(rt, form, Spot::nowhere(), &OUT_OF_MEMORY),
     }
     REFUSED
 }
 
-// The exit status of a request that this component serves: 0, or 3 if none does.
+// Returns the exit status of a request that is routed to this component: 0, or 3 if there is none.
 fn course_status(child: Option<usize>) -> u8
     ensures { result ≡ (if is_some child then 0 else 3) }
 {
     if child.is_some() { 0 } else { DENIED }
 }
 
-// Shows where a wish leads, and answers the exit status.
-fn show_course(rt: &HostRuntime, course: &Course<'_>) -> u8 {
+// Prints a route path, and returns the exit status.
+fn show_course(rt: &HostRuntime, course: &RoutePath<'_>) -> u8 {
     let status = status_of(rt, print!(rt; "{course}"));
     if status == 0 {
         course_status(course.child())

@@ -1,12 +1,12 @@
-//! The components of a start list.
+//! The command `tree`: the components of a start list.
 use crate::review::review;
 use cli_base::{REFUSED, Settings, no_memory, print_documents, status_of};
-use start_review::Review;
+use cli_options::TreeOptions;
+use list_review::Review;
 use std::alloc::AllocError;
-use workbench_options::Tree;
 
-/// Shows the components of a start list, and answers the exit status.
-pub fn show_tree(rt: &HostRuntime, asked: &Tree<'_>, settings: Settings<'_>) -> u8 {
+/// Prints the components of a start list as text, as a graph or as JSON. Returns the exit status.
+pub fn show_tree(rt: &HostRuntime, asked: &TreeOptions<'_>, settings: Settings<'_>) -> u8 {
     if asked.json {
         tree_document(rt, asked.list, settings)
     } else {
@@ -14,7 +14,7 @@ pub fn show_tree(rt: &HostRuntime, asked: &Tree<'_>, settings: Settings<'_>) -> 
     }
 }
 
-// Shows the components of a start list as text or as a graph, and answers the exit status.
+// Prints the components of a start list as text or as a graph, and returns the exit status.
 fn tree(rt: &HostRuntime, path: &str, settings: Settings<'_>, dot: bool) -> u8 {
     let Some(review) = review(rt, path, settings) else {
         return REFUSED;
@@ -28,7 +28,7 @@ fn tree(rt: &HostRuntime, path: &str, settings: Settings<'_>, dot: bool) -> u8 {
     }
 }
 
-// Shows the components of a start list as a graph, and answers the exit status.
+// Prints the components of a start list as a graph, and returns the exit status.
 fn show_graph(rt: &HostRuntime, path: &str, review: &Review) -> u8 {
     match review.graph(rt.alloc()) {
         Ok(graph) => status_of(rt, print!(rt; "{graph}")),
@@ -36,7 +36,7 @@ fn show_graph(rt: &HostRuntime, path: &str, review: &Review) -> u8 {
     }
 }
 
-// Tells a tree, a document a line of it, and answers the exit status.
+// Prints a document for each line of the tree, and returns the exit status.
 fn tree_document(rt: &HostRuntime, path: &str, settings: Settings<'_>) -> u8 {
     match review(rt, path, settings) {
         Some(review) => match review.tree(rt.alloc()) {

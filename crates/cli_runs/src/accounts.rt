@@ -1,28 +1,38 @@
-//! The accounts after a scenario.
+//! The command `accounts`: the accounts after a scenario.
 use crate::run_end::RunEnd;
-use crate::scene::{Scene, play};
-use crate::view::Viewing;
-use cli_base::{Place, Reader, Settings, Writer, plain_writer};
+use crate::run_request::{RunRequest, play};
+use crate::view::RunView;
+use cli_base::{OutputStream, Reader, Settings, Writer, plain_writer};
+use cli_options::ReportOptions;
+use run_lines::LineRunFault;
+use run_scenario::ScenarioInput;
 use std::alloc::AllocError;
 use std::io;
 use std::io::{ErrorKind, Write};
-use workbench::{AccountList, AccountRows, Play, PlayFault, accounts};
-use workbench_options::Played;
+use view_accounts::{AccountList, AccountRows, accounts};
 
-/// Plays a scenario, and tells all accounts at its end. Answers the exit status.
-pub fn list_accounts<'a>(rt: &HostRuntime, asked: &'a Played<'a>, settings: Settings<'a>) -> u8 {
-    let viewing = Viewing::Accounts { json: asked.json };
-    play(rt, asked.machine, Scene::whole(asked, settings, viewing))
+/// Runs a scenario, and prints all accounts at its end. Returns the exit status.
+pub fn list_accounts<'a>(
+    rt: &HostRuntime,
+    asked: &'a ReportOptions<'a>,
+    settings: Settings<'a>,
+) -> u8 {
+    let viewing = RunView::Accounts { json: asked.json };
+    play(
+        rt,
+        asked.machine,
+        RunRequest::whole(asked, settings, viewing),
+    )
 }
 
-/// Plays a scenario, and prints its account list as a list of JSON, if it was played to its end.
+/// Runs a scenario, and prints its account list as a list of JSON if no fault stops the run.
 pub(crate) fn accounts_document(
     rt: &HostRuntime,
-    play: Play<'_>,
+    play: ScenarioInput<'_>,
     reader: &mut Reader<'_>,
     complaints: &mut Writer<'_>,
 ) -> RunEnd {
-    let mut nowhere = plain_writer(rt, Place::Dropped);
+    let mut nowhere = plain_writer(rt, OutputStream::Dropped);
     match accounts(rt.alloc(), play, reader, &mut nowhere, complaints) {
         Ok(list) => print_list(rt, list),
         Err(fault) => RunEnd {
@@ -32,14 +42,14 @@ pub(crate) fn accounts_document(
     }
 }
 
-// Prints an account list.
+// Prints an account list, unless a fault stopped the run.
 fn print_list(rt: &HostRuntime, list: AccountList) -> RunEnd {
     let AccountList { mut ending, rows } = list;
     let mut unread = false;
     if ending.fault.is_none() {
         if let Err(error) = print_rows(rt, rows) {
             unread = error.kind() == ErrorKind::BrokenPipe;
-            ending.fault = Some(PlayFault::WriteFault);
+            ending.fault = Some(LineRunFault::WriteFault);
         }
     }
     RunEnd {
@@ -48,7 +58,7 @@ fn print_list(rt: &HostRuntime, list: AccountList) -> RunEnd {
     }
 }
 
-// Prints rows of an account list.
+// Prints the rows of an account list as documents.
 fn print_rows(rt: &HostRuntime, rows: Result<AccountRows, AllocError>) -> io::Result<()> {
     let documents = rows?.documents(rt.alloc())?;
     io::writer(rt).write_all(documents.as_slice())

@@ -1,44 +1,49 @@
-//! What scripts are told in a scenario, among the others and alone: one script, or each after the other.
+//! The command `alone`: replies to a script in the whole run and alone, for one script or for each.
 ghost use Rattle.std.specs.Prelude.{◌≡◌, ◌||◌, if◌then◌else◌, is_some, nat_lt};
 
 use crate::run_end::RunEnd;
-use crate::scene::{Scene, play};
-use crate::view::Viewing;
+use crate::run_request::{RunRequest, play};
+use crate::view::RunView;
 use cli_base::{
-    Machine, Origin, Place, REFUSED, Settings, UNWRITTEN, Writer, no_memory, plain_writer,
-    scenario_text, status_of, tell_unbooted, text_of, unfolded,
+    Machine, Origin, OutputStream, REFUSED, Settings, UNWRITTEN, Writer, no_memory, plain_writer,
+    report_boot_fault, scenario_text, status_of, text_of, unfolded,
 };
+use cli_engine::Input;
+use cli_options::AloneOptions;
 use init_core::Binary;
-use rounds::Unfolded;
-use scenario::Input;
+use line_rounds::UnfoldedText;
+use run_scenario::ScenarioInput;
 use std::io;
 use std::io::Write;
-use workbench::{Comparison, Play, alone};
-use workbench_options::Alone;
+use view_runs::{AloneComparison, alone};
 
-/// The exit status where something isn't as expected, or a script is told something else alone.
+/// The exit status if a reply isn't as expected, or a script has other replies alone.
 const DIFFERENT: u8 = 3;
 
-/// Shows what the component of a name is told in a scenario of a path, and alone. Answers the exit status.
+/// Prints the replies to a component in the whole run of a scenario and alone. Returns the exit status.
 pub fn show_alone<'a>(
     rt: &HostRuntime,
-    asked: &'a Alone<'a>,
+    asked: &'a AloneOptions<'a>,
     scenario: &'a str,
     settings: Settings<'a>,
 ) -> u8 {
-    let scene = Scene {
+    let scene = RunRequest {
         scenario,
         settings,
-        viewing: Viewing::Alone(asked.name.as_bytes()),
+        viewing: RunView::Alone(asked.name.as_bytes()),
         name: Some(asked.name),
         errors: 0,
     };
     play(rt, asked.machine, scene)
 }
 
-/// Plays the scenario for each script of the machine in turn, and tells what `show_alone` tells of it; complaints are told once.
-/// Answers the exit status: 3 also where a script is told something else alone.
-pub fn show_all_alone<'a>(rt: &HostRuntime, asked: &'a Alone<'a>, settings: Settings<'a>) -> u8 {
+/// Runs a scenario once for each script of the machine, and prints what `show_alone` prints. Diagnostics are printed once.
+/// Returns the exit status: 3 also if a script has other replies alone.
+pub fn show_all_alone<'a>(
+    rt: &HostRuntime,
+    asked: &'a AloneOptions<'a>,
+    settings: Settings<'a>,
+) -> u8 {
     let all = All {
         machine: asked.machine,
         scenario: asked.name,
@@ -48,20 +53,20 @@ pub fn show_all_alone<'a>(rt: &HostRuntime, asked: &'a Alone<'a>, settings: Sett
     all_alone(rt, all)
 }
 
-// What is asked of all scripts.
+// The options of a comparison of all scripts.
 #[derive(Clone, Copy)]
 struct All<'a> {
     // The path of a start list, or none for the built-in machine.
     machine: Option<&'a str>,
     // The path of the scenario.
     scenario: &'a str,
-    // Whether the last line alone is told of each.
+    // Whether only the last line is printed of each script.
     summary: bool,
     // The settings of the command line.
     settings: Settings<'a>,
 }
 
-// The same of what is asked.
+// Compares the runs of all scripts, and returns the exit status.
 fn all_alone(rt: &HostRuntime, all: All<'_>) -> u8 {
     let scenario = match scenario_text(rt, all.settings.form, all.scenario) {
         Ok(scenario) => scenario,
@@ -77,11 +82,11 @@ fn all_alone(rt: &HostRuntime, all: All<'_>) -> u8 {
     }
 }
 
-// Tells of each script of a machine in turn.
+// Compares the runs of each script of a machine, one after another.
 fn tell_each<'a>(
     rt: &HostRuntime,
     machine: &'a Machine<'a>,
-    lines: &'a Unfolded<'a>,
+    lines: &'a UnfoldedText<'a>,
     all: All<'a>,
 ) -> u8 {
     let mut status = 0;
@@ -105,8 +110,8 @@ fn tell_each<'a>(
     status
 }
 
-// The exit status of a comparison: 1 for a fault of the run, 3 if a line isn't as expected or is answered otherwise alone, else 0.
-fn comparison_status(compared: Comparison) -> u8
+// Returns the exit status of a comparison: 1 for a fault of the run, 3 if a reply isn't as expected or differs, else 0.
+fn comparison_status(compared: AloneComparison) -> u8
     ensures { result ≡ (if is_some compared.ending.fault then 1
         else (if nat_lt 0 compared.ending.complaints || is_some compared.difference then 3 else 0)) }
 {
@@ -119,24 +124,24 @@ fn comparison_status(compared: Comparison) -> u8
     }
 }
 
-// One script's play.
+// The run of a script.
 #[derive(Clone, Copy)]
 struct One<'a> {
     machine: &'a Machine<'a>,
     name: &'a [u8],
-    lines: &'a Unfolded<'a>,
-    // Whether complaints were told already.
+    lines: &'a UnfoldedText<'a>,
+    // Whether diagnostics were printed already.
     silent: bool,
 }
 
 impl<'a> One<'a> {
-    // Plays it, prints what is told of it, and returns the exit status.
+    // Runs the scenario, prints the comparison of the script's replies, and returns the exit status.
     fn tell(self, rt: &HostRuntime, all: All<'a>) -> u8 {
-        let start = match all.settings.start_or_told(rt, self.lines.marks()) {
+        let start = match all.settings.start_or_status(rt, self.lines.marks()) {
             Ok(start) => start,
             Err(status) => return status,
         };
-        let play = Play {
+        let play = ScenarioInput {
             machine: self.machine.text(),
             scenario: all.settings.subject(all.scenario),
             start,
@@ -145,17 +150,17 @@ impl<'a> One<'a> {
         let mut writer = plain_writer(
             rt,
             if all.summary {
-                Place::Dropped
+                OutputStream::Dropped
             } else {
-                Place::text(rt)
+                OutputStream::text(rt)
             },
         );
         let mut complaints = plain_writer(
             rt,
             if self.silent {
-                Place::Dropped
+                OutputStream::Dropped
             } else {
-                Place::Complained(rt.stderr())
+                OutputStream::Complained(rt.stderr())
             },
         );
         let compared = alone(
@@ -170,23 +175,23 @@ impl<'a> One<'a> {
             Ok(compared) => self.tell_compared(rt, all, compared, writer),
             Err(fault) => {
                 if !self.silent {
-                    tell_unbooted(rt, all.settings.form, self.machine, &fault);
+                    report_boot_fault(rt, all.settings.form, self.machine, &fault);
                 }
                 REFUSED
             }
         }
     }
 
-    // Prints what was written of a comparison, or its sum alone, and returns the exit status.
+    // Prints a comparison, or only its last line, and returns the exit status.
     fn tell_compared(
         self,
         rt: &HostRuntime,
         all: All<'a>,
-        compared: Comparison,
+        compared: AloneComparison,
         written: Writer<'_>,
     ) -> u8 {
         let told = if all.summary {
-            let mut writer = plain_writer(rt, Place::text(rt));
+            let mut writer = plain_writer(rt, OutputStream::text(rt));
             if compared.ending.fault.is_none()
                 && compared.write_sum(self.name, &mut writer).is_err()
             {

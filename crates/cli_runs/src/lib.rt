@@ -1,8 +1,8 @@
-//! The commands `run`, `trace`, `accounts`, `alone` and `record` of `nethrywel`: a scenario is read, run on a machine, and what is
-//! asked for is printed.
+//! The commands `run`, `trace`, `accounts`, `alone` and `record` of `nethrywel`: a scenario is read, run on a machine, and what
+//! is asked for is printed.
 //!
-//! `nethrywel` calls a function for each command, with what its command line says, and ends with the exit status that this
-//! returns: `trace_scenario(rt, asked, settings)` prints the table of a scenario's lines.
+//! `nethrywel` calls a function for each command with its options, and exits with the status that the function returns. For
+//! example `trace_scenario(rt, asked, settings)` prints the table of a scenario's lines.
 #![tactic(auto)]
 
 mod accounts;
@@ -10,7 +10,7 @@ mod alone;
 mod record;
 mod run;
 mod run_end;
-mod scene;
+mod run_request;
 mod trace;
 mod view;
 

@@ -1,19 +1,20 @@
-//! A scenario that is recorded: on standard output, or in its place.
+//! The command `record`: a scenario with its replies, on standard output or in place of the scenario.
 use cli_base::{
-    LineStarts, Machine, REFUSED, STANDARD_INPUT, Settings, Spot, UNWRITTEN, made_or_told,
-    replace_file, report_error, report_write_failure, scenario_text, status_of, summarize_errors,
-    tell_unbooted, unfolded, unread_status,
+    LineStarts, Machine, REFUSED, STANDARD_INPUT, Settings, Spot, UNWRITTEN, made_or_status,
+    replace_file, report_boot_fault, report_error, report_write_failure, scenario_text, status_of,
+    summarize_errors, unfolded, unread_status,
 };
-use recording::{Recording, Scenario, record};
-use scenario_names::token_at;
+use cli_options::RecordOptions;
+use line_names::token_at;
+use run_record::{Recording, Scenario, record};
 use std::alloc::AllocError;
 use std::io;
 use std::io::Write;
-use view_diagnostics::Form;
-use workbench_options::Record;
+use view_diagnostics::DiagnosticForm;
 
-/// Records a scenario on the machine of a start list, or on the built-in machine. Answers the exit status.
-pub fn record_scenario(rt: &HostRuntime, wanted: &Record<'_>, settings: Settings<'_>) -> u8 {
+/// Records a scenario's replies on the machine of a start list, or on the built-in machine. Returns the exit status: 0, 3 if a
+/// line isn't read, 2 if the arguments or the list are refused.
+pub fn record_scenario(rt: &HostRuntime, wanted: &RecordOptions<'_>, settings: Settings<'_>) -> u8 {
     if wanted.write && wanted.scenario == STANDARD_INPUT {
         report_error(
             rt,
@@ -33,19 +34,19 @@ pub fn record_scenario(rt: &HostRuntime, wanted: &Record<'_>, settings: Settings
     }
 }
 
-// The same on a machine, of a scenario of a text.
+// Records a scenario of a text on a machine, and returns the exit status.
 fn record_on(
     rt: &HostRuntime,
     machine: &Machine<'_>,
     text: &[u8],
-    wanted: &Record<'_>,
+    wanted: &RecordOptions<'_>,
     settings: Settings<'_>,
 ) -> u8 {
     let lines = match unfolded(rt, wanted.scenario, text, settings) {
         Ok(lines) => lines,
         Err(status) => return status,
     };
-    let start = match settings.start_or_told(rt, lines.marks()) {
+    let start = match settings.start_or_status(rt, lines.marks()) {
         Ok(start) => start,
         Err(status) => return status,
     };
@@ -55,20 +56,20 @@ fn record_on(
     };
     match record(rt.alloc(), machine.text(), scenario, start, wanted.all) {
         Ok(recording) => tell_recording(rt, settings.form, wanted, text, &recording),
-        Err(fault) => tell_unbooted(rt, settings.form, machine, &fault),
+        Err(fault) => report_boot_fault(rt, settings.form, machine, &fault),
     }
 }
 
-// Tells a recording of a scenario's text, and before it the lines that aren't read.
+// Prints the lines of a scenario's text that aren't read, and then the recording. Returns the exit status.
 fn tell_recording(
     rt: &HostRuntime,
-    form: Form,
-    wanted: &Record<'_>,
+    form: DiagnosticForm,
+    wanted: &RecordOptions<'_>,
     text: &[u8],
     recording: &Recording,
 ) -> u8 {
     let unread = tell_unread(rt, form, wanted.scenario, text, recording);
-    let status = match made_or_told(rt, unread) {
+    let status = match made_or_status(rt, unread) {
         Ok(status) | Err(status) => status,
     };
     let told = tell(rt, form, wanted, text, recording.text.as_slice());
@@ -78,7 +79,7 @@ fn tell_recording(
 // Prints the lines of a scenario's text that aren't read, and returns the exit status.
 fn tell_unread(
     rt: &HostRuntime,
-    form: Form,
+    form: DiagnosticForm,
     scenario: &str,
     text: &[u8],
     recording: &Recording,
@@ -99,8 +100,14 @@ fn tell_unread(
     Ok(unread_status(all.len()))
 }
 
-// Writes a recording where it is asked for, and answers the exit status. A scenario that is recorded already stays untouched.
-fn tell(rt: &HostRuntime, form: Form, wanted: &Record<'_>, old: &[u8], new: &[u8]) -> u8 {
+// Writes a recording to standard output or to the scenario's file, and returns the exit status. An unchanged file isn't written.
+fn tell(
+    rt: &HostRuntime,
+    form: DiagnosticForm,
+    wanted: &RecordOptions<'_>,
+    old: &[u8],
+    new: &[u8],
+) -> u8 {
     if !wanted.write {
         return status_of(rt, io::writer(rt).write_all(new));
     }

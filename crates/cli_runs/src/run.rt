@@ -1,33 +1,33 @@
-//! The transcript of a scenario.
-use crate::scene::{Scene, play};
-use crate::view::Viewing;
+//! The command `run`: the transcript of a scenario.
+use crate::run_request::{RunRequest, play};
+use crate::view::RunView;
 use cli_base::{Coloring, Settings};
-use workbench::Showing;
-use workbench_options::Run;
+use cli_options::RunOptions;
+use view_runs::TranscriptOptions;
 
-/// Plays a scenario, and tells its transcript. Answers the exit status.
+/// Runs a scenario, and prints its transcript. Returns the exit status.
 pub fn run_scenario<'a>(
     rt: &HostRuntime,
-    asked: &'a Run<'a>,
+    asked: &'a RunOptions<'a>,
     settings: Settings<'a>,
     coloring: Coloring,
 ) -> u8 {
-    let showing = Showing {
+    let showing = TranscriptOptions {
         only: bytes_of(asked.only),
         accounts: asked.accounts,
         numbers: asked.numbers,
     };
-    let scene = Scene {
+    let scene = RunRequest {
         scenario: asked.scenario,
         settings,
-        viewing: Viewing::Run(showing, coloring),
+        viewing: RunView::Run(showing, coloring),
         name: asked.only,
         errors: 0,
     };
     play(rt, asked.machine, scene)
 }
 
-// The bytes of a name, if there is one.
+// Returns the bytes of a name, if there is one.
 fn bytes_of(name: Option<&str>) -> Option<&[u8]> {
     match name {
         Some(name) => Some(name.as_bytes()),

@@ -1,22 +1,29 @@
 //! How a run over files and the standard streams ended.
-use cli_base::{Stopped, UNREAD, report_error, spot_of, summarize_errors};
+use cli_base::{StopMessage, UNREAD, report_error, spot_of, summarize_errors};
 use init_core::BootFault;
-use view_diagnostics::Form;
-use workbench::{Ending, PlayFault, exit_status};
+use run_lines::LineRunFault;
+use run_scenario::{ScenarioEnd, exit_status};
+use view_diagnostics::DiagnosticForm;
 
-/// How a play ended, and whether nobody reads what is written.
+/// The end of a run, and whether nobody reads what is written.
 #[derive(Drop)]
 pub(crate) struct RunEnd {
-    /// How it ended.
-    pub(crate) ended: Result<Ending, BootFault>,
-    /// Whether a write failed because nobody reads it.
+    /// The ending of the run, or the fault of the boot.
+    pub(crate) ended: Result<ScenarioEnd, BootFault>,
+    /// Whether a write failed because its pipe is closed.
     pub(crate) unread: bool,
 }
 
 impl RunEnd {
-    /// Prints the fault of a scenario of this path, if there is one, and how many errors were printed with these earlier ones and
-    /// the scenario's own. Returns the exit status.
-    pub(crate) fn tell(&self, rt: &HostRuntime, form: Form, scenario: &str, earlier: u64) -> u8 {
+    /// Prints the fault of a scenario of this path, if there is one. Prints the number of errors too: `earlier` ones, the fault
+    /// and the scenario's own. Returns the exit status.
+    pub(crate) fn tell(
+        &self,
+        rt: &HostRuntime,
+        form: DiagnosticForm,
+        scenario: &str,
+        earlier: u64,
+    ) -> u8 {
         let status = self.tell_fault(rt, form, scenario);
         if let Ok(ending) = &self.ended {
             if status != UNREAD {
@@ -28,13 +35,13 @@ impl RunEnd {
     }
 
     /// Prints the fault of a scenario of this path, if there is one. Returns the exit status.
-    pub(crate) fn tell_fault(&self, rt: &HostRuntime, form: Form, scenario: &str) -> u8 {
+    pub(crate) fn tell_fault(&self, rt: &HostRuntime, form: DiagnosticForm, scenario: &str) -> u8 {
         if let Ok(ending) = &self.ended {
             match ending.fault {
-                Some(PlayFault::WriteFault) if self.unread => return UNREAD,
+                Some(LineRunFault::WriteFault) if self.unread => return UNREAD,
                 Some(fault) => {
                     let spot = spot_of(scenario, ending.lines, fault);
-                    report_error(rt, form, spot, &Stopped(fault));
+                    report_error(rt, form, spot, &StopMessage(fault));
                 }
                 None => (),
             }

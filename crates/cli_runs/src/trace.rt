@@ -1,11 +1,11 @@
-//! The table of a scenario's lines.
-use crate::scene::{Scene, play};
-use crate::view::Viewing;
+//! The command `trace`: the table of a scenario's lines.
+use crate::run_request::{RunRequest, play};
+use crate::view::RunView;
 use cli_base::Settings;
-use json_documents::{Column, Rows};
+use cli_options::ReportOptions;
 use std::io;
 use std::io::Printer;
-use workbench_options::Played;
+use view_json::{Column, DocumentWriter};
 
 // The columns of a trace.
 static TRACE: [Column; 14] = [
@@ -25,13 +25,21 @@ static TRACE: [Column; 14] = [
     Column::Filled("text"),
 ];
 
-/// A writer of a document for each row of a trace on standard output.
-pub(crate) fn trace_rows(rt: &HostRuntime) -> Rows<Printer<'_, HostRuntime>> {
-    Rows::new(rt.alloc(), &TRACE, io::writer(rt))
+/// Returns a writer to standard output of a document for each row of a trace.
+pub(crate) fn trace_rows(rt: &HostRuntime) -> DocumentWriter<Printer<'_, HostRuntime>> {
+    DocumentWriter::new(rt.alloc(), &TRACE, io::writer(rt))
 }
 
-/// Plays a scenario, and tells a table of its lines. Answers the exit status.
-pub fn trace_scenario<'a>(rt: &HostRuntime, asked: &'a Played<'a>, settings: Settings<'a>) -> u8 {
-    let viewing = Viewing::Trace { json: asked.json };
-    play(rt, asked.machine, Scene::whole(asked, settings, viewing))
+/// Runs a scenario, and prints a table of its lines. Returns the exit status.
+pub fn trace_scenario<'a>(
+    rt: &HostRuntime,
+    asked: &'a ReportOptions<'a>,
+    settings: Settings<'a>,
+) -> u8 {
+    let viewing = RunView::Trace { json: asked.json };
+    play(
+        rt,
+        asked.machine,
+        RunRequest::whole(asked, settings, viewing),
+    )
 }

@@ -1,54 +1,57 @@
-//! What is told of a scenario.
+//! The part of a run that a command prints.
 use cli_base::{Coloring, Reader, Writer};
 use init_core::BootFault;
-use workbench::{Ending, Play, Showing, accounts, alone, run, trace};
+use run_scenario::{ScenarioEnd, ScenarioInput};
+use view_accounts::accounts;
+use view_runs::{TranscriptOptions, alone, run, trace};
 
-/// What is told of a scenario.
+/// The part of a run that a command prints.
 #[derive(Clone, Copy)]
-pub(crate) enum Viewing<'a> {
-    /// Its transcript, and where lines are coloured.
-    Run(Showing<'a>, Coloring),
-    /// A table of its lines.
+pub(crate) enum RunView<'a> {
+    /// The transcript, and which streams are coloured.
+    Run(TranscriptOptions<'a>, Coloring),
+    /// A table of the lines.
     Trace {
-        /// Whether it is told as documents of JSON.
+        /// Whether the table is printed as documents of JSON.
         json: bool,
     },
-    /// The accounts after it.
+    /// The accounts after the last line.
     Accounts {
-        /// Whether they are told as a document of JSON.
+        /// Whether the accounts are printed as a list of JSON.
         json: bool,
     },
-    /// What the component of a name is told in it, and alone.
+    /// The replies to the component of this name, in the whole run and alone.
     Alone(&'a [u8]),
 }
 
-impl<'a> Viewing<'a> {
-    /// Where lines are coloured: only a transcript has colours.
+impl<'a> RunView<'a> {
+    /// Returns which streams are coloured: only a transcript has colours.
     pub(crate) fn coloring(self) -> Coloring {
         match self {
-            Viewing::Run(_, coloring) => coloring,
+            RunView::Run(_, coloring) => coloring,
             _ => Coloring::NOWHERE,
         }
     }
 }
 
-/// Plays a scenario, and tells of it what is to be told: a table as comma-separated values, and the accounts as lines.
+/// Runs a scenario, and writes this part of it: a table as comma-separated values, and the accounts as lines. Returns the fault
+/// of the boot if there is one.
 pub(crate) fn view(
     rt: &HostRuntime,
-    play: Play<'_>,
-    viewing: Viewing<'_>,
+    play: ScenarioInput<'_>,
+    viewing: RunView<'_>,
     reader: &mut Reader<'_>,
     writer: &mut Writer<'_>,
     complaints: &mut Writer<'_>,
-) -> Result<Ending, BootFault> {
+) -> Result<ScenarioEnd, BootFault> {
     let alloc = rt.alloc();
     match viewing {
-        Viewing::Run(showing, _) => run(alloc, play, showing, reader, writer, complaints),
-        Viewing::Trace { .. } => trace(alloc, play, reader, writer, complaints),
-        Viewing::Accounts { .. } => {
+        RunView::Run(showing, _) => run(alloc, play, showing, reader, writer, complaints),
+        RunView::Trace { .. } => trace(alloc, play, reader, writer, complaints),
+        RunView::Accounts { .. } => {
             Ok(accounts(alloc, play, reader, writer, complaints)?.ending)
         }
-        Viewing::Alone(name) => {
+        RunView::Alone(name) => {
             let compared = alone(alloc, play, name, reader, writer, complaints)?;
             Ok(if compared.lines == 0 || compared.difference.is_some() {
                 compared.ending.complained()

@@ -4,8 +4,8 @@
 //! that this returns.
 #![tactic(auto)]
 
-mod coverings;
-mod scenarios;
-mod tests;
+mod coverage_printer;
+mod scenario_search;
+mod test;
 
-pub use tests::run_tests;
+pub use test::run_tests;

@@ -15,9 +15,9 @@ use Rattle.own_model.specs.OwnState.{zeros}
 use Rattle.own_model.proofs.NatMapLemmas.{same, get-insert_same, get-insert_other, get-remove_same, get-remove_other}
 use Rattle.quota_core.specs.SlabMap.{map_of}
 use Rattle.quota_core.proofs.SlabMap.{get-map_of}
-use Rattle.dataspace_core.specs.Layout.{page_in, run_bytes, IsOutside, IsRun, IsNewRun, IsGiven, IsClosed, IsWritten, IsLaidOut, HasMovedDown, NoneLiesBehind, moved_down, space_of}
+use Rattle.dataspace_core.specs.Layout.{page_in, run_bytes, IsOutside, IsRun, IsNewRun, IsGiven, IsClosed, IsWritten, IsLaidOut, HasMovedDown, NoneLiesAfter, moved_down, space_of}
 use Rattle.dataspace_core.specs.declared.dataspace.Dataspace.{Dataspace}
-use Rattle.dataspace_core.specs.declared.runs.Run.{Run}
+use Rattle.dataspace_core.specs.declared.page_runs.PageRun.{PageRun}
 use Rattle.dataspace_core.proofs.RunLemmas.{is_taken-held, page_bytes_same, joined_same, joined-zero_page, length-run_bytes}
 use Rattle.dataspace_core.proofs.GapLemmas.{starts_behind, before_gap-moved, moved_within}
 
@@ -63,7 +63,7 @@ module _ (pages : List (Option (List ℕ))) (table : List PageNo) (spaces : Slab
       omega (arith, past, some, laid_out.within other x found)
 
 -- where no dataspace lies behind the gap none moves
-module _ (gap : Run) (spaces : Slab Dataspace) (front : NoneLiesBehind gap spaces) where
+module _ (gap : PageRun) (spaces : Slab Dataspace) (front : NoneLiesAfter gap spaces) where
   -- a slot stays
   slot_stays : (ds : ℕ) (o : Option Dataspace) → slab.get spaces ds ≡ o → o ≡ option_map (moved_down gap) o
   slot_stays ds None there = refl

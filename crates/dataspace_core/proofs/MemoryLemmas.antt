@@ -24,7 +24,7 @@ use Rattle.quota_core.specs.Books.{Books, IsOpen, account_at, fresh_books, with_
 use Rattle.quota_core.proofs.BooksLaws.{account_there}
 use Rattle.quota_core.proofs.SlabMap.{map_of-empty, get-map_of_at, get-map_of_none, ContainsKey-map_of, len-map_of}
 use Rattle.dataspace_core.specs.Store.{Store, Space, fresh_store, room_in, Exists, space_at, with_space, without_space, with_bytes_at, OpensPart, RaisesPart, ClosesPart}
-use Rattle.dataspace_core.specs.Layout.{IsNewRun, IsGiven, IsClosed, IsWritten, IsRun, HasMovedDown, NoneLiesBehind, run_bytes, space_of, store_of}
+use Rattle.dataspace_core.specs.Layout.{IsNewRun, IsGiven, IsClosed, IsWritten, IsRun, HasMovedDown, NoneLiesAfter, run_bytes, space_of, store_of}
 use Rattle.dataspace_core.specs.Paid.{IsPaid, IsSound, size_of}
 use Rattle.dataspace_core.specs.declared.dataspace.Dataspace.{Dataspace}
 use Rattle.dataspace_core.proofs.PartLemmas.{space_at-some, opens-with_child, raises-with_moved, closes-without_account}
@@ -177,7 +177,7 @@ module _ {books : Books} {pool : List (Option (List ℕ))} {table : List PageNo}
       }
 
   -- where a dataspace that goes was the last in the table, none of those that are left lies behind it
-  pub none_behind : (ds : ℕ) (d : Dataspace) → slab.get spaces ds ≡ Some d → {left : Slab Dataspace} → Updates spaces left ds None → {new_table : List PageNo} → IsClosed table new_table d.run.start d.run.count → length new_table ≤ d.run.start → NoneLiesBehind d.run left
+  pub none_behind : (ds : ℕ) (d : Dataspace) → slab.get spaces ds ≡ Some d → {left : Slab Dataspace} → Updates spaces left ds None → {new_table : List PageNo} → IsClosed table new_table d.run.start d.run.count → length new_table ≤ d.run.start → NoneLiesAfter d.run left
   none_behind ds d there {left} updates closed last = λ q x found.
       let old = after_remove spaces left ds updates q x found in
       elim (cases_lt d.run.start x.run.start) [

@@ -10,13 +10,13 @@ use Rattle.slab.specs.Slab as slab
 use Rattle.dataspace_core.specs.Layout.{moved_down, HasMovedDown}
 use Rattle.dataspace_core.specs.Spaces.{placed_at, placed_slots, placed, IsPlaced, start_after, HaveMoved}
 use Rattle.dataspace_core.specs.declared.dataspace.Dataspace.{Dataspace}
-use Rattle.dataspace_core.specs.declared.runs.Run.{Run}
-use Rattle.dataspace_core.specs.declared.spaces.Kept.{Kept}
+use Rattle.dataspace_core.specs.declared.page_runs.PageRun.{PageRun}
+use Rattle.dataspace_core.specs.declared.spaces.DataspaceEntry.{DataspaceEntry}
 
 -- ---- slots and starts
 
 -- a slot, with the start at its place
-get_or-placed : (slots : List (Option Kept)) (starts : List ℕ) (key : ℕ) → get_or (placed_slots slots starts) key None ≡ option_map (placed_at (get_or starts key 0)) (get_or slots key None)
+get_or-placed : (slots : List (Option DataspaceEntry)) (starts : List ℕ) (key : ℕ) → get_or (placed_slots slots starts) key None ≡ option_map (placed_at (get_or starts key 0)) (get_or slots key None)
 get_or-placed [] starts key = refl
 get_or-placed (slot ∷ slots) starts zero = refl
 get_or-placed (slot ∷ slots) starts (suc key) =
@@ -24,12 +24,12 @@ get_or-placed (slot ∷ slots) starts (suc key) =
     ∙ ap (λ start. option_map (placed_at start) (get_or slots key None)) (get_or_after_one starts key 0 ∙ ap (λ k. get_or starts k 0) (omega arith))
 
 -- whether there is a dataspace hangs on no start
-is_some-placed : (start : ℕ) (slot : Option Kept) → is_some (option_map (placed_at start) slot) ≡ is_some slot
+is_some-placed : (start : ℕ) (slot : Option DataspaceEntry) → is_some (option_map (placed_at start) slot) ≡ is_some slot
 is_some-placed start None = refl
 is_some-placed start (Some kept) = refl
 
 -- so there are as many
-count-placed : (slots : List (Option Kept)) (starts : List ℕ) → count_by is_some (placed_slots slots starts) ≡ count_by is_some slots
+count-placed : (slots : List (Option DataspaceEntry)) (starts : List ℕ) → count_by is_some (placed_slots slots starts) ≡ count_by is_some slots
 count-placed [] starts = refl
 count-placed (slot ∷ slots) starts =
     let here = ap {B = ℕ} (λ b. cond b 1 0) (is_some-placed (get_or starts 0 0) slot) in
@@ -52,7 +52,7 @@ module _ (from by key : ℕ) (old starts : List ℕ) (so_far : HaveMoved from by
 
 -- ---- the slab
 
-module _ (kept : Slab Kept) (starts : List ℕ) where
+module _ (kept : Slab DataspaceEntry) (starts : List ℕ) where
   -- what stands under a key
   pub get-placed : (key : ℕ) → slab.get (placed kept starts) key ≡ option_map (placed_at (get_or starts key 0)) (slab.get kept key)
   get-placed key = get_or-placed kept.slots starts key
@@ -62,7 +62,7 @@ module _ (kept : Slab Kept) (starts : List ℕ) where
   get-placed_none key none = get-placed key ∙ ap (option_map (placed_at (get_or starts key 0))) none
 
   -- where something is, there is one
-  pub get-placed_some : (key : ℕ) (k : Kept) → slab.get kept key ≡ Some k → slab.get (placed kept starts) key ≡ Some (placed_at (get_or starts key 0) k)
+  pub get-placed_some : (key : ℕ) (k : DataspaceEntry) → slab.get kept key ≡ Some k → slab.get (placed kept starts) key ≡ Some (placed_at (get_or starts key 0) k)
   get-placed_some key k there = get-placed key ∙ ap (option_map (placed_at (get_or starts key 0))) there
 
   -- a key that has a dataspace is kept
@@ -73,13 +73,13 @@ module _ (kept : Slab Kept) (starts : List ℕ) where
   pub room_there : {value : Slab Dataspace} → placed kept starts ≡ value → HasRoomFor value 1 → HasRoomFor kept 1
   room_there view room = search (rules, count-placed)
 
-  module _ (new : Slab Kept) (used : ℕ) (is : IsPlaced kept starts used) (same : new.capacity ≡ kept.capacity) where
+  module _ (new : Slab DataspaceEntry) (used : ℕ) (is : IsPlaced kept starts used) (same : new.capacity ≡ kept.capacity) where
     -- a dataspace comes
-    pub placed-inserted : (key start : ℕ) (k : Kept) → Updates kept new key (Some k) → key < kept.capacity → Updates (placed kept starts) (placed new (set starts key start)) key (Some (placed_at start k))
+    pub placed-inserted : (key start : ℕ) (k : DataspaceEntry) → Updates kept new key (Some k) → key < kept.capacity → Updates (placed kept starts) (placed new (set starts key start)) key (Some (placed_at start k))
     placed-inserted key start k updates within = search (rules, get_or-placed, get-placed)
 
     -- its start is kept too
-    pub IsPlaced-inserted : (key start : ℕ) (k : Kept) → Updates kept new key (Some k) → key < kept.capacity → (more : ℕ) → more ≡ max used (key + 1) → IsPlaced new (set starts key start) more
+    pub IsPlaced-inserted : (key start : ℕ) (k : DataspaceEntry) → Updates kept new key (Some k) → key < kept.capacity → (more : ℕ) → more ≡ max used (key + 1) → IsPlaced new (set starts key start) more
     IsPlaced-inserted key start k updates within more most = search (rules, cases_eq)
 
     -- a dataspace goes
@@ -93,12 +93,12 @@ module _ (kept : Slab Kept) (starts : List ℕ) where
   -- the starts move
   module _ (used from by : ℕ) (is : IsPlaced kept starts used) (new_starts : List ℕ) (moved : HaveMoved from by used starts new_starts) where
     -- what stands under a key that is kept
-    moved_at : (key : ℕ) (slot : Option Kept) → slab.get kept key ≡ slot → (gap : Run) → from ≡ gap.start → by ≡ gap.count → option_map (placed_at (get_or new_starts key 0)) slot ≡ option_map (moved_down gap) (option_map (placed_at (get_or starts key 0)) slot)
+    moved_at : (key : ℕ) (slot : Option DataspaceEntry) → slab.get kept key ≡ slot → (gap : PageRun) → from ≡ gap.start → by ≡ gap.count → option_map (placed_at (get_or new_starts key 0)) slot ≡ option_map (moved_down gap) (option_map (placed_at (get_or starts key 0)) slot)
     moved_at key None there gap start count = refl
     moved_at key (Some k) there gap start count =
         ap (λ s. Some (placed_at s k)) (moved.each key (is.below key (ap is_some there)) ∙ ap (λ f. start_after f by (get_or starts key 0)) start ∙ ap (λ b. start_after gap.start b (get_or starts key 0)) count)
 
-    pub placed-moved : (gap : Run) → from ≡ gap.start → by ≡ gap.count → HasMovedDown gap (placed kept starts) (placed kept new_starts)
+    pub placed-moved : (gap : PageRun) → from ≡ gap.start → by ≡ gap.count → HasMovedDown gap (placed kept starts) (placed kept new_starts)
     placed-moved gap start count = record {
       each = λ key. get_or-placed kept.slots new_starts key ∙ moved_at key (slab.get kept key) refl gap start count ∙ ap (option_map (moved_down gap)) (sym (get-placed key));
     }

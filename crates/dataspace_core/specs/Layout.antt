@@ -9,7 +9,7 @@ use Rattle.quota_core.specs.Books.{Books}
 use Rattle.quota_core.specs.SlabMap.{map_of}
 use Rattle.dataspace_core.specs.Store.{Space, Store}
 use Rattle.dataspace_core.specs.declared.dataspace.Dataspace.{Dataspace}
-use Rattle.dataspace_core.specs.declared.runs.Run.{Run}
+use Rattle.dataspace_core.specs.declared.page_runs.PageRun.{PageRun}
 
 -- the page at an index of the table
 unfoldable pub page_in : List PageNo → ℕ → ℕ
@@ -38,7 +38,7 @@ pub record IsRun (pages : List (Option (List ℕ))) (table : List PageNo) (start
 abbrev pub AreApart : List PageNo → ℕ → ℕ → ℕ → ℕ → Type 0
 AreApart table start count other more = (i j : ℕ) → i < count → j < more → page_in table (start + i) ≢ page_in table (other + j)
 
--- so many free pages were taken and stand at the end of the table, from this start on, and what was taken before stays
+-- so many free pages were taken and are at the end of the table, from this start on, and what was taken before stays
 pub record IsNewRun (pages : List (Option (List ℕ))) (table : List PageNo) (new_pages : List (Option (List ℕ))) (new_table : List PageNo) (start count : ℕ) : Type 0 where
   pub at_end : start ≡ length table
   pub size : length new_pages ≡ length pages
@@ -56,36 +56,36 @@ pub record IsGiven (pages new_pages : List (Option (List ℕ))) (table : List Pa
   pub given : free_count new_pages ≡ free_count pages + count
   pub others : (page : ℕ) → IsOutside table start count page → slice_index_or new_pages page None ≡ slice_index_or pages page None
 
--- where an entry stood before a run went from the table
+-- where an entry was before a run was removed from the table
 abbrev pub before_gap : ℕ → ℕ → ℕ → ℕ
 before_gap start count index = if nat_lt index start then index else index + count
 
--- a run went from the table, and what lies behind moved down
+-- a run was removed from the table, and later entries moved down
 pub record IsClosed (table new_table : List PageNo) (start count : ℕ) : Type 0 where
   pub shorter : length new_table + count ≡ length table
   pub entries : (index : ℕ) → index < length new_table → page_in new_table index ≡ page_in table (before_gap start count index)
 
--- a dataspace once a run went from the table: where it lies behind, it starts by so much earlier
-abbrev pub moved_down : Run → Dataspace → Dataspace
+-- a dataspace once a run was removed from the table: if it lies after the run, it starts by so much earlier
+abbrev pub moved_down : PageRun → Dataspace → Dataspace
 moved_down gap d = record d {
   run = record { start = if nat_le d.run.start gap.start then d.run.start else d.run.start - gap.count; count = d.run.count };
 }
 
 -- every dataspace has moved down
-pub record HasMovedDown (gap : Run) (spaces new_spaces : Slab Dataspace) : Type 0 where
+pub record HasMovedDown (gap : PageRun) (spaces new_spaces : Slab Dataspace) : Type 0 where
   pub each : (ds : ℕ) → get new_spaces ds ≡ option_map (moved_down gap) (get spaces ds)
 
--- no dataspace lies behind the gap
-abbrev pub NoneLiesBehind : Run → Slab Dataspace → Type 0
-NoneLiesBehind gap spaces = (ds : ℕ) (d : Dataspace) → get spaces ds ≡ Some d → d.run.start ≤ gap.start
+-- no dataspace lies after the gap
+abbrev pub NoneLiesAfter : PageRun → Slab Dataspace → Type 0
+NoneLiesAfter gap spaces = (ds : ℕ) (d : Dataspace) → get spaces ds ≡ Some d → d.run.start ≤ gap.start
 
--- so many bytes, one at least, stand at an offset of so many pages, in one of them
+-- so many bytes, one at least, are at an offset of so many pages, in one of them
 pub record IsPieceIn (count offset bytes : ℕ) : Type 0 where
   pub some : 0 < bytes
   pub fits : offset % 4096 + bytes ≤ 4096
   pub within : offset + bytes ≤ count * 4096
 
--- a word stands at an offset of so many pages
+-- a word is at an offset of so many pages
 pub record IsWordIn (count offset : ℕ) : Type 0 where
   pub aligned : offset % 8 ≡ 0
   pub within : offset + 8 ≤ count * 4096

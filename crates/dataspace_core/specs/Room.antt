@@ -1,4 +1,4 @@
--- Places for accounts that are still to be opened: told by the limits of those that are open. A head is an account under which
+-- Places for accounts that are still to be opened: bounded by the limits of those that are open. A head is an account under which
 -- components are opened: an init's. Which accounts are heads is a function that never changes.
 use Rattle.std.specs.Prelude.{◌≡◌, ◌≢◌, ℕ, ◌+◌, ◌*◌, ◌<◌, ◌≤◌, if◌then◌else◌, Bool, true, false, Some, None}
 use Rattle.std.specs.FinMap.{get, insert}
@@ -25,7 +25,7 @@ pub record HasRoom (heads : ℕ → Bool) (store : Store) : Type 0 where
   pub there : (account parent : ℕ) → IsChildIn store account parent → IsOpenIn store account
   pub paid : (account parent : ℕ) → IsChildIn store account parent → heads parent ≡ false → 2 ≤ (account_in store account).caps_limit
 
--- ---- laws
+-- ---- theorems
 
 -- a memory without inner accounts has room where its places are as many
 abbrev pub RoomAtFirst : Type 0
@@ -84,7 +84,7 @@ RoomIsShifted =
     (heads : ℕ → Bool) (from to ram caps : ℕ) (old new : Store) → ShiftsPart from to ram caps old new → IsOpenIn old from →
     IsOpenIn old to → IsOuter heads old from → from ≢ to → Fits (account_in old from) ram caps → HasRoom heads old → HasRoom heads new
 
--- an account that goes gives its place back
+-- an account that closes gives its place back
 abbrev pub RoomIsGivenBack : Type 0
 RoomIsGivenBack =
     (heads : ℕ → Bool) (account parent : ℕ) (old new : Store) → ClosesPart account parent old new → IsOpenIn old parent →

@@ -1,25 +1,25 @@
--- How dataspaces are kept: where each starts stands apart. No public clause cites this module.
+-- How dataspaces are kept: the start of each is stored separately. No public clause cites this module.
 use Rattle.std.specs.Prelude.{◌≡◌, ℕ, ◌-◌, ◌<◌, ◌≤◌, nat_le, List, [], ◌∷◌, drop, length, Option, slice_index, if◌then◌else◌}
 use Rattle.std.specs.Option.{option_map}
 use Rattle.slab.specs.Slab.{Slab, ContainsKey}
 use Rattle.dataspace_core.specs.declared.dataspace.Dataspace.{Dataspace}
-use Rattle.dataspace_core.specs.declared.spaces.Kept.{Kept}
+use Rattle.dataspace_core.specs.declared.spaces.DataspaceEntry.{DataspaceEntry}
 
 -- a dataspace, of what is kept of it and its start
-abbrev pub placed_at : ℕ → Kept → Dataspace
+abbrev pub placed_at : ℕ → DataspaceEntry → Dataspace
 placed_at start kept = record { payer = kept.payer; run = record { start = start; count = kept.count } }
 
 -- each with the start at its place
-abbrev pub placed_slots : List (Option Kept) → List ℕ → List (Option Dataspace)
+abbrev pub placed_slots : List (Option DataspaceEntry) → List ℕ → List (Option Dataspace)
 placed_slots [] starts = []
 placed_slots (slot ∷ slots) starts = option_map (placed_at (slice_index starts 0)) slot ∷ placed_slots slots (drop 1 starts)
 
 -- the dataspaces by their keys
-abbrev pub placed : Slab Kept → List ℕ → Slab Dataspace
+abbrev pub placed : Slab DataspaceEntry → List ℕ → Slab Dataspace
 placed kept starts = record { slots = placed_slots kept.slots starts; vacant_key = kept.vacant_key; capacity = kept.capacity }
 
 -- there is a start for each key that may come, and keys in use are below this one
-pub record IsPlaced (kept : Slab Kept) (starts : List ℕ) (used : ℕ) : Type 0 where
+pub record IsPlaced (kept : Slab DataspaceEntry) (starts : List ℕ) (used : ℕ) : Type 0 where
   pub roomy : length starts ≡ kept.capacity
   pub within : used ≤ length starts
   pub below : (key : ℕ) → ContainsKey kept key → key < used

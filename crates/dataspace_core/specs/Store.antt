@@ -134,7 +134,7 @@ with_space store ds payer n = record (with_account_in store payer (charged (acco
   spaces = insert store.spaces ds (record { payer = payer; bytes = zeros (page_of n) });
 }
 
--- a dataspace goes, and its payer is credited
+-- a dataspace is removed, and its payer is credited
 abbrev pub without_space : Store → ℕ → Store
 without_space store ds =
     let space = space_at store ds in
@@ -181,7 +181,7 @@ abbrev pub part_with_space : Part → ℕ → ℕ → Part
 part_with_space p ds n =
     record { account = Some (charged (account_of p) (page_of n) 1); spaces = insert p.spaces ds (zeros (page_of n)) }
 
--- a dataspace goes, and its account is credited
+-- a dataspace is removed, and its account is credited
 abbrev pub part_without_space : Part → ℕ → Part
 part_without_space p ds =
     record { account = Some (credited (account_of p) (length (bytes_of p ds)) 1); spaces = remove p.spaces ds }

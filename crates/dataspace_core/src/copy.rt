@@ -1,4 +1,4 @@
-//! Bytes that go from one dataspace to another.
+//! Copying of bytes from one dataspace to another.
 ghost use Rattle.std.specs.Prelude.{◌≡◌, ◌≢◌, ◌+◌, ◌%◌, ◌<◌, ◌≤◌, length, slice_range};
 ghost use Rattle.dataspace_core.specs.Store.{Exists, PartBecomes, part, part_with_bytes, space_at, with_bytes_at};
 
@@ -6,9 +6,10 @@ use crate::memory::Memory;
 use trade_base::{DsId, PAGE};
 
 impl Memory {
-    /// Puts `count` bytes of a dataspace, those from an offset on, into another one from an offset on. Nothing else changes.
+    /// Copies `count` bytes of a dataspace from `from_offset` on to another dataspace from `to_offset` on. Nothing else
+    /// changes.
     ///
-    /// They go in pieces that each end with a page of one of the two.
+    /// The bytes are copied in pieces, each within one page of both dataspaces.
     pub fn copy(&mut self, from: DsId, from_offset: u64, to: DsId, to_offset: u64, count: u64)
         requires apart { from.0 ≢ to.0 }
         requires source { Exists self.old from.0 }
@@ -24,7 +25,7 @@ impl Memory {
             PartBecomes payer
             (part_with_bytes (part payer self.old) to.0 to_offset bytes) self.old self.new }
     {
-        // Both ends are sizes, so no offset before them is past 64 bits.
+        // Both ends are at most a dataspace's size, so no offset before them exceeds 64 bits.
         let _source_end = self.size(from);
         let _target_end = self.size(to);
         let mut done = 0;
@@ -37,7 +38,7 @@ impl Memory {
     }
 }
 
-/// How many bytes of so many that are left, one at least, end with a page at either place.
+/// Returns the number of bytes, at least one and at most `left`, that lie within one page at both offsets.
 fn piece(source: u64, target: u64, left: u64) -> u64
     requires { 0 < left }
     ensures some { 0 < result }

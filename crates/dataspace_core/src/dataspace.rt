@@ -1,19 +1,19 @@
-//! What the memory keeps of a dataspace.
+//! The entry of one dataspace.
 ghost use Rattle.std.specs.Prelude.{◌≡◌, ◌^◌, ◌*◌, ◌<◌, Some};
 ghost use Rattle.slab.specs.Slab.{ContainsKey, get};
 
-use crate::runs::Run;
+use crate::page_runs::PageRun;
 use crate::spaces::Spaces;
 use trade_base::{AccountId, DsId, PAGE};
 
-/// A dataspace: who pays for it, and its pages.
+/// A dataspace: the account that pays for it, and its run of pages.
 #[derive(Clone, Copy)]
 pub(crate) struct Dataspace {
     pub(crate) payer: AccountId,
-    pub(crate) run: Run,
+    pub(crate) run: PageRun,
 }
 
-/// The dataspace under a key.
+/// Returns the dataspace stored under a key.
 pub(crate) fn space_under(spaces: &Spaces, ds: DsId) -> Dataspace
     requires { ContainsKey spaces.now ds.0 }
     ensures { get spaces.now ds.0 ≡ Some result }
@@ -21,7 +21,7 @@ pub(crate) fn space_under(spaces: &Spaces, ds: DsId) -> Dataspace
     spaces.under(ds.0)
 }
 
-/// The size of a dataspace, in bytes.
+/// Returns the size of a dataspace, in bytes.
 pub(crate) fn size_of(space: Dataspace) -> u64
     requires { space.run.count * 4096 < 2 ^ 64 }
     ensures { result ≡ space.run.count * 4096 }

@@ -1,12 +1,15 @@
-//! Memory in dataspaces: each has pages that an account pays for.
+//! Memory in dataspaces: each dataspace has whole pages, for which an account is charged.
+//!
+//! `pd_core`, the heaps and the file service allocate here. For example, `memory.alloc(memory.root(), 5000)` returns the
+//! key of a dataspace of two pages.
 #![tactic(auto)]
 
 mod copy;
 mod dataspace;
-mod laws;
 mod memory;
-mod runs;
+mod page_runs;
 mod spaces;
+mod theorems;
 
-pub use laws::accounts_find_places;
 pub use memory::Memory;
+pub use theorems::accounts_find_places;

@@ -16,7 +16,7 @@ ghost use Rattle.dataspace_core.specs.Store.{part, part_with_space, part_without
 ghost use Rattle.dataspace_core.specs.Store.{credited_part, PartBecomes, OpensPart, RaisesPart, ShiftsPart, ClosesPart};
 
 use crate::dataspace::{Dataspace, size_of, space_under};
-use crate::runs::{
+use crate::page_runs::{
     close_gap, copy_piece, give_run, load_run, no_pages, read_run, store_run, take_run, write_run,
 };
 use crate::spaces::Spaces;
@@ -26,17 +26,17 @@ use std::alloc::Global;
 use std::marker::Model;
 use trade_base::{AccountId, Caps, DsId, NoMemory, PAGE, Ram, Refusal, page_round};
 
-/// Pages in dataspaces, and the accounts that pay for them. Contracts see the books, and each dataspace by its key: its
-/// payer and its bytes.
+/// Pages in dataspaces, and the accounts that pay for them. Contracts see the books, and the payer and the bytes of each
+/// dataspace by its key.
 ///
-/// The limits of all accounts add up to what the machine has. So an account that covers an allocation finds the pages
-/// and the place for it.
+/// The limits of all accounts add up to the machine. So an account that covers an allocation also finds the pages and the
+/// place for it.
 #[derive(Drop)]
 pub struct Memory {
     pool: Pool,
     books: Books,
     spaces: Spaces,
-    /// The pages of all dataspaces, those of each one after another.
+    /// The pages of all dataspaces, those of each dataspace contiguous.
     table: Vec<PageNo>,
 }
 
@@ -56,10 +56,10 @@ impl Model for Memory {
 }
 
 impl Memory {
-    /// A memory of so many pages with one account, the root, which has all RAM and all capabilities, and places for
-    /// `accounts` accounts in all, or more. All tables are made here: no later call takes memory of the host.
+    /// Creates a memory of `pages` pages with one account, the root, which has all RAM and all capabilities. It has
+    /// places for at least `accounts` accounts in all. No later call allocates host memory.
     ///
-    /// It fails where the host has no memory for them.
+    /// Fails with `NoMemory` if the host has too little memory.
     pub fn boot(
         alloc: Global,
         pages: usize,
@@ -76,7 +76,7 @@ impl Memory {
     {
         let pool = Pool::boot(alloc, pages)?;
         let books = Books::boot(alloc, Ram(pages as u64 * PAGE), caps, accounts)?;
-        // Each dataspace has a page at least, and a capability.
+        // Each dataspace needs at least one page and one capability.
         let spaces = Spaces::boot(alloc, pages.min(caps.0 as usize))?;
         let table = no_pages(alloc, pages)?;
         Ok(Memory {
@@ -87,11 +87,11 @@ impl Memory {
         })
     }
 
-    /// Makes a dataspace of `bytes` bytes in whole pages, all zero. The account pays for its bytes, and one capability.
-    /// It tells the new dataspace's key.
+    /// Creates a zeroed dataspace of `bytes` bytes, rounded up to whole pages, and returns its key. The account is
+    /// charged for these pages and one capability.
     ///
-    /// It is refused with `InvalidSize` where `bytes` is 0 or past 64 bits in whole pages, else with `OutOfRam` where less
-    /// RAM of the account's limit is free, and else with `OutOfCaps` where no capability is. Nothing else refuses it.
+    /// Refuses with `InvalidSize` if `bytes` is 0 or exceeds 64 bits in whole pages. Then refuses with `OutOfRam` if the
+    /// account has less unused RAM, then with `OutOfCaps` if it has no unused capability. Nothing else refuses it.
     pub fn alloc(&mut self, account: AccountId, bytes: u64) -> Result<DsId, Refusal>
         requires { IsOpenIn self.old account.0 }
         ensures refusal { result_err result
@@ -111,7 +111,7 @@ impl Memory {
         let size = valid_size(bytes).ok_or(Refusal::InvalidSize)?;
         self.books.charge(account, Ram(size), Caps(1))?;
         let run = take_run(&mut self.pool, &mut self.table, (size / PAGE) as usize);
-        // Keys are below the capacity, so each has a number after it.
+        // Keys are below the capacity, so each key plus one is a number.
         let _capacity = self.spaces.capacity();
         let key = self.spaces.insert_reserved(Dataspace {
             payer: account,
@@ -120,7 +120,7 @@ impl Memory {
         Ok(DsId(key))
     }
 
-    /// Takes a dataspace away, and credits its payer with its bytes and one capability.
+    /// Frees a dataspace and credits its payer with its bytes and one capability.
     pub fn free(&mut self, ds: DsId)
         requires { Exists self.old ds.0 }
         ensures freed { self.new ≡ without_space self.old ds.0 }
@@ -134,7 +134,7 @@ impl Memory {
         self.books.credit(space.payer, Ram(size_of(space)), Caps(1));
     }
 
-    /// The account that pays for a dataspace.
+    /// Returns the account that pays for a dataspace.
     pub fn payer(&self, ds: DsId) -> AccountId
         requires { Exists self.now ds.0 }
         ensures { result.0 ≡ (space_at self.now ds.0).payer }
@@ -142,7 +142,7 @@ impl Memory {
         space_under(&self.spaces, ds).payer
     }
 
-    /// The size of a dataspace, in bytes.
+    /// Returns the size of a dataspace, in bytes.
     pub fn size(&self, ds: DsId) -> u64
         requires { Exists self.now ds.0 }
         ensures { result ≡ length (space_at self.now ds.0).bytes }
@@ -150,7 +150,7 @@ impl Memory {
         size_of(space_under(&self.spaces, ds))
     }
 
-    /// How many pages a dataspace has: no more than the machine.
+    /// Returns the number of pages of a dataspace, at most that of the machine.
     pub fn pages(&self, ds: DsId) -> u64
         requires { Exists self.now ds.0 }
         ensures pages { result ≡ length (space_at self.now ds.0).bytes / 4096 }
@@ -170,7 +170,7 @@ impl Memory {
         read_run(&self.pool, &self.table, run, offset as usize, buffer);
     }
 
-    /// Puts `bytes` into a dataspace from `offset` on. Nothing else changes.
+    /// Writes `bytes` to a dataspace from `offset` on. Nothing else changes.
     pub fn write(&mut self, ds: DsId, offset: u64, bytes: &[u8])
         requires exists { Exists self.old ds.0 }
         requires range { offset + length bytes.now ≤ length (space_at self.old ds.0).bytes }
@@ -183,7 +183,7 @@ impl Memory {
         write_run(&mut self.pool, &self.table, run, offset as usize, bytes);
     }
 
-    /// Puts `count` bytes of a dataspace, which lie in one page, into one page of another one. Nothing else changes.
+    /// Copies `count` bytes that lie in one page of a dataspace into one page of another dataspace. Nothing else changes.
     pub(crate) fn copy_piece(
         &mut self,
         from: DsId,
@@ -217,7 +217,7 @@ impl Memory {
         );
     }
 
-    /// The word of a dataspace that stands at `offset`, its lowest byte first.
+    /// Loads the little-endian word of 8 bytes at `offset` of a dataspace. `offset` is a multiple of 8.
     pub fn load_word(&self, ds: DsId, offset: u64) -> u64
         requires exists { Exists self.now ds.0 }
         requires aligned { offset % 8 ≡ 0 }
@@ -229,7 +229,7 @@ impl Memory {
         load_run(&self.pool, &self.table, run, offset as usize)
     }
 
-    /// Puts `word` into a dataspace at `offset`, its lowest byte first. Nothing else changes.
+    /// Stores `word` as 8 little-endian bytes at `offset` of a dataspace. Nothing else changes.
     pub fn store_word(&mut self, ds: DsId, offset: u64, word: u64)
         requires exists { Exists self.old ds.0 }
         requires aligned { offset % 8 ≡ 0 }
@@ -243,9 +243,9 @@ impl Memory {
         store_run(&mut self.pool, &self.table, run, offset as usize, word);
     }
 
-    /// Charges an account for one capability that is no dataspace's.
+    /// Charges an account for one capability that belongs to no dataspace.
     ///
-    /// It is refused with `OutOfCaps` where no capability of the account's limit is free. Nothing else refuses it.
+    /// Refuses with `OutOfCaps` if the account has no unused capability. Nothing else refuses it.
     pub fn charge_cap(&mut self, account: AccountId) -> Result<(), Refusal>
         requires { IsOpenIn self.old account.0 }
         ensures refusal { result_err result ≡ shortage (account_in self.old account.0) 0 1 }
@@ -262,7 +262,7 @@ impl Memory {
         self.books.charge(account, Ram(0), Caps(1))
     }
 
-    /// Credits an account with one capability. It must use more capabilities than it pays for dataspaces.
+    /// Credits an account with one capability. The account must use more capabilities than those of its dataspaces.
     pub fn credit_cap(&mut self, account: AccountId)
         requires open { IsOpenIn self.old account.0 }
         requires spare { len (part account.0 self.old).spaces
@@ -277,7 +277,7 @@ impl Memory {
         self.books.credit(account, Ram(0), Caps(1));
     }
 
-    /// The root's key.
+    /// Returns the key of the root account, which is always open.
     pub fn root(&self) -> AccountId
         ensures key { result.0 ≡ root_in self.now }
         ensures open { IsOpenIn self.now result.0 }
@@ -285,11 +285,11 @@ impl Memory {
         self.books.root()
     }
 
-    /// Opens an account with limits that the parent parts with: RAM in bytes, and capabilities. It tells the new
-    /// account's key, which pays for nothing yet.
+    /// Opens an account whose limits move from the parent: RAM in bytes, and capabilities. Returns the new account's key;
+    /// the account has no use yet.
     ///
-    /// It is refused with `OutOfRam` where less RAM of the parent's limit is free, and else with `OutOfCaps` where fewer
-    /// capabilities are.
+    /// Refuses with `OutOfRam` if the parent has less unused RAM, then with `OutOfCaps` if it has fewer unused
+    /// capabilities.
     pub fn open(&mut self, parent: AccountId, ram: Ram, caps: Caps) -> Result<AccountId, Refusal>
         requires parent { IsOpenIn self.old parent.0 }
         requires room { 0 < room_in self.old }
@@ -308,10 +308,10 @@ impl Memory {
         self.books.open(parent, ram, caps)
     }
 
-    /// Moves so much of the parent's limits to its child: RAM in bytes, and capabilities.
+    /// Moves an amount of the parent's limits to its child: RAM in bytes, and capabilities.
     ///
-    /// It is refused with `OutOfRam` where less RAM of the parent's limit is free, and else with `OutOfCaps` where fewer
-    /// capabilities are.
+    /// Refuses with `OutOfRam` if the parent has less unused RAM, then with `OutOfCaps` if it has fewer unused
+    /// capabilities.
     pub fn raise(
         &mut self,
         parent: AccountId,
@@ -333,11 +333,10 @@ impl Memory {
         self.books.raise(parent, child, ram, caps)
     }
 
-    /// Moves so much of an account's limits to another one that was opened under the same parent: RAM in bytes, and
-    /// capabilities.
+    /// Moves an amount of an account's limits to another account of the same parent: RAM in bytes, and capabilities.
     ///
-    /// It is refused with `OutOfRam` where less RAM of the one's limit is free, and else with `OutOfCaps` where fewer
-    /// capabilities are.
+    /// Refuses with `OutOfRam` if the source has less unused RAM, then with `OutOfCaps` if it has fewer unused
+    /// capabilities.
     pub fn shift(
         &mut self,
         from: AccountId,
@@ -358,8 +357,8 @@ impl Memory {
         self.books.shift(from, to, ram, caps)
     }
 
-    /// Closes an account that isn't the root and that has no child. It may use no capability, so it pays for no dataspace.
-    /// Its limits go back to its parent.
+    /// Closes an account that is not the root and has no child. It may use no capability, so it pays for no dataspace.
+    /// Its limits return to its parent.
     pub fn close(&mut self, account: AccountId)
         requires child { IsSome (get (parents_in self.old) account.0) }
         requires leaf { IsLeafIn self.old account.0 }
@@ -373,7 +372,7 @@ impl Memory {
         self.books.close(account);
     }
 
-    /// An account's limits, of RAM in bytes and of capabilities.
+    /// Returns an account's limits of RAM, in bytes, and of capabilities.
     pub fn limits(&self, account: AccountId) -> (Ram, Caps)
         requires { IsOpenIn self.now account.0 }
         ensures ram { result.0.0 ≡ (account_in self.now account.0).ram_limit }
@@ -383,7 +382,7 @@ impl Memory {
         self.books.limits(account)
     }
 
-    /// What an account uses, of RAM in bytes and of capabilities.
+    /// Returns an account's use of RAM, in bytes, and of capabilities.
     pub fn used(&self, account: AccountId) -> (Ram, Caps)
         requires { IsOpenIn self.now account.0 }
         ensures ram { result.0.0 ≡ (account_in self.now account.0).ram_used }
@@ -394,7 +393,7 @@ impl Memory {
     }
 }
 
-/// So many bytes in whole pages, or `None` where that is no size: 0 bytes, or too many for 64 bits.
+/// Returns `bytes` rounded up to whole pages, or `None` if `bytes` is 0 or the result exceeds 64 bits.
 fn valid_size(bytes: u64) -> Option<u64>
     ensures valid { result ≡ (if is_valid_size bytes then Some (page_of bytes) else None) }
     ensures rounded { IfSome result (λ size. size ≡ page_of bytes) }

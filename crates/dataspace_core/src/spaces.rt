@@ -1,31 +1,31 @@
-//! The dataspaces by their keys.
+//! The table of dataspaces, by their keys.
 ghost use Rattle.std.specs.Prelude.{◌≡◌, ◌+◌, ◌^◌, ◌<◌, ◌≤◌, [], Some, None, IfOk, length};
 ghost use Rattle.slab.specs.Slab.{ContainsKey, HasRoomFor, Updates, get};
-ghost use Rattle.dataspace_core.specs.Layout.{HasMovedDown, NoneLiesBehind};
+ghost use Rattle.dataspace_core.specs.Layout.{HasMovedDown, NoneLiesAfter};
 ghost use Rattle.dataspace_core.specs.Spaces.{HaveMoved, start_after as after};
 
 use crate::dataspace::Dataspace;
-use crate::runs::Run;
+use crate::page_runs::PageRun;
 use slab::Slab;
 use std::alloc::Global;
 use std::marker::Model;
 use trade_base::{AccountId, NoMemory};
 
-/// What is kept of a dataspace beside its start.
+/// The part of a dataspace's entry other than the start of its run.
 #[derive(Clone, Copy)]
-struct Kept {
+struct DataspaceEntry {
     payer: AccountId,
     count: usize,
 }
 
-/// The dataspaces, which contracts see as one slab. Where each starts in the table of pages stands apart, small and side
-/// by side: all behind a gap move when it is closed, and that is one pass over these numbers.
+/// The dataspaces, which contracts see as one slab. The starts of their runs are stored in a separate compact array.
+/// Closing a gap moves all later starts, which is one pass over this array.
 #[derive(Drop)]
 pub(crate) struct Spaces {
-    kept: Slab<Kept>,
-    /// Where the run of each dataspace starts, by its key.
+    kept: Slab<DataspaceEntry>,
+    /// The start of each dataspace's run in the table of pages, by key.
     starts: Vec<u16>,
-    /// No key from this one on has been in use.
+    /// No key from this one on was ever in use.
     used: usize,
 }
 
@@ -45,7 +45,7 @@ impl Model for Spaces {
 }
 
 impl Spaces {
-    /// No dataspace, and places for so many.
+    /// Creates an empty table with at least `places` places, or fails with `NoMemory` if the host has too little memory.
     pub(crate) fn boot(alloc: Global, places: usize) -> Result<Spaces, NoMemory>
         ensures none { IfOk result (λ spaces. spaces.slots ≡ []) }
         ensures room { IfOk result (λ spaces. places ≤ spaces.capacity) }
@@ -59,14 +59,14 @@ impl Spaces {
         })
     }
 
-    /// How many places there are.
+    /// Returns the number of places of the table.
     pub(crate) fn capacity(&self) -> usize
         ensures value { result ≡ self.now.capacity }
     {
         self.kept.capacity()
     }
 
-    /// The dataspace under a key.
+    /// Returns the dataspace stored under a key.
     pub(crate) fn under(&self, key: usize) -> Dataspace
         requires { ContainsKey self.now key }
         ensures { get self.now key ≡ Some result }
@@ -74,14 +74,14 @@ impl Spaces {
         let kept = kept_under(&self.kept, key);
         Dataspace {
             payer: kept.payer,
-            run: Run {
+            run: PageRun {
                 start: self.starts[key] as usize,
                 count: kept.count,
             },
         }
     }
 
-    /// Enters a dataspace under a new key.
+    /// Stores a dataspace under a new key and returns the key.
     pub(crate) fn insert_reserved(&mut self, space: Dataspace) -> usize
         requires room { HasRoomFor self.old 1 }
         requires small { space.run.start < 2 ^ 16 }
@@ -90,7 +90,7 @@ impl Spaces {
         ensures key_in_range { result < self.new.capacity }
         ensures capacity { self.new.capacity ≡ self.old.capacity }
     {
-        let key = self.kept.insert_reserved(Kept {
+        let key = self.kept.insert_reserved(DataspaceEntry {
             payer: space.payer,
             count: space.run.count,
         });
@@ -99,7 +99,7 @@ impl Spaces {
         key
     }
 
-    /// Takes a dataspace out, and tells it.
+    /// Removes the dataspace under a key and returns it.
     pub(crate) fn remove(&mut self, key: usize) -> Dataspace
         requires { ContainsKey self.old key }
         ensures value { get self.old key ≡ Some result }
@@ -111,9 +111,10 @@ impl Spaces {
         space
     }
 
-    /// Moves the starts of the runs that lie behind a gap, now that the table has so many entries.
-    pub(crate) fn move_down(&mut self, gap: Run, entries: usize)
-        requires none { entries ≤ gap.start → NoneLiesBehind gap self.old }
+    /// Moves the starts of all runs after a closed gap down. `entries` is the number of entries of the page table after
+    /// the gap was closed.
+    pub(crate) fn move_down(&mut self, gap: PageRun, entries: usize)
+        requires none { entries ≤ gap.start → NoneLiesAfter gap self.old }
         requires small { gap.start + gap.count < 2 ^ 16 }
         ensures moved { HasMovedDown gap self.old self.new }
         ensures capacity { self.new.capacity ≡ self.old.capacity }
@@ -125,15 +126,15 @@ impl Spaces {
     }
 }
 
-/// What is kept under a key.
-fn kept_under(kept: &Slab<Kept>, key: usize) -> Kept
+/// Returns the stored part of the dataspace under a key.
+fn kept_under(kept: &Slab<DataspaceEntry>, key: usize) -> DataspaceEntry
     requires { ContainsKey kept.now key }
     ensures { get kept.now key ≡ Some result }
 {
     *kept.get(key).unwrap()
 }
 
-/// Moves those of the first so many starts that lie behind a start down by so much.
+/// Moves those of the first `used` starts that are greater than `from` down by `by`.
 fn move_starts(starts: &mut [u16], used: usize, from: u16, by: u16)
     requires { used ≤ length starts.old }
     ensures { HaveMoved from by used starts.old starts.new }
@@ -143,7 +144,7 @@ fn move_starts(starts: &mut [u16], used: usize, from: u16, by: u16)
     }
 }
 
-/// Where a run starts once a gap is closed. It has no branch, so that the compiler moves eight starts at once.
+/// Returns a run's start after a gap is closed. It has no branch, so that the compiler moves eight starts at once.
 fn start_after(from: u16, by: u16, start: u16) -> u16
     ensures { result ≡ after from by start }
 {

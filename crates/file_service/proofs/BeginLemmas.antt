@@ -25,7 +25,7 @@ use Rattle.sliced_heap.specs.Sliced.{sliced_tag, is_sliced_tag, sliced_of, block
 use Rattle.sliced_heap.proofs.ShareLemmas.{get-sliced_regions, in_numbered}
 use Rattle.dataspace_core.proofs.ShareLaws.{in_share}
 use Rattle.server_frame.specs.Session.{IsSessionHeap, HasBlocksAlone, holding_of}
-use Rattle.file_service.specs.Furnished.{IsShare, KeepsNodes, is_lent_tag, lent_regions}
+use Rattle.file_service.specs.SoundHeaps.{IsShare, KeepsNodes, is_lent_tag, lent_regions}
 use Rattle.file_service.proofs.LentLemmas.{lent_number}
 
 -- a session's share of a map is one that a map can have

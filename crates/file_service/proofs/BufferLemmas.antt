@@ -30,14 +30,14 @@ use Rattle.sliced_heap.proofs.ShareLemmas.{IsShownAs, shown_block, numbered-inse
 use Rattle.sliced_heap.proofs.WindowLemmas.{IsPut, is_put, blocks_in_place, blocks_attached, blocks_detached}
 use Rattle.sliced_heap.specs.declared.heap.SlicedHeap.{SlicedHeap}
 use Rattle.sliced_heap.specs.Heap.{payer_of, share_at}
-use Rattle.sliced_heap.specs.Laws.{HeapStays}
+use Rattle.sliced_heap.specs.Theorems.{HeapStays}
 use Rattle.sliced_heap.specs.Sliced.{sliced_tag}
 use Rattle.sliced_heap.proofs.HeapLaws.{heap_stays_among, map_stays_for_payer}
 use Rattle.server_frame.specs.Session.{holding_of}
 use Rattle.file_service.specs.Found.{FindsContent}
-use Rattle.file_service.specs.Furnished.{IsFurnished, StaysFurnished, stock, is_lent_tag, lent_regions}
-use Rattle.file_service.specs.Lent.{StandsLent, TakesBuffer, GivesBuffer, FillsBuffer}
-use Rattle.file_service.specs.declared.session.Lent.{Lent}
+use Rattle.file_service.specs.SoundHeaps.{HasSoundHeaps, KeepsSoundHeaps, stock, is_lent_tag, lent_regions}
+use Rattle.file_service.specs.SessionBuffer.{IsBufferAt, TakesBuffer, GivesBuffer, FillsBuffer}
+use Rattle.file_service.specs.declared.session.SessionBuffer.{SessionBuffer}
 use Rattle.file_service.proofs.BeginLemmas.{session_share}
 use Rattle.file_service.proofs.ContentLemmas.{chunk_in_map, stands_still, stands_more, stands_less}
 use Rattle.file_service.proofs.FurnishedLemmas.{ChangesContents, contents_stay_furnished, contents_held, nodes_stay_in}
@@ -54,7 +54,7 @@ granted_some n account none = grind (arith, nat_tests, some_by (is_valid_size n)
   some_by true o e = refl
   some_by false o e = absurd (none-some InvalidSize (sym e))
 
-module _ {heap : Heap} {sliced : SlicedHeap} {store : Store} {regions : Regions} (f : IsFurnished heap sliced store regions) where
+module _ {heap : Heap} {sliced : SlicedHeap} {store : Store} {regions : Regions} (f : HasSoundHeaps heap sliced store regions) where
   -- ---- it is taken
 
   module _ (ds size start : ℕ) {new : Store} (fresh : get store.spaces ds ≡ None) (becomes : PartBecomes (payer_of sliced) (part_with_space (part (payer_of sliced) store) ds size) store new)
@@ -112,7 +112,7 @@ module _ {heap : Heap} {sliced : SlicedHeap} {store : Store} {regions : Regions}
             count = omega (arith, count, ap len taken_stays.blocks, ap len none, len-empty nat_cmp Region, ap len lent_now, len-insert_new {X = Region} empty start (record { of = ds; pages = page_of size / 4096 }) (get-empty start));
           }
 
-      pub taken_furnished : StaysFurnished sliced heap sliced store new regions after
+      pub taken_furnished : KeepsSoundHeaps sliced heap sliced store new regions after
       taken_furnished = contents_stay_furnished f taken_changes
 
       pub taken_buffer : TakesBuffer size (record { space = record { 0 = ds }; start = start }) (stock heap sliced store regions) (stock heap sliced new after) (holding_of sliced new after) new
@@ -124,7 +124,7 @@ module _ {heap : Heap} {sliced : SlicedHeap} {store : Store} {regions : Regions}
 
   -- ---- where it stands
 
-  module _ (lent : Lent) (stands : StandsLent lent (holding_of sliced store regions)) where
+  module _ (lent : SessionBuffer) (stands : IsBufferAt lent (holding_of sliced store regions)) where
     abbrev region : Region
     region = record { of = lent.space.0; pages = stands.pages }
 
@@ -220,7 +220,7 @@ module _ {heap : Heap} {sliced : SlicedHeap} {store : Store} {regions : Regions}
             count = omega (arith, count_left, ap len given_stays.blocks, one_lent, ap len none_left ∙ len-empty nat_cmp Region);
           }
 
-      pub given_furnished : StaysFurnished sliced heap sliced store new regions less
+      pub given_furnished : KeepsSoundHeaps sliced heap sliced store new regions less
       given_furnished = contents_stay_furnished f given_changes
 
       pub given_buffer : GivesBuffer lent (stock heap sliced store regions) (stock heap sliced new less) (holding_of sliced new less) store
@@ -279,7 +279,7 @@ module _ {heap : Heap} {sliced : SlicedHeap} {store : Store} {regions : Regions}
         count = omega (arith, filled_count, ap len filled_stays.blocks, ap len filled_lent);
       }
 
-      pub filled_furnished : StaysFurnished sliced heap sliced store new regions regions
+      pub filled_furnished : KeepsSoundHeaps sliced heap sliced store new regions regions
       filled_furnished = contents_stay_furnished f filled_changes
 
       pub filled_buffer : FillsBuffer lent place bytes (stock heap sliced store regions) (stock heap sliced new regions) (holding_of sliced new regions) store new

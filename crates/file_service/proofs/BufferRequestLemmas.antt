@@ -18,19 +18,19 @@ use Rattle.own_model.specs.FileText.FileError.{Gap}
 use Rattle.own_model.specs.FileText.FileReply.{Count, Refused}
 use Rattle.region_map.specs.Regions.{Regions}
 use Rattle.dataspace_core.specs.Store.{Store, space_at}
-use Rattle.server_frame.specs.Lent.{IsEffect, bytes_lent}
+use Rattle.server_frame.specs.SessionBuffer.{IsEffect, bytes_lent}
 use Rattle.server_frame.specs.Session.{holding_of}
-use Rattle.calls.specs.Told.{Told}
+use Rattle.core_calls.specs.ReplyText.{Told}
 use Rattle.server_frame.specs.declared.effect.Effect.{Effect}
 use Rattle.server_frame.specs.declared.effect.Effect.TheVariants.{Nothing}
 use Rattle.session_proto.specs.File.{model_request}
 use Rattle.session_proto.specs.declared.file.FileRequest.{FileRequest}
-use Rattle.file_service.specs.Furnished.{Stock}
-use Rattle.file_service.specs.Rooms.{stock_of, StayFurnished, KeepsRooms}
-use Rattle.file_service.specs.Lent.{FillsBuffer, TakesBuffer, HasBuffer, buffer_key}
+use Rattle.file_service.specs.SoundHeaps.{Stock}
+use Rattle.file_service.specs.SessionHeaps.{stock_of, StaySoundHeaps, KeepsRooms}
+use Rattle.file_service.specs.SessionBuffer.{FillsBuffer, TakesBuffer, HasBuffer, buffer_key}
 use Rattle.file_service.specs.Session.{files_in, served_in, session_served, Answers, HasFiles, IsAnswered, IsReady, Leaves, LeavesSession, Serves}
 use Rattle.file_service.specs.declared.session.FileSession.{FileSession}
-use Rattle.file_service.specs.declared.session.Lent.{Lent}
+use Rattle.file_service.specs.declared.session.SessionBuffer.{SessionBuffer}
 use Rattle.file_service.proofs.RequestLemmas.{told_text}
 use Rattle.file_service.proofs.SourceLemmas.{buffer_kept, buffer_same}
 
@@ -78,7 +78,7 @@ pub read_as : (text : List ℕ) (read request : FileRequest) → read ≡ reques
 read_as text read request same is = sym is ∙ ap (λ r. Some (model_request r)) same
 
 -- a session lends bytes where it lends anything
-lends_some : (lent : Option Lent) (store : Store) → is_some (bytes_lent store (buffer_key lent)) ≡ is_some lent
+lends_some : (lent : Option SessionBuffer) (store : Store) → is_some (bytes_lent store (buffer_key lent)) ≡ is_some lent
 lends_some None store = refl
 lends_some (Some lent) store = refl
 
@@ -135,8 +135,8 @@ module _ {session : FileSession} {store : Store} {regions : Regions} (ready : Is
         (subst (λ p. Answers (session_served (Some (OfBuffer (Make n))) session store regions) p session session store regions) (sym is) all))
 
     -- else it is lent
-    pub make_done : (lent : Lent) {new : Store} {after : Regions} → alloc_refusal n has.account ≡ None →
-        TakesBuffer n lent has (stock_of session.rooms new after) (holding_of session.rooms.contents new after) new → StayFurnished session.rooms session.rooms store new regions after →
+    pub make_done : (lent : SessionBuffer) {new : Store} {after : Regions} → alloc_refusal n has.account ≡ None →
+        TakesBuffer n lent has (stock_of session.rooms new after) (holding_of session.rooms.contents new after) new → StaySoundHeaps session.rooms session.rooms store new regions after →
         Answers (session_served (Some (OfBuffer (Make n))) session store regions) model.FileReply.Lent session (record session { buffer = Some lent }) new after
     make_done lent {new} {after} covered taken stays =
         let is = sym (served_by None covered) in
@@ -152,9 +152,9 @@ module _ {session : FileSession} {store : Store} {regions : Regions} (ready : Is
         }
 
   -- a get fills the buffer
-  pub got_filled : (lent : Lent) (place n : ℕ) (bytes part : List ℕ) (served : BufferServed) {new : Store} → session.buffer ≡ Some lent →
+  pub got_filled : (lent : SessionBuffer) (place n : ℕ) (bytes part : List ℕ) (served : BufferServed) {new : Store} → session.buffer ≡ Some lent →
       FillsBuffer lent place bytes (stock_of session.rooms store regions) (stock_of session.rooms new regions) (holding_of session.rooms.contents new regions) store new →
-      StayFurnished session.rooms session.rooms store new regions regions → bytes ≡ part → length part ≡ n →
+      StaySoundHeaps session.rooms session.rooms store new regions regions → bytes ≡ part → length part ≡ n →
       served ≡ beside (option_map (λ b. with_bytes b place part) lends) (told (Count (length part)) (files_in session has) has.account) →
       Answers served (Count n) session session new regions
   got_filled lent place n bytes part served {new} lent_is filled stays same long is = record {
@@ -195,7 +195,7 @@ module _ {session : FileSession} {store : Store} {regions : Regions} (ready : Is
   -- a request of the buffer is answered as it is served, and what it does to the buffer is told
   pub buffer_answered : {later : FileSession} {new : Store} {after : Regions} (text : List ℕ) (request : BufferRequest) (reply : model.FileReply) (effect does : Effect) (told_now told_then : Told) →
       session_request text ≡ Some (OfBuffer request) → Answers (session_served (Some (OfBuffer request)) session store regions) reply session later new after →
-      effect ≡ does → IsEffect does (buffer_key session.buffer) (buffer_key later.buffer) → StayFurnished session.rooms later.rooms store new regions after →
+      effect ≡ does → IsEffect does (buffer_key session.buffer) (buffer_key later.buffer) → StaySoundHeaps session.rooms later.rooms store new regions after →
       told_then ≡ record told_now { text = file_reply reply } → told_now.lines ≡ [] →
       IsAnswered (session_served (session_request text) session store regions) effect told_then session later store new regions after
   buffer_answered {later} {new} {after} text request reply effect does told_now told_then reads answers same is_effect stays tells none =

@@ -23,15 +23,15 @@ use Rattle.dataspace_core.proofs.PartLaws.{account_by, account_of-part}
 use Rattle.dataspace_core.proofs.ShareLaws.{get-tags_of, in_share}
 use Rattle.heap_core.specs.declared.heap.Heap.{Heap}
 use Rattle.heap_core.specs.Heap.{large_tag}
-use Rattle.heap_core.specs.Laws.{block_region}
+use Rattle.heap_core.specs.Theorems.{block_region}
 use Rattle.sliced_heap.proofs.ShareLemmas.{told_region, shown_block, kept_tag}
 use Rattle.sliced_heap.specs.declared.heap.SlicedHeap.{SlicedHeap}
 use Rattle.sliced_heap.specs.Heap.{payer_of, share_at, blocks_at, IsNoBlock, IsSound as IsSoundSliced, KeepsOthers, TakesBlock, GivesBlock, HoldsRange}
-use Rattle.sliced_heap.specs.Laws.{Pokes}
+use Rattle.sliced_heap.specs.Theorems.{Pokes}
 use Rattle.sliced_heap.specs.Sliced.{sliced_tag, block_regions, payload_of}
 use Rattle.sliced_heap.proofs.BlockLemmas.{payload_at, is_of}
 use Rattle.sliced_heap.proofs.HeapLaws.{payload_poked}
-use Rattle.file_service.specs.Furnished.{IsFurnished, KeepsLent}
+use Rattle.file_service.specs.SoundHeaps.{HasSoundHeaps, KeepsLent}
 use Rattle.file_service.proofs.LentLemmas.{lent_in, lent_stays, lent_attached, lent_detached}
 use Rattle.sliced_heap.specs.Window.{low_region}
 use Rattle.sliced_heap.proofs.BesideLemmas.{gap_is_free, lie_with, lie_without}
@@ -76,7 +76,7 @@ numbered_alike p q (Some k) (Some r) alike =
 high_number : (spaces : NatMap (List ℕ)) (tag : ℕ) (o : Option Region) → nat_le tag large_tag ≡ false → numbered_in spaces (Some tag) o ≡ None
 high_number spaces tag o high = rw high refl
 
-module _ {heap : Heap} {sliced : SlicedHeap} {store : Store} {regions : Regions} (f : IsFurnished heap sliced store regions) where
+module _ {heap : Heap} {sliced : SlicedHeap} {store : Store} {regions : Regions} (f : HasSoundHeaps heap sliced store regions) where
   -- the account, its share, and its part
   abbrev a : ℕ
   a = payer_of sliced

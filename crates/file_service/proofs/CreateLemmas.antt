@@ -20,7 +20,7 @@ use Rattle.heap_core.proofs.TakesGrownLemmas.{growth_fits}
 use Rattle.sliced_heap.specs.Chain.{is_listed}
 use Rattle.file_service.specs.Calls.{TakesNode, TakesInHole, TakesInChunk}
 use Rattle.file_service.specs.Files.{node_at, file_at, StandAt}
-use Rattle.file_service.specs.Furnished.{Stock}
+use Rattle.file_service.specs.SoundHeaps.{Stock}
 use Rattle.file_service.specs.Session.{IsFresh}
 use Rattle.file_service.specs.Node.{FileNode, node_of}
 use Rattle.file_service.proofs.KeptLemmas.{Stays, stand_kept, files_kept, blocks_are}

@@ -17,7 +17,7 @@ use Rattle.own_model.proofs.NatMapLemmas.{get-remove}
 use Rattle.sliced_heap.specs.Chain.{is_listed}
 use Rattle.file_service.specs.Calls.{payload_in, content_given, HasBytes}
 use Rattle.file_service.specs.Files.{file_at, StandAt}
-use Rattle.file_service.specs.Furnished.{Stock}
+use Rattle.file_service.specs.SoundHeaps.{Stock}
 use Rattle.file_service.specs.Index.{ChangesTails, IsNamed, KeepsPlace, LeadsBack, previous_at}
 use Rattle.file_service.specs.Node.{FileNode}
 use Rattle.file_service.specs.Session.{IsFound, KeepsOwn, LinksTo, Serves, Unlists, served_in}

@@ -21,7 +21,7 @@ use Rattle.sliced_heap.specs.declared.heap.SlicedHeap.{SlicedHeap}
 use Rattle.sliced_heap.specs.Heap.{payer_of, share_at}
 use Rattle.sliced_heap.specs.Sliced.{sliced_tag, is_sliced_tag, block_regions}
 use Rattle.server_frame.specs.Session.{HasBlocksAlone, holding_of}
-use Rattle.file_service.specs.Furnished.{IsFurnished, KeepsSession, lent_regions}
+use Rattle.file_service.specs.SoundHeaps.{HasSoundHeaps, KeepsSession, lent_regions}
 use Rattle.file_service.proofs.LentLemmas.{lent_places, lent_elsewhere}
 use Rattle.file_service.proofs.FurnishedLemmas.{ChangesNodes, nodes_are, nodes_kept}
 use Rattle.dataspace_core.proofs.PartLaws.{account_by}
@@ -49,7 +49,7 @@ module _ (account : ℕ) (old new : Store) (regions after : Regions) (kept : Kee
   blocks_kept : block_regions (share_at account new after) ≡ block_regions (share_at account old regions)
   blocks_kept = same _ _ (λ s. block_is account new after s ∙ shown_still s _ refl ∙ sym (block_is account old regions s))
 
-module _ {heap later : Heap} {sliced : SlicedHeap} {store new : Store} {regions after : Regions} (f : IsFurnished heap sliced store regions) (given : GivesAll heap later store new regions after)
+module _ {heap later : Heap} {sliced : SlicedHeap} {store new : Store} {regions after : Regions} (f : HasSoundHeaps heap sliced store regions) (given : GivesAll heap later store new regions after)
     (sound : IsSoundHeap later new after) (others : KeepsShares (heap_payer heap) store new regions.heap regions.tags after.heap after.tags) (payer : heap_payer later ≡ heap_payer heap) where
   -- what no chunk and no large block shows is neither
   no_block : (k : ℕ) → IsNoHeapBlock regions k → IsNoBlock heap (share_at (heap_payer heap) store regions) k

@@ -6,7 +6,7 @@ use Rattle.own_model.specs.NatMap.{NatMap}
 use Rattle.own_model.specs.OwnHeap.{OwnHeap}
 use Rattle.sliced_heap.specs.Chain.{is_listed}
 use Rattle.file_service.specs.Files.{node_at, nodes_from, StandAt}
-use Rattle.file_service.specs.Furnished.{Stock}
+use Rattle.file_service.specs.SoundHeaps.{Stock}
 use Rattle.file_service.specs.Index.{AreFiles, CanEnter, ChangesTree, Enters, IsPadded, KeepsPlace, previous_at}
 use Rattle.file_service.specs.Links.{last_of}
 use Rattle.file_service.specs.Node.{FileNode, rank_of}

@@ -12,12 +12,12 @@ use Rattle.sliced_heap.specs.Sliced.{sliced_of}
 use Rattle.server_frame.specs.Session.{holding_of}
 use Rattle.file_service.specs.Calls.{HasBytes, payload_in, content_written}
 use Rattle.file_service.specs.Found.{FindsContent, IsElsewhere, IsThere}
-use Rattle.file_service.specs.Furnished.{IsFurnished, KeepsSession, stock}
+use Rattle.file_service.specs.SoundHeaps.{HasSoundHeaps, KeepsSession, stock}
 use Rattle.file_service.proofs.ContentLemmas.{poke_changes, poke_account, poke_lent, pokes}
 use Rattle.file_service.proofs.FoundLemmas.{content_put, content_read, found_becomes}
 use Rattle.file_service.proofs.FurnishedLemmas.{contents_kept, nodes_stay_in}
 
-module _ {heap : Heap} {sliced : SlicedHeap} {store : Store} {regions : Regions} (f : IsFurnished heap sliced store regions) (address offset : ℕ) (bytes : List ℕ) (ds at : ℕ)
+module _ {heap : Heap} {sliced : SlicedHeap} {store : Store} {regions : Regions} (f : HasSoundHeaps heap sliced store regions) (address offset : ℕ) (bytes : List ℕ) (ds at : ℕ)
     (has : HasBytes (sliced_of (holding_of sliced store regions)) address offset (length bytes)) (some : 1 ≤ length bytes) (found : FindsContent sliced store regions ds at address offset (length bytes))
     {new : Store} (written : PartBecomes (space_at store ds).payer (part_with_bytes (part (space_at store ds).payer store) ds at bytes) store new) where
   becomes : PartBecomes (payer_of sliced) (part_with_bytes (part (payer_of sliced) store) ds at bytes) store new
@@ -33,7 +33,7 @@ module _ {heap : Heap} {sliced : SlicedHeap} {store : Store} {regions : Regions}
   pub put_keeps : KeepsSession sliced heap sliced store new regions regions
   put_keeps = contents_kept f (poke_changes f ds at (address + offset) bytes found.held becomes) (poke_lent f ds at (address + offset) bytes found.held becomes)
 
-module _ {heap : Heap} {sliced : SlicedHeap} {store : Store} {regions : Regions} (f : IsFurnished heap sliced store regions) where
+module _ {heap : Heap} {sliced : SlicedHeap} {store : Store} {regions : Regions} (f : HasSoundHeaps heap sliced store regions) where
   -- bytes of another dataspace
   module _ (address offset source place count ds at : ℕ) (has : HasBytes (sliced_of (holding_of sliced store regions)) address offset count) (some : 1 ≤ count)
       (there : IsThere store source place count) (found : FindsContent sliced store regions ds at address offset count) {new : Store}

@@ -29,7 +29,7 @@ use Rattle.sliced_heap.proofs.ShareLemmas.{shown_block}
 use Rattle.server_frame.specs.Session.{holding_of}
 use Rattle.file_service.specs.Calls.{HasBytes, payload_in, content_written}
 use Rattle.file_service.specs.Found.{FindsContent, IsThere}
-use Rattle.file_service.specs.Furnished.{IsFurnished, Stock}
+use Rattle.file_service.specs.SoundHeaps.{HasSoundHeaps, Stock}
 use Rattle.file_service.proofs.FurnishedLemmas.{contents_held}
 
 -- an option is there where what it tells as none can't be
@@ -50,7 +50,7 @@ found_none payloads address count k payload none there from to = search (rules, 
 pub there_is : (m : NatMap (List ℕ)) (k : ℕ) → IsSome (get m k) → get m k ≡ Some (payload_in m k)
 there_is m k some = let e = some_of (get m k) some in e.1 ∙ ap (λ x. Some x) (sym (ap (λ (o : Option (List ℕ)). unwrap_or o []) e.1))
 
-module _ {heap : Heap} {sliced : SlicedHeap} {store : Store} {regions : Regions} (f : IsFurnished heap sliced store regions) (address into count : ℕ)
+module _ {heap : Heap} {sliced : SlicedHeap} {store : Store} {regions : Regions} (f : HasSoundHeaps heap sliced store regions) (address into count : ℕ)
     (has : HasBytes (sliced_of (holding_of sliced store regions)) address into count) (some : 1 ≤ count) where
   abbrev S : Share
   S = share_at (payer_of sliced) store regions
@@ -109,7 +109,7 @@ module _ {heap : Heap} {sliced : SlicedHeap} {store : Store} {regions : Regions}
 
 -- ---- what is read and written there
 
-module _ {heap : Heap} {sliced : SlicedHeap} {store : Store} {regions : Regions} (f : IsFurnished heap sliced store regions) (address into count ds offset : ℕ)
+module _ {heap : Heap} {sliced : SlicedHeap} {store : Store} {regions : Regions} (f : HasSoundHeaps heap sliced store regions) (address into count ds offset : ℕ)
     (has : HasBytes (sliced_of (holding_of sliced store regions)) address into count) (some : 1 ≤ count) (found : FindsContent sliced store regions ds offset address into count) where
   -- who pays for the dataspace
   pub found_paid : IsPaidBy (payer_of sliced) ds found.held.bytes store

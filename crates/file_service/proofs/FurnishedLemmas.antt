@@ -13,16 +13,16 @@ use Rattle.dataspace_core.specs.Share.{Share, share_in, KeepsShares}
 use Rattle.dataspace_core.specs.Store.{Store, part, account_in, IsOpenIn}
 use Rattle.heap_core.specs.declared.heap.Heap.{Heap}
 use Rattle.heap_core.specs.Heap.{payer_of as heap_payer, heap_in, heap_at, IsLaid, IsSound as IsSoundHeap}
-use Rattle.heap_core.specs.Laws.{block_region, HeapStays as OwnHeapStays}
+use Rattle.heap_core.specs.Theorems.{block_region, HeapStays as OwnHeapStays}
 use Rattle.heap_core.proofs.StayLemmas.{heap_stays}
 use Rattle.sliced_heap.specs.declared.heap.SlicedHeap.{SlicedHeap}
 use Rattle.sliced_heap.specs.Heap.{payer_of, share_at, blocks_at, IsSound as IsSoundSliced, KeepsOthers}
-use Rattle.sliced_heap.specs.Laws.{HeapStays}
+use Rattle.sliced_heap.specs.Theorems.{HeapStays}
 use Rattle.sliced_heap.specs.Sliced.{sliced_of, block_regions}
 use Rattle.sliced_heap.proofs.HeapLaws.{heap_stays_among}
 use Rattle.sliced_heap.proofs.ShareLemmas.{shown_block}
 use Rattle.server_frame.specs.Session.{holding, holding_of}
-use Rattle.file_service.specs.Furnished.{IsFurnished, KeepsLent, StaysFurnished, KeepsSession, lent_regions, stock}
+use Rattle.file_service.specs.SoundHeaps.{HasSoundHeaps, KeepsLent, KeepsSoundHeaps, KeepsSession, lent_regions, stock}
 use Rattle.file_service.proofs.LentLemmas.{shown_lent}
 use Rattle.sliced_heap.proofs.BesideLemmas.{map_of, maps_memory}
 use Rattle.sliced_heap.specs.Window.{IsNoHeapBlock}
@@ -91,7 +91,7 @@ pub record ChangesNodes (account : ℕ) (heap : Heap) (store : Store) (regions :
   pub no_large : (heap_at later new after).large ≡ (heap_at heap store regions).large
   pub count : len (part account new).spaces + length (heap_at heap store regions).shape.chunks ≡ len (part account store).spaces + length (heap_at later new after).shape.chunks
 
-module _ {heap : Heap} {sliced : SlicedHeap} {store : Store} {regions : Regions} (f : IsFurnished heap sliced store regions) where
+module _ {heap : Heap} {sliced : SlicedHeap} {store : Store} {regions : Regions} (f : HasSoundHeaps heap sliced store regions) where
   -- the account
   abbrev pub a : ℕ
   a = payer_of sliced
@@ -121,7 +121,7 @@ module _ {heap : Heap} {sliced : SlicedHeap} {store : Store} {regions : Regions}
       bytes = λ s r lent. let is = shown_lent (payer_of sliced) store regions s r lent in c.kept r.of is.paid (lent_no_chunk s r is.there is.tag);
     }
 
-    nodes_stay_furnished : StaysFurnished sliced later sliced store new regions after
+    nodes_stay_furnished : KeepsSoundHeaps sliced later sliced store new regions after
     unfolding share_in
     nodes_stay_furnished = record {
       furnished = record {
@@ -190,7 +190,7 @@ module _ {heap : Heap} {sliced : SlicedHeap} {store : Store} {regions : Regions}
     contents_now : sliced_of (holding_of now new after) ≡ blocks_at (payer_of sliced) new after
     contents_now = contents_held (share_at (payer_of now) new after) ∙ ap (λ x. blocks_at x new after) c.payer
 
-    pub contents_stay_furnished : StaysFurnished sliced heap now store new regions after
+    pub contents_stay_furnished : KeepsSoundHeaps sliced heap now store new regions after
     unfolding share_in
     contents_stay_furnished = record {
       furnished = record {

@@ -20,7 +20,7 @@ use Rattle.own_model.proofs.NatMapLemmas.{get-insert_same, get-insert_other}
 use Rattle.sliced_heap.specs.Chain.{is_listed}
 use Rattle.file_service.specs.Calls.{payload_in, content_taken, content_copied, content_written, HasBytes}
 use Rattle.file_service.specs.Files.{node_at, file_at, files_of, StandAt, HasContent}
-use Rattle.file_service.specs.Furnished.{Stock}
+use Rattle.file_service.specs.SoundHeaps.{Stock}
 use Rattle.file_service.specs.Node.{FileNode}
 use Rattle.file_service.specs.Session.{files_in, served_in, HasFiles, IsFound, IsOwn, KeepsOwn, Serves}
 use Rattle.file_service.specs.declared.session.FileSession.{FileSession}

@@ -15,7 +15,7 @@ use Rattle.dataspace_core.proofs.ShareLaws.{get-tags_of, each_shown, in_share}
 use Rattle.heap_core.specs.Calls.{KeepsElsewhere}
 use Rattle.sliced_heap.specs.Window.{share_at, numbered}
 use Rattle.sliced_heap.proofs.ShareLemmas.{IsShownAs, get-numbered, in_numbered, kept_tag, numbered-insert_other}
-use Rattle.file_service.specs.Furnished.{is_lent_tag, lent_regions, KeepsLent}
+use Rattle.file_service.specs.SoundHeaps.{is_lent_tag, lent_regions, KeepsLent}
 
 -- the regions of no heap in a map
 abbrev pub lent_in : Regions → NatMap Region

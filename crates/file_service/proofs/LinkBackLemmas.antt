@@ -6,7 +6,7 @@ use Rattle.std.specs.Option.{unwrap_or}
 use Rattle.trade_base.specs.Word.{word_bytes}
 use Rattle.trade_base.proofs.WordLemmas.{length-word_bytes}
 use Rattle.file_service.specs.Calls.{HasBytes, node_stored}
-use Rattle.file_service.specs.Furnished.{Stock}
+use Rattle.file_service.specs.SoundHeaps.{Stock}
 use Rattle.file_service.specs.Index.{LinksBack}
 use Rattle.file_service.specs.Node.{word_from}
 use Rattle.file_service.proofs.TailLemmas.{tails_stored, tail_others, word_before, word_put}

@@ -14,7 +14,7 @@ use Rattle.dataspace_core.specs.Store.{Store}
 use Rattle.heap_core.specs.declared.heap.Heap.{Heap}
 use Rattle.sliced_heap.specs.declared.heap.SlicedHeap.{SlicedHeap}
 use Rattle.file_service.specs.Calls.{node_stored}
-use Rattle.file_service.specs.Furnished.{KeepsSession, Stock, stock}
+use Rattle.file_service.specs.SoundHeaps.{KeepsSession, Stock, stock}
 use Rattle.file_service.specs.Index.{ChangesTree, IsNameNode, IsPadded, KeepsNames, links_at, names_in, name_plan}
 use Rattle.file_service.specs.Node.{FileNode, node_of, rank_of, word_from}
 use Rattle.file_service.proofs.TailLemmas.{tail_node, tail_others, tail_padded, tails_stored, word_behind, word_put}

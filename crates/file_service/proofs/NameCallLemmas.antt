@@ -10,7 +10,7 @@ use Rattle.own_model.specs.OwnHeap.{OwnHeap}
 use Rattle.heap_core.specs.declared.heap.Heap.{Heap}
 use Rattle.sliced_heap.specs.declared.heap.SlicedHeap.{SlicedHeap}
 use Rattle.sliced_heap.specs.Chain.{is_listed}
-use Rattle.file_service.specs.Furnished.{IsFurnished, Stock, stock}
+use Rattle.file_service.specs.SoundHeaps.{HasSoundHeaps, Stock, stock}
 use Rattle.file_service.specs.Index.{CanEnter, ChangesTree, IsNamed, IsNameNode, IsPadded, Seeks, names_in, names_of, name_plan}
 use Rattle.file_service.specs.Node.{FileNode}
 use Rattle.file_service.proofs.IndexLemmas.{KeepsNodes, enter_new, in_tree, name_found, named_nodes, tree_low}
@@ -20,7 +20,7 @@ use Rattle.file_service.proofs.TailLemmas.{tail_node, tail_padded}
 pub named_stands : {Rest : Type 0} (rest : Rest) (root : ℕ) (nodes : OwnHeap) (blocks : List ℕ) (n : IsNamed root nodes blocks) → Stands name_plan (names_in rest nodes) n.tree root
 named_stands rest root nodes blocks n = stands_same name_plan (names_of nodes) (names_in rest nodes) n.tree root (λ a there. (refl, refl)) n.stands
 
-module _ (heap : Heap) (sliced : SlicedHeap) (store : Store) (regions : Regions) (furnished : IsFurnished heap sliced store regions) where
+module _ (heap : Heap) (sliced : SlicedHeap) (store : Store) (regions : Regions) (furnished : HasSoundHeaps heap sliced store regions) where
   abbrev nodes : OwnHeap
   nodes = (stock heap sliced store regions).nodes
 

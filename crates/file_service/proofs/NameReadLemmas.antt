@@ -11,7 +11,7 @@ use Rattle.sliced_heap.specs.declared.heap.SlicedHeap.{SlicedHeap}
 use Rattle.file_service.specs.Calls.{payload_in}
 use Rattle.file_service.specs.Files.{node_at}
 use Rattle.file_service.specs.Found.{FindsNode}
-use Rattle.file_service.specs.Furnished.{stock}
+use Rattle.file_service.specs.SoundHeaps.{stock}
 use Rattle.file_service.specs.Index.{IsNameNode, KeepsNames}
 use Rattle.file_service.specs.NameLaws.{names_same}
 use Rattle.file_service.specs.Node.{FileNode, bytes_of, name_bytes, rank_by, rank_of, word_from}

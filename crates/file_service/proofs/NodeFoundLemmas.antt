@@ -15,12 +15,12 @@ use Rattle.sliced_heap.specs.declared.heap.SlicedHeap.{SlicedHeap}
 use Rattle.server_frame.specs.Session.{holding_of}
 use Rattle.file_service.specs.Calls.{HasBytes, payload_in}
 use Rattle.file_service.specs.Found.{FindsNode}
-use Rattle.file_service.specs.Furnished.{IsFurnished}
+use Rattle.file_service.specs.SoundHeaps.{HasSoundHeaps}
 use Rattle.file_service.proofs.FoundLemmas.{there_is}
 use Rattle.file_service.proofs.FurnishedLemmas.{nodes_are}
 use Rattle.file_service.proofs.NodePlaceLemmas.{one_payload}
 
-module _ {heap : Heap} {sliced : SlicedHeap} {store : Store} {regions : Regions} (f : IsFurnished heap sliced store regions) (address : ℕ)
+module _ {heap : Heap} {sliced : SlicedHeap} {store : Store} {regions : Regions} (f : HasSoundHeaps heap sliced store regions) (address : ℕ)
     (has : HasBytes (heap_in heap (holding_of sliced store regions)).payloads address 0 96) (into count : ℕ) (some : 1 ≤ count) (few : into + count ≤ 96) where
   abbrev payload : List ℕ
   payload = payload_in (heap_in heap (holding_of sliced store regions)).payloads address

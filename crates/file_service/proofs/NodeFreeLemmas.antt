@@ -28,7 +28,7 @@ use Rattle.heap_core.proofs.StandLemmas.{chunk_blocks, chunk_total, count_blocks
 use Rattle.heap_core.proofs.TakenLemmas.{in_other}
 use Rattle.sliced_heap.specs.declared.heap.SlicedHeap.{SlicedHeap}
 use Rattle.server_frame.specs.Session.{holding_of}
-use Rattle.file_service.specs.Furnished.{IsFurnished}
+use Rattle.file_service.specs.SoundHeaps.{HasSoundHeaps}
 use Rattle.sliced_heap.proofs.BesideLemmas.{gap_is_free}
 use Rattle.file_service.proofs.FurnishedLemmas.{nodes_are}
 use Rattle.file_service.proofs.NodeCallLemmas.{shape_is}
@@ -96,7 +96,7 @@ module _ (heap : Heap) (store : Store) (regions : Regions) (sound : IsSoundHeap 
   grown_free later n address new after sound' takes = grind (arith, nat_tests, get-insert_same, chunk_free, gap_is_free)
 
 -- where a node's block is taken there was none
-pub node_free : {heap later : Heap} {sliced : SlicedHeap} {store new : Store} {regions after : Regions} (f : IsFurnished heap sliced store regions) → IsSoundHeap later new after → (address : ℕ) →
+pub node_free : {heap later : Heap} {sliced : SlicedHeap} {store new : Store} {regions after : Regions} (f : HasSoundHeaps heap sliced store regions) → IsSoundHeap later new after → (address : ℕ) →
     ((hole : Spot) → hole_for node_size (shape_in heap (part (heap_payer heap) store)) ≡ Some hole → TakesSmall heap later node_size hole address store new regions after) →
     (hole_for node_size (shape_in heap (part (heap_payer heap) store)) ≡ None → TakesGrown heap later node_size address store new regions after) →
     get (heap_in heap (holding_of sliced store regions)).payloads address ≡ None

@@ -20,13 +20,13 @@ use Rattle.sliced_heap.specs.declared.heap.SlicedHeap.{SlicedHeap}
 use Rattle.sliced_heap.specs.Heap.{payer_of}
 use Rattle.server_frame.specs.Session.{holding_of}
 use Rattle.file_service.specs.Calls.{GivesNode}
-use Rattle.file_service.specs.Furnished.{IsFurnished, KeepsSession, stock}
+use Rattle.file_service.specs.SoundHeaps.{HasSoundHeaps, KeepsSession, stock}
 use Rattle.file_service.proofs.FurnishedLemmas.{ChangesNodes, nodes_are, nodes_kept, contents_stay}
 use Rattle.file_service.proofs.NodeCallLemmas.{in_place, account_stays, chunks_given}
 use Rattle.file_service.proofs.NodePlaceLemmas.{given_at}
 use Rattle.file_service.proofs.ResultLemmas.{free_ok}
 
-module _ {heap : Heap} {sliced : SlicedHeap} {store : Store} {regions : Regions} (f : IsFurnished heap sliced store regions) (address : ℕ) where
+module _ {heap : Heap} {sliced : SlicedHeap} {store : Store} {regions : Regions} (f : HasSoundHeaps heap sliced store regions) (address : ℕ) where
   -- no large block starts there
   no_large : get (heap_at heap store regions).large address ≡ None
   no_large = ap (λ (h : OwnHeap). get h.large address) (sym (nodes_are heap sliced store regions f.payer)) ∙ ap (λ (m : NatMap ℕ). get m address) f.nodes.no_large ∙ get-empty address

@@ -18,7 +18,7 @@ use Rattle.dataspace_core.proofs.WindowLaws.{in_memory}
 use Rattle.heap_core.specs.declared.heap.Heap.{Heap}
 use Rattle.heap_core.specs.Calls.{HoldsRange}
 use Rattle.heap_core.specs.Heap.{payer_of as heap_payer, chunk_at, large_tag, share_at, IsSound as IsSoundHeap}
-use Rattle.heap_core.specs.Laws.{Pokes}
+use Rattle.heap_core.specs.Theorems.{Pokes}
 use Rattle.heap_core.specs.Words.{are_bytes}
 use Rattle.heap_core.proofs.FoundLemmas.{IsSmall, IsLarge, payload_from, used_inside}
 use Rattle.heap_core.proofs.LookupLemmas.{payload_some}

@@ -15,12 +15,12 @@ use Rattle.sliced_heap.specs.declared.heap.SlicedHeap.{SlicedHeap}
 use Rattle.sliced_heap.specs.Heap.{payer_of}
 use Rattle.server_frame.specs.Session.{holding_of}
 use Rattle.file_service.specs.Calls.{HasBytes, payload_in, node_stored}
-use Rattle.file_service.specs.Furnished.{IsFurnished, KeepsSession, stock}
+use Rattle.file_service.specs.SoundHeaps.{HasSoundHeaps, KeepsSession, stock}
 use Rattle.file_service.proofs.FurnishedLemmas.{ChangesNodes, nodes_are, nodes_kept, contents_stay}
 use Rattle.file_service.proofs.NodeFoundLemmas.{same_at, same_payload}
 use Rattle.file_service.proofs.NodeStoreLemmas.{pokes, poked_account, poked_changes}
 
-module _ {heap : Heap} {sliced : SlicedHeap} {store : Store} {regions : Regions} (f : IsFurnished heap sliced store regions) (address : ℕ)
+module _ {heap : Heap} {sliced : SlicedHeap} {store : Store} {regions : Regions} (f : HasSoundHeaps heap sliced store regions) (address : ℕ)
     (has : HasBytes (heap_in heap (holding_of sliced store regions)).payloads address 0 96) (into ds offset : ℕ) (bytes : List ℕ) (some : 1 ≤ length bytes) (few : into + length bytes ≤ 96)
     (held : HoldsRange heap store regions ds offset (address + into) (length bytes)) (are : are_bytes bytes ≡ true) {new : Store}
     (becomes : PartBecomes (heap_payer heap) (part_with_bytes (part (heap_payer heap) store) ds offset bytes) store new) where

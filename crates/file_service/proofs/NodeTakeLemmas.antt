@@ -19,7 +19,7 @@ use Rattle.sliced_heap.specs.declared.heap.SlicedHeap.{SlicedHeap}
 use Rattle.sliced_heap.specs.Heap.{payer_of}
 use Rattle.server_frame.specs.Session.{holding_of}
 use Rattle.file_service.specs.Calls.{TakesInHole, TakesInChunk}
-use Rattle.file_service.specs.Furnished.{IsFurnished, KeepsSession, stock}
+use Rattle.file_service.specs.SoundHeaps.{HasSoundHeaps, KeepsSession, stock}
 use Rattle.file_service.proofs.FurnishedLemmas.{ChangesNodes, nodes_are, nodes_kept, contents_stay}
 use Rattle.file_service.proofs.NodeCallLemmas.{in_place, attached, account_stays, grown_account, shape_is, chunks_taken, chunks_grown}
 
@@ -33,7 +33,7 @@ pub kept_by : {P : Spot → ℕ → Type 0} {Q : ℕ → Type 0} {A B C R E : Ty
 kept_by (Ok x) p q a b c f g = f x p q
 kept_by (Err e) p q a b c f g = g a b c
 
-module _ {heap : Heap} {sliced : SlicedHeap} {store : Store} {regions : Regions} (f : IsFurnished heap sliced store regions) where
+module _ {heap : Heap} {sliced : SlicedHeap} {store : Store} {regions : Regions} (f : HasSoundHeaps heap sliced store regions) where
   -- the shape of the nodes, as the heap's own account has it
   pub shape_there : (heap_in heap (holding_of sliced store regions)).shape ≡ shape_in heap (part (heap_payer heap) store)
   shape_there = ap (λ (h : OwnHeap). h.shape) (nodes_are heap sliced store regions f.payer) ∙ shape_is heap store regions

@@ -23,7 +23,7 @@ use Rattle.heap_core.proofs.FoundLemmas.{one_chunk}
 use Rattle.heap_core.proofs.StandLemmas.{blocks, chunk_total, count_blocks}
 use Rattle.server_frame.specs.Session.{holding}
 use Rattle.sliced_heap.specs.declared.heap.SlicedHeap.{SlicedHeap}
-use Rattle.file_service.specs.Furnished.{IsFurnished, stock}
+use Rattle.file_service.specs.SoundHeaps.{HasSoundHeaps, stock}
 
 -- chunks are made of blocks, and each address in one is that chunk's
 pub record HasPlaces (nodes : OwnHeap) : Type 0 where
@@ -124,6 +124,6 @@ pub starts_at : (nodes : OwnHeap) (growth : Growth) (start : ℕ) → HasPlaces 
 starts_at nodes growth start has = grind (arith, nat_tests, get_or-append_seam)
 
 -- the heap of a session that is furnished has places
-pub furnished_has_places : (heap : Heap) (sliced : SlicedHeap) (store : Store) (regions : Regions) → IsFurnished heap sliced store regions → HasPlaces (stock heap sliced store regions).nodes
+pub furnished_has_places : (heap : Heap) (sliced : SlicedHeap) (store : Store) (regions : Regions) → HasSoundHeaps heap sliced store regions → HasPlaces (stock heap sliced store regions).nodes
 furnished_has_places heap sliced store regions furnished =
     subst (λ k. HasPlaces (heap_in heap (holding (share_at k store regions)))) furnished.payer (heap_has_places heap store regions furnished.sound)

@@ -9,16 +9,16 @@ use Rattle.sliced_heap.specs.Heap.{payer_of, share_at}
 use Rattle.sliced_heap.proofs.BesideLemmas.{map_of}
 use Rattle.server_frame.specs.Session.{IsSessionAccount, holding_of}
 use Rattle.server_frame.proofs.HoldingLemmas.{heap_linked, session_heap}
-use Rattle.file_service.specs.Lent.{HasBuffer, KeepsBuffer}
+use Rattle.file_service.specs.SessionBuffer.{HasBuffer, KeepsBuffer}
 use Rattle.file_service.specs.Session.{IsReady, IsSession}
 use Rattle.file_service.specs.declared.session.FileSession.{FileSession}
-use Rattle.file_service.specs.declared.session.Lent.{Lent}
+use Rattle.file_service.specs.declared.session.SessionBuffer.{SessionBuffer}
 use Rattle.file_service.proofs.BeginLemmas.{session_share}
 use Rattle.file_service.proofs.FurnishedLemmas.{laid_back}
 use Rattle.file_service.proofs.SourceLemmas.{has_buffer}
 
 -- what stands is lent between requests
-keeps_buffer : (b : Option Lent) (share : Share) → HasBuffer b share → KeepsBuffer b share
+keeps_buffer : (b : Option SessionBuffer) (share : Share) → HasBuffer b share → KeepsBuffer b share
 keeps_buffer None share none = λ _. none
 keeps_buffer (Some lent) share stands = stands
 

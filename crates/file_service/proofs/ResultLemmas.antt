@@ -9,7 +9,7 @@ use Rattle.region_map.specs.Regions.{Regions}
 use Rattle.dataspace_core.specs.Store.{Store}
 use Rattle.heap_core.specs.declared.heap.Heap.{Heap}
 use Rattle.sliced_heap.specs.declared.heap.SlicedHeap.{SlicedHeap}
-use Rattle.file_service.specs.Furnished.{IsFurnished, KeepsSession}
+use Rattle.file_service.specs.SoundHeaps.{HasSoundHeaps, KeepsSession}
 
 -- what an accepted call tells gives more
 pub if_ok_then : {X E : Type 0} {P Q : X → Type 0} (r : Result X E) → IfOk r P → ((x : X) → P x → Q x) → IfOk r Q
@@ -22,7 +22,7 @@ either_way (Ok x) p a b c f g = f x p
 either_way (Err e) p a b c f g = g a b c
 
 -- to change nothing keeps a session
-pub keeps_same : {heap later : Heap} {sliced now : SlicedHeap} {store new : Store} {regions after : Regions} → IsFurnished heap sliced store regions →
+pub keeps_same : {heap later : Heap} {sliced now : SlicedHeap} {store new : Store} {regions after : Regions} → HasSoundHeaps heap sliced store regions →
     later ≡ heap → now ≡ sliced → new ≡ store → after ≡ regions → KeepsSession sliced later now store new regions after
 keeps_same {heap} {later} {sliced} {now} {store} {new} {regions} {after} f h s m r = search rules
 

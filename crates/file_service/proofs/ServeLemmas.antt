@@ -23,9 +23,9 @@ use Rattle.std.specs.FinMap.{get}
 use Rattle.own_model.specs.NatMap.{NatMap}
 use Rattle.own_model.specs.Region.{Region}
 use Rattle.file_service.specs.Files.{file_at}
-use Rattle.file_service.specs.Furnished.{Stock, IsFurnished, KeepsLent, StaysFurnished, KeepsSession}
-use Rattle.file_service.specs.Rooms.{stock_of}
-use Rattle.file_service.specs.declared.rooms.Rooms.{Rooms}
+use Rattle.file_service.specs.SoundHeaps.{Stock, HasSoundHeaps, KeepsLent, KeepsSoundHeaps, KeepsSession}
+use Rattle.file_service.specs.SessionHeaps.{stock_of}
+use Rattle.file_service.specs.declared.session_heaps.SessionHeaps.{SessionHeaps}
 use Rattle.file_service.specs.Index.{previous_at}
 use Rattle.file_service.specs.Node.{FileNode}
 use Rattle.file_service.specs.Node.{value_of as node_value}
@@ -36,7 +36,7 @@ use Rattle.file_service.specs.declared.session.FoundFile.{FoundFile}
 -- ---- what other accounts have
 
 -- nothing is done
-pub keeps_same : (heap : Heap) (sliced : SlicedHeap) (old new : Store) (regions : Regions) → IsFurnished heap sliced old regions → new ≡ old → KeepsSession sliced heap sliced old new regions regions
+pub keeps_same : (heap : Heap) (sliced : SlicedHeap) (old new : Store) (regions : Regions) → HasSoundHeaps heap sliced old regions → new ≡ old → KeepsSession sliced heap sliced old new regions regions
 keeps_same heap sliced old new regions furnished e = search rules
 
 -- what is lent stays through one thing after another
@@ -48,7 +48,7 @@ lent_both account old mid new regions middle after first next = record {
 
 -- so does a session
 pub stays_both : (heap later : Heap) (sliced between now : SlicedHeap) (old mid new : Store) (regions middle after : Regions) →
-    StaysFurnished sliced heap between old mid regions middle → StaysFurnished between later now mid new middle after → StaysFurnished sliced later now old new regions after
+    KeepsSoundHeaps sliced heap between old mid regions middle → KeepsSoundHeaps between later now mid new middle after → KeepsSoundHeaps sliced later now old new regions after
 stays_both heap later sliced between now old mid new regions middle after first next = search (rules, keeps_then)
 
 -- one thing after another
@@ -64,8 +64,8 @@ keeps_both heap later sliced between now old mid new regions middle after first 
 pub keeps_after : {later : Heap} {sliced now : SlicedHeap} {store mid new : Store} {regions after : Regions} → mid ≡ store → KeepsSession sliced later now mid new regions after → KeepsSession sliced later now store new regions after
 keeps_after {later} {sliced} {now} {store} {mid} {new} {regions} {after} same keeps = subst (λ m. KeepsSession sliced later now m new regions after) same keeps
 
-pub furnished_after : {heap : Heap} {sliced : SlicedHeap} {store mid : Store} {regions : Regions} → mid ≡ store → IsFurnished heap sliced store regions → IsFurnished heap sliced mid regions
-furnished_after {heap} {sliced} {store} {mid} {regions} same furnished = subst (λ m. IsFurnished heap sliced m regions) (sym same) furnished
+pub furnished_after : {heap : Heap} {sliced : SlicedHeap} {store mid : Store} {regions : Regions} → mid ≡ store → HasSoundHeaps heap sliced store regions → HasSoundHeaps heap sliced mid regions
+furnished_after {heap} {sliced} {store} {mid} {regions} same furnished = subst (λ m. HasSoundHeaps heap sliced m regions) (sym same) furnished
 
 pub files_after : (session : FileSession) (regions : Regions) {store mid : Store} → mid ≡ store → HasFiles session (stock_of session.rooms store regions) → HasFiles session (stock_of session.rooms mid regions)
 files_after session regions same files = subst (λ m. HasFiles session (stock_of session.rooms m regions)) (sym same) files
@@ -85,7 +85,7 @@ pub serves_same : (served : FileServed) (reply : model.FileReply) (session : Fil
 serves_same served reply session old new regions files e is = search (rules, serves_told)
 
 -- also where all is told to be the same
-pub serves_refused : (served : FileServed) (reply : model.FileReply) (session : FileSession) (rooms : Rooms) (old new : Store) (regions after : Regions) →
+pub serves_refused : (served : FileServed) (reply : model.FileReply) (session : FileSession) (rooms : SessionHeaps) (old new : Store) (regions after : Regions) →
     HasFiles session (stock_of session.rooms old regions) → rooms ≡ session.rooms → new ≡ old → after ≡ regions →
     served ≡ told reply (files_in session (stock_of session.rooms old regions)) (stock_of session.rooms old regions).account →
     Serves served reply session (record session { rooms = rooms }) (stock_of rooms new after)

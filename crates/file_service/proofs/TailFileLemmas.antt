@@ -8,7 +8,7 @@ use Rattle.own_model.specs.OwnHeap.{OwnHeap, chunk_with, offset_of}
 use Rattle.sliced_heap.specs.Chain.{is_listed}
 use Rattle.file_service.specs.Calls.{HasBytes}
 use Rattle.file_service.specs.Files.{node_at, file_at, files_of, link_in, StandAt}
-use Rattle.file_service.specs.Furnished.{Stock}
+use Rattle.file_service.specs.SoundHeaps.{Stock}
 use Rattle.file_service.specs.Index.{ChangesTails}
 use Rattle.file_service.specs.Links.{Leads}
 use Rattle.file_service.specs.Node.{FileNode}

@@ -15,7 +15,7 @@ use Rattle.own_model.specs.OwnHeap.{OwnHeap}
 use Rattle.heap_core.specs.Words.{are_bytes}
 use Rattle.file_service.specs.Calls.{HasBytes, payload_in, node_stored}
 use Rattle.file_service.specs.Files.{node_at}
-use Rattle.file_service.specs.Furnished.{Stock}
+use Rattle.file_service.specs.SoundHeaps.{Stock}
 use Rattle.file_service.specs.Index.{ChangesTails, KeepsFront, IsPadded}
 use Rattle.file_service.specs.Node.{FileNode, node_of, bytes_of, word_from}
 use Rattle.file_service.proofs.NodeLemmas.{node_front, word_mid}

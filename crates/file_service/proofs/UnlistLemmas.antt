@@ -3,7 +3,7 @@ use Rattle.std.proofs.Common.{◌≡◌, ◌≢◌, ℕ, true, List, ◌∷◌, 
 use Rattle.sliced_heap.specs.Chain.{is_listed, has_no_repeat}
 use Rattle.file_service.specs.Calls.{HasBytes}
 use Rattle.file_service.specs.Files.{link_in, StandAt}
-use Rattle.file_service.specs.Furnished.{Stock}
+use Rattle.file_service.specs.SoundHeaps.{Stock}
 use Rattle.file_service.specs.Index.{ChangesTree, IsNamed, LeadsBack, Leaves, LinksBack, previous_at}
 use Rattle.file_service.specs.Node.{FileNode, rank_of}
 use Rattle.file_service.specs.Session.{HasFiles, IsListed}

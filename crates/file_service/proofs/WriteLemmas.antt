@@ -22,7 +22,7 @@ use Rattle.own_model.proofs.NatMapLemmas.{some_of, insert_back, get-insert_same,
 use Rattle.sliced_heap.specs.Chain.{is_listed}
 use Rattle.file_service.specs.Calls.{payload_in, content_written}
 use Rattle.file_service.specs.Files.{node_at, file_at, files_of, nodes_from, HasContent, StandAt}
-use Rattle.file_service.specs.Furnished.{Stock}
+use Rattle.file_service.specs.SoundHeaps.{Stock}
 use Rattle.file_service.specs.Index.{IsIndexed}
 use Rattle.file_service.specs.Node.{FileNode}
 use Rattle.file_service.specs.Session.{files_in, served_in, HasFiles, IsFound, IsTold, KeepsOwn, Serves}

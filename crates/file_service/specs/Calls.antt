@@ -11,7 +11,7 @@ use Rattle.own_model.specs.NatMap.{NatMap}
 use Rattle.own_model.specs.OwnHeap.{payload_start, start_of}
 use Rattle.own_model.specs.OwnState.{zeros, with_part}
 use Rattle.own_model.specs.Sliced.{sliced_header, sliced_size, block_size}
-use Rattle.file_service.specs.Furnished.{Stock}
+use Rattle.file_service.specs.SoundHeaps.{Stock}
 
 -- the payload that starts at an address, or no bytes
 abbrev pub payload_in : NatMap (List ℕ) → ℕ → List ℕ
@@ -19,12 +19,12 @@ payload_in payloads address = unwrap_or (get payloads address) []
 
 -- ---- nodes
 
--- a node's block is taken in this hole
+-- a node's block is allocated in this hole
 pub record TakesInHole (hole : Spot) (address : ℕ) (old new : Stock) : Type 0 where
   pub at : address ≡ payload_start old.nodes hole
   pub is : new ≡ record old { nodes = with_block node_size hole old.nodes }
 
--- it is taken in a chunk by which the heap has grown, and which is charged
+-- it is allocated in a chunk by which the heap has grown, and which is charged
 pub record TakesInChunk (address : ℕ) (old new : Stock) : Type 0 where
   pub start : ℕ
   pub at : address ≡ start + 16
@@ -34,44 +34,44 @@ pub record TakesInChunk (address : ℕ) (old new : Stock) : Type 0 where
         nodes = with_block node_size (new_hole growth old.nodes.shape) (with_chunk growth start old.nodes);
       }
 
--- a node's block is taken: in the best hole, or else in a new chunk. No payload stood there
+-- a node's block is allocated: in the best hole, or otherwise in a new chunk; no payload was there
 pub record TakesNode (address : ℕ) (old new : Stock) : Type 0 where
   pub free : get old.nodes.payloads address ≡ None
   pub in_hole : (hole : Spot) → hole_for node_size old.nodes.shape ≡ Some hole → TakesInHole hole address old new
   pub in_chunk : hole_for node_size old.nodes.shape ≡ None → TakesInChunk address old new
 
--- a node's block is given back: a hole stands in its place
+-- a node's block is freed: a hole is in its place
 pub record GivesNode (address : ℕ) (old new : Stock) : Type 0 where
   pub is : new ≡ record old { nodes = without_block address old.nodes }
   pub place : (chunk offset size : ℕ) → used_at offset (chunk_of old.nodes.shape.chunks chunk) ≡ Some size →
       address ≡ start_of old.nodes chunk + offset + 16 → new.nodes.shape ≡ shape_given chunk offset old.nodes.shape
 
--- bytes are put over a node's payload from an offset on
+-- bytes overwrite a node's payload from an offset on
 abbrev pub node_stored : ℕ → ℕ → List ℕ → Stock → Stock
 node_stored address offset bytes old = record old { nodes = with_poked address (payload_in old.nodes.payloads address) offset bytes old.nodes }
 
 -- ---- contents
 
--- a content of so many bytes is taken, all zero, and charged
+-- a content of n bytes is allocated, all zero, and charged
 abbrev pub content_taken : ℕ → ℕ → Stock → Stock
 content_taken bytes address old = record old {
   account = charged old.account (sliced_size bytes) 1;
   contents = insert old.contents address (zeros (sliced_size bytes - sliced_header));
 }
 
--- a content is given back, and credited
+-- a content is freed and credited
 abbrev pub content_given : ℕ → Stock → Stock
 content_given address old = record old {
   account = credited old.account (block_size (payload_in old.contents address)) 1;
   contents = remove old.contents address;
 }
 
--- bytes are put over a content's from an offset on
+-- bytes overwrite a content from an offset on
 abbrev pub content_written : ℕ → ℕ → List ℕ → Stock → Stock
 content_written address offset bytes old =
     record old { contents = insert old.contents address (with_part (payload_in old.contents address) offset bytes) }
 
--- so many bytes of a content's front are put over those of another's
+-- the first bytes of a content overwrite those of another
 abbrev pub content_copied : ℕ → ℕ → ℕ → Stock → Stock
 content_copied from to count old = content_written to 0 (take count (payload_in old.contents from)) old
 

@@ -15,7 +15,7 @@ use Rattle.file_service.specs.Node.{FileNode, node_of}
 abbrev pub node_at : OwnHeap → ℕ → FileNode
 node_at nodes address = node_of (payload_in nodes.payloads address)
 
--- the link that a holder holds: the session, which is number 0, holds the first one, and each node the next one
+-- the link of a holder: the session, which is number 0, has the first one, and each node has the next one
 abbrev pub link_in : ℕ → OwnHeap → ℕ → ℕ
 link_in first nodes holder = if holder == 0 then first else (node_at nodes holder).next
 
@@ -27,7 +27,7 @@ nodes_from first nodes = along (link_in first nodes) (len nodes.payloads) 0
 abbrev pub bytes_at : NatMap (List ℕ) → FileNode → List ℕ
 bytes_at contents node = take node.size (payload_in contents node.content)
 
--- the file of a node, which says where its block stands
+-- the file of a node, with the place of its block
 abbrev pub file_at : OwnHeap → NatMap (List ℕ) → ℕ → File
 file_at nodes contents address = record {
   name = (node_at nodes address).name;
@@ -54,7 +54,7 @@ pub record IsFile (nodes : OwnHeap) (contents : NatMap (List ℕ)) (block : ℕ)
   pub place : chunk_with nodes (block - header) < length nodes.shape.chunks
   pub content : 0 < (node_at nodes block).size → HasContent contents (node_at nodes block)
 
--- the links lead along these blocks, each of a file's node, and each file that isn't empty has a content of its own
+-- the links connect these blocks in order, each of a file's node; each file that is not empty has a content of its own
 pub record StandAt (first last : ℕ) (nodes : OwnHeap) (contents : NatMap (List ℕ)) (blocks : List ℕ) : Type 0 where
   pub line : IsLine (link_in first nodes) blocks
   pub last_is : last ≡ last_of 0 blocks

@@ -1,4 +1,4 @@
--- Where the bytes of nodes and contents are found in the memory.
+-- The places of nodes' and contents' bytes in the memory.
 use Rattle.std.specs.Prelude.{◌≡◌, ◌≢◌, ℕ, ◌+◌, ◌≤◌, length, Some}
 use Rattle.std.specs.FinMap.{get}
 use Rattle.own_model.specs.Region.{Region}

@@ -1,4 +1,4 @@
--- The tree by name inside the nodes, and the links back.
+-- The tree by name inside the nodes, and the links to previous nodes.
 use Rattle.std.specs.Prelude.{◌≡◌, ◌≢◌, ℕ, ◌+◌, ◌*◌, ◌^◌, ◌<◌, ◌≤◌, true, false, if◌then◌else◌, List, [], ◌∷◌, ◌++◌, length, take, is_some}
 use Rattle.std.specs.FinMap.{get}
 use Rattle.avl_tree.specs.declared.node.Links.{Links}
@@ -9,7 +9,7 @@ use Rattle.heap_core.specs.Words.{are_bytes}
 use Rattle.sliced_heap.specs.Chain.{is_listed, has_no_repeat}
 use Rattle.file_service.specs.Calls.{payload_in, HasBytes}
 use Rattle.file_service.specs.Files.{node_at, nodes_from, StandAt}
-use Rattle.file_service.specs.Furnished.{Stock, stock, IsFurnished, KeepsSession}
+use Rattle.file_service.specs.SoundHeaps.{Stock, stock, HasSoundHeaps, KeepsSession}
 use Rattle.dataspace_core.specs.Store.{Store}
 use Rattle.region_map.specs.Regions.{Regions}
 use Rattle.heap_core.specs.declared.heap.Heap.{Heap}
@@ -17,7 +17,7 @@ use Rattle.sliced_heap.specs.declared.heap.SlicedHeap.{SlicedHeap}
 use Rattle.own_model.specs.NatMap.{NatMap}
 use Rattle.file_service.specs.Node.{bytes_of, rank_of, word_from}
 
--- the links of a node in the tree stand behind the bytes that stand for the node, and the link to the node before it behind these
+-- the links of a node in the tree are after the bytes of the node, and the link to the previous node is after these
 abbrev pub links_at : OwnHeap → ℕ → Links
 links_at nodes address = record {
   left = word_from (payload_in nodes.payloads address) 64;
@@ -28,19 +28,19 @@ links_at nodes address = record {
 abbrev pub previous_at : OwnHeap → ℕ → ℕ
 previous_at nodes address = word_from (payload_in nodes.payloads address) 88
 
--- nodes as those of a tree, by their names, in a memory that is told whole at each place
+-- nodes as those of a tree, by their names, in a memory that is stated whole at each place
 abbrev pub names_in : {Rest : Type 0} → Rest → OwnHeap → View Rest
 names_in rest nodes = record { links = links_at nodes; rank = λ a. rank_of (node_at nodes a).name; rest = λ q. rest }
 
--- and in no memory
+-- the same with no memory
 abbrev pub names_of : OwnHeap → View ℕ
 names_of nodes = names_in 0 nodes
 
--- a node takes its own number alone, and its links are a part of the memory
+-- a node owns its own number alone, and its links are a part of the memory
 abbrev pub name_plan : Plan
 name_plan = record { cover = λ q a. is_at q a 0; feet = λ q a. 1 }
 
--- the bytes that stand for a node are the front of its block, with zeros behind the name
+-- the bytes of a node are the front of its block, with zeros after the name
 pub record IsPadded (nodes : OwnHeap) (block : ℕ) : Type 0 where
   pub there : HasBytes nodes.payloads block 0 96
   pub front : take 64 (payload_in nodes.payloads block) ≡ bytes_of (node_at nodes block)
@@ -73,7 +73,7 @@ pub record CanEnter (root : ℕ) (blocks : List ℕ) (block rank : ℕ) (nodes :
   pub fresh : (b : ℕ) → is_listed blocks b ≡ true → rank_of (node_at nodes b).name ≢ rank
   pub few : length blocks ≤ 2 ^ 64
 
--- a search of the tree tells the node of a rank, where one has it, and else some node or 0
+-- a search of the tree returns the node of a rank, if any has it, and otherwise some node or 0
 pub record Seeks (root rank : ℕ) (nodes : OwnHeap) (found : ℕ) : Type 0 where
   pub there : (blocks : List ℕ) (b : ℕ) → IsNamed root nodes blocks → is_listed blocks b ≡ true → 0 < b → rank_of (node_at nodes b).name ≡ rank → found ≡ b
   pub listed : (blocks : List ℕ) → IsNamed root nodes blocks → 0 < found → is_listed blocks found ≡ true
@@ -83,13 +83,13 @@ abbrev pub Enters : ℕ → ℕ → ℕ → ℕ → OwnHeap → OwnHeap → Type
 Enters root block rank later_root nodes later =
     (blocks : List ℕ) → CanEnter root blocks block rank nodes → IsNamed later_root later (blocks ++ block ∷ [])
 
--- the block of a rank has been taken out
+-- the node of a rank has been removed
 abbrev pub Leaves : ℕ → ℕ → ℕ → OwnHeap → OwnHeap → Type 0
 Leaves root rank later_root nodes later =
     (before behind : List ℕ) (block : ℕ) → IsNamed root nodes (before ++ block ∷ behind) → has_no_repeat (before ++ block ∷ behind) ≡ true →
     rank_of (node_at nodes block).name ≡ rank → IsNamed later_root later (before ++ behind)
 
--- words have been loaded: so many times the bits of the number of nodes, twice
+-- few words were loaded: at most `most` times 2n + 1, if the number of nodes is below 2 to the power of n
 abbrev pub LoadsFew : ℕ → OwnHeap → ℕ → ℕ → ℕ → Type 0
 LoadsFew root nodes most old new =
     (blocks : List ℕ) → IsNamed root nodes blocks → (n : ℕ) → length blocks < 2 ^ n → new ≤ old + most * (2 * n + 1)
@@ -101,13 +101,13 @@ pub record KeepsPlace (nodes later : OwnHeap) (block : ℕ) : Type 0 where
   pub previous : previous_at later block ≡ previous_at nodes block
   pub padded : IsPadded nodes block → IsPadded later block
 
--- of a block's payload nothing has changed but its tail: the links of the tree, or the link back
+-- nothing of a block's payload has changed except its tail: the links of the tree, or the link to the previous node
 pub record KeepsFront (nodes later : OwnHeap) (block : ℕ) : Type 0 where
   pub there : is_some (get later.payloads block) ≡ is_some (get nodes.payloads block)
   pub long : length (payload_in later.payloads block) ≡ length (payload_in nodes.payloads block)
   pub front : take 64 (payload_in later.payloads block) ≡ take 64 (payload_in nodes.payloads block)
 
--- nothing of a session has changed but tails of its nodes' payloads
+-- nothing of a session has changed except tails of its nodes' payloads
 pub record ChangesTails (old new : Stock) : Type 0 where
   pub rest : new ≡ record old { nodes = record old.nodes { payloads = new.nodes.payloads } }
   pub fronts : (b : ℕ) → KeepsFront old.nodes new.nodes b
@@ -119,7 +119,7 @@ pub record LinksBack (block previous : ℕ) (old new : Stock) : Type 0 where
   pub linked : block ≢ 0 → previous_at new.nodes block ≡ previous
   pub others : (b : ℕ) → b ≢ block → previous_at new.nodes b ≡ previous_at old.nodes b
 
--- nothing but links of the tree
+-- nothing except links of the tree
 pub record ChangesTree (old new : Stock) : Type 0 where
   pub tails : ChangesTails old new
   pub previous : (b : ℕ) → previous_at new.nodes b ≡ previous_at old.nodes b
@@ -129,7 +129,7 @@ pub record IsIndexed (first root : ℕ) (nodes : OwnHeap) : Type 0 where
   pub named : IsNamed root nodes (nodes_from first nodes)
   pub back : LeadsBack (previous_at nodes) 0 (nodes_from first nodes)
 
--- files stand along some blocks, and the tree has their names
+-- files are in some blocks in order, and the tree has their names
 pub record AreFiles (first last root : ℕ) (nodes : OwnHeap) (contents : NatMap (List ℕ)) : Type 0 where
   pub blocks : List ℕ
   pub stand : StandAt first last nodes contents blocks
@@ -137,13 +137,13 @@ pub record AreFiles (first last root : ℕ) (nodes : OwnHeap) (contents : NatMap
 
 -- ---- as a tree's functions see nodes
 
--- a block holds a node of a furnished session
+-- a block holds a node of a sound session
 pub record IsNameNode (heap : Heap) (sliced : SlicedHeap) (store : Store) (regions : Regions) (block : ℕ) : Type 0 where
-  pub furnished : IsFurnished heap sliced store regions
+  pub furnished : HasSoundHeaps heap sliced store regions
   pub padded : IsPadded (stock heap sliced store regions).nodes block
 
--- nothing has changed but links of the tree
+-- nothing has changed except links of the tree
 pub record KeepsNames (heap : Heap) (sliced : SlicedHeap) (regions : Regions) (old new : Store) : Type 0 where
-  pub keeps : IsFurnished heap sliced old regions → KeepsSession sliced heap sliced old new regions regions
+  pub keeps : HasSoundHeaps heap sliced old regions → KeepsSession sliced heap sliced old new regions regions
   pub tree : ChangesTree (stock heap sliced old regions) (stock heap sliced new regions)
   pub nodes : (b : ℕ) → IsNameNode heap sliced old regions b → IsNameNode heap sliced new regions b

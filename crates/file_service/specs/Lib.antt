@@ -1,7 +1,7 @@
 pub mod Links
-pub mod Furnished
-pub mod Rooms
-pub mod Lent
+pub mod SoundHeaps
+pub mod SessionHeaps
+pub mod SessionBuffer
 pub mod Source
 pub mod Node
 pub mod Calls
@@ -10,4 +10,4 @@ pub mod Files
 pub mod Index
 pub mod NameLaws
 pub mod Session
-pub mod Aside
+pub mod SeparateBuffer

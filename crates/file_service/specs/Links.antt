@@ -1,24 +1,25 @@
--- A list of blocks along which links lead. Each block holds a link, and so does its holder, which is no block: number 0.
+-- A list of blocks in the order of their links. Each block holds a link, and so does its holder, which is no block: number
+-- 0.
 use Rattle.std.specs.Prelude.{◌≡◌, ℕ, ◌==◌, true, if◌then◌else◌, List, [], ◌∷◌}
 use Rattle.std.proofs.Common.{zero, suc}
 use Rattle.sliced_heap.specs.Chain.{has_no_repeat}
 
--- what a holder holds leads along these blocks: each holds the next one's address, and the last one 0
+-- the link of a holder begins the order of these blocks: each holds the next one's address, and the last one 0
 abbrev pub Leads : (ℕ → ℕ) → ℕ → List ℕ → Type 0
 Leads link holder [] = link holder ≡ 0
 Leads link holder (block ∷ rest) = (link holder ≡ block) × Leads link block rest
 
--- the last of these blocks, or their holder where there is none
+-- the last of these blocks, or their holder if there is none
 abbrev pub last_of : ℕ → List ℕ → ℕ
 last_of holder [] = holder
 last_of holder (block ∷ rest) = last_of block rest
 
--- at most so many blocks along the links from a holder on
+-- at most n blocks in the order of the links from a holder on
 abbrev pub along : (ℕ → ℕ) → ℕ → ℕ → List ℕ
 along link zero holder = []
 along link (suc n) holder = if link holder == 0 then [] else link holder ∷ along link n (link holder)
 
--- the first link leads along these blocks, of which none comes twice and none is the holder
+-- the first link begins the order of these blocks; none is in it twice and none is the holder
 pub record IsLine (link : ℕ → ℕ) (blocks : List ℕ) : Type 0 where
   pub leads : Leads link 0 blocks
   pub once : has_no_repeat (0 ∷ blocks) ≡ true

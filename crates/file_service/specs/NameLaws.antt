@@ -7,7 +7,7 @@ use Rattle.region_map.specs.Regions.{Regions}
 use Rattle.dataspace_core.specs.Store.{Store}
 use Rattle.heap_core.specs.declared.heap.Heap.{Heap}
 use Rattle.sliced_heap.specs.declared.heap.SlicedHeap.{SlicedHeap}
-use Rattle.file_service.specs.Furnished.{Stock, stock}
+use Rattle.file_service.specs.SoundHeaps.{Stock, stock}
 use Rattle.file_service.specs.Index.{ChangesTails, ChangesTree, KeepsNames}
 
 pub tails_then : (old between new : Stock) → ChangesTails old between → ChangesTails between new → ChangesTails old new

@@ -1,4 +1,4 @@
--- The node of a file, and the bytes that stand for it at the front of its block.
+-- The node of a file, and its bytes at the front of its block.
 use Rattle.std.specs.Prelude.{ℕ, ◌+◌, ◌-◌, ◌*◌, ◌^◌, ◌<◌, ◌≤◌, List, ◌++◌, length, min, slice_range}
 use Rattle.trade_base.specs.Word.{word_of, word_bytes}
 use Rattle.own_model.specs.OwnState.{zeros}
@@ -19,7 +19,7 @@ value_of node = record { next = node.next; content = node.content; size = node.s
 abbrev pub longest_name : ℕ
 longest_name = 32
 
--- the bytes that stand for a node, at the front of its block
+-- the bytes of a node, at the front of its block
 abbrev pub node_bytes : ℕ
 node_bytes = 64
 
@@ -27,11 +27,11 @@ node_bytes = 64
 abbrev pub word_from : List ℕ → ℕ → ℕ
 word_from bytes offset = word_of (slice_range bytes offset (offset + 8))
 
--- what stands for a name: its length, and its bytes with zeros behind them
+-- the bytes of a name: its length, and its bytes followed by zeros
 abbrev pub name_bytes : List ℕ → List ℕ
 name_bytes name = word_bytes (length name) ++ (name ++ zeros (longest_name - length name))
 
--- names come in the order of a number: that of their five words, the first of which counts most
+-- names are ordered by a number: that of their five words, of which the first is the most significant
 abbrev pub rank_by : (ℕ → ℕ) → ℕ
 rank_by word = (((word 0 * 2 ^ 64 + word 1) * 2 ^ 64 + word 2) * 2 ^ 64 + word 3) * 2 ^ 64 + word 4
 

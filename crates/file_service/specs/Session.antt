@@ -4,7 +4,7 @@ use Rattle.own_model.specs.FileService.{Files, FileServed, is_named, request_ser
 use Rattle.own_model.specs.FileText as model
 use Rattle.own_model.specs.FileText.FileReply.{Done, Count, Bytes, Lent, Refused}
 use Rattle.session_proto.specs.FileReply.{model_error}
-use Rattle.calls.specs.declared.file_error.FileError.{FileError}
+use Rattle.core_calls.specs.declared.file_error.FileError.{FileError}
 use Rattle.dataspace_core.specs.Share.{Share}
 use Rattle.heap_core.specs.Heap.{heap_in}
 use Rattle.sliced_heap.specs.Sliced.{sliced_of}
@@ -21,16 +21,16 @@ use Rattle.file_service.specs.Links.{last_of}
 use Rattle.file_service.specs.Node.{FileNode}
 use Rattle.file_service.specs.Node.{value_of as node_value}
 use Rattle.file_service.specs.declared.session.FoundFile.{FoundFile}
-use Rattle.file_service.specs.Furnished.{Stock}
-use Rattle.file_service.specs.Rooms.{stock_of, AreFurnished, AreKept, StayFurnished}
-use Rattle.file_service.specs.Lent.{KeepsBuffer, HasBuffer, buffer_key}
+use Rattle.file_service.specs.SoundHeaps.{Stock}
+use Rattle.file_service.specs.SessionHeaps.{stock_of, AreSoundHeaps, AreKept, StaySoundHeaps}
+use Rattle.file_service.specs.SessionBuffer.{KeepsBuffer, HasBuffer, buffer_key}
 use Rattle.own_model.specs.BufferService.{SessionRequest, BufferServed, session_request_served}
 use Rattle.trade_base.specs.declared.id.DsId.{DsId}
 use Rattle.region_map.specs.Regions.{Regions}
 use Rattle.dataspace_core.specs.Store.{Store}
-use Rattle.server_frame.specs.Lent.{IsEffect, bytes_lent}
+use Rattle.server_frame.specs.SessionBuffer.{IsEffect, bytes_lent}
 use Rattle.server_frame.specs.Session.{holding_of}
-use Rattle.calls.specs.Told.{Told, told_alone}
+use Rattle.core_calls.specs.ReplyText.{Told, told_alone}
 use Rattle.server_frame.specs.declared.effect.Effect.{Effect}
 use Rattle.file_service.specs.declared.session.FileSession.{FileSession}
 
@@ -49,7 +49,7 @@ pub record IsSession (session : FileSession) (account : ℕ) (share : Share) : T
 
 -- ---- while a request is served
 
--- the files of a session that has this stock
+-- the files of a session with these contents of its heaps
 abbrev pub files_in : FileSession → Stock → Files
 files_in session stock = files_of session.first stock.nodes stock.contents
 
@@ -57,7 +57,7 @@ files_in session stock = files_of session.first stock.nodes stock.contents
 abbrev pub HasFiles : FileSession → Stock → Type 0
 HasFiles session stock = AreFiles session.first session.last session.root stock.nodes stock.contents
 
--- a session has the label that it had, and lends what it lent
+-- a session has the same label and the same buffer
 pub record KeepsOwn (old later : FileSession) : Type 0 where
   pub label : later.label ≡ old.label
   pub buffer : later.buffer ≡ old.buffer
@@ -76,9 +76,9 @@ pub record Serves (served : FileServed) (reply : model.FileReply) (old later : F
 
 -- ---- requests of files and of the buffer
 
--- a session is ready for a request: its rooms are furnished, the links hold files, and what it lends stands
+-- a session is ready for a request: its heaps are sound, the links hold files, and its buffer is there
 pub record IsReady (session : FileSession) (store : Store) (regions : Regions) : Type 0 where
-  pub furnished : AreFurnished session.rooms store regions
+  pub furnished : AreSoundHeaps session.rooms store regions
   pub files : HasFiles session (stock_of session.rooms store regions)
   pub lent : HasBuffer session.buffer (holding_of session.rooms.contents store regions)
 
@@ -101,12 +101,12 @@ pub record Answers (served : BufferServed) (reply : model.FileReply) (old later 
   pub reply_is : model.file_reply reply ≡ served.reply
   pub leaves : LeavesSession served old later new after
 
--- the reply is told, with what the request did to the buffer, and other accounts keep what they have
+-- the reply is returned with the effect of the request on the buffer, and other accounts keep what they have
 pub record IsAnswered (served : BufferServed) (effect : Effect) (told : Told) (old later : FileSession) (store new : Store) (regions after : Regions) : Type 0 where
   pub text : told ≡ told_alone served.reply
   pub leaves : LeavesSession served old later new after
   pub effect_is : IsEffect effect (buffer_key old.buffer) (buffer_key later.buffer)
-  pub stays : StayFurnished old.rooms later.rooms store new regions after
+  pub stays : StaySoundHeaps old.rooms later.rooms store new regions after
 
 -- the node of a name is found, with what is before it: none of the files before it has the name
 pub record IsFound (first last : ℕ) (nodes : OwnHeap) (contents : NatMap (List ℕ)) (name : List ℕ) (previous address : ℕ) (node : FileNode) : Type 0 where
@@ -123,7 +123,7 @@ abbrev pub Finds : FileSession → Stock → List ℕ → FoundFile → Type 0
 Finds session stock name found =
     IsFound session.first session.last stock.nodes stock.contents name (previous_at stock.nodes found.address) found.address (node_value found.node)
 
--- a node is as it was, but for its link
+-- a node is unchanged except for its link
 pub record KeepsFile (nodes later : OwnHeap) (block : ℕ) : Type 0 where
   pub name : (node_at later block).name ≡ (node_at nodes block).name
   pub size : (node_at later block).size ≡ (node_at nodes block).size
@@ -149,7 +149,7 @@ Unlists session later block old new =
     (before behind : List ℕ) → StandAt session.first session.last old.nodes old.contents (before ++ block ∷ behind) →
     IsNamed later.root new.nodes (before ++ behind) × LeadsBack (previous_at new.nodes) 0 (before ++ behind)
 
--- a block that is taken for a node is none of a file yet
+-- a block that is allocated for a node is not yet of a file
 pub record IsFresh (first : ℕ) (nodes : OwnHeap) (block : ℕ) : Type 0 where
   pub there : HasBytes nodes.payloads block 0 96
   pub small : block < 2 ^ 64
@@ -168,7 +168,7 @@ abbrev pub done_reply : {A : Type 0} → Result A FileError → model.FileReply
 done_reply (Ok _) = Done
 done_reply (Err e) = Refused (model_error e)
 
--- that a buffer is lent, and what that is
+-- a buffer is created, with its dataspace
 abbrev pub lent_reply : Result DsId FileError → model.FileReply
 lent_reply (Ok _) = Lent
 lent_reply (Err e) = Refused (model_error e)
@@ -177,7 +177,7 @@ abbrev pub lent_effect : Result DsId FileError → Effect
 lent_effect (Ok ds) = Effect.Buffer ds
 lent_effect (Err e) = Effect.Nothing
 
--- what goes
+-- the effect of a freed buffer
 abbrev pub gone_effect : Result DsId FileError → Effect
 gone_effect (Ok ds) = Effect.Gone ds
 gone_effect (Err e) = Effect.Nothing
@@ -192,7 +192,7 @@ abbrev pub bytes_reply : List ℕ → Result ℕ FileError → model.FileReply
 bytes_reply bytes (Ok n) = Bytes (take n bytes)
 bytes_reply bytes (Err e) = Refused (model_error e)
 
--- what a request that a session with this stock makes is served
+-- the result of a request of a session with these contents of its heaps
 abbrev pub served_in : model.FileRequest → FileSession → Stock → FileServed
 served_in request session stock = request_served (Some request) (files_in session stock) stock.account
 

@@ -7,26 +7,26 @@ ghost use Rattle.file_service.specs.Calls.{payload_in, content_taken, content_gi
 ghost use Rattle.dataspace_core.specs.Store.{account_in, space_at, IsOpenIn};
 ghost use Rattle.sliced_heap.specs.Heap.{payer_of};
 ghost use Rattle.file_service.specs.Found.{FindsContent, IsElsewhere, IsThere};
-ghost use Rattle.file_service.specs.Rooms.{stock_of, AreFurnished, KeepsRooms};
+ghost use Rattle.file_service.specs.SessionHeaps.{stock_of, AreSoundHeaps, KeepsRooms};
 
-use crate::rooms::Rooms;
+use crate::session_heaps::SessionHeaps;
 use dataspace_core::Memory;
 use region_map::RegionMap;
 use trade_base::{DsId, Refusal};
 
-impl Rooms {
-    /// Takes a content of so many bytes, all zero, and tells its address. The account pays for it in whole pages, with its header,
-    /// and one capability.
+impl SessionHeaps {
+    /// Allocates a content of this number of bytes, all zero, and returns its address. The account is charged for whole
+    /// pages, including the header, and for one capability.
     ///
-    /// It is refused with `InvalidSize` where that is no bytes or too many for 64 bits, else with `OutOfRam` or `OutOfCaps` where
-    /// the account doesn't cover it. A refused call changes nothing.
+    /// Refuses with `InvalidSize` for no bytes or more than 64 bits count, then `OutOfRam` or `OutOfCaps` if the account
+    /// does not cover the content. A refused call changes nothing.
     pub(crate) fn take_content(
         &mut self,
         memory: &mut Memory,
         map: &mut RegionMap,
         bytes: u64,
     ) -> Result<u64, Refusal>
-        requires furnished { AreFurnished self.old memory.old map.old }
+        requires furnished { AreSoundHeaps self.old memory.old map.old }
         ensures refusal { result_err result
             ≡ sliced_refusal bytes (stock_of self.old memory.old map.old).account }
         ensures taken { IfOk result (λ address.
@@ -43,7 +43,7 @@ impl Rooms {
         self.contents.alloc(memory, map, bytes)
     }
 
-    /// The size of a content of so many bytes and so many more, where the account's limit of RAM isn't below it.
+    /// Returns `front + more` as the size of a content, or `None` if it is above the account's limit of RAM.
     pub(crate) fn size_within(&self, memory: &Memory, front: u64, more: u64) -> Option<u64>
         requires { IsOpenIn memory.now (payer_of self.now.contents) }
         ensures size { SomeIff result
@@ -59,9 +59,9 @@ impl Rooms {
         Some(size)
     }
 
-    /// Gives back the content at an address, and credits the account with all that it was charged for it.
+    /// Frees the content at an address, and credits the account with all that was charged for it.
     pub(crate) fn give_content(&mut self, memory: &mut Memory, map: &mut RegionMap, address: u64)
-        requires furnished { AreFurnished self.old memory.old map.old }
+        requires furnished { AreSoundHeaps self.old memory.old map.old }
         requires there { IsSome (get (stock_of self.old memory.old map.old).contents address) }
         ensures given { stock_of self.new memory.new map.new
             ≡ content_given address (stock_of self.old memory.old map.old) }
@@ -71,7 +71,7 @@ impl Rooms {
         let _ = self.contents.free(memory, map, address);
     }
 
-    /// Fills a buffer with a content's bytes from an offset on.
+    /// Reads the bytes of a content from an offset on, as many as the buffer has.
     pub(crate) fn read_content(
         &self,
         memory: &Memory,
@@ -80,7 +80,7 @@ impl Rooms {
         offset: u64,
         buffer: &mut [u8],
     )
-        requires furnished { AreFurnished self.now memory.now map.now }
+        requires furnished { AreSoundHeaps self.now memory.now map.now }
         requires there { HasBytes (stock_of self.now memory.now map.now).contents address offset
             (length buffer.old) }
         ensures { let content = payload_in
@@ -94,7 +94,7 @@ impl Rooms {
         memory.read(ds, at, buffer);
     }
 
-    /// Puts bytes over a content's from an offset on.
+    /// Overwrites the bytes of a content from an offset on.
     pub(crate) fn write_content(
         &self,
         memory: &mut Memory,
@@ -103,7 +103,7 @@ impl Rooms {
         offset: u64,
         bytes: &[u8],
     )
-        requires furnished { AreFurnished self.now memory.old map.now }
+        requires furnished { AreSoundHeaps self.now memory.old map.now }
         requires there { HasBytes (stock_of self.now memory.old map.now).contents address offset
             (length bytes.now) }
         ensures written { stock_of self.now memory.new map.now
@@ -118,7 +118,7 @@ impl Rooms {
         memory.write(ds, at, bytes);
     }
 
-    /// Copies so many bytes of a content's front to another's, if any.
+    /// Copies this number of bytes from the front of a content to another, if it is not 0.
     pub(crate) fn copy_content(
         &self,
         memory: &mut Memory,
@@ -127,7 +127,7 @@ impl Rooms {
         to: u64,
         count: u64,
     )
-        requires furnished { AreFurnished self.now memory.old map.now }
+        requires furnished { AreSoundHeaps self.now memory.old map.now }
         requires source { 0 < count
             → HasBytes (stock_of self.now memory.old map.now).contents from 0 count }
         requires target { HasBytes (stock_of self.now memory.old map.now).contents to 0 count }
@@ -144,7 +144,7 @@ impl Rooms {
         self.fill_content(memory, map, to, 0, source, place, count);
     }
 
-    /// Puts bytes of a dataspace that isn't this content's, `count` of them from `place` on, over the content's from an offset on.
+    /// Overwrites a content from an offset on with `count` bytes of another dataspace from `place` on.
     pub(crate) fn fill_content(
         &self,
         memory: &mut Memory,
@@ -155,7 +155,7 @@ impl Rooms {
         place: u64,
         count: u64,
     )
-        requires furnished { AreFurnished self.now memory.old map.now }
+        requires furnished { AreSoundHeaps self.now memory.old map.now }
         requires there { HasBytes
             (stock_of self.now memory.old map.now).contents address offset count }
         requires source { IsThere memory.old source.0 place count }
@@ -174,7 +174,7 @@ impl Rooms {
         memory.copy(source, place, ds, at, count);
     }
 
-    /// The dataspace of some bytes of a content, and the offset in it.
+    /// Finds the dataspace that has some bytes of a content, and the offset in it.
     pub(crate) fn find_content(
         &self,
         memory: &Memory,
@@ -183,7 +183,7 @@ impl Rooms {
         offset: u64,
         count: u64,
     ) -> (DsId, u64)
-        requires furnished { AreFurnished self.now memory.now map.now }
+        requires furnished { AreSoundHeaps self.now memory.now map.now }
         requires there { HasBytes
             (stock_of self.now memory.now map.now).contents address offset count }
         requires some { 1 ≤ count }

@@ -1,18 +1,19 @@
 //! The file service: each session has files, whose nodes are linked blocks of a heap and whose contents are sliced blocks.
+//! `init_core` starts its servers and `pd_core` calls them. Example: `Server::boot(alloc, FileService, sessions, pages)?`.
 #![tactic(auto)]
 
-mod change;
+mod buffer_requests;
 mod contents;
-mod lend;
-mod lent;
-mod look;
-mod names;
+mod file_requests;
+mod name_tree;
 mod node;
 mod nodes;
-mod rooms;
+mod read_requests;
 mod service;
 mod session;
-mod source;
+mod session_buffer;
+mod session_heaps;
+mod write_source;
 
 pub use node::LONGEST_NAME;
 pub use service::FileService;

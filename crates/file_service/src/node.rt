@@ -10,19 +10,19 @@ use trade_base::FILE_NODE;
 /// The most bytes of a file's name.
 pub const LONGEST_NAME: usize = 32;
 
-/// How many bytes stand for a node. Behind them its block holds the links of the tree, and the link to the node before.
+/// The bytes of a node. Its block holds the links of the tree after them, and then the link to the previous node.
 pub(crate) const NODE_BYTES: usize = 64;
 
-/// How many bytes of its block a node takes.
+/// The bytes of a block that a node takes.
 pub(crate) const NODE_SIZE: usize = FILE_NODE as usize;
 
-/// Where the address of the next file's node stands.
+/// The offset of the address of the next file's node.
 pub(crate) const NEXT: u64 = 0;
 
-/// Where the address of the content stands, and its bytes behind it.
+/// The offset of the address of the content, which is followed by the number of its bytes.
 pub(crate) const CONTENT: u64 = 8;
 
-/// Where the length of the name stands, and the name.
+/// The offset of the length of the name, which is followed by the name.
 pub(crate) const NAME_LENGTH: usize = 24;
 
 const NAME: usize = 32;
@@ -32,7 +32,7 @@ const NAME: usize = 32;
 pub(crate) struct Node {
     /// The address of the next file's node, or 0.
     pub(crate) next: u64,
-    /// The address of the content, or 0 where the file is empty.
+    /// The address of the content, or 0 if the file is empty.
     pub(crate) content: u64,
     /// The bytes of the content.
     pub(crate) size: u64,
@@ -40,7 +40,7 @@ pub(crate) struct Node {
 }
 
 impl Node {
-    /// The node that these bytes stand for.
+    /// Decodes a node from the bytes at the front of its block.
     pub(crate) fn from_bytes(bytes: &[u8; NODE_BYTES]) -> Node
         ensures value { value_of result ≡ node_of bytes.now }
         ensures node { IsNode (value_of result) }
@@ -55,7 +55,7 @@ impl Node {
         }
     }
 
-    /// The bytes that stand for the node, with room for the links behind them.
+    /// Encodes the node as bytes, with room for the links after them.
     fn to_bytes(&self) -> ArrayVec<u8, NODE_SIZE>
         ensures bytes { result.items ≡ bytes_of (value_of self.now) }
         ensures len { length result.items ≡ 64 }
@@ -71,7 +71,7 @@ impl Node {
         bytes
     }
 
-    /// The bytes of the block of a new node, which is linked back to another one and has no links of the tree yet.
+    /// Encodes the block of a new node, which is linked back to another one and has no links of the tree yet.
     pub(crate) fn to_block(&self, previous: u64) -> ArrayVec<u8, NODE_SIZE>
         ensures bytes { result.items
             ≡ bytes_of (value_of self.now) ++ (zeros 24 ++ word_bytes previous) }
@@ -85,14 +85,14 @@ impl Node {
     }
 }
 
-/// By what files are ordered in the tree: the length of the name, and the words of its bytes.
+/// The key by which files are ordered in the tree: the length of the name, and the words of its bytes.
 #[derive(Clone, Copy)]
 pub(crate) struct NameKey {
     pub(crate) words: [u64; 5],
 }
 
 impl NameKey {
-    /// The key of a name.
+    /// Returns the key by which the tree orders a name.
     pub(crate) fn of(name: &[u8]) -> NameKey
         requires { length name.now ≤ LONGEST_NAME }
         ensures { rank_by (slice_index result.words) ≡ rank_of name.now }
@@ -112,7 +112,7 @@ impl NameKey {
     }
 }
 
-/// The bytes that stand for a content: its address, and its bytes.
+/// Encodes a content as bytes: its address, and the number of its bytes.
 pub(crate) fn content_bytes(content: u64, size: u64) -> ArrayVec<u8, NODE_SIZE>
     ensures bytes { result.items ≡ word_bytes content ++ word_bytes size }
     ensures len { length result.items ≡ 16 }
@@ -125,7 +125,7 @@ pub(crate) fn content_bytes(content: u64, size: u64) -> ArrayVec<u8, NODE_SIZE>
     bytes
 }
 
-/// A copy of a name's bytes.
+/// Copies the bytes of a name of at most 32 bytes.
 pub(crate) fn copied(bytes: &[u8]) -> ArrayVec<u8, LONGEST_NAME>
     requires { length bytes.now ≤ LONGEST_NAME }
     ensures { result.items ≡ bytes.now }
@@ -135,7 +135,7 @@ pub(crate) fn copied(bytes: &[u8]) -> ArrayVec<u8, LONGEST_NAME>
     copy
 }
 
-/// The word at an offset, its lowest byte first.
+/// Returns the word of 8 bytes at an offset, lowest byte first.
 #[tactic(auto, unfolding(trade_base::specs::Word::word_of))]
 fn word_in(bytes: &[u8], offset: usize) -> u64
     requires { offset + 8 ≤ length bytes.now }
@@ -146,7 +146,7 @@ fn word_in(bytes: &[u8], offset: usize) -> u64
     u64::from_le_bytes(word)
 }
 
-/// Puts a word behind other bytes, its lowest byte first.
+/// Appends a word of 8 bytes, lowest byte first.
 #[tactic(auto, unfolding(trade_base::specs::Word::word_bytes))]
 pub(crate) fn append_word(bytes: &mut ArrayVec<u8, NODE_SIZE>, word: u64)
     requires { length bytes.old.items + 8 ≤ 96 }
@@ -156,7 +156,7 @@ pub(crate) fn append_word(bytes: &mut ArrayVec<u8, NODE_SIZE>, word: u64)
     append(bytes, &word.to_le_bytes());
 }
 
-/// Puts so many zeros behind other bytes.
+/// Appends this number of zeros.
 fn append_zeros(bytes: &mut ArrayVec<u8, NODE_SIZE>, count: usize)
     requires few { count ≤ 32 }
     requires room { length bytes.old.items + count ≤ 96 }
@@ -167,7 +167,7 @@ fn append_zeros(bytes: &mut ArrayVec<u8, NODE_SIZE>, count: usize)
     append(bytes, &zeros[..count]);
 }
 
-/// Puts bytes behind others.
+/// Appends bytes to the block of a node.
 fn append(bytes: &mut ArrayVec<u8, NODE_SIZE>, part: &[u8])
     requires { length bytes.old.items + length part.now ≤ 96 }
     ensures items { bytes.new.items ≡ bytes.old.items ++ part.now }

@@ -1,4 +1,4 @@
-//! Blocks of nodes in a session's heap.
+//! The blocks of nodes in a session's heap.
 ghost use Rattle.std.specs.Prelude.{◌≡◌, ℕ, true, ◌+◌, ◌%◌, ◌^◌, ◌<◌, ◌≤◌, ◌++◌, length, IsSome, IfOk, OnErr};
 ghost use Rattle.std.specs.FinMap.{get};
 ghost use Rattle.std.specs.Result.{result_err};
@@ -8,30 +8,30 @@ ghost use Rattle.file_service.specs.Calls.{payload_in, node_stored, TakesNode, G
 ghost use Rattle.file_service.specs.Found.{FindsNode};
 ghost use Rattle.heap_core.specs.Words.{are_bytes};
 ghost use Rattle.file_service.specs.Files.{node_at};
-ghost use Rattle.file_service.specs.Rooms.{stock_of, AreFurnished, KeepsRooms};
+ghost use Rattle.file_service.specs.SessionHeaps.{stock_of, AreSoundHeaps, KeepsRooms};
 ghost use Rattle.file_service.specs.Index.{IsPadded, KeepsPlace, previous_at};
 ghost use Rattle.own_model.specs.OwnState.{zeros};
 ghost use Rattle.trade_base.specs.Word.{word_bytes};
 ghost use Rattle.file_service.specs.Node.{value_of, node_of, bytes_of, word_from, IsNode};
 
 use crate::node::{CONTENT, NODE_BYTES, NODE_SIZE, Node, content_bytes};
-use crate::rooms::Rooms;
+use crate::session_heaps::SessionHeaps;
 use dataspace_core::Memory;
 use region_map::RegionMap;
 use trade_base::{DsId, Refusal};
 
-impl Rooms {
-    /// Takes a block for a node, all zero, and tells its address. Where no hole is large enough the heap grows by a chunk, which
-    /// the account pays.
+impl SessionHeaps {
+    /// Allocates a block for a node, all zero, and returns its address. If no free block is large enough, the heap grows by
+    /// a chunk, which is charged to the account.
     ///
-    /// It is refused with `TooManyChunks`, or else with `OutOfRam` or `OutOfCaps`, where the heap has to grow and can't. A refused
-    /// call changes nothing.
+    /// If the heap must grow and cannot, refuses with `TooManyChunks`, then `OutOfRam` or `OutOfCaps`. A refused call
+    /// changes nothing.
     pub(crate) fn take_node(
         &mut self,
         memory: &mut Memory,
         map: &mut RegionMap,
     ) -> Result<u64, Refusal>
-        requires furnished { AreFurnished self.old memory.old map.old }
+        requires furnished { AreSoundHeaps self.old memory.old map.old }
         ensures refusal { let old = stock_of self.old memory.old map.old in
             result_err result ≡ heap_refusal node_size old.nodes.shape old.account }
         ensures taken { IfOk result (λ address.
@@ -46,9 +46,9 @@ impl Rooms {
         self.nodes.alloc(memory, map, NODE_SIZE as u64)
     }
 
-    /// Gives back the block of a node.
+    /// Frees the block of the node at an address.
     pub(crate) fn give_node(&mut self, memory: &mut Memory, map: &mut RegionMap, address: u64)
-        requires furnished { AreFurnished self.old memory.old map.old }
+        requires furnished { AreSoundHeaps self.old memory.old map.old }
         requires there { IsSome
             (get (stock_of self.old memory.old map.old).nodes.payloads address) }
         ensures given { GivesNode address (stock_of self.old memory.old map.old)
@@ -59,9 +59,9 @@ impl Rooms {
         let _ = self.nodes.free(memory, map, address);
     }
 
-    /// The node at an address. The memory is as it was.
+    /// Loads the node at an address. The memory is unchanged.
     pub(crate) fn load_node(&self, memory: &mut Memory, map: &RegionMap, address: u64) -> Node
-        requires furnished { AreFurnished self.now memory.old map.now }
+        requires furnished { AreSoundHeaps self.now memory.old map.now }
         requires there { HasBytes
             (stock_of self.now memory.old map.now).nodes.payloads address 0 96 }
         ensures value { value_of result
@@ -76,7 +76,7 @@ impl Rooms {
         Node::from_bytes(&bytes)
     }
 
-    /// A word of a node's block. The memory is as it was.
+    /// Loads a word of a node's block. The memory is unchanged.
     pub(crate) fn load_word(
         &self,
         memory: &Memory,
@@ -84,7 +84,7 @@ impl Rooms {
         address: u64,
         offset: u64,
     ) -> u64
-        requires furnished { AreFurnished self.now memory.now map.now }
+        requires furnished { AreSoundHeaps self.now memory.now map.now }
         requires there { HasBytes
             (stock_of self.now memory.now map.now).nodes.payloads address 0 96 }
         requires aligned { offset % 8 ≡ 0 }
@@ -96,7 +96,7 @@ impl Rooms {
         memory.load_word(ds, at + offset)
     }
 
-    /// Gives a node another content, of so many bytes. All else of its block stays.
+    /// Stores another content in a node, with its number of bytes. The rest of the block is unchanged.
     pub(crate) fn store_content(
         &self,
         memory: &mut Memory,
@@ -105,7 +105,7 @@ impl Rooms {
         content: u64,
         size: u64,
     )
-        requires furnished { AreFurnished self.now memory.old map.now }
+        requires furnished { AreSoundHeaps self.now memory.old map.now }
         requires there { HasBytes
             (stock_of self.now memory.old map.now).nodes.payloads address 0 96 }
         ensures stored { stock_of self.now memory.new map.now
@@ -127,7 +127,7 @@ impl Rooms {
         self.put_bytes(memory, map, address, CONTENT, &bytes);
     }
 
-    /// Puts a new node at an address, linked back to another one.
+    /// Stores a new node at an address, linked back to another node.
     pub(crate) fn store_new(
         &self,
         memory: &mut Memory,
@@ -136,7 +136,7 @@ impl Rooms {
         node: &Node,
         previous: u64,
     )
-        requires furnished { AreFurnished self.now memory.old map.now }
+        requires furnished { AreSoundHeaps self.now memory.old map.now }
         requires there { HasBytes
             (stock_of self.now memory.old map.now).nodes.payloads address 0 96 }
         ensures stored { stock_of self.now memory.new map.now
@@ -155,7 +155,7 @@ impl Rooms {
         self.put_bytes(memory, map, address, 0, &node.to_block(previous));
     }
 
-    /// Puts bytes over a node's payload from an offset on.
+    /// Overwrites the payload of a node from an offset on.
     pub(crate) fn put_bytes(
         &self,
         memory: &mut Memory,
@@ -164,7 +164,7 @@ impl Rooms {
         offset: u64,
         bytes: &[u8],
     )
-        requires furnished { AreFurnished self.now memory.old map.now }
+        requires furnished { AreSoundHeaps self.now memory.old map.now }
         requires there { HasBytes
             (stock_of self.now memory.old map.now).nodes.payloads address 0 96 }
         requires some { 1 ≤ length bytes.now }
@@ -180,9 +180,9 @@ impl Rooms {
         memory.write(ds, at + offset, bytes);
     }
 
-    /// The dataspace in which a node's block stands, and the offset of its payload.
+    /// Finds the dataspace that has a node's block, and the offset of its payload.
     pub(crate) fn find_node(&self, memory: &Memory, map: &RegionMap, address: u64) -> (DsId, u64)
-        requires furnished { AreFurnished self.now memory.now map.now }
+        requires furnished { AreSoundHeaps self.now memory.now map.now }
         requires there { HasBytes
             (stock_of self.now memory.now map.now).nodes.payloads address 0 96 }
         ensures found { (into count : ℕ) → 1 ≤ count → into + count ≤ 96 →

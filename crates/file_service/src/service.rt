@@ -1,4 +1,4 @@
-//! The file service: what it answers to the requests of a session.
+//! The file service: its replies to the requests of a session.
 ghost use Rattle.std.specs.Prelude.{◌≡◌, ◌*◌, ◌/◌, ◌≤◌, length, [], Some, None};
 ghost use Rattle.own_model.specs.BufferService.{session_request};
 ghost use Rattle.own_model.specs.FileText as model;
@@ -10,15 +10,15 @@ ghost use Rattle.own_model.specs.Session.{Labelled, state_at_first};
 ghost use Rattle.own_model.specs.Text.{bytes_of_hex, hex_bytes};
 ghost use Rattle.dataspace_core.specs.Store.{account_in, IsOpenIn};
 ghost use Rattle.sliced_heap.specs.Heap.{payer_of};
-ghost use Rattle.file_service.specs.Aside.{lends_aside};
+ghost use Rattle.file_service.specs.SeparateBuffer.{lends_aside};
 ghost use Rattle.server_frame.specs.Session.{service_step};
-ghost use Rattle.file_service.specs.Rooms.{stock_of, AreFurnished, KeepsRooms};
-ghost use Rattle.file_service.specs.Lent.{buffer_key};
+ghost use Rattle.file_service.specs.SessionHeaps.{stock_of, AreSoundHeaps, KeepsRooms};
+ghost use Rattle.file_service.specs.SessionBuffer.{buffer_key};
 ghost use Rattle.file_service.specs.Session.{HasFiles, IsReady, IsAnswered, IsTold, Serves, done_reply, counted_reply, lent_reply, lent_effect, gone_effect, served_in, session_served};
 
-use crate::rooms::Rooms;
 use crate::session::FileSession;
-use calls::{Quotas, Reply};
+use crate::session_heaps::SessionHeaps;
+use core_calls::{Quotas, Reply};
 use dataspace_core::Memory;
 use region_map::RegionMap;
 use server_frame::{Effect, Service};
@@ -30,19 +30,19 @@ use trade_base::DsId;
 /// The most bytes that a request writes.
 const MOST_WRITTEN: usize = 4096;
 
-/// So many bytes are written by way of a small buffer, as a large one takes long to clear.
+/// The most bytes that are written through a small buffer, because a large one takes long to clear.
 const FEW_WRITTEN: usize = 128;
 
-/// So many bytes are written by way of a buffer that is larger, and not the largest.
+/// The most bytes that are written through a buffer of medium size.
 const MORE_WRITTEN: usize = 1024;
 
 /// The most bytes that a request reads.
 const MOST_READ: usize = 1024;
 
-/// So many bytes are read by way of a small buffer, for the same reason.
+/// The most bytes that are read through a small buffer, because a large one takes long to clear.
 const FEW_READ: usize = 128;
 
-/// The file service. It keeps nothing but its sessions.
+/// The file service. It stores nothing except its sessions.
 #[derive(Clone, Copy, Drop)]
 pub struct FileService;
 
@@ -98,7 +98,7 @@ impl Service for FileService {
     ghost lends_aside = { lends_aside };
 }
 
-/// Answers a request of a session, and tells what it did to the buffer.
+/// Answers a request of a session and returns its effect on the session's buffer.
 fn answer(
     session: &mut FileSession,
     memory: &mut Memory,
@@ -151,7 +151,7 @@ fn answer(
     Effect::Nothing
 }
 
-/// Tells at most so many bytes of a file from an offset on, or why not.
+/// Writes the reply with at most `len` bytes of a file from an offset on, or with the error.
 fn tell_read(
     session: &FileSession,
     memory: &mut Memory,
@@ -161,7 +161,7 @@ fn tell_read(
     len: u64,
     reply: &mut Reply,
 )
-    requires furnished { AreFurnished session.now.rooms memory.old map.now }
+    requires furnished { AreSoundHeaps session.now.rooms memory.old map.now }
     requires files { HasFiles session.now (stock_of session.now.rooms memory.old map.now) }
     ensures told { (answer : Answered)
         × ((IsTold (Read file.now offset len) answer session.now
@@ -176,7 +176,7 @@ fn tell_read(
     }
 }
 
-/// The same by way of a buffer of so many bytes. It stands alone, since who takes it in would clear its buffer at each request.
+/// Writes the same reply through a buffer of `N` bytes. It is not inlined, because each request would clear its buffer.
 #[inline(never)]
 fn tell_read_by<const N: usize>(
     session: &FileSession,
@@ -189,7 +189,7 @@ fn tell_read_by<const N: usize>(
 )
     requires few { len ≤ MOST_READ → len ≤ N }
     requires small { N ≤ MOST_READ }
-    requires furnished { AreFurnished session.now.rooms memory.old map.now }
+    requires furnished { AreSoundHeaps session.now.rooms memory.old map.now }
     requires files { HasFiles session.now (stock_of session.now.rooms memory.old map.now) }
     ensures told { (answer : Answered)
         × ((IsTold (Read file.now offset len) answer session.now
@@ -204,7 +204,7 @@ fn tell_read_by<const N: usize>(
     }
 }
 
-/// Puts the bytes that a text of hexadecimal digits stands for over a file's from an offset on, and tells how many they are.
+/// Writes the bytes that hexadecimal digits denote over a file's from an offset on, and returns their number.
 fn write(
     session: &mut FileSession,
     memory: &mut Memory,
@@ -215,7 +215,7 @@ fn write(
 ) -> Result<u64, FileError>
     requires hex { bytes_of_hex hex.now ≡ Some (hex_bytes hex.now) }
     requires few { length hex.now ≤ 2 * MOST_WRITTEN }
-    requires furnished { AreFurnished session.old.rooms memory.old map.old }
+    requires furnished { AreSoundHeaps session.old.rooms memory.old map.old }
     requires files { HasFiles session.old (stock_of session.old.rooms memory.old map.old) }
     ensures serves { Serves
         (served_in (Write file.now offset (hex_bytes hex.now)) session.old
@@ -234,7 +234,7 @@ fn write(
     }
 }
 
-/// The same by way of a buffer of so many bytes. It stands alone, since who takes it in would clear its buffer at each request.
+/// Writes the same bytes through a buffer of `N` bytes. It is not inlined, because each request would clear its buffer.
 #[tactic(auto, using(text_codec::proofs::HexLemmas::decodings))]
 #[inline(never)]
 fn write_by<const N: usize>(
@@ -248,7 +248,7 @@ fn write_by<const N: usize>(
     requires hex { bytes_of_hex hex.now ≡ Some (hex_bytes hex.now) }
     requires few { length hex.now ≤ 2 * N }
     requires small { N ≤ MOST_WRITTEN }
-    requires furnished { AreFurnished session.old.rooms memory.old map.old }
+    requires furnished { AreSoundHeaps session.old.rooms memory.old map.old }
     requires files { HasFiles session.old (stock_of session.old.rooms memory.old map.old) }
     ensures serves { Serves
         (served_in (Write file.now offset (hex_bytes hex.now)) session.old
@@ -264,7 +264,7 @@ fn write_by<const N: usize>(
     session.write(memory, map, file, offset, bytes)
 }
 
-/// Tells the name of the file at a place among the others, or that there are no more.
+/// Writes the reply with the name of the file at a place in the order of creation, or that there are no more.
 fn tell_name(
     session: &FileSession,
     memory: &mut Memory,
@@ -272,7 +272,7 @@ fn tell_name(
     place: u64,
     reply: &mut Reply,
 )
-    requires furnished { AreFurnished session.now.rooms memory.old map.now }
+    requires furnished { AreSoundHeaps session.now.rooms memory.old map.now }
     requires files { HasFiles session.now (stock_of session.now.rooms memory.old map.now) }
     ensures told { (answer : Answered)
         × ((Serves (served_in (Name place) session.now
@@ -287,8 +287,8 @@ fn tell_name(
     }
 }
 
-impl Rooms {
-    /// Tells use and limits of the account.
+impl SessionHeaps {
+    /// Writes the reply with use and limits of the session's account.
     fn tell_shares(&self, memory: &Memory, reply: &mut Reply)
         requires open { IsOpenIn memory.now (payer_of self.now.contents) }
         ensures { reply.new ≡ record reply.old {
@@ -309,7 +309,7 @@ impl Rooms {
     }
 }
 
-/// Tells whether it is done.
+/// Writes the reply of a request that is done or refused.
 fn tell_done(outcome: Result<(), FileError>, reply: &mut Reply)
     ensures { reply.new ≡ record reply.old {
       text = file_reply (done_reply outcome);
@@ -321,7 +321,7 @@ fn tell_done(outcome: Result<(), FileError>, reply: &mut Reply)
     }
 }
 
-/// Tells a count.
+/// Writes the reply with a count, or with the error.
 fn tell_count(outcome: Result<u64, FileError>, reply: &mut Reply)
     ensures { reply.new ≡ record reply.old {
       text = file_reply (counted_reply outcome);
@@ -333,7 +333,7 @@ fn tell_count(outcome: Result<u64, FileError>, reply: &mut Reply)
     }
 }
 
-/// Tells whether a buffer is lent, and answers what that does to the buffer. Its selector follows.
+/// Writes the reply of a created buffer, or the error, and returns the effect on the buffer. The selector is appended later.
 fn tell_lent(outcome: Result<DsId, FileError>, reply: &mut Reply) -> Effect
     ensures told { reply.new ≡ record reply.old {
       text = file_reply (lent_reply outcome);
@@ -352,7 +352,7 @@ fn tell_lent(outcome: Result<DsId, FileError>, reply: &mut Reply) -> Effect
     }
 }
 
-/// Tells whether a buffer is taken back, and answers what that does to the buffer.
+/// Writes the reply of a freed buffer, or the error, and returns the effect on the buffer.
 fn tell_gone(outcome: Result<DsId, FileError>, reply: &mut Reply) -> Effect
     ensures told { reply.new ≡ record reply.old {
       text = file_reply (done_reply outcome);

@@ -1,38 +1,38 @@
 //! A session of the file service.
 
 use crate::node::Node;
-use crate::rooms::Rooms;
+use crate::session_heaps::SessionHeaps;
 use arrayvec::ArrayVec;
-use calls::LONGEST_LABEL;
+use core_calls::LONGEST_LABEL;
 use sliced_heap::SlicedHeap;
 use trade_base::DsId;
 
-/// What the file service keeps for a session. Each file has a node, a block of the heap. The nodes are linked both ways in
+/// What the file service stores for a session. Each file has a node, a block of the heap. The nodes are linked both ways in
 /// the order of creation, and have links of a tree by name.
 #[derive(Drop)]
 pub struct FileSession {
     pub(crate) label: ArrayVec<u8, LONGEST_LABEL>,
-    pub(crate) rooms: Rooms,
+    pub(crate) rooms: SessionHeaps,
     /// The address of the first file's node, or 0.
     pub(crate) first: u64,
     /// The address of the last file's node, or 0.
     pub(crate) last: u64,
     /// The address of the node at the root of the tree by name, or 0.
     pub(crate) root: u64,
-    /// What it lends its client, if it lends anything.
-    pub(crate) buffer: Option<Lent>,
+    /// The buffer that it shares with its client, if it has one.
+    pub(crate) buffer: Option<SessionBuffer>,
 }
 
-/// A buffer that a session lends its client: a dataspace of the session's account, and where it stands in the server's heap
-/// window.
+/// A buffer that a session shares with its client: a dataspace of the session's account, and its address in the server's
+/// heap window.
 #[derive(Clone, Copy, Drop)]
-pub(crate) struct Lent {
+pub(crate) struct SessionBuffer {
     pub(crate) space: DsId,
-    /// Where its region starts.
+    /// The address at which its region starts.
     pub(crate) start: u64,
 }
 
-/// A file that is found, and where its node is.
+/// A file that is found, with the address of its node.
 #[derive(Drop)]
 pub(crate) struct FoundFile {
     pub(crate) address: u64,
@@ -49,7 +49,7 @@ impl FileSession {
     ghost use Rattle.server_frame.specs.Session.{HasBlocksAlone};
     ghost use Rattle.file_service.specs.Session.{value_of, IsSession};
 
-    /// A session without files, which lends nothing.
+    /// Creates a session without files and without a buffer.
     pub(crate) fn open(heap: SlicedHeap, label: &[u8]) -> FileSession
         requires { length label.now ≤ LONGEST_LABEL }
         ensures first { (share : Share) → HasBlocksAlone share
@@ -62,7 +62,7 @@ impl FileSession {
         let _ = copy.try_extend_from_slice(label);
         FileSession {
             label: copy,
-            rooms: Rooms::new(heap),
+            rooms: SessionHeaps::new(heap),
             first: 0,
             last: 0,
             root: 0,

@@ -23,7 +23,7 @@ use Rattle.dataspace_core.specs.Share.{Share}
 use Rattle.heap_core.specs.declared.words.Chunk.{Chunk}
 use Rattle.heap_core.specs.declared.heap.Heap.{Heap}
 use Rattle.heap_core.specs.Heap.{IsLaid, heap_in, large_regions, large_tag, payer_of, share_at, starts_in, words_in}
-use Rattle.heap_core.specs.Laws.{block_region, BlocksAreRegions}
+use Rattle.heap_core.specs.Theorems.{block_region, BlocksAreRegions}
 use Rattle.heap_core.proofs.PayloadLemmas.{no_chunk}
 use Rattle.heap_core.proofs.StandLemmas.{count_blocks, chunk_total}
 use Rattle.sliced_heap.proofs.ShareLemmas.{block_here, told_region, large_among, large_block}

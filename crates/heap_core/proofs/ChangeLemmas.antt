@@ -16,7 +16,7 @@ use Rattle.dataspace_core.proofs.PartLaws.{open_in_part}
 use Rattle.dataspace_core.proofs.ShareLaws.{share_alike, some_alike, in_share}
 use Rattle.dataspace_core.proofs.WindowLaws.{length_some, window_after, own_account}
 use Rattle.heap_core.specs.declared.heap.Heap.{Heap}
-use Rattle.heap_core.specs.Heap.{IsLaid, IsSound, StandsChunk, StandsLarge, chunk_at, keys_in, payer_of, share_at, words_in, large_tag, large_regions}
+use Rattle.heap_core.specs.Heap.{IsLaid, IsSound, IsChunkAt, IsLargeAt, chunk_at, keys_in, payer_of, share_at, words_in, large_tag, large_regions}
 use Rattle.heap_core.specs.Calls.{KeepsSpaces}
 use Rattle.heap_core.specs.Words.{Around, is_among, are_bytes, around, bytes_in_store, words_of}
 use Rattle.heap_core.proofs.AroundLemmas.{among_found, bytes_of-part, words_of-part, part_lengths, part_others, account_kept, around_becomes}
@@ -120,10 +120,10 @@ module _ (heap : Heap) (fit : BestFit) (old new : Store) (regions : Regions) (so
     sizes_at : (k : ℕ) → avl.bytes_of fit k ≡ avl.bytes_of heap.fit k
     sizes_at k = ap (λ xs. get_or xs k 0) sizes
 
-    stands : (k : ℕ) → k < length heap.chunks.items → StandsChunk (record { part = part account new; heap = S.heap; tags = S.tags }) (chunk_at heap k) k (avl.bytes_of fit k)
+    stands : (k : ℕ) → k < length heap.chunks.items → IsChunkAt (record { part = part account new; heap = S.heap; tags = S.tags }) (chunk_at heap k) k (avl.bytes_of fit k)
     stands k there = grind (arith, nat_tests, sound.laid.chunks k there, chunk_now k there)
 
-    large_stands : (s : ℕ) (r : Region) → get (large_regions S) s ≡ Some r → StandsLarge (record { part = part account new; heap = S.heap; tags = S.tags }) r
+    large_stands : (s : ℕ) (r : Region) → get (large_regions S) s ≡ Some r → IsLargeAt (record { part = part account new; heap = S.heap; tags = S.tags }) r
     large_stands s r h =
         let was = sound.laid.large_stands s r h in
         record { bytes = was.bytes; there = keeps_spaces.others r.of (large_apart s r h) ∙ part_has r.of was.bytes was.there; whole = was.whole; least = was.least }

@@ -24,7 +24,7 @@ use Rattle.dataspace_core.specs.Store.{Store, part, space_at, PartBecomes, part_
 use Rattle.dataspace_core.specs.Share.{Share, share_in, KeepsShares}
 use Rattle.heap_core.specs.declared.heap.Heap.{Heap}
 use Rattle.heap_core.specs.Calls.{GivesLarge}
-use Rattle.heap_core.specs.Heap.{is_large_tag, large_regions, bytes_shown, heap_in, IsLaid, IsSound, StandsLarge, chunk_at, payer_of, payloads_of, share_at, times_in}
+use Rattle.heap_core.specs.Heap.{is_large_tag, large_regions, bytes_shown, heap_in, IsLaid, IsSound, IsLargeAt, chunk_at, payer_of, payloads_of, share_at, times_in}
 use Rattle.heap_core.specs.Lookup.{LiesInLarge}
 use Rattle.heap_core.proofs.FoundLemmas.{chunk_large, large_outside}
 use Rattle.dataspace_core.proofs.GoneLaws.{gone_charge, gone_count, gone_open, gone_others, gone_paid, gone_share, gone_shares, gone_window, in_map, once_shown}
@@ -108,7 +108,7 @@ module _ (heap : Heap) (start ds : ℕ) (old new : Store) (regions : Regions) (s
     was_large : (s : ℕ) (r : Region) → get (large_regions smaller) s ≡ Some r → (get (large_regions S) s ≡ Some r) × (s ≢ start)
     was_large s r h = grind (arith, nat_tests, less, before_remove, none-some, get-remove_same)
 
-    stands : (s : ℕ) (r : Region) → get (large_regions smaller) s ≡ Some r → StandsLarge smaller r
+    stands : (s : ℕ) (r : Region) → get (large_regions smaller) s ≡ Some r → IsLargeAt smaller r
     stands s r h =
         let was = was_large s r h in
         let stood = sound.laid.large_stands s r was.0 in

@@ -38,7 +38,7 @@ use Rattle.heap_core.specs.declared.heap.Heap.{Heap}
 use Rattle.heap_core.specs.declared.words.Chunk.{Chunk}
 use Rattle.heap_core.specs.Blocks.{Adds}
 use Rattle.heap_core.specs.Calls.{Grows, Keeps}
-use Rattle.heap_core.specs.Heap.{IsLaid, IsSound, StandsChunk, StandsLarge, bytes_shown, chunk_at, heap_in, is_large_tag, keys_in, large_regions, payer_of, payloads_of, share_at, starts_in, words_in}
+use Rattle.heap_core.specs.Heap.{IsLaid, IsSound, IsChunkAt, IsLargeAt, bytes_shown, chunk_at, heap_in, is_large_tag, keys_in, large_regions, payer_of, payloads_of, share_at, starts_in, words_in}
 use Rattle.heap_core.specs.Words.{Around, is_among, are_bytes, around, bytes_in_store, keys_of, words_of, word_in, spaces_but, blank_if}
 use Rattle.heap_core.proofs.AddLemmas.{among_more, are_then, blocks_then, key_other, keys_more, other_space, paid_then, word_then, word_low, word_out}
 use Rattle.heap_core.proofs.AroundLemmas.{get-part, bytes_of-part, part_lengths, account_kept, around_becomes, words_of-part}
@@ -208,7 +208,7 @@ module _ (heap : Heap) (vec : ArrayVec Chunk) (fit : BestFit) (next ds asked sta
   chunk_other : (k : ℕ) → k < n → (chunk_at heap k).ds.0 ≢ ds
   chunk_other k there e = other_key k there (key_is heap old regions sound k there ∙ e)
 
-  low_stands : (k : ℕ) → k < n → StandsChunk larger (chunk_at heap k) k (avl.bytes_of heap.fit k)
+  low_stands : (k : ℕ) → k < n → IsChunkAt larger (chunk_at heap k) k (avl.bytes_of heap.fit k)
   low_stands k there =
       let in_heap : k < length heap.chunks.items = let e = n_is in omega (arith, e, there) in
       let was = sound.laid.chunks k in_heap in
@@ -225,7 +225,7 @@ module _ (heap : Heap) (vec : ArrayVec Chunk) (fit : BestFit) (next ds asked sta
         tag = get-insert_other S.tags start n _ (elsewhere _ _ was.region) ∙ was.tag;
       }
 
-  last_stands : StandsChunk larger (record { ds = record { 0 = ds }; start = start }) n size
+  last_stands : IsChunkAt larger (record { ds = record { 0 = ds }; start = start }) n size
   last_stands =
       let there = length_some (get (part account new).spaces ds) (length (zeros size)) (now_lengths ds ∙ ap (option_map length) (new_in_part account ds asked old mid becomes)) in
       let seam = get_or-append_seam (keys_in heap) ds [] 0 in
@@ -242,7 +242,7 @@ module _ (heap : Heap) (vec : ArrayVec Chunk) (fit : BestFit) (next ds asked sta
         tag = get-insert_same S.tags start n start refl;
       }
 
-  stands : (k : ℕ) → k < length vec.items → StandsChunk larger (chunk_at later k) k (avl.bytes_of fit k)
+  stands : (k : ℕ) → k < length vec.items → IsChunkAt larger (chunk_at later k) k (avl.bytes_of fit k)
   stands k there = search (rules, low_chunk, low_size, low_stands, length_now, last_chunk, last_size, last_stands, cases_lt)
 
   all : (s k : ℕ) (r : Region) → get larger.heap s ≡ Some r → get larger.tags s ≡ Some k → k < 64 → (k < length vec.items) × ((chunk_at later k).start ≡ s)
@@ -273,7 +273,7 @@ module _ (heap : Heap) (vec : ArrayVec Chunk) (fit : BestFit) (next ds asked sta
   unfolding share_in
   S_space k = refl
 
-  large_stands : (s : ℕ) (r : Region) → get (large_regions larger) s ≡ Some r → StandsLarge larger r
+  large_stands : (s : ℕ) (r : Region) → get (large_regions larger) s ≡ Some r → IsLargeAt larger r
   large_stands s r h =
       let there = ap (λ (m : NatMap Region). get m s) (sym large_same) ∙ h in
       let was = sound.laid.large_stands s r there in

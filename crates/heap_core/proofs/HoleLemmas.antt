@@ -13,7 +13,7 @@ use Rattle.own_model.specs.Heap as model
 use Rattle.own_model.specs.Heap.{Block, Used, Hole, AreBlocks, bytes_in}
 use Rattle.own_model.proofs.HeapBlockLemmas.{tail_blocks}
 use Rattle.own_model.proofs.ListLemmas.{all_within}
-use Rattle.avl_alloc.specs.Holes.{heads}
+use Rattle.avl_alloc.specs.FreeBlocks.{heads}
 use Rattle.std.specs.List.{AllByRecursion}
 use Rattle.avl_alloc.specs.declared.best_fit.BestFit.{BestFit}
 use Rattle.avl_alloc.specs.Layout.{heap_of, bytes_of, kept_at, sizes_of, weigh, weigh_all, weigh_holes, none, whole, IsSound}

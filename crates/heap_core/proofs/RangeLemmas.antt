@@ -34,7 +34,7 @@ use Rattle.dataspace_core.proofs.WindowLaws.{in_memory, window_after}
 use Rattle.heap_core.specs.declared.heap.Heap.{Heap}
 use Rattle.heap_core.specs.Calls.{HoldsRange}
 use Rattle.heap_core.specs.Heap.{IsLaid, IsSound, chunk_at, heap_at, heap_in, keys_in, large_regions, large_tag, payer_of, payloads_of, share_at, words_in, bytes_shown}
-use Rattle.heap_core.specs.Laws.{Pokes, PayloadsArePoked, PayloadsAreRead, block_region}
+use Rattle.heap_core.specs.Theorems.{Pokes, PayloadsArePoked, PayloadsAreRead, block_region}
 use Rattle.heap_core.specs.Words.{are_bytes, words_of}
 use Rattle.heap_core.proofs.FoundLemmas.{from_chunk}
 use Rattle.heap_core.proofs.ChunkLemmas.{key_is, words_are}

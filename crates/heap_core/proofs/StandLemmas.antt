@@ -20,7 +20,7 @@ use Rattle.dataspace_core.specs.Share.{Share}
 use Rattle.heap_core.specs.declared.words.Chunk.{Chunk}
 use Rattle.heap_core.specs.declared.heap.Heap.{Heap}
 use Rattle.heap_core.specs.Words.{word_in, word_from, bytes_of_chunk}
-use Rattle.heap_core.specs.Heap.{IsLaid, StandsChunk, chunk_at, words_in, keys_in, payloads_of, payloads_from}
+use Rattle.heap_core.specs.Heap.{IsLaid, IsChunkAt, chunk_at, words_in, keys_in, payloads_of, payloads_from}
 use Rattle.heap_core.proofs.BlockLemmas.{length-heap_of}
 use Rattle.heap_core.proofs.PayloadLemmas.{told, value_of-payloads, no_chunk, entries_of}
 use Rattle.heap_core.proofs.WordsLemmas.{length_keys, key_at}
@@ -105,7 +105,7 @@ module _ (heap : Heap) (share after : Share) (laid : IsLaid heap share) (alike :
       let key = key_at heap.chunks.items i no_chunk there in
       ap (bytes_of after.part) key ∙ same_bytes i in_chunks ∙ ap (bytes_of share.part) (sym key))
 
-  pub stands_kept : (k : ℕ) → k < length heap.chunks.items → StandsChunk after (chunk_at heap k) k (avl.bytes_of heap.fit k)
+  pub stands_kept : (k : ℕ) → k < length heap.chunks.items → IsChunkAt after (chunk_at heap k) k (avl.bytes_of heap.fit k)
   stands_kept k there = grind (arith, nat_tests)
 
   pub payloads_kept : (hs : model.Heap) → payloads_of after.part heap.chunks.items hs ≡ payloads_of share.part heap.chunks.items hs

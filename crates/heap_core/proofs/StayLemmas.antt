@@ -16,8 +16,8 @@ use Rattle.dataspace_core.specs.Share.{Share, share_in}
 use Rattle.dataspace_core.proofs.PartLaws.{open_in_part, part_open}
 use Rattle.dataspace_core.proofs.WindowLaws.{length_some}
 use Rattle.heap_core.specs.declared.heap.Heap.{Heap}
-use Rattle.heap_core.specs.Heap.{IsLaid, StandsLarge, chunk_at, large_tag, large_regions, bytes_shown, heap_in, payloads_of, words_in}
-use Rattle.heap_core.specs.Laws.{block_region, EmptyMapsHaveNoBlocks, HeapsStay, HeapsStayBeside}
+use Rattle.heap_core.specs.Heap.{IsLaid, IsLargeAt, chunk_at, large_tag, large_regions, bytes_shown, heap_in, payloads_of, words_in}
+use Rattle.heap_core.specs.Theorems.{block_region, EmptyMapsHaveNoBlocks, HeapsStay, HeapsStayBeside}
 use Rattle.sliced_heap.proofs.ShareLemmas.{IsBlockRegion, told_region, block_here, large_among, large_block, large_region}
 use Rattle.dataspace_core.proofs.ShareLaws.{in_share}
 use Rattle.heap_core.proofs.StandLemmas.{SameChunks, words_kept, stands_kept, payloads_kept}
@@ -46,7 +46,7 @@ module _ (heap : Heap) (S T : Share) (laid : IsLaid heap S) (stand : (s : ℕ) �
   was_large : (s : ℕ) (r : Region) → get (large_regions T) s ≡ Some r → get (large_regions S) s ≡ Some r
   was_large s r h = ap (λ (m : NatMap Region). get m s) (sym same_large) ∙ h
 
-  large_stays : (s : ℕ) (r : Region) → get (large_regions T) s ≡ Some r → StandsLarge T r
+  large_stays : (s : ℕ) (r : Region) → get (large_regions T) s ≡ Some r → IsLargeAt T r
   large_stays s r h =
       let was = laid.large_stands s r (was_large s r h) in
       let now = length_some (get T.part.spaces r.of) (length was.bytes) (lengths s r (was_large s r h) ∙ ap (option_map length) was.there) in

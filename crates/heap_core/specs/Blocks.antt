@@ -6,13 +6,13 @@ use Rattle.own_model.specs.Heap.{Hole, IsBlockSize}
 use Rattle.avl_alloc.specs.declared.best_fit.BestFit.{BestFit}
 use Rattle.avl_alloc.specs.declared.best_fit.BlockAddr.{BlockAddr}
 use Rattle.avl_alloc.specs.Found.{block_addr}
-use Rattle.avl_alloc.specs.Holes.{Fits}
+use Rattle.avl_alloc.specs.FreeBlocks.{Fits}
 use Rattle.avl_alloc.specs.Layout.{heap_of, sizes_of, bytes_of, IsSound, ChangesHoles}
 use Rattle.avl_alloc.specs.Words.{Words}
 use Rattle.dataspace_core.specs.Store.{Store}
 use Rattle.heap_core.specs.Words.{around, bytes_around, words_of}
 
--- what a call asks: the blocks stand in the words, and the chunks have these bytes
+-- what a call asks: the blocks are in the words, and the chunks have these bytes
 pub record StandIn (fit : BestFit) (words : Words) (bytes : ℕ → ℕ) : Type 0 where
   pub sound : IsSound fit words
   pub fits : Fits (bytes_of fit) bytes

@@ -44,7 +44,7 @@ pub record KeepsSpaces (heap : Heap) (old new : Store) : Type 0 where
   pub others : (k : ℕ) → is_among (keys_in heap) k ≡ false → get (part_at heap new).spaces k ≡ get (part_at heap old).spaces k
   pub lengths : (k : ℕ) → option_map length (get (part_at heap new).spaces k) ≡ option_map length (get (part_at heap old).spaces k)
 
--- a hole is taken for n bytes: its payload is whatever bytes stand there
+-- a hole is taken for n bytes: its payload is whatever bytes are there
 pub record TakesHole (heap later : Heap) (n : ℕ) (hole : Spot) (old new : Store) (regions : Regions) : Type 0 where
   pub chunk_there : hole.chunk < length (keys_in heap)
   pub value : heap_at later new regions ≡ record (heap_at heap old regions) {
@@ -83,7 +83,7 @@ pub record AddsSpace (heap : Heap) (ds : ℕ) (old new : Store) : Type 0 where
   pub lengths : (k : ℕ) → k ≢ ds → option_map length (get (part_at heap new).spaces k) ≡ option_map length (get (part_at heap old).spaces k)
   pub count : len (part_at heap new).spaces ≡ len (part_at heap old).spaces + 1
 
--- so many bytes of a new dataspace stand at the first gap of the heap window, in a region that keeps a number, and are paid
+-- so many bytes of a new dataspace are at the first gap of the heap window, in a region that keeps a number, and are paid
 pub record Attaches (heap : Heap) (ds bytes tag start : ℕ) (old new : Store) (regions after : Regions) : Type 0 where
   pub gap : heap_gap regions.pages regions.heap (bytes / 4096) ≡ Some start
   pub lowest : heap_gap largest_machine regions.heap (bytes / 4096) ≡ Some start
@@ -162,7 +162,8 @@ pub record KeepsElsewhere (regions after : Regions) : Type 0 where
   pub stays : (s k : ℕ) → get regions.tags s ≡ Some k → large_tag < k → (get after.heap s ≡ get regions.heap s) × (get after.tags s ≡ get regions.tags s)
   pub fewer : (s k : ℕ) → get after.tags s ≡ Some k → get regions.tags s ≡ Some k
 
--- all chunks and large blocks of a heap are given back: the account's other dataspaces stay, and the regions that aren't the heap's
+-- all chunks and large blocks of a heap are given back: the account's other dataspaces stay, and the regions that aren't
+-- the heap's
 pub record GivesAll (heap later : Heap) (old new : Store) (regions after : Regions) : Type 0 where
   pub value : heap_at later new after ≡ no_heap
   pub none : HasNoBlocks (share_at (payer_of heap) new after)
@@ -195,7 +196,7 @@ pub record HoldsRange (heap : Heap) (store : Store) (regions : Regions) (ds offs
   pub into : offset ≡ before + (address - at)
   pub found : block_found (heap_at heap store regions).payloads address count ≡ Some (at, address - at)
 
--- the dataspace and the offset of a range of a payload are found, or none where no payload holds it
+-- the dataspace and the offset of a range of a payload are found, or none if no payload holds it
 pub record FindsRange (heap : Heap) (store : Store) (regions : Regions) (address count : ℕ) (result : Option (DsId × ℕ)) : Type 0 where
   pub some : IfSome result (λ found. HoldsRange heap store regions found.0.0 found.1 address count)
   pub none : IfNone result (block_found (heap_at heap store regions).payloads address count ≡ None)

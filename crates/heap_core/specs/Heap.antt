@@ -1,4 +1,4 @@
--- What a contract sees of a heap: its blocks, where they stand and what they hold, as its fields and its account's share tell.
+-- What a contract sees of a heap: its blocks, their addresses and contents, as its fields and its account's share state.
 use Rattle.std.specs.Prelude.{◌≡◌, ℕ, ◌+◌, ◌*◌, ◌≤◌, ◌<◌, ◌==◌, true, cond, List, [], ◌∷◌, ◌++◌, length, map, Some, is_some, sum_by, slice_index_or, slice_range}
 use Rattle.std.specs.FinMap.{get, len, from_entries}
 use Rattle.own_model.specs.Growth.{Shape, most_chunks, most_growth}
@@ -39,7 +39,7 @@ words_in heap part = word_in (keys_in heap) (bytes_of part)
 abbrev pub shape_in : Heap → Part → Shape
 shape_in heap part = record { chunks = heap_of heap.fit (words_in heap part); growth = heap.growth }
 
--- the payloads of used blocks that stand from an offset of these bytes on, which stand from an address on: each with its address
+-- the payloads of used blocks from an offset of these bytes on, which begin at an address: each with its address
 abbrev pub payloads_from : ℕ → ℕ → List ℕ → List Block → List (ℕ × List ℕ)
 payloads_from start offset bytes [] = []
 payloads_from start offset bytes (Used n ∷ rest) =
@@ -80,8 +80,8 @@ heap_at heap store regions = heap_in heap (share_at (payer_of heap) store region
 abbrev pub chunk_at : Heap → ℕ → Chunk
 chunk_at heap number = slice_index_or heap.chunks.items number (record { ds = record { 0 = 0 }; start = 0 })
 
--- a chunk of this number stands in the heap window: whole pages of a dataspace of the account, in a region that keeps the number
-pub record StandsChunk (share : Share) (chunk : Chunk) (number size : ℕ) : Type 0 where
+-- a chunk of this number is in the heap window: whole pages of a dataspace of the account, in a region that keeps the number
+pub record IsChunkAt (share : Share) (chunk : Chunk) (number size : ℕ) : Type 0 where
   pub bytes : List ℕ
   pub pages : ℕ
   pub there : get share.part.spaces chunk.ds.0 ≡ Some bytes
@@ -92,8 +92,8 @@ pub record StandsChunk (share : Share) (chunk : Chunk) (number size : ℕ) : Typ
   pub region : get share.heap chunk.start ≡ Some (record { of = chunk.ds.0; pages = pages })
   pub tag : get share.tags chunk.start ≡ Some number
 
--- a large block stands there: as many bytes as its region has pages, and no fewer than the least
-pub record StandsLarge (share : Share) (region : Region) : Type 0 where
+-- a large block is there: as many bytes as its region has pages, and no fewer than the least
+pub record IsLargeAt (share : Share) (region : Region) : Type 0 where
   pub bytes : List ℕ
   pub there : get share.part.spaces region.of ≡ Some bytes
   pub whole : length bytes ≡ region.pages * 4096
@@ -107,20 +107,20 @@ HasNoBlocks share = (start k : ℕ) (region : Region) → get share.heap start �
 abbrev pub times_in : List ℕ → ℕ → ℕ
 times_in numbers n = sum_by (λ x. cond (x == n) 1 0) numbers
 
--- a heap's chunks and large blocks stand in its account's share, and no other region keeps such a number
+-- a heap's chunks and large blocks are in its account's share, and no other region keeps such a number
 pub record IsLaid (heap : Heap) (share : Share) : Type 0 where
   pub fit : avl.IsSound heap.fit (words_in heap share.part)
   pub count : length (sizes_of heap.fit) ≡ length heap.chunks.items
   pub few : length heap.chunks.items ≤ most_chunks
-  pub chunks : (k : ℕ) → k < length heap.chunks.items → StandsChunk share (chunk_at heap k) k (avl.bytes_of heap.fit k)
+  pub chunks : (k : ℕ) → k < length heap.chunks.items → IsChunkAt share (chunk_at heap k) k (avl.bytes_of heap.fit k)
   pub all : (start k : ℕ) (region : Region) → get share.heap start ≡ Some region → get share.tags start ≡ Some k → k < large_tag → (k < length heap.chunks.items) × ((chunk_at heap k).start ≡ start)
   pub large : (start : ℕ) → times_in heap.large.items start ≡ cond (is_some (get (large_regions share) start)) 1 0
   pub large_count : length heap.large.items ≡ len (large_regions share)
-  pub large_stands : (start : ℕ) (region : Region) → get (large_regions share) start ≡ Some region → StandsLarge share region
+  pub large_stands : (start : ℕ) (region : Region) → get (large_regions share) start ≡ Some region → IsLargeAt share region
   pub growth_some : 1 ≤ heap.growth
   pub growth_most : heap.growth ≤ most_growth
 
--- its account is open, the map is one of the memory, and its blocks stand there
+-- its account is open, the map is one of the memory, and its blocks are there
 pub record IsSound (heap : Heap) (store : Store) (regions : Regions) : Type 0 where
   pub opens : IsOpenIn store (payer_of heap)
   pub window : IsWindowOf store regions.pages regions.heap_most regions.heap

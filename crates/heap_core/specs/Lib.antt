@@ -3,6 +3,6 @@ pub mod Blocks
 pub mod Heap
 pub mod Lookup
 pub mod Calls
-pub mod Laws
+pub mod Theorems
 pub mod Taken
 pub mod End

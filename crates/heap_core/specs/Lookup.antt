@@ -5,8 +5,8 @@ use Rattle.own_model.specs.Region.{Region}
 use Rattle.avl_alloc.specs.Layout as avl
 use Rattle.dataspace_core.specs.Share.{Share}
 use Rattle.heap_core.specs.declared.heap.Heap.{Heap}
-use Rattle.heap_core.specs.declared.lookup.Site.{Site}
-use Rattle.heap_core.specs.declared.lookup.Site.TheVariants.{InChunk, InLarge}
+use Rattle.heap_core.specs.declared.lookup.HeapLocation.{HeapLocation}
+use Rattle.heap_core.specs.declared.lookup.HeapLocation.TheVariants.{InChunk, InLarge}
 use Rattle.heap_core.specs.Heap.{chunk_at, large_regions}
 
 -- it lies in a chunk, at an offset
@@ -23,7 +23,7 @@ pub record LiesInLarge (share : Share) (address start ds : ℕ) : Type 0 where
   pub high : address < start + pages * 4096
 
 -- it lies where a site says
-abbrev pub LiesAt : Heap → Share → ℕ → Site → Type 0
+abbrev pub LiesAt : Heap → Share → ℕ → HeapLocation → Type 0
 LiesAt heap share address (InChunk at) = LiesInChunk heap address at.chunk at.offset
 LiesAt heap share address (InLarge start ds) = LiesInLarge share address start ds.0
 

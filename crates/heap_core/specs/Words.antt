@@ -29,7 +29,7 @@ abbrev pub word_from : List ℕ → ℕ → ℕ
 word_from bytes offset =
     if offset % 8 == 0 && nat_le (offset + 8) (length bytes) then word_of (slice_range bytes offset (offset + 8)) else 0
 
--- the bytes of a chunk, where each dataspace has these; none where there is no such chunk
+-- the bytes of a chunk, where each dataspace has these; none if there is no such chunk
 abbrev pub bytes_of_chunk : List ℕ → (ℕ → List ℕ) → ℕ → List ℕ
 bytes_of_chunk keys bytes chunk = if nat_lt chunk (length keys) then bytes (slice_index keys chunk) else []
 
@@ -48,7 +48,7 @@ bytes_in_store store ds = (space_at store ds).bytes
 abbrev pub blank_if : Bool → Space → Space
 blank_if hidden space = if hidden then record space { bytes = zeros (length space.bytes) } else space
 
--- the dataspaces of a memory, but for the bytes of these
+-- the dataspaces of a memory, except the bytes of these
 unfoldable pub spaces_but : List ℕ → Store → ℕ → Option Space
 spaces_but keys store ds = option_map (blank_if (is_among keys ds)) (get store.spaces ds)
 
@@ -61,7 +61,7 @@ abbrev pub are_chunks : List ℕ → (ℕ → List ℕ) → Bool
 are_chunks keys bytes = are_distinct keys && (list_all (λ ds. are_bytes (bytes ds)) keys && nat_le (length keys) most_chunks)
 
 -- what lies around the words: in which dataspaces they are, whether these are chunks, the memory without its dataspaces,
--- and the dataspaces but for the words' bytes
+-- and the dataspaces except the words' bytes
 pub record Around : Type 0 where
   pub keys : List ℕ
   pub sound : Bool
@@ -81,7 +81,7 @@ around keys store = record {
 abbrev pub size_in : Option Space → ℕ
 size_in o = length (unwrap_or o (record { payer = 0; bytes = [] })).bytes
 
--- how many bytes of each chunk are words; none where these are no chunks
+-- how many bytes of each chunk are words; none if these are no chunks
 unfoldable pub bytes_around : Around → ℕ → ℕ
 bytes_around a chunk =
     if a.sound && nat_lt chunk (length a.keys) then size_in (a.spaces (slice_index a.keys chunk)) else 0

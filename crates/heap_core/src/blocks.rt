@@ -1,5 +1,5 @@
-//! The blocks in a heap's chunks: best fit over the words in the memory. Loads are counted, and no caller sees the count: it
-//! gives a blank for a ledger, which the call has for itself.
+//! The blocks in a heap's chunks: best fit over the words in the memory. Loads are counted, and no caller sees the count.
+//! The caller passes a blank for a ledger that belongs to this call.
 ghost use Rattle.std.specs.Prelude.{◌≡◌, ◌+◌, ◌-◌, ◌^◌, ◌<◌, ◌≤◌, length};
 ghost use Rattle.std.specs.Option.{option_map};
 ghost use Rattle.own_model.specs.BestFit.{chunk_of, payload_at};
@@ -13,7 +13,7 @@ use avl_alloc::{BestFit, BlockAddr, UsedBlock};
 use dataspace_core::Memory;
 use std::sync::ledger::{Blank, Ledger};
 
-/// One chunk more, the last of `chunks`, which is one hole.
+/// Adds a chunk, the last of `chunks`, as one free block.
 pub fn add<L: Ledger>(
     fit: &mut BestFit,
     memory: &mut Memory,
@@ -36,7 +36,8 @@ pub fn add<L: Ledger>(
     fit.add_chunk(&mut words, chunks.len() - 1, bytes);
 }
 
-/// Takes the best hole for so many bytes, or answers `None` where no hole is large enough.
+/// Allocates a block in the best-fitting free block for `bytes` bytes, or returns `None` if no free block is large
+/// enough.
 pub fn take<L: Ledger>(
     fit: &mut BestFit,
     memory: &mut Memory,
@@ -55,7 +56,8 @@ pub fn take<L: Ledger>(
     fit.alloc(&mut words, bytes)
 }
 
-/// Gives back the used block that starts at an address and tells its size, or answers `None` where none does.
+/// Frees the used block that starts at an address and returns its size in bytes, or returns `None` if no used block
+/// starts there.
 pub fn give<L: Ledger>(
     fit: &mut BestFit,
     memory: &mut Memory,
@@ -73,7 +75,7 @@ pub fn give<L: Ledger>(
     fit.free(&mut words, block)
 }
 
-/// The used block whose payload holds an address, or `None` where no payload does.
+/// Returns the used block whose payload contains an address, or `None` if no payload does.
 pub fn look<L: Ledger>(
     fit: &BestFit,
     memory: &mut Memory,

@@ -1,4 +1,4 @@
-//! Zeros over a part of a dataspace.
+//! Clearing of a part of a dataspace.
 ghost use Rattle.std.specs.Prelude.{◌≡◌, ◌+◌, ◌^◌, ◌<◌, ◌≤◌, length, replicate};
 ghost use Rattle.own_model.specs.OwnState.{zeros};
 ghost use Rattle.dataspace_core.specs.Store.{Exists, space_at, with_bytes_at};
@@ -6,10 +6,10 @@ ghost use Rattle.dataspace_core.specs.Store.{Exists, space_at, with_bytes_at};
 use dataspace_core::Memory;
 use trade_base::DsId;
 
-/// Zeros, of which so many are written at once.
+/// The zeros that one write copies.
 static BLANK: [u8; 1024] = [0; 1024];
 
-/// Writes zeros over `count` bytes of a dataspace from `offset` on. Nothing else changes.
+/// Writes zeros to `count` bytes of a dataspace from `offset` on. Nothing else changes.
 pub fn clear(memory: &mut Memory, ds: DsId, offset: u64, count: u64)
     requires exists { Exists memory.old ds.0 }
     requires range { offset + count ≤ length (space_at memory.old ds.0).bytes }

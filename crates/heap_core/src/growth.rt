@@ -1,4 +1,4 @@
-//! How a heap grows: by a chunk, as far as the account covers it.
+//! How a heap grows: by one chunk, as large as the account covers.
 ghost use Rattle.std.specs.Prelude.{◌≡◌, ◌<◌, length, OnOk, OnErr};
 ghost use Rattle.std.specs.Result.{result_err};
 ghost use Rattle.trade_base.specs.Page.{page_of};
@@ -18,15 +18,15 @@ use std::marker::Brand;
 use std::sync::ledger::Blank;
 use trade_base::{PAGE, Refusal};
 
-/// The most that the growth number can be.
+/// The maximum of the growth number, in pages.
 const MOST_GROWTH: u64 = 64;
 
 impl Heap {
-    // Grows by a chunk in which there is room for so many bytes: by as many pages as the growth number, which then doubles,
-    // or by no more than the block needs where the account doesn't cover these.
+    // Adds a chunk with space for a block of `bytes` bytes. Its size is the growth number in pages, which then doubles,
+    // or the block's pages if the account does not cover this.
     //
-    // It is refused with `TooManyChunks` where the heap has 64 chunks, else with `OutOfRam` or `OutOfCaps` where the account
-    // doesn't cover the pages that the block needs.
+    // Refuses with `TooManyChunks` if the heap has 64 chunks, then with `OutOfRam` or `OutOfCaps` if the account does not
+    // cover the block's pages.
     pub(crate) fn grow(
         &mut self,
         memory: &mut Memory,
@@ -57,7 +57,8 @@ impl Heap {
         }
     }
 
-    // Takes a dataspace of so many bytes in whole pages for a chunk, the last one. The growth number is then another one.
+    // Allocates a dataspace of `bytes` bytes, rounded up to whole pages, as the last chunk, and sets the growth number to
+    // `next`.
     fn add_chunk(
         &mut self,
         memory: &mut Memory,

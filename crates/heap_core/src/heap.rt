@@ -26,17 +26,17 @@ use std::marker::Brand;
 use std::sync::ledger::Blank;
 use trade_base::{AccountId, BLOCK_HEADER, LEAST_LARGE, PAGE, Refusal};
 
-/// The most large blocks that a machine can hold at once.
+/// The maximum number of large blocks that a machine can hold at once.
 const MOST_LARGE: usize = 256;
 
-/// The number that a large block's region keeps. A chunk's region keeps the chunk's number.
+/// The number stored with the region of a large block. A chunk's region has the chunk's number.
 pub(crate) const LARGE: u64 = 64;
 
-/// The pages of a heap's first chunk, unless a block needs more.
+/// The growth number of a new heap: the pages of its first chunk, unless a block needs more.
 pub(crate) const FIRST_GROWTH: u64 = 4;
 
-/// A heap of one account. It takes blocks of chunks, which are dataspaces, and grows by a chunk where no hole is large
-/// enough; a large block is a dataspace of its own.
+/// A heap of one account. Small blocks lie in chunks, which are dataspaces; the heap adds a chunk if no free block is
+/// large enough. A large block is a dataspace of its own.
 #[derive(Drop)]
 pub struct Heap {
     pub(crate) account: AccountId,
@@ -44,14 +44,14 @@ pub struct Heap {
     pub(crate) fit: BestFit,
     /// The chunks, in the order of their numbers.
     pub(crate) chunks: ArrayVec<Chunk, MOST_CHUNKS>,
-    /// Where the large blocks start, in any order.
+    /// The start addresses of the large blocks, in any order.
     pub(crate) large: ArrayVec<u64, MOST_LARGE>,
-    /// The least pages of the next chunk, where the account covers them.
+    /// The minimum number of pages of the next chunk, if the account covers them.
     pub(crate) growth: u64,
 }
 
 impl Heap {
-    /// A heap without a block, which takes its blocks for the account.
+    /// Creates an empty heap that charges the account for its blocks.
     pub fn new(account: AccountId) -> Heap
         ensures payer { payer_of result ≡ account.0 }
         ensures sound { (store : Store) (regions : Regions) → IsOpenIn store account.0 →
@@ -69,7 +69,7 @@ impl Heap {
         }
     }
 
-    // Makes it as a new one. What stands in its lists' places is left there, past their ends.
+    // Makes the heap as a new one. The lists' old elements remain in memory after their ends.
     pub(crate) fn forget(&mut self)
         ensures payer { payer_of self.new ≡ payer_of self.old }
         ensures sound { (store : Store) (regions : Regions) → IsOpenIn store (payer_of self.old) →
@@ -84,14 +84,15 @@ impl Heap {
         self.growth = FIRST_GROWTH;
     }
 
-    /// Takes a block for so many bytes, all zero, and tells the address of its payload. Below 65536 bytes it is taken in the
-    /// best hole, and where no hole is large enough the heap grows by a chunk: the account pays for the chunk's bytes and
-    /// one capability. From 65536 bytes on the block is large, and the account pays for its bytes in whole pages and one
-    /// capability. All bytes of the payload are zero, also those beyond `bytes`.
+    /// Allocates a zeroed block for `bytes` bytes and returns the address of its payload. A block below 65536 bytes is
+    /// allocated in the best-fitting free block. If none is large enough, the heap adds a chunk, and the account is
+    /// charged for its pages and one capability. For a block from 65536 bytes on, the account is charged for its own
+    /// pages and one capability. All bytes of the payload are zero, also those after `bytes`.
     ///
-    /// It is refused with `InvalidSize` where `bytes` is 0 or past 64 bits in whole pages, else with `TooManyChunks` where no
-    /// hole serves a smaller block and the heap has 64 chunks, else with `OutOfRam` and `OutOfCaps` where the account doesn't
-    /// cover the large block, or a chunk of the pages that the block needs. Nothing else refuses it.
+    /// Refuses with `InvalidSize` if `bytes` is 0 or exceeds 64 bits in whole pages. Then refuses with `TooManyChunks` if
+    /// no free block suffices for a smaller block and the heap has 64 chunks. Then refuses with `OutOfRam` or `OutOfCaps`
+    /// if the account does not cover the large block, or the chunk of the pages that the block needs. Nothing else
+    /// refuses it.
     pub fn alloc(
         &mut self,
         memory: &mut Memory,
@@ -130,7 +131,7 @@ impl Heap {
         self.take_grown(memory, map, bytes)
     }
 
-    // Takes a dataspace of its own for so many bytes.
+    // Allocates a large block: a dataspace of its own for `bytes` bytes.
     fn take_large(
         &mut self,
         memory: &mut Memory,
@@ -153,7 +154,7 @@ impl Heap {
         Ok(start)
     }
 
-    // Grows by a chunk and takes a block there. No hole is large enough for it yet.
+    // Adds a chunk and allocates a block there. No free block was large enough before.
     fn take_grown(
         &mut self,
         memory: &mut Memory,
@@ -176,8 +177,8 @@ impl Heap {
         Ok(self.take_small(memory, map, bytes).unwrap())
     }
 
-    // Takes the best hole for so many bytes, its payload all zero, and tells where the payload starts, or answers `None` where
-    // no hole is large enough.
+    // Allocates a block in the best-fitting free block for `bytes` bytes, clears its payload and returns the payload's
+    // address. Returns `None` if no free block is large enough.
     fn take_small(&mut self, memory: &mut Memory, map: &RegionMap, bytes: u64) -> Option<u64>
         requires sound { IsSound self.old memory.old map.now }
         requires small { bytes < LEAST_LARGE }
@@ -194,7 +195,7 @@ impl Heap {
         Some(self.clear_payload(memory, map, block))
     }
 
-    // Clears the payload of the used block at an address, and tells where the payload starts.
+    // Clears the payload of the used block at an address, and returns the payload's address.
     fn clear_payload(&self, memory: &mut Memory, map: &RegionMap, block: BlockAddr) -> u64
         requires sound { IsSound self.now memory.old map.now }
         requires used { (n : ℕ) × IsUsed self.now memory.old block n }
@@ -205,7 +206,7 @@ impl Heap {
         ensures around { around (keys_in self.now) memory.new
             ≡ around (keys_in self.now) memory.old }
     {
-        // The contract speaks of the map; the chunk knows where its region starts.
+        // The contract is about the map; the chunk has its region's start address.
         let _ = map;
         let chunk = self.chunks[block.chunk];
         let size = memory.load_word(chunk.ds, block.offset);
@@ -218,7 +219,8 @@ impl Heap {
         chunk.start + block.offset + BLOCK_HEADER
     }
 
-    // Takes the best hole for so many bytes, or answers `None` where no hole is large enough. Its payload is whatever stands there.
+    // Allocates a block in the best-fitting free block for `bytes` bytes, or returns `None` if no free block is large
+    // enough. It does not clear the payload.
     fn take_hole(&mut self, memory: &mut Memory, map: &RegionMap, bytes: u64) -> Option<BlockAddr>
         requires sound { IsSound self.old memory.old map.now }
         requires small { bytes < LEAST_LARGE }
@@ -234,7 +236,7 @@ impl Heap {
         ensures none { Unchanged (IfNone result)
             self.old self.new memory.old memory.new map.now map.now }
     {
-        // The contract speaks of the map, which stays as it is: a hole is taken in the chunks' words.
+        // The contract is about the map, which stays unchanged; the block is allocated in the chunks' words.
         let _ = map;
         take::<Brand>(&mut self.fit, memory, &self.chunks, bytes, Blank::new(1))
     }

@@ -1,16 +1,19 @@
-//! The heap of an account: best fit in chunks that grow by the account's own means, and large blocks beside them.
+//! The heap of an account: best fit in chunks that the account pays for, and large blocks with pages of their own.
+//!
+//! `pd_core` has one for each script, and each file session has one. For example, the first `heap.alloc(memory, map,
+//! 100)` charges a chunk of 4 pages and one capability.
 #![tactic(auto)]
 
 mod blocks;
 mod clear;
 mod growth;
 mod heap;
-mod laws;
 mod loads;
 mod lookup;
 mod release;
+mod theorems;
 mod words;
 
 pub use heap::Heap;
-pub use laws::{blocks_are_regions, heaps_stay, maps_stay, payloads_are_memory};
 pub use loads::Loads;
+pub use theorems::{blocks_are_regions, heaps_stay, maps_stay, payloads_are_memory};

@@ -1,10 +1,10 @@
-//! The count of loaded words. It takes no bytes.
+//! The count of loaded words, which exists only in proofs and occupies no bytes.
 ghost use Rattle.std.specs.Prelude.{◌≡◌, ℕ, ◌+◌, ◌<◌};
 
 use std::marker::Model;
 use std::sync::ledger::{Blank, Book, Ledger, Share};
 
-/// How many words were loaded. Only `tick` changes it.
+/// The number of words loaded so far. Only `tick` changes it.
 #[derive(Drop)]
 pub struct Loads<L: Ledger> {
     book: Book<L>,
@@ -20,7 +20,7 @@ impl<L: Ledger> Model for Loads<L> {
 }
 
 impl<L: Ledger> Loads<L> {
-    /// None so far.
+    /// Creates a count of 0 loads, from a blank for a ledger.
     pub fn new(blank: Blank) -> Loads<L>
         requires name { blank.name ≡ L.name }
         requires parts { blank.parts ≡ L.parts }
@@ -31,7 +31,7 @@ impl<L: Ledger> Loads<L> {
         Loads { book, share }
     }
 
-    /// One more.
+    /// Adds one load to the count of loads.
     pub fn tick(&mut self)
         ensures { self.new ≡ self.old + 1 }
     {

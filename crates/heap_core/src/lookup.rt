@@ -1,4 +1,4 @@
-//! Which block of a heap an address lies in.
+//! Search for the block of a heap that contains an address.
 ghost use Rattle.std.specs.Prelude.{◌≡◌, ℕ, ◌+◌, ◌-◌, ◌%◌, ◌<◌, ◌≤◌, ◌==◌, List, length, IfSome, IfNone, IsSome, Some, None};
 ghost use Rattle.std.specs.FinMap.{get};
 ghost use Rattle.own_model.specs.Sliced.{block_found};
@@ -17,18 +17,19 @@ use std::marker::Brand;
 use std::sync::ledger::Blank;
 use trade_base::DsId;
 
-/// Where an address lies.
+/// The part of a heap that contains an address.
 #[derive(Clone, Copy)]
-pub enum Site {
-    /// In a chunk.
+pub enum HeapLocation {
+    /// The address is in a chunk.
     InChunk(BlockAddr),
-    /// In a large block, which starts at an address and is a dataspace.
+    /// The address is in a large block, which has this start address and dataspace.
     InLarge { start: u64, ds: DsId },
 }
 
 impl Heap {
-    /// The dataspace in which `count` bytes from the address on lie, and the offset of the first of them. `None` where they
-    /// don't lie in one payload, as where one of them is a header's or a hole's. The memory is as it was.
+    /// Returns the dataspace that contains `count` bytes from the address on, and the offset of the first byte in it.
+    /// Returns `None` if the bytes do not lie in one payload, for example if one is in a header or a free block. The
+    /// memory stays unchanged.
     pub fn block_of(
         &self,
         memory: &mut Memory,
@@ -45,15 +46,15 @@ impl Heap {
         ensures memory { memory.new ≡ memory.old }
     {
         match self.site(memory, map, address)? {
-            Site::InChunk(at) => self.range_in_chunk(memory, map, at, address, count),
-            Site::InLarge { start, ds } => self.range_in_large(
+            HeapLocation::InChunk(at) => self.range_in_chunk(memory, map, at, address, count),
+            HeapLocation::InLarge { start, ds } => self.range_in_large(
                 memory, map, start, ds, address, count,
             ),
         }
     }
 
-    /// The dataspace that holds the payload which starts at an address, and its offset there, a multiple of 16. It reads no byte
-    /// of the memory. The chunks are asked first: they are few, however many regions the map has.
+    /// Returns the dataspace that contains the payload at an address, and its offset there, a multiple of 16. It reads no
+    /// byte of the memory. The chunks are searched first, as they are few however many regions the map has.
     pub fn payload_at(&self, memory: &Memory, map: &RegionMap, address: u64) -> (DsId, u64)
         requires sound { IsSound self.now memory.now map.now }
         requires there { IsSome (get (heap_at self.now memory.now map.now).payloads address) }
@@ -64,7 +65,7 @@ impl Heap {
             (address + into) count }
         ensures even { result.1 % 16 ≡ 0 }
     {
-        // The contract speaks of the memory; chunks and map alone are asked.
+        // The contract is about the memory; only the chunks and the map are read.
         let _ = memory;
         map.lies_apart();
         match self.chunk_over(address) {
@@ -76,8 +77,8 @@ impl Heap {
         }
     }
 
-    // The chunk that an address lies in, and the offset there, or `None` where it lies in no chunk. The last chunks are the
-    // largest.
+    // Returns the chunk that contains an address and the offset there, or `None` if no chunk does. The search begins with
+    // the last chunks, which are the largest.
     fn chunk_over(&self, address: u64) -> Option<BlockAddr>
         requires { length (sizes_of self.now.fit) ≡ length self.now.chunks.items }
         ensures { IfSome result (λ at. LiesInChunk self.now address at.chunk at.offset) }
@@ -96,8 +97,14 @@ impl Heap {
         None
     }
 
-    // Where an address lies. A region is this heap's by who pays for its dataspace, and by the number kept with it.
-    pub(crate) fn site(&self, memory: &Memory, map: &RegionMap, address: u64) -> Option<Site>
+    // Returns the part of this heap that contains an address. The payer of the region's dataspace and the number stored
+    // with the region show whether it belongs to this heap.
+    pub(crate) fn site(
+        &self,
+        memory: &Memory,
+        map: &RegionMap,
+        address: u64,
+    ) -> Option<HeapLocation>
         requires { IsSound self.now memory.now map.now }
         ensures some { IfSome result
             (LiesAt self.now (share_at (payer_of self.now) memory.now map.now) address) }
@@ -111,15 +118,15 @@ impl Heap {
             return None;
         }
         if tag == LARGE {
-            return Some(Site::InLarge { start, ds });
+            return Some(HeapLocation::InLarge { start, ds });
         }
-        Some(Site::InChunk(BlockAddr {
+        Some(HeapLocation::InChunk(BlockAddr {
             chunk: tag as usize,
             offset: address - start,
         }))
     }
 
-    // Whether the account pays for a dataspace.
+    // Tests whether the account pays for a dataspace.
     fn pays(&self, memory: &Memory, ds: DsId) -> bool
         requires { Exists memory.now ds.0 }
         ensures { result ≡ ((space_at memory.now ds.0).payer == payer_of self.now) }
@@ -127,7 +134,7 @@ impl Heap {
         memory.payer(ds) == self.account
     }
 
-    // The range of so many bytes from an address in a chunk on.
+    // Returns the location of `count` bytes from an address in a chunk on.
     fn range_in_chunk(
         &self,
         memory: &mut Memory,
@@ -142,7 +149,7 @@ impl Heap {
         ensures finds { FindsRange self.now memory.old map.now address count result }
         ensures memory { memory.new ≡ memory.old }
     {
-        // The contract speaks of the map and of the address; the allocator knows the block by its place in the chunk.
+        // The contract is about the map and the address; the allocator knows the block by its place in the chunk.
         let _ = map;
         let _ = address;
         let block = look::<Brand>(&self.fit, memory, &self.chunks, at, Blank::new(1))?;
@@ -152,7 +159,7 @@ impl Heap {
         Some((self.chunks[at.chunk].ds, at.offset))
     }
 
-    // The range of so many bytes from an address in a large block on.
+    // Returns the location of `count` bytes from an address in a large block on.
     fn range_in_large(
         &self,
         memory: &Memory,
@@ -168,7 +175,7 @@ impl Heap {
             (share_at (payer_of self.now) memory.now map.now) address start ds.0 }
         ensures { FindsRange self.now memory.now map.now address count result }
     {
-        // The contract speaks of the map; the block's start is told.
+        // The contract is about the map; the caller passes the block's start.
         let _ = map;
         let offset = address - start;
         if count > memory.size(ds) - offset {

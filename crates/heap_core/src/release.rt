@@ -1,4 +1,4 @@
-//! What a heap gives back.
+//! How a heap frees blocks.
 ghost use Rattle.std.specs.Prelude.{◌≡◌, ℕ, ◌<◌, ◌≤◌, [], length, slice_index, IsSome, OnOk, OnErr, Some, None};
 ghost use Rattle.std.specs.FinMap.{get};
 ghost use Rattle.std.specs.Result.{result_err};
@@ -11,7 +11,7 @@ ghost use Rattle.heap_core.specs.Lookup.{LiesInChunk, LiesInLarge};
 
 use crate::blocks::give;
 use crate::heap::Heap;
-use crate::lookup::Site;
+use crate::lookup::HeapLocation;
 use avl_alloc::BlockAddr;
 use dataspace_core::Memory;
 use region_map::RegionMap;
@@ -20,8 +20,10 @@ use std::sync::ledger::Blank;
 use trade_base::{BLOCK_HEADER, DsId, Refusal};
 
 impl Heap {
-    /// Gives back the block whose payload starts at the address: a block of a chunk becomes a hole, and a large block goes,
-    /// and the account is credited with all that it was charged for it. `PageFault` where no payload starts there.
+    /// Frees the block whose payload starts at the address, and credits the account with the charges of a large block. A
+    /// block of a chunk becomes a free block, and its chunk stays charged.
+    ///
+    /// Refuses with `PageFault` if no payload of the heap starts there.
     pub fn free(
         &mut self,
         memory: &mut Memory,
@@ -47,13 +49,12 @@ impl Heap {
         ensures err { OnErr result (self.new ≡ self.old) }
     {
         match self.site(memory, map, address).ok_or(Refusal::PageFault)? {
-            Site::InChunk(at) => self.free_small(memory, map, at, address),
-            Site::InLarge { start, ds } => self.free_large(memory, map, start, ds, address),
+            HeapLocation::InChunk(at) => self.free_small(memory, map, at, address),
+            HeapLocation::InLarge { start, ds } => self.free_large(memory, map, start, ds, address),
         }
     }
 
-    /// Gives back all chunks and large blocks, and credits the account with all that it was charged for them. The heap is
-    /// then as a new one.
+    /// Frees all chunks and large blocks, and credits the account with their charges. The heap is then as a new one.
     pub fn end(&mut self, memory: &mut Memory, map: &mut RegionMap)
         requires { IsSound self.old memory.old map.old }
         ensures given { GivesAll self.old self.new memory.old memory.new map.old map.new }
@@ -68,7 +69,7 @@ impl Heap {
         self.forget();
     }
 
-    // Gives back all large blocks, the last of the list first.
+    // Frees all large blocks, the last of the list first.
     fn end_large(&mut self, memory: &mut Memory, map: &mut RegionMap)
         requires { IsSound self.old memory.old map.old }
         ensures ends { EndsLarge self.old self.new memory.old memory.new map.old map.new }
@@ -81,7 +82,7 @@ impl Heap {
         }
     }
 
-    // The dataspace of the large block that starts at an address.
+    // Returns the dataspace of the large block that starts at an address.
     fn large_ds(&self, map: &RegionMap, start: u64) -> DsId
         requires sound { (store : Store) × IsSound self.now store map.now }
         requires there { 1 ≤ times_in self.now.large.items start }
@@ -92,7 +93,7 @@ impl Heap {
         ds
     }
 
-    // Gives back the dataspaces of all chunks, the last one first.
+    // Frees the dataspaces of all chunks, the last one first.
     fn end_chunks(&self, memory: &mut Memory, map: &mut RegionMap)
         requires sound { IsSound self.now memory.old map.old }
         requires none { self.now.large.items ≡ [] }
@@ -107,7 +108,7 @@ impl Heap {
         }
     }
 
-    // Gives back the block of a chunk whose payload starts at an address that lies there.
+    // Frees the block of a chunk whose payload starts at an address in the chunk.
     fn free_small(
         &mut self,
         memory: &mut Memory,
@@ -126,7 +127,7 @@ impl Heap {
         ensures err { Unchanged (OnErr result)
             self.old self.new memory.old memory.new map.now map.now }
     {
-        // Contracts speak of the map and of the address; the allocator knows the block by its place in the chunk.
+        // Contracts are about the map and the address; the allocator knows the block by its place in the chunk.
         let _ = map;
         let _ = address;
         if at.offset < BLOCK_HEADER {
@@ -143,7 +144,7 @@ impl Heap {
         Ok(())
     }
 
-    // Gives back the large block that holds an address, if it starts there.
+    // Frees the large block that contains an address, if it starts there.
     fn free_large(
         &mut self,
         memory: &mut Memory,
@@ -173,7 +174,7 @@ impl Heap {
         Ok(())
     }
 
-    // Gives back the large block whose start stands at an index of the list.
+    // Frees the large block whose start is at an index of the list.
     fn give_large(&mut self, memory: &mut Memory, map: &mut RegionMap, index: usize, ds: DsId)
         requires sound { IsSound self.old memory.old map.old }
         requires there { index < length self.old.large.items }
@@ -193,7 +194,7 @@ impl Heap {
     }
 }
 
-// The index at which a number stands in a list that has it.
+// Returns the index of a number in a list that has it.
 fn index_of(numbers: &[u64], number: u64) -> usize
     requires { 1 ≤ times_in numbers.now number }
     ensures there { result < length numbers.now }

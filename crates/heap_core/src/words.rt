@@ -1,4 +1,4 @@
-//! The words of a heap's chunks, as a tree inside their holes uses them.
+//! The words of a heap's chunks, as the tree of free blocks uses them.
 ghost use Rattle.std.specs.Prelude.{◌≡◌, ℕ, ◌+◌, ◌<◌};
 ghost use Rattle.avl_alloc.specs.Words.{IsWord, place_at, with_word};
 ghost use Rattle.heap_core.specs.Blocks.{IsBlankOf};
@@ -9,12 +9,12 @@ use dataspace_core::Memory;
 use std::sync::ledger::{Blank, Ledger};
 use trade_base::DsId;
 
-/// A chunk: its dataspace, and the address at which its region starts.
+/// A chunk: its dataspace, and the start address of its region.
 #[derive(Clone, Copy)]
 pub struct Chunk {
-    /// Its dataspace.
+    /// The chunk's dataspace.
     pub ds: DsId,
-    /// Where its region starts.
+    /// The start address of the chunk's region.
     pub start: u64,
 }
 
@@ -27,7 +27,7 @@ impl Default for Chunk {
     }
 }
 
-/// The words of these chunks.
+/// The words of a heap's chunks in a memory, with a count of the loads.
 pub struct Words<'a, L: Ledger> {
     pub memory: &'a mut Memory,
     pub chunks: &'a [Chunk],
@@ -35,7 +35,7 @@ pub struct Words<'a, L: Ledger> {
 }
 
 impl<'a, L: Ledger> Words<'a, L> {
-    /// None of them is loaded yet.
+    /// Borrows the memory and the chunks, with a load count of 0.
     pub fn over(memory: &'a mut Memory, chunks: &'a [Chunk], blank: Blank) -> Words<'a, L>
         requires { IsBlankOf blank.name blank.parts L.name L.parts }
         ensures memory { result.memory.now ≡ memory.old }
@@ -52,7 +52,7 @@ impl<'a, L: Ledger> Words<'a, L> {
 }
 
 impl<L: Ledger> Drop for Words<'_, L> {
-    // The memory goes back as it is.
+    // The memory is returned as it is.
     fn drop(self)
         ensures { self.exit.0.now ≡ self.entry.memory.now }
     {

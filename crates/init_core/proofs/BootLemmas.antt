@@ -26,10 +26,10 @@ use Rattle.pd_core.specs.Core.{IsInitOf, IsInits, inits_of, roles_of}
 use Rattle.pd_core.specs.Fresh.{start_of as start_in, starts_of, IsFresh}
 use Rattle.pd_core.specs.declared.component.Role.TheVariants.{Gone}
 use Rattle.pd_core.specs.declared.component.Component.{Component}
-use Rattle.start_lists.specs.Depth.{IsHome, is_init, is_list, runs_init}
-use Rattle.start_lists.specs.declared.fault.BootFault.TheVariants.{QuotaExceeded}
+use Rattle.list_parser.specs.Depth.{IsParentInit, is_init, is_list, runs_init}
+use Rattle.list_parser.specs.declared.fault.BootFault.TheVariants.{QuotaExceeded}
 use Rattle.init_core.specs.Boot.{HasStarted, IsMade, Opens, IsInitAt, places_at, place_of, to_come}
-use Rattle.start_lists.specs.Quota.{first_or, first_uncovered, quota_fault}
+use Rattle.list_parser.specs.Quota.{first_or, first_uncovered, quota_fault}
 use Rattle.init_core.proofs.StartLemmas.{Beside, IsOpened, IsNewTo, HasReserve, account_after, start_after, fresh_after, fresh_stays, init_after, is_new, new_before, open_by_part, opened_here, opened_beside, opens_beside, beside_then, caps_few, apart_after, still_open}
 use Rattle.init_core.proofs.InitLemmas.{enumerated-push, enumerated_alone, map_twice, init_by_kind, with_head, more_heads, heads_after, are_heads_after, init_open, home_within, init_at_home, inits_after, made_init, states_stay, homes_after}
 
@@ -118,7 +118,7 @@ module _ {list : Listed} {store : Store} {components : List Component} {keys : L
       ∙ kind_by_test (slice_get list.entries place) is
 
   -- the key at its home is that of its init
-  pub init_there : (home : ℕ) (init : AccountId) → IsHome list.entries count home → init ≡ get_or keys home init → IsInitAt store (roles_of components) home init.0
+  pub init_there : (home : ℕ) (init : AccountId) → IsParentInit list.entries count home → init ≡ get_or keys home init → IsInitAt store (roles_of components) home init.0
   init_there zero init at is =
       ap (λ ks. get_or ks 0 0) (sym so_far.keys_are) ∙ get_or-map (λ (k : AccountId). k.0) keys 0 init 0 (keys_in 0 at.before) ∙ ap (λ (k : AccountId). k.0) (sym is)
   init_there (suc place) init at is =
@@ -132,7 +132,7 @@ module _ {list : Listed} {store : Store} {components : List Component} {keys : L
 
 -- so the key that stands there for the next entry is that of its init
 pub init_next : {list : Listed} {store : Store} {components : List Component} {keys : List AccountId} {count : ℕ} {entry : ListedEntry} → HasStarted list store components keys count →
-    count < length list.entries → entry ≡ get_or list.entries count entry → (home : ℕ) (init : AccountId) → IsHome list.entries count home →
+    count < length list.entries → entry ≡ get_or list.entries count entry → (home : ℕ) (init : AccountId) → IsParentInit list.entries count home →
     option_map (λ (e : ListedEntry). e.home) (slice_get list.entries count) ≡ Some home → init ≡ get_or keys home init → IsInitAt store (roles_of components) entry.home init.0
 init_next {list} {store} {components} {keys} {count} {entry} so_far within is home init at told init_is =
     let found = slice_get_read list.entries (length list.entries) count entry refl within is in

@@ -27,9 +27,9 @@ use Rattle.pd_core.specs.SessionCalls.{Agrees}
 use Rattle.pd_core.specs.SessionCalls.{server_at as server_at_place, service_at as service_at_place}
 use Rattle.pd_core.specs.declared.component.Component.{Component}
 use Rattle.init_core.specs.Boot.{HasStarted, places_at, place_of, to_come}
-use Rattle.init_core.specs.Rows.{leads_in, places_in, rows_of}
+use Rattle.init_core.specs.Rows.{server_by_rows, places_in, rows_of}
 use Rattle.init_core.proofs.RowLemmas.{places_listed}
-use Rattle.start_lists.specs.Quota.{first_uncovered}
+use Rattle.list_parser.specs.Quota.{first_uncovered}
 use Rattle.init_core.proofs.InitLemmas.{map_twice, within}
 use Rattle.init_core.proofs.BootLemmas.{counted}
 
@@ -141,8 +141,8 @@ module _ {list : Listed} {store : Store} {components : List Component} {keys : L
       λ j. record { entries = entries j; inits = sym inits j; states = states j }
 
   -- where the list's rows lead to, a server stands
-  pub agrees : Agrees (places_in (rows_of list)) (leads_in (rows_of list)) store components
-  agrees = subst (λ (places : Places). Agrees places (leads_in (rows_of list)) store components) (sym (places_listed list)) (record {
+  pub agrees : Agrees (places_in (rows_of list)) (server_by_rows (rows_of list)) store components
+  agrees = subst (λ (places : Places). Agrees places (server_by_rows (rows_of list)) store components) (sym (places_listed list)) (record {
     names = so_far.names;
     each = λ i service label within.
         let entry = get_or list.entries i nobody in

@@ -17,7 +17,7 @@ use Rattle.dataspace_core.specs.Store.{Store, IsOpenIn, IsChildIn, account_in, p
 use Rattle.pd_core.specs.Component.{Place, Pays, payer_in, payer_of, kind_of}
 use Rattle.pd_core.specs.Core.{Heads, Places, IsInitOf, IsInits, init_in, inits_of, roles_of}
 use Rattle.pd_core.specs.Fresh.{start_of, starts_of, AreFreshBelow, IsFresh, IsFreshReserve, Has, ShareNone}
-use Rattle.pd_core.specs.SessionCalls.{IsBelowInit, IsAtHome, AreAtHome}
+use Rattle.pd_core.specs.SessionCalls.{IsBelowInit, IsBelowParentInit, AreBelowParents}
 use Rattle.pd_core.specs.declared.component.Role.{Role}
 use Rattle.pd_core.specs.declared.component.Role.TheVariants.{Script, Server, Init, Gone}
 use Rattle.pd_core.specs.declared.component.Component.{Component}
@@ -364,22 +364,22 @@ module _ {heads : Heads} {old new : Store} {components : List Component} {init r
   -- ---- homes
 
   -- an account is still below its init
-  still_home : (last : Component) (home account : ℕ) → IsOpenIn old account → IsAtHome old (roles_of components) home account → IsAtHome new (roles_of (components ++ last ∷ [])) home account
+  still_home : (last : Component) (home account : ℕ) → IsOpenIn old account → IsBelowParentInit old (roles_of components) home account → IsBelowParentInit new (roles_of (components ++ last ∷ [])) home account
   still_home last zero account is_open below = beside.children account is_open ∙ below ∙ ap Some (sym beside.root)
   still_home last (suc k) account is_open below =
       still_role components last (λ role. IsBelowInit new role account) (λ h. h) k (still_below old new (roles_of components k) account (beside.children account is_open) below)
 
   -- and a new one is below the one that it was opened for
-  new_home : (last : Component) (home account : ℕ) → IsInitAt old (roles_of components) home init → IsChildIn new account init → IsAtHome new (roles_of (components ++ last ∷ [])) home account
+  new_home : (last : Component) (home account : ℕ) → IsInitAt old (roles_of components) home init → IsChildIn new account init → IsBelowParentInit new (roles_of (components ++ last ∷ [])) home account
   new_home last zero account is child = child ∙ ap Some (sym is ∙ sym beside.root)
   new_home last (suc k) account is child = still_role components last (λ role. IsBelowInit new role account) (λ h. h) k (init_below new (roles_of components k) account init is child)
 
   pub homes_after : (home : ℕ) → IsInitAt old (roles_of components) home init → (places : Places) (last : Component) → (places (length components)).home ≡ home →
-      IsChildIn new (payer_of last) init → AreAtHome places old components → AreAtHome places new (components ++ last ∷ [])
+      IsChildIn new (payer_of last) init → AreBelowParents places old components → AreBelowParents places new (components ++ last ∷ [])
   homes_after home is places last home_is child homes i account pays = elim (either_role components last (λ role. Pays role account) (λ h. h) i pays) [
     | inl before ↦ still_home last (places i).home account (pays_open parts i account before) (homes i account before)
     | inr here ↦
         let its = pays_is last.role account here.1 in
-        subst (λ h. IsAtHome new (roles_of (components ++ last ∷ [])) h account) (sym home_is ∙ ap (λ p. (places p).home) here.0)
+        subst (λ h. IsBelowParentInit new (roles_of (components ++ last ∷ [])) h account) (sym home_is ∙ ap (λ p. (places p).home) here.0)
         (new_home last home account is (subst (λ key. IsChildIn new key init) its child))
   ]

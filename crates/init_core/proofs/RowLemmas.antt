@@ -9,7 +9,7 @@ use Rattle.own_model.specs.Routes.{Lead, Level, ServerAt, decided, label_with, l
 use Rattle.own_model.specs.Routes.Lead.{To, Nowhere, Outward}
 use Rattle.pd_core.specs.Core.{Places}
 use Rattle.init_core.specs.Boot.{place_of, places_at}
-use Rattle.init_core.specs.Rows.{Row, init_row, levels, levels_at, place_by, places_in, row_of, rows_of}
+use Rattle.init_core.specs.Rows.{RouteRow, init_row, levels, levels_at, place_by, places_in, row_of, rows_of}
 
 -- the row of an init is that of its entry
 init_listed : (list : Listed) (home : ℕ) → init_row (rows_of list) home ≡ option_map (row_of list) (init_entry list home)
@@ -17,7 +17,7 @@ init_listed list zero = refl
 init_listed list (suc place) = slice_get-map (row_of list) list.entries place
 
 -- the levels of what an entry may have are those of its row
-levels_of : (list : Listed) (told : Row → List Level) (said : ListedEntry → List Level) → ((entry : ListedEntry) → told (row_of list entry) ≡ said entry) → (entry : Option ListedEntry) →
+levels_of : (list : Listed) (told : RouteRow → List Level) (said : ListedEntry → List Level) → ((entry : ListedEntry) → told (row_of list entry) ≡ said entry) → (entry : Option ListedEntry) →
     unwrap_or (option_map told (option_map (row_of list) entry)) [] ≡ unwrap_or (option_map said entry) []
 levels_of list told said each None = refl
 levels_of list told said each (Some entry) = each entry
@@ -38,7 +38,7 @@ pub places_listed : (list : Listed) → ◌≡◌ {A = Places} (places_in (rows_
 places_listed list = λ j place. (ap (place_by (rows_of list)) (slice_get-map (row_of list) list.entries place) ∙ place_listed list (slice_get list.entries place)) j
 
 -- a row more
-pub row_more : (list : Listed) (rows : List Row) (client : ℕ) (row : Row) → rows ≡ map (row_of list) (take client list.entries) →
+pub row_more : (list : Listed) (rows : List RouteRow) (client : ℕ) (row : RouteRow) → rows ≡ map (row_of list) (take client list.entries) →
     option_map (row_of list) (slice_get list.entries client) ≡ Some row → rows ++ row ∷ [] ≡ map (row_of list) (take (client + 1) list.entries)
 row_more list rows client row so_far there =
     let found : slice_get (rows_of list) client ≡ Some row = slice_get-map (row_of list) list.entries client ∙ there in
@@ -54,10 +54,10 @@ abbrev place_of_server : Option ServerAt → Option ℕ
 place_of_server = option_map (λ (server : ServerAt). server.place)
 
 -- the levels outward of a list of so many at most
-abbrev outer : ℕ → List Row → ℕ → List Level
+abbrev outer : ℕ → List RouteRow → ℕ → List Level
 outer lists rows home = unwrap_or (option_map (levels lists rows) (init_row rows home)) []
 
-one_level : (rows : List Row) (lists : ℕ) (row : Row) (service label : List ℕ) → 0 < lists →
+one_level : (rows : List RouteRow) (lists : ℕ) (row : RouteRow) (service label : List ℕ) → 0 < lists →
     provider (levels lists rows row) service label
     ≡ led_to (decided row.level.rules service label) (provider (outer (lists - 1) rows row.home) service (label_with row.level.name label))
 one_level rows zero row service label some = absurd (omega (arith, some))
@@ -65,7 +65,7 @@ one_level rows (suc lists) row service label some = rw (fewer lists) refl where
   fewer : (n : ℕ) → suc n - 1 ≡ n
   fewer n = omega arith
 
-module _ (rows : List Row) (lists client : ℕ) (service label : List ℕ) (row : Row) (some : 0 < lists) (there : slice_get rows client ≡ Some row) where
+module _ (rows : List RouteRow) (lists client : ℕ) (service label : List ℕ) (row : RouteRow) (some : 0 < lists) (there : slice_get rows client ≡ Some row) where
   by_lead : (lead : Lead) → lead ≡ decided row.level.rules service label →
       provider (levels_at lists rows client) service label ≡ led_to lead (provider (outer (lists - 1) rows row.home) service (label_with row.level.name label))
   by_lead lead is =

@@ -10,17 +10,17 @@ use Rattle.pd_core.specs.Component.{Place, entry_of, payer_of, reserve_of, table
 use Rattle.pd_core.specs.Component.{service_of as service_in}
 use Rattle.pd_core.specs.Core.{Heads, Places, Roles, IsInitOf, IsInits, entries_of, inits_of, roles_of}
 use Rattle.pd_core.specs.Fresh.{starts_of, AreEmpty, AreFreshBelow, IsNewServer}
-use Rattle.pd_core.specs.SessionCalls.{AreAtHome}
+use Rattle.pd_core.specs.SessionCalls.{AreBelowParents}
 use Rattle.pd_core.specs.declared.component.Component.{Component}
-use Rattle.start_lists.specs.Quota.{first_uncovered}
+use Rattle.list_parser.specs.Quota.{first_uncovered}
 
 -- ---- how far a boot is
 
--- a place of which nothing is said
+-- a place without a description
 abbrev pub nowhere : Place
 nowhere = record { name = []; home = 0; routes = [] }
 
--- what a list says of a place; of one past its entries nothing
+-- the description of a place in a list; a place after its entries has none
 abbrev pub place_of : Listed → Option ListedEntry → Place
 place_of list (Some entry) = record { name = entry.path; home = entry.home; routes = levels_within most_lists list entry }
 place_of list None = nowhere
@@ -48,10 +48,10 @@ abbrev pub IsInitAt : Store → Roles → ℕ → ℕ → Type 0
 IsInitAt store roles zero account = root_in store ≡ account
 IsInitAt store roles (suc place) account = IsInitOf (roles place) account
 
--- so many entries of a list have started. The parts are fresh, by which accounts are inits', and the keys are those of the root
--- and of each component; each component is what its entry says, starts with what that gives it, and is below its init. What inits
--- will keep, what they don't cover, and whether the list boots hang on what they have left and on what is still to start. There
--- is room for the accounts to come, and all limits together are the machine's
+-- the first `count` entries of a list have started. The parts are fresh, and the keys are those of the root and of each
+-- component. Each component is what its entry states, starts with its budget, and is below its init. The rest of each init's
+-- account, the shortfall, and whether the list boots depend on the rests so far and on the entries still to start. There is
+-- room for the accounts of these, and all limits together are the machine's
 pub record HasStarted (list : Listed) (store : Store) (components : List Component) (keys : List AccountId) (count : ℕ) : Type 0 where
   pub heads : Heads
   pub parts : AreFreshBelow heads store components
@@ -62,7 +62,7 @@ pub record HasStarted (list : Listed) (store : Store) (components : List Compone
   pub states : map start_state (starts_of (places_at list) store components) ≡ map (λ entry. start_state (start_of list entry)) (take count list.entries)
   pub services : map service_in components ≡ map (λ entry. service_of entry.binary) (take count list.entries)
   pub names : All (λ c. length c.name.items ≤ 140) components
-  pub homes : AreAtHome (places_at list) store components
+  pub homes : AreBelowParents (places_at list) store components
   pub inits : inits_kept (start_list_of list) ≡ inits_keep (inits_of store components) (to_come list count)
   pub uncovered : first_uncovered (inits_at_first (start_list_of list)) (start_list_of list).starts ≡ first_uncovered (inits_of store components) (to_come list count)
   pub covered : AllCovered (inits_of store components) (to_come list count) → Boots (start_list_of list)

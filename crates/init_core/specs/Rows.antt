@@ -11,14 +11,14 @@ use Rattle.own_model.specs.Routes as model
 use Rattle.own_model.specs.Routes.{Level, provider}
 use Rattle.pd_core.specs.Component.{Place}
 use Rattle.pd_core.specs.Core.{Places}
-use Rattle.init_core.specs.declared.rule.Lead.{Lead}
-use Rattle.init_core.specs.declared.rule.Lead.TheVariants.{To, Nowhere, Outward}
+use Rattle.init_core.specs.declared.rule.ResolvedTarget.{ResolvedTarget}
+use Rattle.init_core.specs.declared.rule.ResolvedTarget.TheVariants.{To, Nowhere, Outward}
 use Rattle.init_core.specs.declared.rule.ServiceTest.{ServiceTest}
 use Rattle.init_core.specs.declared.rule.ServiceTest.TheVariants.{Known, Named, Any}
 
 -- ---- what the code's types denote
 
-abbrev pub model_lead : Lead → model.Lead
+abbrev pub model_lead : ResolvedTarget → model.Lead
 model_lead (To server) = model.Lead.To (record { kind = server.kind; place = server.place })
 model_lead Nowhere = model.Lead.Nowhere
 model_lead Outward = model.Lead.Outward
@@ -36,46 +36,46 @@ service_named name = find (λ service. bytes_eq name (service_name service)) ser
 -- ---- rows
 
 -- of an entry: its path, the number of its init, and what its own list decides by for it
-pub record Row : Type 0 where
+pub record RouteRow : Type 0 where
   pub path : List ℕ
   pub home : ℕ
   pub level : Level
 
 -- the row of the init of a number; the machine's has none
-abbrev pub init_row : List Row → ℕ → Option Row
+abbrev pub init_row : List RouteRow → ℕ → Option RouteRow
 init_row rows zero = None
 init_row rows (suc place) = slice_get rows place
 
 -- the levels of a row, of so many lists at most: its own, and outward those of its init's
-abbrev pub levels : ℕ → List Row → Row → List Level
+abbrev pub levels : ℕ → List RouteRow → RouteRow → List Level
 levels zero rows row = []
 levels (suc lists) rows row = row.level ∷ unwrap_or (option_map (levels lists rows) (init_row rows row.home)) []
 
 -- those of the row at a place, if there is one
-abbrev pub levels_at : ℕ → List Row → ℕ → List Level
+abbrev pub levels_at : ℕ → List RouteRow → ℕ → List Level
 levels_at lists rows place = unwrap_or (option_map (levels lists rows) (slice_get rows place)) []
 
--- ---- what a router tells by them
+-- ---- what a router states by them
 
--- what a row says of its place; where there is none, nothing
-abbrev pub place_by : List Row → Option Row → Place
+-- the description of a place in a row; without a row there is none
+abbrev pub place_by : List RouteRow → Option RouteRow → Place
 place_by rows row = record {
-  name = unwrap_or (option_map (λ (told : Row). told.path) row) [];
-  home = unwrap_or (option_map (λ (told : Row). told.home) row) 0;
+  name = unwrap_or (option_map (λ (told : RouteRow). told.path) row) [];
+  home = unwrap_or (option_map (λ (told : RouteRow). told.home) row) 0;
   routes = unwrap_or (option_map (levels most_lists rows) row) [];
 }
 
-abbrev pub places_in : List Row → Places
+abbrev pub places_in : List RouteRow → Places
 places_in rows place = place_by rows (slice_get rows place)
 
--- the place of the server that the rows lead a client to
-abbrev pub leads_in : List Row → ℕ → List ℕ → List ℕ → Option ℕ
-leads_in rows client service label = option_map (λ (server : model.ServerAt). server.place) (provider (levels_at most_lists rows client) service label)
+-- the place of the server to which the rows route a client's request
+abbrev pub server_by_rows : List RouteRow → ℕ → List ℕ → List ℕ → Option ℕ
+server_by_rows rows client service label = option_map (λ (server : model.ServerAt). server.place) (provider (levels_at most_lists rows client) service label)
 
 -- ---- the rows of a list
 
-abbrev pub row_of : Listed → ListedEntry → Row
+abbrev pub row_of : Listed → ListedEntry → RouteRow
 row_of list entry = record { path = entry.path; home = entry.home; level = level_of list entry }
 
-abbrev pub rows_of : Listed → List Row
+abbrev pub rows_of : Listed → List RouteRow
 rows_of list = map (row_of list) list.entries

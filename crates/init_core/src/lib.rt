@@ -1,4 +1,5 @@
-//! How a machine starts: its inits, and what each starts by its list; with start lists, and where their wishes for sessions lead.
+//! Boots a machine: opens its inits, starts the components of its start list, and builds the table of its routes. The engine
+//! and the commands of nethrywel call it. Example: `boot(alloc, &list)?` is the core of a start list.
 #![tactic(auto)]
 
 mod resolve;
@@ -6,11 +7,11 @@ mod rule;
 mod startup;
 mod table;
 
-pub use routes::{MOST_LISTS, route, target_child};
-pub use start_lists::{
-    Binary, BootFault, Entry, Field, MACHINE_A, Name, Path, Rule, StartList, Target,
+pub use list_parser::{
+    Binary, BootFault, ConfigField, ListEntry, MACHINE_A, Name, Path, Rule, StartList, Target,
     entry_at_fault, inits_give_their_own, lists_are_listed, machine_a_is_read,
     quota_faults_are_of_lacks,
 };
+pub use list_routes::{MOST_LISTS, route, target_child};
 pub use startup::boot;
 pub use table::RouteTable;

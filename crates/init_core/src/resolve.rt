@@ -1,16 +1,16 @@
-//! Resolves the rules of a start list: for each service, the server that a rule leads to.
+//! Resolves the rules of a start list: for each service, the server to which a rule routes.
 ghost use Rattle.std.specs.Prelude.{◌≡◌, ◌++◌, IfOk, OnOk};
 ghost use Rattle.own_model.specs.Listed.{lead_of, lead_to, lead_without, own_rules, own_rules_asking, server_at, way_to};
-ghost use Rattle.start_lists.specs.View.{model_target};
+ghost use Rattle.list_parser.specs.View.{model_target};
 ghost use Rattle.init_core.specs.Rows.{model_lead};
 
-use crate::rule::{Lead, ResolvedRule, ServerAt, ServiceTest};
-use routes::target_child;
-use start_lists::{Entry, Rule, StartList, Target};
+use crate::rule::{ResolvedRule, ResolvedTarget, ServerPlace, ServiceTest};
+use list_parser::{ListEntry, Rule, StartList, Target};
+use list_routes::target_child;
 use std::alloc::{AllocError, Global};
 use trade_base::SERVICES;
 
-/// Resolves rules of the list of an init, by its number.
+/// Resolves the rules of the list of an init, given by its number. Returns an error if the host is out of memory.
 pub(crate) fn rules_of(
     alloc: Global,
     list: &StartList,
@@ -27,7 +27,8 @@ pub(crate) fn rules_of(
     Ok(resolved)
 }
 
-/// Adds what a rule comes to: one rule if it asks for a service, and else one for each service that there is and one for every other.
+/// Appends the resolved rules of a rule: one if it asks for a service. Otherwise there is one for each known service and one
+/// for all others.
 fn add_rule(
     resolved: &mut Vec<ResolvedRule>,
     alloc: Global,
@@ -57,40 +58,40 @@ fn add_rule(
     Ok(())
 }
 
-/// Returns where a target in the list of an init leads for a service.
-fn lead_for(list: &StartList, init: usize, target: &Target, service: &[u8]) -> Lead
+/// Returns where a target in the list of an init routes a service.
+fn lead_for(list: &StartList, init: usize, target: &Target, service: &[u8]) -> ResolvedTarget
     ensures { model_lead result
         ≡ lead_of list.now.entries
         (way_to list.now.entries init (model_target target.now) service.now) }
 {
     match target {
-        Target::Parent => Lead::Outward,
+        Target::Parent => ResolvedTarget::Outward,
         Target::Child(_) | Target::AnyChild => match target_child(list, init, target, service) {
             Some(place) => lead_to(list.entries(), place),
-            None => Lead::Nowhere,
+            None => ResolvedTarget::Nowhere,
         },
     }
 }
 
-/// Returns where a target leads for a service that no child provides.
-fn lead_without(target: &Target) -> Lead
+/// Returns where a target routes a service that no child provides.
+fn lead_without(target: &Target) -> ResolvedTarget
     ensures { model_lead result ≡ lead_without (model_target target.now) }
 {
     match target {
-        Target::Parent => Lead::Outward,
-        Target::Child(_) | Target::AnyChild => Lead::Nowhere,
+        Target::Parent => ResolvedTarget::Outward,
+        Target::Child(_) | Target::AnyChild => ResolvedTarget::Nowhere,
     }
 }
 
-/// Returns the lead to the child at a place, if it is a server.
-fn lead_to(entries: &[Entry], place: usize) -> Lead
+/// Returns the route to the child at a place, if it is a server.
+fn lead_to(entries: &[ListEntry], place: usize) -> ResolvedTarget
     ensures { model_lead result ≡ lead_to (server_at entries.now place) }
 {
     match entries.get(place) {
         Some(entry) => match entry.binary().service() {
-            Some(kind) => Lead::To(ServerAt { kind, place }),
-            None => Lead::Nowhere,
+            Some(kind) => ResolvedTarget::To(ServerPlace { kind, place }),
+            None => ResolvedTarget::Nowhere,
         },
-        None => Lead::Nowhere,
+        None => ResolvedTarget::Nowhere,
     }
 }

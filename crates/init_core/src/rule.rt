@@ -1,46 +1,46 @@
-//! Rules of the routes' table: what each asks of a session request, and the server that it leads to.
+//! Rules of the route table: the test of a session request, and the server to which it is routed.
 ghost use Rattle.std.specs.Prelude.{◌≡◌, IfOk, Some};
 ghost use Rattle.std.specs.Str.{bytes_eq};
 ghost use Rattle.own_model.specs.Listed.{own_rule};
 ghost use Rattle.own_model.specs.Routes.{as_asked, decided, matches};
 ghost use Rattle.init_core.specs.Rows.{model_lead, name_asked, service_named};
 
-use start_lists::{LabelTest, Name, Rule};
+use list_parser::{LabelTest, Name, Rule};
 use std::alloc::{AllocError, Global};
 use std::marker::Model;
 use trade_base::{SERVICES, Service};
 
 /// A server: its service, and its place among the components.
 #[derive(Clone, Copy)]
-pub(crate) struct ServerAt {
+pub(crate) struct ServerPlace {
     pub(crate) kind: Service,
     pub(crate) place: usize,
 }
 
-/// Where a rule leads.
+/// The result of a rule: where it routes a session request.
 #[derive(Clone, Copy)]
-pub(crate) enum Lead {
-    /// To a server.
-    To(ServerAt),
-    /// To no server.
+pub(crate) enum ResolvedTarget {
+    /// The request is routed to a server.
+    To(ServerPlace),
+    /// The request is routed to no server.
     Nowhere,
-    /// Out of the init, to the rules of the list above.
+    /// The request is routed out of the init, by the rules of the list above.
     Outward,
 }
 
-/// What a rule asks of the service.
+/// The test of a rule on the service of a request.
 #[derive(Drop)]
 pub(crate) enum ServiceTest {
-    /// It is this one of the services that there are.
+    /// The service is this known one.
     Known(Service),
-    /// It has this name, which is the name of none that there is.
+    /// The service has this name, which no known service has.
     Named(Name),
-    /// Nothing.
+    /// Every service passes.
     Any,
 }
 
 impl ServiceTest {
-    /// Returns the test for a name.
+    /// Returns the test that a service of this name passes.
     pub(crate) fn of_name(name: &Name) -> ServiceTest
         ensures { name_asked result ≡ Some name.now }
     {
@@ -50,7 +50,7 @@ impl ServiceTest {
         }
     }
 
-    /// Returns whether a service passes.
+    /// Returns whether a service passes the test.
     fn holds(&self, service: &ServiceName<'_>) -> bool
         ensures { result ≡ as_asked (bytes_eq service.now) (name_asked self.now) }
     {
@@ -62,7 +62,7 @@ impl ServiceTest {
     }
 }
 
-/// The service of a request: its name, and the service of that name, if there is one.
+/// The service of a request: its name, and the known service of that name, if there is one.
 #[derive(Drop)]
 pub(crate) struct ServiceName<'a> {
     text: &'a [u8],
@@ -83,7 +83,7 @@ impl<'a> Model for ServiceName<'a> {
 impl<'a> ServiceName<'a> {
     ghost use Rattle.trade_base.specs.Service.{service_name};
 
-    /// Finds the service of a name.
+    /// Finds the known service that has a name, if any.
     pub(crate) fn new(text: &'a [u8]) -> ServiceName<'a>
         ensures { result ≡ text.now }
     {
@@ -93,7 +93,7 @@ impl<'a> ServiceName<'a> {
         }
     }
 
-    /// Returns whether it is the name of a service.
+    /// Returns whether the name is that of a service.
     fn is(&self, service: Service) -> bool
         ensures { result ≡ bytes_eq self.now (service_name service) }
     {
@@ -101,7 +101,7 @@ impl<'a> ServiceName<'a> {
     }
 }
 
-/// Returns the service of a name, if there is one.
+/// Returns the service that has a name, if there is one.
 fn service_named(name: &[u8]) -> Option<Service>
     ensures { result ≡ service_named name.now }
 {
@@ -111,13 +111,13 @@ fn service_named(name: &[u8]) -> Option<Service>
         .find(|service| name == service.name().as_bytes())
 }
 
-/// A rule of a list for one service, for any other one, or for all that there are not: where it leads is known, and a label decides
-/// only whether it matches.
+/// A rule of a list for one service, for any other, or for all unknown ones. The result is resolved, and only a label
+/// decides whether the rule matches.
 #[derive(Drop)]
 pub(crate) struct ResolvedRule {
     service: ServiceTest,
     labels: LabelTest,
-    to: Lead,
+    to: ResolvedTarget,
 }
 
 impl Model for ResolvedRule {
@@ -136,12 +136,13 @@ impl Model for ResolvedRule {
 }
 
 impl ResolvedRule {
-    /// Copies what a rule asks of labels, beside what is asked of the service and where it leads.
+    /// Copies the label test of a rule, with a test of the service and the resolved target. Returns an error if the host is
+    /// out of memory.
     pub(crate) fn new(
         alloc: Global,
         rule: &Rule,
         service: ServiceTest,
-        to: Lead,
+        to: ResolvedTarget,
     ) -> Result<ResolvedRule, AllocError>
         ensures { IfOk result
             (λ resolved. resolved ≡ own_rule rule.now (name_asked service) (model_lead to)) }
@@ -153,7 +154,7 @@ impl ResolvedRule {
         })
     }
 
-    /// Returns whether a service and the label that the client gave are as the rule asks.
+    /// Returns whether the rule matches a service and the given label.
     fn matches(&self, service: &ServiceName<'_>, label: &[u8]) -> bool
         ensures { result ≡ matches self.now service.now label.now }
     {
@@ -161,8 +162,12 @@ impl ResolvedRule {
     }
 }
 
-/// Returns where the first rule that matches leads; to no server where none matches.
-pub(crate) fn lead_by(rules: &[ResolvedRule], service: &ServiceName<'_>, label: &[u8]) -> Lead
+/// Returns the result of the first rule that matches, or `Nowhere` if no rule matches.
+pub(crate) fn resolve_request(
+    rules: &[ResolvedRule],
+    service: &ServiceName<'_>,
+    label: &[u8],
+) -> ResolvedTarget
     ensures { model_lead result ≡ decided rules.now service.now label.now }
 {
     for rule in rules {
@@ -170,5 +175,5 @@ pub(crate) fn lead_by(rules: &[ResolvedRule], service: &ServiceName<'_>, label: 
             return rule.to;
         }
     }
-    Lead::Nowhere
+    ResolvedTarget::Nowhere
 }

@@ -1,5 +1,5 @@
-//! How a machine starts: each component of its start list in turn is given an account below that of its init, which keeps what
-//! is left.
+//! The boot of a machine: each component of its start list in turn is given an account below that of its init, which keeps
+//! the rest.
 ghost use Rattle.std.specs.Prelude.{◌≡◌, ◌≢◌, ◌+◌, ◌*◌, ◌<◌, ◌≤◌, is_none, is_ok, length, IfOk, IfErr, OnOk, None, Some};
 ghost use Rattle.own_model.specs.Account.{shortage};
 ghost use Rattle.own_model.specs.Listed.{Listed, start_list_of};
@@ -8,25 +8,25 @@ ghost use Rattle.own_model.specs.World.{start_world, IsBalancedFor};
 ghost use Rattle.own_model.specs.StartList.{Boots};
 ghost use Rattle.dataspace_core.specs.Store.{IsOpenIn, account_in, room_in};
 ghost use Rattle.init_core.specs.Boot.{HasStarted, IsMade, Opens};
-ghost use Rattle.start_lists.specs.Quota.{quota_fault};
-ghost use Rattle.start_lists.specs.declared.fault.BootFault.TheVariants.{NoMemory, QuotaExceeded};
+ghost use Rattle.list_parser.specs.Quota.{quota_fault};
+ghost use Rattle.list_parser.specs.declared.fault.BootFault.TheVariants.{NoMemory, QuotaExceeded};
 
 use crate::table::RouteTable;
 use cap_space::CapSpace;
 use dataspace_core::Memory;
-use pd_core::{Component, Core, Host};
+use list_parser::{Binary, BootFault, ListEntry, StartList};
+use pd_core::{AnyServer, Component, Core};
 use region_map::RegionMap;
-use start_lists::{Binary, BootFault, Entry, StartList};
 use std::alloc::Global;
 use trade_base::{AccountId, Caps, Ram, Service};
 
 /// The most user regions of a script.
 const REGIONS: usize = 128;
 
-/// The machine of a start list as it starts.
+/// Boots the machine of a start list and returns its core.
 ///
-/// It is refused with `QuotaExceeded` and the path of the first entry that what its init still has doesn't cover. Wherever the
-/// host has no room for the machine's tables, `NoMemory` is told instead.
+/// Refuses with `QuotaExceeded` and the path of the first entry that the rest of its init's account does not cover. Returns
+/// `NoMemory` instead if the host is out of memory for the machine's tables.
 pub fn boot(alloc: Global, list: &StartList) -> Result<Core<RouteTable>, BootFault>
     ensures started { IfOk result (λ core. core ≡ start_world (start_list_of list.now)) }
     ensures covered { OnOk result (Boots (start_list_of list.now)) }
@@ -41,7 +41,7 @@ pub fn boot(alloc: Global, list: &StartList) -> Result<Core<RouteTable>, BootFau
         1 + list.count() * 2 + sessions_of(list),
     )?;
     let mut components = Vec::new(alloc);
-    // The machine's init's, and that of each component: an init's stands at the init's number.
+    // The account of the machine's init, and that of each component: an init's is at the init's number.
     let mut accounts = Vec::new(alloc);
     accounts.push(memory.root())?;
     for place in 0..list.count() {
@@ -58,7 +58,7 @@ pub fn boot(alloc: Global, list: &StartList) -> Result<Core<RouteTable>, BootFau
     Ok(Core::from_parts(memory, components, routes))
 }
 
-/// The most sessions: half as many as the machine has capabilities, of which each takes two.
+/// The most sessions: half of the machine's capabilities, because each session takes two.
 fn sessions_of(list: &StartList) -> usize
     ensures half { list.now.caps ≤ result * 2 + 1 }
     ensures no_more { result * 2 ≤ list.now.caps }
@@ -69,8 +69,8 @@ fn sessions_of(list: &StartList) -> usize
 
 /// Starts the component at a place of the list, after those before it.
 ///
-/// It is refused with `QuotaExceeded` where what its init still has doesn't cover its account and its reserve together. Wherever
-/// the host has no room, that is told instead.
+/// Refuses with `QuotaExceeded` if the rest of its init's account does not cover its account and its reserve together.
+/// Returns `NoMemory` instead if the host is out of memory.
 fn start(
     memory: &mut Memory,
     components: &mut Vec<Component>,
@@ -108,11 +108,12 @@ fn start(
     }
 }
 
-/// An account for an entry with these limits of its init's. It is refused with the entry's path where these aren't covered.
+/// Opens an account for an entry with these limits of its init's. Refuses with `QuotaExceeded` and the entry's path if they
+/// are not covered.
 fn open_for(
     memory: &mut Memory,
     init: AccountId,
-    entry: &Entry,
+    entry: &ListEntry,
     ram: Ram,
     caps: Caps,
 ) -> Result<AccountId, BootFault>
@@ -130,9 +131,9 @@ fn open_for(
     }
 }
 
-/// The script of an entry on its account and that of its reserve, with new tables.
+/// Creates the script of an entry on its account and that of its reserve, with new tables.
 fn script_of(
-    entry: &Entry,
+    entry: &ListEntry,
     account: AccountId,
     reserve: AccountId,
     list: &StartList,
@@ -148,10 +149,10 @@ fn script_of(
     Ok(Component::script(entry.label(), account, reserve, caps, regions))
 }
 
-/// The server of an entry on its account, without sessions.
+/// Creates the server of an entry on its account, without sessions.
 fn server_of(
     service: Service,
-    entry: &Entry,
+    entry: &ListEntry,
     account: AccountId,
     list: &StartList,
     alloc: Global,
@@ -160,12 +161,12 @@ fn server_of(
     ensures made { IfOk result (IsMade list.now entry.now account.0 None) }
     ensures fault { IfErr result (λ fault. fault ≡ NoMemory) }
 {
-    let host = Host::boot(alloc, service, sessions_of(list), list.pages() as usize)?;
+    let host = AnyServer::boot(alloc, service, sessions_of(list), list.pages() as usize)?;
     Ok(Component::server(entry.label(), account, host))
 }
 
-/// The init of an entry on its account. It has started nothing yet.
-fn init_of(entry: &Entry, account: AccountId) -> Component
+/// Creates the init of an entry on its account. It has started no component yet.
+fn init_of(entry: &ListEntry, account: AccountId) -> Component
     requires { entry.now.binary ≡ AnInit }
     ensures { (list : Listed) → IsMade list entry.now account.0 None result }
 {

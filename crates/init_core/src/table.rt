@@ -1,33 +1,33 @@
-//! The routes of a machine as its core asks for them.
+//! The routes of a machine, as its core queries them.
 ghost use Rattle.std.specs.Prelude.{◌≡◌, ◌+◌, ◌*◌, ◌≤◌, ◌<◌, ℕ, List, Option, length, OnOk, IfOk, Some};
 ghost use Rattle.std.specs.List.{slice_get};
 ghost use Rattle.std.specs.Option.{option_map};
 ghost use Rattle.own_model.specs.Routes.{provider};
-ghost use Rattle.init_core.specs.Rows.{leads_in, levels_at, places_in, row_of, rows_of};
+ghost use Rattle.init_core.specs.Rows.{server_by_rows, levels_at, places_in, row_of, rows_of};
 
 use crate::resolve::rules_of;
-use crate::rule::{Lead, ResolvedRule, ServiceName, lead_by};
-use calls::label_of;
+use crate::rule::{ResolvedRule, ResolvedTarget, ServiceName, resolve_request};
+use core_calls::label_of;
+use list_parser::{Name, Path, StartList};
+use list_routes::MOST_LISTS;
 use pd_core::Router;
-use routes::MOST_LISTS;
-use start_lists::{Name, Path, StartList};
 use std::alloc::{AllocError, Global};
 use std::marker::Model;
 
-/// An entry of a start list: its path, its name, the number of its init, and the rules of its own list, its own route or else the
-/// default one.
+/// The routes of one entry of a start list: its path, its name, the number of its init, and its rules. The rules are its own
+/// route, or otherwise its list's default route.
 #[derive(Drop)]
-struct Row {
+struct RouteRow {
     path: Path,
     name: Name,
     home: usize,
     rules: Vec<ResolvedRule>,
 }
 
-impl Model for Row {
+impl Model for RouteRow {
     ghost use Rattle.init_core.specs.Rows as rows;
 
-    ghost Value = { rows.Row };
+    ghost Value = { rows.RouteRow };
 
     ghost view = { λ row. record {
       path = row.path;
@@ -36,15 +36,15 @@ impl Model for Row {
     } };
 }
 
-impl Row {
-    /// Copies what a list says of a client by its number.
-    fn of(alloc: Global, list: &StartList, client: usize) -> Result<Row, AllocError>
+impl RouteRow {
+    /// Copies the routes of a client, given by its number, from a list. Returns an error if the host is out of memory.
+    fn of(alloc: Global, list: &StartList, client: usize) -> Result<RouteRow, AllocError>
         requires { client < length list.now.entries }
         ensures { IfOk result
             (λ row. option_map (row_of list.now) (slice_get list.now.entries client) ≡ Some row) }
     {
         let entry = &list.entries()[client];
-        Ok(Row {
+        Ok(RouteRow {
             path: entry.to_path(),
             name: entry.to_name(),
             home: entry.home(),
@@ -53,21 +53,21 @@ impl Row {
     }
 }
 
-/// Where the session requests of a machine's components are routed, made of its start list when the machine starts. A row of it is
-/// for one component; the rules outward are found by the number of its init.
+/// The routes of session requests of a machine's components, built from its start list at the boot. There is one row for
+/// each component; the rules outward are found by the number of its init.
 #[derive(Drop)]
 pub struct RouteTable {
-    rows: Vec<Row>,
+    rows: Vec<RouteRow>,
 }
 
 impl RouteTable {
-    /// Copies the routes of a start list.
+    /// Copies the routes of a start list. Returns an error if the host is out of memory.
     pub(crate) fn of(alloc: Global, list: &StartList) -> Result<RouteTable, AllocError>
         ensures { IfOk result (λ table. table.rows.items ≡ rows_of list.now) }
     {
         let mut rows = Vec::with_capacity(alloc, list.count())?;
         for client in 0..list.count() {
-            rows.push(Row::of(alloc, list, client)?)?;
+            rows.push(RouteRow::of(alloc, list, client)?)?;
         }
         Ok(RouteTable { rows })
     }
@@ -76,7 +76,7 @@ impl RouteTable {
 impl Router for RouteTable {
     ghost places = { λ table. places_in table.rows.items };
 
-    ghost leads = { λ table. leads_in table.rows.items };
+    ghost leads = { λ table. server_by_rows table.rows.items };
 
     fn provider(&self, client: usize, service: &[u8], label: &[u8]) -> Option<usize> {
         let service = ServiceName::new(service);
@@ -84,11 +84,11 @@ impl Router for RouteTable {
     }
 }
 
-/// Returns the place of the server that a client's request is routed to, if there is one, through so many lists at most. A row is
-/// searched for the first rule that matches; where that leads outward, the init's row is searched, with the client's name before
-/// the label.
+/// Returns the place of the server to which a client's request is routed through at most this number of lists, or `None`. A
+/// row is searched for the first rule that matches. If that rule routes outward, the init's row is searched, with the
+/// client's name before the label.
 fn server_for(
-    rows: &[Row],
+    rows: &[RouteRow],
     lists: usize,
     client: usize,
     service: &ServiceName<'_>,
@@ -105,10 +105,10 @@ fn server_for(
     let Some(row) = rows.get(client) else {
         return None;
     };
-    match lead_by(row.rules.as_slice(), service, label) {
-        Lead::To(server) => Some(server.place),
-        Lead::Nowhere => None,
-        Lead::Outward => if row.home == 0 {
+    match resolve_request(row.rules.as_slice(), service, label) {
+        ResolvedTarget::To(server) => Some(server.place),
+        ResolvedTarget::Nowhere => None,
+        ResolvedTarget::Outward => if row.home == 0 {
             None
         } else {
             let label = label_of(row.name.as_bytes(), label);

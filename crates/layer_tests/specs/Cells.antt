@@ -1,7 +1,7 @@
--- Chunks of 64 pages side by side in one row of words: a memory to try the heap on.
+-- Adjacent chunks of 64 pages in one row of words: a memory for tests of the heap.
 use Rattle.std.specs.Prelude.{◌≡◌, ℕ, ◌+◌, ◌-◌, ◌*◌, ◌/◌, ◌%◌, ◌^◌, ◌==◌, ◌&&◌, Bool, nat_lt, nat_le, if◌then◌else◌, List, slice_index, length}
 use Rattle.avl_alloc.specs.declared.best_fit.BestFit.{BestFit}
-use Rattle.avl_alloc.specs.Holes.{Fits}
+use Rattle.avl_alloc.specs.FreeBlocks.{Fits}
 use Rattle.avl_alloc.specs.Layout.{IsSound, sizes_of, bytes_of}
 
 -- a place at which the row can have a word

@@ -1,4 +1,4 @@
-//! The books: limits as large as there are go from account to account.
+//! Accounts: the largest limits move from account to account.
 
 use quota_core::Books;
 use trade_base::{Caps, Ram};

@@ -1,4 +1,4 @@
-//! Best fit: how many words a call loads in fact.
+//! Best fit: the number of words that a call loads.
 ghost use Rattle.std.specs.Prelude.{◌≡◌, ℕ, ◌<◌, ◌≤◌, length};
 ghost use Rattle.layer_tests.specs.Cells.{cell_at, cell_bytes, IsTrial};
 ghost use Rattle.own_model.specs.Heap.{IsBlockSize};
@@ -14,7 +14,7 @@ const CHUNK_WORDS: usize = 32_768;
 /// The bytes of a chunk.
 const CHUNK_BYTES: u64 = 262_144;
 
-/// Chunks side by side, and a count of the words loaded: at run time by `count`, in contracts by the ledger.
+/// Adjacent chunks, and a count of the words loaded: at run time by `count`, in contracts by the ledger.
 #[derive(Drop)]
 struct Cells<L: Ledger> {
     words: Vec<u64>,
@@ -52,15 +52,15 @@ impl<L: Ledger> WordMemory for Cells<L> {
     }
 }
 
-/// A heap in such chunks.
+/// A heap in these chunks.
 #[derive(Drop)]
-struct Trial<L: Ledger> {
+struct HeapTrial<L: Ledger> {
     fit: BestFit,
     cells: Cells<L>,
     chunks: usize,
 }
 
-impl<L: Ledger> Model for Trial<L> {
+impl<L: Ledger> Model for HeapTrial<L> {
     ghost Value = { ℕ };
 
     ghost view = { λ trial. trial.chunks };
@@ -68,8 +68,8 @@ impl<L: Ledger> Model for Trial<L> {
     ghost invariant = { λ trial. IsTrial trial.fit trial.cells.words.items trial.chunks };
 }
 
-impl<L: Ledger> Trial<L> {
-    /// A chunk more, where there are words for it.
+impl<L: Ledger> HeapTrial<L> {
+    /// Adds a chunk, if there are words for it.
     fn add_chunk(&mut self, bytes: u64)
         requires { IsBlockSize bytes × (bytes ≤ 262144) }
     {
@@ -91,13 +91,13 @@ impl<L: Ledger> Trial<L> {
 }
 
 /// A heap without a chunk, over so many words.
-fn empty_heap<L: Ledger>(blank: Blank, words: Vec<u64>) -> Trial<L>
+fn empty_heap<L: Ledger>(blank: Blank, words: Vec<u64>) -> HeapTrial<L>
     requires name { blank.name ≡ L.name }
     requires parts { blank.parts ≡ L.parts }
     requires some { 0 < L.parts }
 {
     let (book, share) = blank.open();
-    Trial {
+    HeapTrial {
         fit: BestFit::new(),
         cells: Cells {
             words,
@@ -109,8 +109,8 @@ fn empty_heap<L: Ledger>(blank: Blank, words: Vec<u64>) -> Trial<L>
     }
 }
 
-/// Side by side 5,400 blocks of 48 bytes, of which every second one is given back from the last down:
-/// how many words each of 32 further calls loads at most.
+/// Returns the maximum number of words that each of 32 calls loads. Before the calls, every second one of 5400 adjacent blocks of
+/// 48 bytes is freed, from the last down.
 fn most_loads<L: Ledger>(rt: &impl Abort, blank: Blank, words: Vec<u64>) -> u64
     requires name { blank.name ≡ L.name }
     requires parts { blank.parts ≡ L.parts }

@@ -1,5 +1,4 @@
-//! Tests of the layers below the core, of what no scenario shows. What scripts and sessions are answered are cases
-//! (`cases/engine`).
+//! Tests of the layers below the core for what no scenario shows. The replies to scripts and sessions are cases (`cases/engine`).
 #![tactic(auto)]
 
 #[cfg(test)]

@@ -1,4 +1,4 @@
-//! Pages: that calls succeed where there is memory, and what a holder of pages sees.
+//! Pages: calls succeed if there is memory, and what an owner of pages sees.
 ghost use Rattle.std.specs.Prelude.{◌≡◌, ◌≢◌, ◌<◌, ◌≤◌, ℕ, IsTrue, slice_index};
 ghost use Rattle.page_pool.specs.Pages.{is_taken};
 
@@ -6,7 +6,7 @@ use page_pool::{PageNo, Pool};
 use std::alloc::Global;
 use std::process::Abort;
 
-/// A page of ones, where the page that was handed out held zeros.
+/// Allocates a page, checks that it is zero, and fills it with ones.
 #[tactic(auto, using(page_pool::proofs::PageLaws::page_laws))]
 fn take_and_fill(rt: &impl Abort, pool: &mut Pool) -> PageNo
     ensures taken { IsTrue (is_taken pool.new result.0) }
@@ -19,7 +19,7 @@ fn take_and_fill(rt: &impl Abort, pool: &mut Pool) -> PageNo
     page
 }
 
-/// Fills a page with ones, where it held zeros.
+/// Checks that a page is zero, and fills it with ones.
 #[tactic(auto, using(page_pool::proofs::PageLaws::page_laws))]
 fn fill(rt: &impl Abort, pool: &mut Pool, page: PageNo)
     requires { IsTrue (is_taken pool.old page.0) }
@@ -44,7 +44,7 @@ fn take_sixteen(rt: &impl Abort, pool: &mut Pool) -> [u16; 16]
     pages
 }
 
-/// Gives back every second page, and then the others.
+/// Frees every second page, and then the others.
 #[tactic(auto, using(page_pool::proofs::PageLaws::page_laws))]
 fn give_sixteen(pool: &mut Pool, pages: &[u16; 16])
     requires taken { (k : ℕ) → k < 16 → IsTrue (is_taken pool.old (slice_index pages.now k)) }

@@ -1,4 +1,4 @@
-//! Regions of a heap window: each keeps the number that it was attached with, whichever others go.
+//! Regions of a heap window: each keeps the number with which it was attached, after any others are detached.
 ghost use Rattle.std.specs.Prelude.{◌≡◌, ℕ, ◌+◌, ◌<◌, ◌≤◌, IsSome};
 ghost use Rattle.std.specs.FinMap.{get, len};
 ghost use Rattle.own_model.specs.HeapWindow.{pages_of_all};
@@ -49,11 +49,11 @@ fn booted(rt: &impl Abort, alloc: Global) -> RegionMap
     RegionMap::boot(alloc, 128, 64, 64).expect(rt, "memory for the regions")
 }
 
-/// What is found at an address: a region's start, its dataspace and its number.
-type Found = Option<(u64, DsId, u64)>;
+/// The region at an address: its start, its dataspace and its number.
+type RegionInfo = Option<(u64, DsId, u64)>;
 
-/// At each address this is found.
-fn check_found(rt: &impl Abort, map: &RegionMap, rows: &[(u64, Found)]) {
+/// Checks the region at each address.
+fn check_found(rt: &impl Abort, map: &RegionMap, rows: &[(u64, RegionInfo)]) {
     for (address, found) in rows {
         assert!(rt; map.heap_region(*address) == *found, "at {address}");
     }
@@ -78,7 +78,7 @@ fn heap_regions_keep_their_numbers(rt: HostRuntime) {
             (0x1_0000_3000, Some((0x1_0000_3000, FIRST, 30))),
         ],
     );
-    // A region that is no heap's has a number of its own.
+    // A region outside of heaps has a number of its own.
     assert!(rt; map.attach_heap(FIRST, 2) == 0x1_0000_4000);
     check_found(
         &rt,

@@ -1,10 +1,10 @@
-//! Spaces of selectors: that there is memory for one, and its calls as a holder of selectors sees them.
+//! Spaces of selectors: there is memory for one, and its calls as an owner of selectors sees them.
 
 use cap_space::{Cap, CapSpace};
 use std::process::Abort;
 use trade_base::{DsId, Selector, SessionId};
 
-/// Takes each capability in under the selector beside it, where there is a place.
+/// Checks that each capability is inserted under the selector next to it, if there is a place.
 fn check_inserts(rt: &impl Abort, space: &mut CapSpace, rows: &[(Cap, u32)]) {
     for (cap, selector) in rows {
         assert!(rt; !space.is_full());
@@ -49,14 +49,14 @@ fn buffer_is_taken_by_its_dataspace(rt: HostRuntime) {
     check_inserts(&rt, &mut space, &[(Cap::RpcObject, 1)]);
 }
 
-/// Whether a buffer is taken by each dataspace in turn, and under which selector.
+/// Checks whether a buffer is taken by each dataspace in order, and under which selector.
 fn check_buffers(rt: &impl Abort, space: &mut CapSpace, rows: &[(DsId, Option<Selector>)]) {
     for (ds, selector) in rows {
         assert!(rt; space.take_buffer(*ds) == *selector);
     }
 }
 
-/// A buffer is taken by its dataspace alone, and what is no buffer by its selector.
+/// Checks that a buffer is taken by its dataspace alone, and any other capability by its selector.
 fn check_taken(rt: &impl Abort, space: &mut CapSpace) {
     check_buffers(
         rt,
@@ -78,7 +78,7 @@ fn check_taken(rt: &impl Abort, space: &mut CapSpace) {
     check_removed(rt, space);
 }
 
-/// The capability under a selector is removed, whatever it is, and none where the selector isn't in use.
+/// Checks that any capability under a selector is removed, and none if the selector isn't in use.
 fn check_removed(rt: &impl Abort, space: &mut CapSpace) {
     for selector in [0, 1, 3, u64::MAX] {
         assert!(rt; space.remove(selector).is_none());

@@ -1,4 +1,4 @@
-//! The readers of texts: each on texts that it takes and on others.
+//! Parsers of texts: each on texts that it accepts and on others.
 
 use session_proto::{FileRequest, SessionArgs};
 use std::process::Abort;
@@ -8,7 +8,7 @@ use text_codec::{
 };
 use trade_base::{read_amount, read_number};
 
-/// Texts, and the numbers of bytes that they stand for as an amount.
+/// Texts, and the numbers of bytes that they denote as an amount.
 const AMOUNTS: &str = "0 => 0
 0042 => 42
 4K => 4096
@@ -28,7 +28,7 @@ K => none
 17179869184G => none
 18446744073709551616K => none";
 
-/// Texts, and the addresses that they stand for.
+/// Texts, and the addresses that they denote.
 const ADDRESSES: &str = "0x0000000000000010 => 16
 0xffffFFFFffffFFFF => 18446744073709551615
 0x => none
@@ -37,7 +37,7 @@ const ADDRESSES: &str = "0x0000000000000010 => 16
 0x1g => none
 0x00000000000000010 => none";
 
-/// Each row's text is read as the number behind it, or as none.
+/// Checks that each row's text is parsed as the number after it, or as none.
 fn check_numbers(rt: &impl Abort, rows: &str, amounts: bool) {
     for line in rows.lines() {
         let (text, want) = line.split_once(" => ").expect(rt, "a row has a number");
@@ -62,23 +62,23 @@ fn amounts_and_addresses_are_read(rt: HostRuntime) {
     assert!(rt; read_number(b"007") == Some(7) && read_number(b"7K").is_none());
 }
 
-/// What a text is asked to be.
+/// The kind that a text is tested for.
 #[derive(Clone, Copy)]
-enum Asked {
+enum TextKind {
     Name,
     Path,
     NameBytes,
     Hex,
 }
 
-impl Asked {
+impl TextKind {
     /// Whether a text is that.
     fn is(self, text: &[u8]) -> bool {
         match self {
-            Asked::Name => is_name(text),
-            Asked::Path => is_path(text),
-            Asked::NameBytes => has_name_bytes(text),
-            Asked::Hex => read_hex(text).is_some(),
+            TextKind::Name => is_name(text),
+            TextKind::Path => is_path(text),
+            TextKind::NameBytes => has_name_bytes(text),
+            TextKind::Hex => read_hex(text).is_some(),
         }
     }
 }
@@ -87,7 +87,7 @@ impl Asked {
 const NAMES: &str = "A-0_z.9
 abcdefghijklmnopqrstuvwxyz012345";
 
-/// Texts that are none.
+/// Texts that are no names.
 const NO_NAMES: &str = "abcdefghijklmnopqrstuvwxyz0123456
 
 a/b";
@@ -99,8 +99,8 @@ const NO_HEX: &str = "
 0g
 00\x20";
 
-/// Each line is what is asked, or none is.
-fn check_each(rt: &impl Abort, asked: Asked, lines: &str, want: bool) {
+/// Checks that each line is of a kind, or that none is.
+fn check_each(rt: &impl Abort, asked: TextKind, lines: &str, want: bool) {
     for text in lines.lines() {
         assert!(rt; asked.is(text.as_bytes()) == want, "of {text}");
     }
@@ -108,32 +108,32 @@ fn check_each(rt: &impl Abort, asked: Asked, lines: &str, want: bool) {
 
 #[test]
 fn names_and_hexadecimal_digits_are_told(rt: HostRuntime) {
-    check_each(&rt, Asked::Name, NAMES, true);
-    check_each(&rt, Asked::Path, NAMES, true);
-    check_each(&rt, Asked::Name, NO_NAMES, false);
-    check_each(&rt, Asked::Path, "a/b", true);
-    check_each(&rt, Asked::Path, "a//b", false);
+    check_each(&rt, TextKind::Name, NAMES, true);
+    check_each(&rt, TextKind::Path, NAMES, true);
+    check_each(&rt, TextKind::Name, NO_NAMES, false);
+    check_each(&rt, TextKind::Path, "a/b", true);
+    check_each(&rt, TextKind::Path, "a//b", false);
     check_each(
         &rt,
-        Asked::NameBytes,
+        TextKind::NameBytes,
         "abcdefghijklmnopqrstuvwxyz0123456",
         true,
     );
-    check_each(&rt, Asked::Hex, "00fF", true);
-    check_each(&rt, Asked::Hex, NO_HEX, false);
+    check_each(&rt, TextKind::Hex, "00fF", true);
+    check_each(&rt, TextKind::Hex, NO_HEX, false);
 }
 
-/// A text, its first word, and what stands behind the space, where there is one.
-type Parted = (&'static [u8], &'static [u8], Option<&'static [u8]>);
+/// A text, its first word, and the text after the space, if there is one.
+type SplitText = (&'static [u8], &'static [u8], Option<&'static [u8]>);
 
-const PARTED: &[Parted] = &[
+const PARTED: &[SplitText] = &[
     (b"quota  1", b"quota", Some(b" 1")),
     (b"quota", b"quota", None),
     (b" quota", b"", Some(b"quota")),
 ];
 
-/// Each text is parted so.
-fn check_parted(rt: &impl Abort, rows: &[Parted]) {
+/// Checks that each text is split at its first space.
+fn check_parted(rt: &impl Abort, rows: &[SplitText]) {
     for (text, word, rest) in rows {
         assert!(rt; split_first_word(text) == (*word, *rest));
     }
@@ -160,7 +160,7 @@ fn bytes_are_decoded_and_encoded(rt: HostRuntime) {
     assert!(rt; hex == *b"00ff0aa96f9b7e80c35d1b");
 }
 
-/// Texts of a session's arguments, and behind ` => ` RAM, capabilities and the label, where there is one.
+/// Texts of a session's arguments, and after ` => ` the RAM, the capabilities and the label, if there is one.
 const ARGUMENTS: &str = r#" => 0 0
     => 0 0
 ram_quota=4K, cap_quota=2, label="main" => 4096 2 main
@@ -204,7 +204,7 @@ label=\".................................................................\"";
 /// A label of 64 bytes.
 const LONGEST: &str = "label=\"................................................................\"";
 
-/// Whether a text is arguments with this RAM, these capabilities and this label, where there is one.
+/// Whether a text is arguments with this RAM, these capabilities and this label, if there is one.
 fn are_arguments(text: &str, want: &str) -> bool {
     let (ram, rest) = want.split_once(' ').unwrap_or((want, ""));
     let (caps, label) = rest.split_once(' ').unwrap_or((rest, ""));

@@ -5,7 +5,7 @@ ghost use Rattle.dataspace_core.specs.Store.{Exists, space_at};
 use dataspace_core::Memory;
 use trade_base::{Caps, DsId};
 
-/// Stores a word. The dataspace stays there, as long as it was.
+/// Stores a word. The dataspace remains, with the same size.
 fn store(memory: &mut Memory, ds: DsId, offset: u64, word: u64)
     requires exists { Exists memory.old ds.0 }
     requires aligned { offset % 8 ≡ 0 }

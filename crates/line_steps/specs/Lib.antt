@@ -1,1 +1,1 @@
-pub mod Stand
+pub mod RunPosition

@@ -1,10 +1,10 @@
-//! A friendly line in its run: where the run is in its scenario, and what names stand for there. The run of a scenario, its
-//! recording and the search for its least budgets are made of these steps.
+//! The steps of a run through the lines of a scenario: the position of the run, and the values of names there. The run of a
+//! scenario, its recording and the search for its minimum budgets call this crate.
 //!
-//! `Stand::new(known, marks)?` is before the first line. For each line, `stand.pass()` returns its number, and behind the line
-//! `stand.arrive()?` begins and ends the rounds that do so there.
+//! `RunPosition::new(known, marks)?` is the position before the first line. For each line, `stand.pass()` returns its number, and after
+//! the line `stand.arrive()?` enters and leaves the rounds there.
 #![tactic(auto)]
 
-mod stand;
+mod run_position;
 
-pub use stand::Stand;
+pub use run_position::RunPosition;

@@ -1,4 +1,4 @@
--- What a change of a start list changes of its entries.
+-- The differences between the entries of two start lists.
 use Rattle.std.specs.Prelude.{ℕ, ◌==◌, ◌&&◌, Bool, true, false, List, [], ◌∷◌, ◌++◌, codes, position, if◌then◌else◌, Option, Some, None}
 use Rattle.std.specs.List.{enumerate_from, flat_map, slice_index_or}
 use Rattle.std.specs.Str.{bytes_eq}
@@ -6,10 +6,10 @@ use Rattle.trade_base.specs.Service.{service_name}
 use Rattle.own_model.specs.Amounts.{Amounts}
 use Rattle.own_model.specs.Listed.{Binary, Listed, ListedEntry}
 use Rattle.own_model.specs.Listed.Binary.{Script, Server, Init}
-use Rattle.list_diff.specs.declared.fates.Change.{Change}
-use Rattle.list_diff.specs.declared.fates.Change.TheVariants.{Gone, Changed, Came}
+use Rattle.list_diff.specs.declared.entry_changes.EntryChange.{EntryChange}
+use Rattle.list_diff.specs.declared.entry_changes.EntryChange.TheVariants.{Gone, Changed, Came}
 
--- what a binary is called
+-- the name of a binary
 abbrev pub binary_name : Binary → List ℕ
 binary_name Script = codes "script"
 binary_name (Server service) = service_name service
@@ -25,7 +25,7 @@ same_reserves None None = true
 same_reserves (Some one) (Some other) = one.ram == other.ram && one.caps == other.caps
 same_reserves _ _ = false
 
--- two entries run the same, with the same means
+-- two entries run the same binary, with the same budget
 unfoldable pub same_means : ListedEntry → ListedEntry → Bool
 same_means one other =
     bytes_eq (binary_name one.binary) (binary_name other.binary)
@@ -36,24 +36,24 @@ same_means one other =
 abbrev pub place_of : Listed → List ℕ → Option ℕ
 place_of list path = position (λ entry. bytes_eq entry.path path) list.entries
 
--- what became of an entry of this number, by its place in the list after
-abbrev pub fate_at : Listed → ℕ × ListedEntry → Option ℕ → List Change
+-- the change of an entry of this number, by its place in the list after
+abbrev pub fate_at : Listed → ℕ × ListedEntry → Option ℕ → List EntryChange
 fate_at after entry None = Gone entry.0 ∷ []
 fate_at after entry (Some place) =
     if same_means entry.1 (slice_index_or after.entries place entry.1) then [] else Changed entry.0 place ∷ []
 
-abbrev pub fate : Listed → ℕ × ListedEntry → List Change
+abbrev pub fate : Listed → ℕ × ListedEntry → List EntryChange
 fate after entry = fate_at after entry (place_of after entry.1.path)
 
--- an entry that came is told by its number
-abbrev pub arrival_at : ℕ → Option ℕ → List Change
+-- an added entry is denoted by its number
+abbrev pub arrival_at : ℕ → Option ℕ → List EntryChange
 arrival_at number None = Came number ∷ []
 arrival_at number (Some place) = []
 
-abbrev pub arrival : Listed → ℕ × ListedEntry → List Change
+abbrev pub arrival : Listed → ℕ × ListedEntry → List EntryChange
 arrival before entry = arrival_at entry.0 (place_of before entry.1.path)
 
--- what became of all entries
-abbrev pub changes_of : Listed → Listed → List Change
+-- the changes of all entries
+abbrev pub changes_of : Listed → Listed → List EntryChange
 changes_of before after =
     flat_map (fate after) (enumerate_from 0 before.entries) ++ flat_map (arrival before) (enumerate_from 0 after.entries)

@@ -1,17 +1,17 @@
 //! Differences as documents for programs.
-use crate::fates::Change;
+use crate::differences::ListDifferences;
+use crate::entry_changes::EntryChange;
 use crate::label_sets::label_documents;
-use crate::reaches::Lead;
-use crate::texts::Differences;
-use json_documents::{Field, Listing, Nested};
-use reach::{Reach, Witnessed};
-use start_lists::{Entry, StartList};
+use crate::reach_changes::ReachChange;
+use list_parser::{ListEntry, StartList};
+use list_reach::{Reach, WitnessedSet};
 use std::alloc::{AllocError, Global};
+use view_json::{JsonField, Listing, ObjectList};
 
 /// A member of a document.
-type Member<'a> = (&'static str, Field<'a>);
+type DiffMember<'a> = (&'static str, JsonField<'a>);
 
-/// The members of what an entry runs, what it starts with, its reserve and its service: of one that is there, and of one that was.
+/// The members for an entry's binary, budget, reserve and service: of an entry after, and of an entry before.
 static MEANS: [&str; 6] = [
     "binary",
     "ram",
@@ -30,8 +30,8 @@ static WERE: [&str; 6] = [
     "was_provides",
 ];
 
-impl Differences<'_> {
-    /// Adds a document for each line that is told of them. An error is want of memory.
+impl ListDifferences<'_> {
+    /// Adds a JSON document for each line that is printed of the differences. Fails if the host is out of memory.
     pub fn list(&self, alloc: Global, listing: &mut Listing) -> Result<(), AllocError> {
         if !self.has_same_machine() {
             add_machine(listing, self.before, self.after)?;
@@ -45,22 +45,22 @@ impl Differences<'_> {
         Ok(())
     }
 
-    // Adds what became of an entry.
+    // Adds the change of an entry.
     fn add_change(
         &self,
         alloc: Global,
         listing: &mut Listing,
-        change: Change,
+        change: EntryChange,
     ) -> Result<(), AllocError> {
         let (before, after) = (self.before.entries(), self.after.entries());
         let (sign, was, now) = match change {
-            Change::Gone(number) => ("-", before.get(number), None),
-            Change::Came(number) => ("+", None, after.get(number)),
-            Change::Changed(was, now) => ("~", before.get(was), after.get(now)),
+            EntryChange::Gone(number) => ("-", before.get(number), None),
+            EntryChange::Came(number) => ("+", None, after.get(number)),
+            EntryChange::Changed(was, now) => ("~", before.get(was), after.get(now)),
         };
         let members = vec![in alloc;
-            ("kind", Field::Word("entry")),
-            ("change", Field::Word(sign)),
+            ("kind", JsonField::Word("entry")),
+            ("change", JsonField::Word(sign)),
         ]?;
         let members = with_entry(members, &WERE, was)?;
         let members = with_entry(members, &MEANS, now)?;
@@ -68,43 +68,43 @@ impl Differences<'_> {
     }
 }
 
-// Adds the machine of one list, and the other's that it was.
+// Adds the machine of the list after, and that of the list before.
 fn add_machine(listing: &mut Listing, was: &StartList, now: &StartList) -> Result<(), AllocError> {
     listing.add(&[
-        ("kind", Field::Word("machine")),
-        ("change", Field::Word("~")),
-        ("pages", Field::Number(u64::from(now.pages()))),
-        ("caps", Field::Number(u64::from(now.caps()))),
-        ("was_pages", Field::Number(u64::from(was.pages()))),
-        ("was_caps", Field::Number(u64::from(was.caps()))),
+        ("kind", JsonField::Word("machine")),
+        ("change", JsonField::Word("~")),
+        ("pages", JsonField::Number(u64::from(now.pages()))),
+        ("caps", JsonField::Number(u64::from(now.caps()))),
+        ("was_pages", JsonField::Number(u64::from(was.pages()))),
+        ("was_caps", JsonField::Number(u64::from(was.caps()))),
     ])
 }
 
-// The members with the name of an entry behind them, if there is one, and with what it has, under these names.
+// The members followed by the name of an entry, if there is one, and by its budget, under these names.
 fn with_entry<'a>(
-    mut members: Vec<Member<'a>>,
+    mut members: Vec<DiffMember<'a>>,
     names: &'static [&'static str; 6],
-    entry: Option<&'a Entry>,
-) -> Result<Vec<Member<'a>>, AllocError> {
+    entry: Option<&'a ListEntry>,
+) -> Result<Vec<DiffMember<'a>>, AllocError> {
     let Some(entry) = entry else {
         return Ok(members);
     };
     let binary = entry.binary();
     members.extend_from_slice(&[
-        ("name", Field::Text(entry.path())),
-        (names[0], Field::Word(binary.as_str())),
-        (names[1], Field::Number(entry.ram())),
-        (names[2], Field::Number(u64::from(entry.caps()))),
+        ("name", JsonField::Text(entry.path())),
+        (names[0], JsonField::Word(binary.as_str())),
+        (names[1], JsonField::Number(entry.ram())),
+        (names[2], JsonField::Number(u64::from(entry.caps()))),
     ])?;
     if let Some(reserve) = entry.reserve() {
-        members.push((names[3], Field::Number(reserve.ram.0)))?;
-        members.push((names[4], Field::Number(u64::from(reserve.caps.0))))?;
+        members.push((names[3], JsonField::Number(reserve.ram.0)))?;
+        members.push((names[4], JsonField::Number(u64::from(reserve.caps.0))))?;
     }
     if let Some(service) = binary.service() {
         let provided = if entry.provides() {
-            Field::Word(service.name())
+            JsonField::Word(service.name())
         } else {
-            Field::Nothing
+            JsonField::Nothing
         };
         members.push((names[5], provided))?;
     }
@@ -112,7 +112,11 @@ fn with_entry<'a>(
 }
 
 // Adds the labels that are routed to a server on one list alone.
-fn add_lead(alloc: Global, listing: &mut Listing, lead: &Lead<'_>) -> Result<(), AllocError> {
+fn add_lead(
+    alloc: Global,
+    listing: &mut Listing,
+    lead: &ReachChange<'_>,
+) -> Result<(), AllocError> {
     let gained = label_documents(alloc, &lead.gained.labels)?;
     let lost = label_documents(alloc, &lead.lost.labels)?;
     add_labels(listing, lead, &gained, &lost)
@@ -121,48 +125,48 @@ fn add_lead(alloc: Global, listing: &mut Listing, lead: &Lead<'_>) -> Result<(),
 // Adds the same, by the documents of both sets of labels.
 fn add_labels<'a>(
     listing: &mut Listing,
-    lead: &'a Lead<'a>,
-    gained: &'a Nested,
-    lost: &'a Nested,
+    lead: &'a ReachChange<'a>,
+    gained: &'a ObjectList,
+    lost: &'a ObjectList,
 ) -> Result<(), AllocError> {
     listing.add(&[
-        ("kind", Field::Word("reach")),
-        ("change", Field::Word("~")),
-        ("name", Field::Text(lead.client.path())),
-        ("service", Field::Word(lead.service)),
-        ("to", Field::Text(lead.server.path())),
+        ("kind", JsonField::Word("reach")),
+        ("change", JsonField::Word("~")),
+        ("name", JsonField::Text(lead.client.path())),
+        ("service", JsonField::Word(lead.service)),
+        ("to", JsonField::Text(lead.server.path())),
         ("reach", word_of(lead.now)),
         ("label", label_of(lead.now)),
         ("was_reach", word_of(lead.was)),
         ("was_label", label_of(lead.was)),
-        ("gained", Field::List(gained)),
+        ("gained", JsonField::List(gained)),
         ("gained_witness", witness_of(&lead.gained)),
-        ("lost", Field::List(lost)),
+        ("lost", JsonField::List(lost)),
         ("lost_witness", witness_of(&lead.lost)),
     ])
 }
 
 // One of the shortest labels, if there is a label.
-fn witness_of(found: &Witnessed) -> Field<'_> {
+fn witness_of(found: &WitnessedSet) -> JsonField<'_> {
     match &found.witness {
-        Some(label) => Field::Text(label.as_bytes()),
-        None => Field::Nothing,
+        Some(label) => JsonField::Text(label.as_bytes()),
+        None => JsonField::Nothing,
     }
 }
 
-// With how many labels.
-fn word_of(reach: Option<&Reach>) -> Field<'_> {
+// The word for how many labels are routed there.
+fn word_of(reach: Option<&Reach>) -> JsonField<'_> {
     match reach {
-        Some(Reach::Always) => Field::Word("always"),
-        Some(Reach::By(_)) => Field::Word("some"),
-        Some(Reach::Never) | None => Field::Word("none"),
+        Some(Reach::Always) => JsonField::Word("always"),
+        Some(Reach::By(_)) => JsonField::Word("some"),
+        Some(Reach::Never) | None => JsonField::Word("none"),
     }
 }
 
-// One of the labels, where some lead there and others don't.
-fn label_of(reach: Option<&Reach>) -> Field<'_> {
+// One of the labels, if some are routed there and others aren't.
+fn label_of(reach: Option<&Reach>) -> JsonField<'_> {
     match reach {
-        Some(Reach::By(label)) => Field::Text(label.as_bytes()),
-        _ => Field::Nothing,
+        Some(Reach::By(label)) => JsonField::Text(label.as_bytes()),
+        _ => JsonField::Nothing,
     }
 }

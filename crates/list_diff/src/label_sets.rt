@@ -1,11 +1,11 @@
 //! Sets of labels as documents for programs.
-use json_documents::{Field, Nested, Nesting};
-use reach::{LabelSet, Pattern, Shape};
+use list_reach::{LabelSet, Pattern, Shape};
 use std::alloc::{AllocError, Global};
+use view_json::{JsonField, ObjectList, ObjectListBuilder};
 
-/// Returns an object for each shape of a set. An error is out of memory.
-pub fn label_documents(alloc: Global, labels: &LabelSet) -> Result<Nested, AllocError> {
-    let mut list = Nesting::new(alloc);
+/// Returns a JSON object for each shape of a set of labels. Fails if the host is out of memory.
+pub fn label_documents(alloc: Global, labels: &LabelSet) -> Result<ObjectList, AllocError> {
+    let mut list = ObjectListBuilder::new(alloc);
     for shape in labels.shapes() {
         add_shape(alloc, &mut list, shape)?;
     }
@@ -13,8 +13,8 @@ pub fn label_documents(alloc: Global, labels: &LabelSet) -> Result<Nested, Alloc
 }
 
 // Adds a shape.
-fn add_shape(alloc: Global, list: &mut Nesting, shape: &Shape) -> Result<(), AllocError> {
-    let mut except = Nesting::new(alloc);
+fn add_shape(alloc: Global, list: &mut ObjectListBuilder, shape: &Shape) -> Result<(), AllocError> {
+    let mut except = ObjectListBuilder::new(alloc);
     for pattern in shape.except() {
         except.add(&pattern_members(pattern))?;
     }
@@ -24,24 +24,29 @@ fn add_shape(alloc: Global, list: &mut Nesting, shape: &Shape) -> Result<(), All
 
 // Adds a pattern with its exceptions.
 fn add_members<'a>(
-    list: &mut Nesting,
+    list: &mut ObjectListBuilder,
     pattern: &'a Pattern,
-    except: &'a Nested,
+    except: &'a ObjectList,
 ) -> Result<(), AllocError> {
     let [exactly, beginning, ending] = pattern_members(pattern);
-    list.add(&[exactly, beginning, ending, ("except", Field::List(except))])
+    list.add(&[
+        exactly,
+        beginning,
+        ending,
+        ("except", JsonField::List(except)),
+    ])
 }
 
 // The members of a pattern; a text that excludes no label is null.
-fn pattern_members(pattern: &Pattern) -> [(&'static str, Field<'_>); 3] {
+fn pattern_members(pattern: &Pattern) -> [(&'static str, JsonField<'_>); 3] {
     let (exactly, beginning, ending) = match pattern {
         Pattern::Exactly(label) => (
-            Field::Text(label.as_bytes()),
-            Field::Nothing,
-            Field::Nothing,
+            JsonField::Text(label.as_bytes()),
+            JsonField::Nothing,
+            JsonField::Nothing,
         ),
         Pattern::Between(front, end) => (
-            Field::Nothing,
+            JsonField::Nothing,
             text_or_nothing(front.as_bytes()),
             text_or_nothing(end.as_bytes()),
         ),
@@ -54,10 +59,10 @@ fn pattern_members(pattern: &Pattern) -> [(&'static str, Field<'_>); 3] {
 }
 
 // A text, or nothing if it is empty.
-fn text_or_nothing(text: &[u8]) -> Field<'_> {
+fn text_or_nothing(text: &[u8]) -> JsonField<'_> {
     if text.is_empty() {
-        Field::Nothing
+        JsonField::Nothing
     } else {
-        Field::Text(text)
+        JsonField::Text(text)
     }
 }

@@ -1,17 +1,18 @@
-//! What a change of a start list changes: entries that came, went or have other means, who reaches whom, needs, and replies.
+//! Differences between two start lists: entries that were added, removed or have another budget, who reaches whom, needs, and
+//! replies. `diff` calls it, as `changes(alloc, &before, &after)?`.
 #![tactic(auto)]
 
+mod differences;
 mod documents;
-mod fates;
+mod entry_changes;
 mod label_sets;
-mod needs;
-mod reaches;
-mod replies;
-mod texts;
+mod need_changes;
+mod reach_changes;
+mod reply_changes;
 
-pub use fates::{Change, changes};
+pub use differences::ListDifferences;
+pub use entry_changes::{EntryChange, changes};
 pub use label_sets::label_documents;
-pub use needs::{Lack, Means, Need, lacks};
-pub use reaches::{Lead, Side, leads};
-pub use replies::{ReplyChange, changed_replies};
-pub use texts::Differences;
+pub use need_changes::{ComponentNeed, NeedChange, QuotaAmounts, lacks};
+pub use reach_changes::{ReachChange, ReachSide, leads};
+pub use reply_changes::{ReplyChange, changed_replies};

@@ -9,12 +9,12 @@ use Rattle.own_model.specs.Listed.{Binary, ListedEntry}
 use Rattle.own_model.specs.Listed.Binary.{Script, Server, Init}
 use Rattle.trade_base.specs.Service.{served_by_binary}
 use Rattle.trade_base.specs.declared.service.Service.{Service}
-use Rattle.start_lists.specs.declared.fault.BootFault.{BootFault}
-use Rattle.start_lists.specs.declared.fault.BootFault.TheVariants.{BadConfig, BadJson, DuplicateName, NoMemory, QuotaExceeded, UnknownBinary}
-use Rattle.start_lists.specs.declared.fault.Field.{Field}
-use Rattle.start_lists.specs.declared.fault.Field.TheVariants as field
-use Rattle.start_lists.specs.Entries.{◌>>=◌, Own, Place, SoFar, binary_of, binary_told, config_of, default_route, head_of, if_script, is_taken, new_name, no_binary, object_of, own_of, own_route, own_told, provided, reserve_told, starts_in, value_or}
-use Rattle.start_lists.specs.Members.{amount_at, amount_in, is_object, name_at, name_in, whole_at, whole_in}
+use Rattle.list_parser.specs.declared.fault.BootFault.{BootFault}
+use Rattle.list_parser.specs.declared.fault.BootFault.TheVariants.{BadConfig, BadJson, DuplicateName, NoMemory, QuotaExceeded, UnknownBinary}
+use Rattle.list_parser.specs.declared.fault.ConfigField.{ConfigField}
+use Rattle.list_parser.specs.declared.fault.ConfigField.TheVariants as field
+use Rattle.list_parser.specs.Entries.{◌>>=◌, ListConfig, ListPlace, SoFar, binary_of, binary_of_entry, config_of, default_route, head_of, if_script, is_taken, new_name, no_binary, object_of, own_of, own_route, list_of_entry, provided, reserve_of_entry, starts_in, value_or}
+use Rattle.list_parser.specs.Members.{amount_at, amount_in, is_object, name_at, name_in, whole_at, whole_in}
 
 -- ---- one step after another
 
@@ -35,7 +35,7 @@ done = record { fault = tt }
 
 -- ---- of an entry
 
-abbrev pub in_entry : Field → Bool
+abbrev pub in_entry : ConfigField → Bool
 in_entry field.Size = false
 in_entry field.Machine = false
 in_entry field.Pages = false
@@ -75,11 +75,11 @@ binary_of_fault text = unless (bytes_eq text (codes "script")) Script _ (unless 
   by_service (Some service) = done
   by_service None = record { fault = no_binary_fault (name_in text) }
 
-binary_fault : (name : List ℕ) (told : Option Data) → Fails OfEntry (binary_told name told)
+binary_fault : (name : List ℕ) (told : Option Data) → Fails OfEntry (binary_of_entry name told)
 binary_fault name None = binary_of_fault name
 binary_fault name (Some d) = bound (value_fault (BadConfig field.Binary) (as_str d) refl) binary_of_fault
 
-reserve_fault : (binary : Binary) (entry : Data) → Fails OfEntry (reserve_told binary entry)
+reserve_fault : (binary : Binary) (entry : Data) → Fails OfEntry (reserve_of_entry binary entry)
 reserve_fault binary entry =
     bound (value_fault (BadConfig field.Reserve) (if_script amount_in binary (get (codes "reserve") entry)) refl) (λ ram.
     bound (value_fault (BadConfig field.ReserveCaps) (if_script (whole_in 0 4294967295) binary (get (codes "reserve-caps") entry)) refl) (λ caps. done))
@@ -91,19 +91,19 @@ own_fault met d =
 
 config_fault : (deeper : Bool) (met : ℕ) (d : Option Data) → Fails OfEntry (config_of deeper met d)
 config_fault true met (Some d) = by_object (is_object d) where
-  by_object : (b : Bool) → let r : Result Own BootFault = if b then own_of met d else Err (BadConfig field.Config) in Fails OfEntry r
+  by_object : (b : Bool) → let r : Result ListConfig BootFault = if b then own_of met d else Err (BadConfig field.Config) in Fails OfEntry r
   by_object true = own_fault met d
   by_object false = record { fault = refl }
 config_fault true met None = record { fault = refl }
 config_fault false met d = record { fault = refl }
 
-own_told_fault : (binary : Binary) (deeper : Bool) (met : ℕ) (d : Option Data) → Fails OfEntry (own_told binary deeper met d)
+own_told_fault : (binary : Binary) (deeper : Bool) (met : ℕ) (d : Option Data) → Fails OfEntry (list_of_entry binary deeper met d)
 own_told_fault Script deeper met d = done
 own_told_fault (Server service) deeper met d = done
 own_told_fault Init deeper met d = config_fault deeper met d
 
 -- what is read of an entry has one of these faults
-pub head_fault : (place : Place) (deeper : Bool) (so_far : SoFar) (d : Data) → Fails OfEntry (head_of place deeper so_far d)
+pub head_fault : (place : ListPlace) (deeper : Bool) (so_far : SoFar) (d : Data) → Fails OfEntry (head_of place deeper so_far d)
 head_fault place deeper so_far d =
     bound (object_fault d) (λ entry.
     bound (value_fault (BadConfig field.Name) (name_at (codes "name") entry) refl) (λ told_name.

@@ -9,18 +9,18 @@ use Rattle.std.proofs.lemmas.Option.{slice_get_cases}
 use Rattle.serde_json.specs.Data.{Data}
 use Rattle.serde_json.specs.Find.{get}
 use Rattle.own_model.specs.Listed.{Listed}
-use Rattle.start_lists.specs.declared.fault.BootFault.{BootFault}
-use Rattle.start_lists.specs.declared.fault.BootFault.TheVariants.{BadConfig, BadJson, DuplicateName, NoMemory, QuotaExceeded, UnknownBinary}
-use Rattle.start_lists.specs.declared.fault.Field.{Field}
-use Rattle.start_lists.specs.declared.fault.Field.TheVariants as field
-use Rattle.start_lists.specs.Entries.{◌>>=◌, Head, Misread, Own, Place, Reads, SoFar, all_read, at_entry, deepest, default_route, entries_read, head_of, outermost, own_of, place_within, read_own, read_within, then_read, value_or, with_head}
-use Rattle.start_lists.specs.Entries as engine
-use Rattle.start_lists.specs.Members.{whole_at}
-use Rattle.start_lists.specs.Misread.{entry_at_fault, place_of_fault, starts_of}
-use Rattle.start_lists.specs.StartText.{fault_of, list_of, machine_of, object_in}
+use Rattle.list_parser.specs.declared.fault.BootFault.{BootFault}
+use Rattle.list_parser.specs.declared.fault.BootFault.TheVariants.{BadConfig, BadJson, DuplicateName, NoMemory, QuotaExceeded, UnknownBinary}
+use Rattle.list_parser.specs.declared.fault.ConfigField.{ConfigField}
+use Rattle.list_parser.specs.declared.fault.ConfigField.TheVariants as field
+use Rattle.list_parser.specs.Entries.{◌>>=◌, EntryHead, Misread, ListConfig, ListPlace, Reads, SoFar, all_read, at_entry, deepest, default_route, entries_read, head_of, outermost, own_of, place_within, read_own, read_within, then_read, value_or, with_head}
+use Rattle.list_parser.specs.Entries as engine
+use Rattle.list_parser.specs.Members.{whole_at}
+use Rattle.list_parser.specs.FaultPlace.{entry_at_fault, place_of_fault, starts_of}
+use Rattle.list_parser.specs.StartText.{fault_of, list_of, machine_of, object_in}
 use Rattle.list_faults.specs.Places.{FaultsHavePlaces, field_of, spot_at, spot_in, spot_of}
 use Rattle.list_faults.specs.Values.{EntryValue, found_at, found_in, found_within, runs, starts_in, step_down, with_own}
-use Rattle.list_parts.specs.declared.part.Step.{Step}
+use Rattle.list_parts.specs.declared.list_part.EntryStep.{EntryStep}
 use Rattle.list_faults.proofs.FaultLemmas.{Fails, OfEntry, bound, done, head_fault, in_entry, value_fault}
 use Rattle.list_faults.proofs.StartsLemmas.{head_starts, own_starts, own_values}
 
@@ -39,7 +39,7 @@ counts_then : (r : Result SoFar Misread) (f : SoFar → Result SoFar Misread) (b
 counts_then (Ok next) f before n m first more = shift (f next) before (length next.entries) n m first.counted (more next)
 counts_then (Err misread) f before n m first more = record { counted = (omega (arith, first.counted.0), first.counted.1) }
 
-counts_all : (reads : Reads) (place : Place) (g : ℕ × Data → List EntryValue)
+counts_all : (reads : Reads) (place : ListPlace) (g : ℕ × Data → List EntryValue)
     → ((k : ℕ) (so_far : SoFar) (d : Data) → Counts (length so_far.entries) (length (g (k, d))) (reads place so_far d))
     → (k : ℕ) (so_far : SoFar) (ds : List Data) → Counts (length so_far.entries) (length (flat_map g (enumerate_from k ds))) (all_read reads place so_far ds)
 counts_all reads place g each k so_far [] = record { counted = omega arith }
@@ -50,21 +50,21 @@ counts_all reads place g each k so_far (d ∷ ds) =
     (length (flat_map g (enumerate_from (k + 1) ds))) (each k so_far d) (λ next. counts_all reads place g each (k + 1) next ds))
 
 -- where no list may be so deep, nothing more is read
-none_deeper : (place : Place) (so_far : SoFar) (ds : List Data) → all_read (λ _ s _. Ok s) place so_far ds ≡ Ok so_far
+none_deeper : (place : ListPlace) (so_far : SoFar) (ds : List Data) → all_read (λ _ s _. Ok s) place so_far ds ≡ Ok so_far
 none_deeper place so_far [] = refl
 none_deeper place so_far (d ∷ ds) = none_deeper place so_far ds
 
 -- those that an entry starts
-own_found : (deeper : ℕ) (steps : List Step) (init : Bool) (config : Option Data) →
+own_found : (deeper : ℕ) (steps : List EntryStep) (init : Bool) (config : Option Data) →
     let own : List EntryValue = if init then flat_map (with_own deeper steps) (enumerate_from 0 (starts_in config)) else [] in
     own ≡ flat_map (with_own deeper steps) (enumerate_from 0 (own_values init config))
 own_found deeper steps true config = refl
 own_found deeper steps false config = refl
 
 -- an init and those that it starts
-counts_init : (deeper : ℕ) (place : Place) (above : List Step) (k : ℕ) (so_far : SoFar) (d : Data)
-    → ((place : Place) (above : List Step) (k : ℕ) (so_far : SoFar) (d : Data) → Counts (length so_far.entries) (length (with_own deeper above (k, d))) (read_within deeper place so_far d))
-    → (h : Result Head BootFault) → head_of place true so_far d ≡ h → Fails OfEntry h
+counts_init : (deeper : ℕ) (place : ListPlace) (above : List EntryStep) (k : ℕ) (so_far : SoFar) (d : Data)
+    → ((place : ListPlace) (above : List EntryStep) (k : ℕ) (so_far : SoFar) (d : Data) → Counts (length so_far.entries) (length (with_own deeper above (k, d))) (read_within deeper place so_far d))
+    → (h : Result EntryHead BootFault) → head_of place true so_far d ≡ h → Fails OfEntry h
     → Counts (length so_far.entries) (length (with_own (suc deeper) above (k, d))) (read_own (read_within deeper) so_far (at_entry (length so_far.entries) h))
 counts_init deeper place above k so_far d each (Ok head) is fails =
     let steps = step_down above (k, d) in
@@ -79,10 +79,10 @@ counts_init deeper place above k so_far d each (Ok head) is fails =
     (shift (all_read (read_within deeper) below next head.starts) (length so_far.entries) (length next.entries) 1 (length own) (length_push so_far.entries head.entry) more)
 counts_init deeper place above k so_far d each (Err fault) is fails = record { counted = (omega arith, fails.fault) }
 
-counts_within : (deeper : ℕ) (place : Place) (above : List Step) (k : ℕ) (so_far : SoFar) (d : Data)
+counts_within : (deeper : ℕ) (place : ListPlace) (above : List EntryStep) (k : ℕ) (so_far : SoFar) (d : Data)
     → Counts (length so_far.entries) (length (with_own deeper above (k, d))) (read_within deeper place so_far d)
 counts_within zero place above k so_far d = by_head (head_of place false so_far d) (head_fault place false so_far d) where
-  by_head : (h : Result Head BootFault) → Fails OfEntry h → Counts (length so_far.entries) 1 (read_own (λ _ s _. Ok s) so_far (at_entry (length so_far.entries) h))
+  by_head : (h : Result EntryHead BootFault) → Fails OfEntry h → Counts (length so_far.entries) 1 (read_own (λ _ s _. Ok s) so_far (at_entry (length so_far.entries) h))
   by_head (Ok head) fails =
       subst (Counts (length so_far.entries) 1) (sym (none_deeper (place_within (length so_far.entries) head.entry) (with_head so_far head) head.starts))
       (record { counted = length_push so_far.entries head.entry })
@@ -102,7 +102,7 @@ something xs i inside = elim (slice_get_cases xs i).1 [
 abbrev HasPlace : Data → Option ℕ → BootFault → Type 0
 HasPlace list number fault = IsSome (option_and_then (λ bad. spot_at list number bad) (field_of fault))
 
-member_there : (number : ℕ) (bad : Field) (found : Option EntryValue) → IsSome found → in_entry bad ≡ true → IsSome (option_and_then (spot_in number bad) found)
+member_there : (number : ℕ) (bad : ConfigField) (found : Option EntryValue) → IsSome found → in_entry bad ≡ true → IsSome (option_and_then (spot_in number bad) found)
 member_there number bad None some is = cc
 member_there number field.Size (Some found) some is = cc
 member_there number field.Machine (Some found) some is = cc
@@ -130,22 +130,22 @@ entry_there list number NoMemory inside of = absurd of
 -- ---- of a list
 
 -- a fault that is told has a place, by how far the entries were read
-record Placed (list : Data) (read : Result Listed BootFault) (starts : Result (List Data) BootFault) : Type 0 where
+record ListFaultMessage (list : Data) (read : Result Listed BootFault) (starts : Result (List Data) BootFault) : Type 0 where
   placed : IfErr read (HasPlace list (option_and_then (λ ds. place_of_fault (entries_read ds)) (result_ok starts)))
 
 placed_then : {A : Type 0} (list : Data) (r : Result A BootFault) {f : A → Result Listed BootFault} {g : A → Result (List Data) BootFault}
-    → Fails (HasPlace list None) r → ((x : A) → r ≡ Ok x → Placed list (f x) (g x)) → Placed list (r >>= f) (r >>= g)
+    → Fails (HasPlace list None) r → ((x : A) → r ≡ Ok x → ListFaultMessage list (f x) (g x)) → ListFaultMessage list (r >>= f) (r >>= g)
 placed_then list (Ok x) first more = more x refl
 placed_then list (Err fault) first more = record { placed = first.fault }
 
 entries_placed : (list : Data) (ds : List Data) (f : SoFar → Listed) → ds ≡ starts_in (Some list) →
-    let starts : Result (List Data) BootFault = Ok ds in Placed list (fault_of (entries_read ds) >>= (λ s. Ok (f s))) starts
+    let starts : Result (List Data) BootFault = Ok ds in ListFaultMessage list (fault_of (entries_read ds) >>= (λ s. Ok (f s))) starts
 entries_placed list ds f is = by_read (entries_read ds) refl
     (subst (λ starts. Counts 0 (length (found_within deepest [] starts)) (entries_read ds)) is
     (counts_all (read_within deepest) outermost (with_own deepest []) (counts_within deepest outermost []) 0 (record { entries = []; met = length ds }) ds))
   where
     by_read : (r : Result SoFar Misread) → entries_read ds ≡ r → Counts 0 (length (found_in list)) r →
-        let starts : Result (List Data) BootFault = Ok ds in Placed list (fault_of r >>= (λ s. Ok (f s))) starts
+        let starts : Result (List Data) BootFault = Ok ds in ListFaultMessage list (fault_of r >>= (λ s. Ok (f s))) starts
     by_read (Ok so_far) read counts = record { placed = tt }
     by_read (Err misread) read counts = record {
       placed =
@@ -153,7 +153,7 @@ entries_placed list ds f is = by_read (entries_read ds) refl
           (entry_there list misread.entry misread.fault (omega (arith, counts.counted.0)) counts.counted.1);
     }
 
-list_placed : (list : Data) → Placed list (list_of list) (starts_of list)
+list_placed : (list : Data) → ListFaultMessage list (list_of list) (starts_of list)
 list_placed list =
     placed_then list (machine_of list) (value_fault (BadConfig field.Machine) (option_and_then object_in (get (codes "machine") list)) refl) (λ machine _.
     placed_then list (value_or (BadConfig field.Pages) (whole_at (codes "pages") 16 4096 machine)) (value_fault (BadConfig field.Pages) (whole_at (codes "pages") 16 4096 machine) refl) (λ pages _.

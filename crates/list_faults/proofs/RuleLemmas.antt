@@ -7,8 +7,8 @@ use Rattle.serde_json.specs.Find.{get}
 use Rattle.trade_base.specs.declared.service.Service.{Service}
 use Rattle.own_model.specs.Listed.{ListedRule, Target}
 use Rattle.own_model.specs.Listed.Target.{Child, AnyChild, Parent}
-use Rattle.start_lists.specs.Members.{is_object, is_true, name_in, name_of, text_if_told}
-use Rattle.start_lists.specs.Rules.{rule_of, service_asked, target_named}
+use Rattle.list_parser.specs.Members.{is_object, is_true, name_in, name_of, optional_text}
+use Rattle.list_parser.specs.Rules.{rule_of, service_asked, target_named}
 use Rattle.list_faults.specs.RuleFaults.{Bad, FaultsAreTheEngines, member_fault, rule_fault, service_fault, target_fault, text_fault}
 
 -- ---- of one member
@@ -74,9 +74,9 @@ object_bad ms =
     let parent = get (codes "parent") d in
     ap is_some (chained (service_fault service any) (text_fault (codes "label") d) (text_fault (codes "label_prefix") d) (text_fault (codes "label_suffix") d) (target_fault child any_child parent))
     ∙ or_then _ _ (service_asked service any) _ (service_bad service any)
-    (λ s. or_then _ _ (text_if_told (get (codes "label") d)) _ (unless_some (text_if_told (get (codes "label") d)) (codes "label"))
-    (λ l. or_then _ _ (text_if_told (get (codes "label_prefix") d)) _ (unless_some (text_if_told (get (codes "label_prefix") d)) (codes "label_prefix"))
-    (λ p. or_then _ _ (text_if_told (get (codes "label_suffix") d)) _ (unless_some (text_if_told (get (codes "label_suffix") d)) (codes "label_suffix"))
+    (λ s. or_then _ _ (optional_text (get (codes "label") d)) _ (unless_some (optional_text (get (codes "label") d)) (codes "label"))
+    (λ l. or_then _ _ (optional_text (get (codes "label_prefix") d)) _ (unless_some (optional_text (get (codes "label_prefix") d)) (codes "label_prefix"))
+    (λ p. or_then _ _ (optional_text (get (codes "label_suffix") d)) _ (unless_some (optional_text (get (codes "label_suffix") d)) (codes "label_suffix"))
     (λ e. target_bad child any_child parent
     ∙ ap not (sym (then_some (λ t. rule s l p e t) (target_named child any_child parent)))))))
   where

@@ -12,14 +12,14 @@ use Rattle.own_model.specs.Listed.{Binary, ListedRule}
 use Rattle.own_model.specs.Listed.Binary.{Script, Server, Init}
 use Rattle.trade_base.specs.Service.{served_by_binary}
 use Rattle.trade_base.specs.declared.service.Service.{Service}
-use Rattle.start_lists.specs.declared.fault.BootFault.{BootFault}
-use Rattle.start_lists.specs.declared.fault.BootFault.TheVariants.{BadConfig}
-use Rattle.start_lists.specs.declared.fault.Field.TheVariants as field
-use Rattle.start_lists.specs.Depth.{runs_init}
-use Rattle.start_lists.specs.Entries.{◌>>=◌, Head, Own, Place, SoFar, binary_of, binary_told, config_of, default_route, head_of, new_name, no_binary, nothing_own, object_of, own_of, own_route, own_told, provided, reserve_told, value_or}
-use Rattle.start_lists.specs.Entries as engine
-use Rattle.start_lists.proofs.HeadLemmas.{Gives, gave, new_is, value_ok}
-use Rattle.start_lists.specs.Members.{amount_at, at_most_32, elements, is_object, name_at, name_in, name_of, whole_at}
+use Rattle.list_parser.specs.declared.fault.BootFault.{BootFault}
+use Rattle.list_parser.specs.declared.fault.BootFault.TheVariants.{BadConfig}
+use Rattle.list_parser.specs.declared.fault.ConfigField.TheVariants as field
+use Rattle.list_parser.specs.Depth.{runs_init}
+use Rattle.list_parser.specs.Entries.{◌>>=◌, EntryHead, ListConfig, ListPlace, SoFar, binary_of, binary_of_entry, config_of, default_route, head_of, new_name, no_binary, nothing_own, object_of, own_of, own_route, list_of_entry, provided, reserve_of_entry, value_or}
+use Rattle.list_parser.specs.Entries as engine
+use Rattle.list_parser.proofs.HeadLemmas.{Gives, gave, new_is, value_ok}
+use Rattle.list_parser.specs.Members.{amount_at, at_most_32, elements, is_object, name_at, name_in, name_of, whole_at}
 use Rattle.own_model.specs.Text.{is_name}
 use Rattle.list_parts.specs.Texts.{has}
 use Rattle.list_faults.specs.Values.{elements_in, runs, starts_in}
@@ -66,7 +66,7 @@ name_text (Some d) name is = by_text (as_str d) is where
   by_text None given = cc
   by_text (Some text) given = ap Some (by_name (is_name text) text given)
 
-runs_by : (told given : Option Data) (name : List ℕ) (binary : Binary) → option_and_then name_of given ≡ Some name → binary_told name told ≡ Ok binary
+runs_by : (told given : Option Data) (name : List ℕ) (binary : Binary) → option_and_then name_of given ≡ Some name → binary_of_entry name told ≡ Ok binary
     → has (bytes_eq (codes "init")) (option_and_then as_str (option_or told given)) ≡ runs_init binary
 runs_by None given name binary named is = ap (has (bytes_eq (codes "init"))) (name_text given name named) ∙ binary_is name binary is
 runs_by (Some d) given name binary named is = by_text (as_str d) is where
@@ -93,13 +93,13 @@ starts_are met (Some d) starts is = by_items (as_array d) is where
   by_items None given = cc
   by_items (Some items) given = by_few (nat_le (length (elements items)) 32) (λ s. nat_le (met + length s) 32) (elements items) given
 
-abbrev result_starts : Result Own BootFault → Option (List Data)
+abbrev result_starts : Result ListConfig BootFault → Option (List Data)
 result_starts r = option_map (λ o. o.starts) (result_ok r)
 
-pub own_starts : (met : ℕ) (d : Data) (own : Own) → own_of met d ≡ Ok own → own.starts ≡ elements_in (get (codes "start") d)
+pub own_starts : (met : ℕ) (d : Data) (own : ListConfig) → own_of met d ≡ Ok own → own.starts ≡ elements_in (get (codes "start") d)
 own_starts met d own is = starts_are met (get (codes "start") d) own.starts (by_both (default_route (get (codes "default-route") d)) (engine.starts_in met (get (codes "start") d)) is) where
   by_both : (route : Option (List ListedRule)) (starts : Option (List Data))
-      → (value_or (BadConfig field.DefaultRoute) route >>= (λ r. value_or (BadConfig field.Start) starts >>= (λ s. let o : Result Own BootFault = Ok (record { route = r; starts = s }) in o))) ≡ Ok own
+      → (value_or (BadConfig field.DefaultRoute) route >>= (λ r. value_or (BadConfig field.Start) starts >>= (λ s. let o : Result ListConfig BootFault = Ok (record { route = r; starts = s }) in o))) ≡ Ok own
       → starts ≡ Some own.starts
   by_both None starts given = cc
   by_both (Some r) None given = cc
@@ -109,29 +109,29 @@ own_starts met d own is = starts_are met (get (codes "start") d) own.starts (by_
 abbrev pub own_values : Bool → Option Data → List Data
 own_values init config = if init then starts_in config else []
 
-told_starts : (binary : Binary) (deeper : Bool) (met : ℕ) (config : Option Data) (own : Own) → own_told binary deeper met config ≡ Ok own → own.starts ≡ own_values (runs_init binary) config
+told_starts : (binary : Binary) (deeper : Bool) (met : ℕ) (config : Option Data) (own : ListConfig) → list_of_entry binary deeper met config ≡ Ok own → own.starts ≡ own_values (runs_init binary) config
 told_starts Script deeper met config own is = let same : nothing_own ≡ own = cc in sym (ap (λ o. o.starts) same)
 told_starts (Server service) deeper met config own is = let same : nothing_own ≡ own = cc in sym (ap (λ o. o.starts) same)
 told_starts Init true met (Some d) own is = by_object (is_object d) is where
-  by_object : (b : Bool) → let r : Result Own BootFault = if b then own_of met d else Err (BadConfig field.Config) in r ≡ Ok own → own.starts ≡ elements_in (get (codes "start") d)
+  by_object : (b : Bool) → let r : Result ListConfig BootFault = if b then own_of met d else Err (BadConfig field.Config) in r ≡ Ok own → own.starts ≡ elements_in (get (codes "start") d)
   by_object true given = own_starts met d own given
   by_object false given = cc
 told_starts Init true met None own is = cc
 told_starts Init false met config own is = cc
 
 -- an entry that is read starts what stands in its `config` if it is an init, and else nothing
-head_gives : (place : Place) (deeper : Bool) (so_far : SoFar) (d : Data) → Gives (λ head. head.starts ≡ own_values (runs (codes "init") d) (get (codes "config") d)) (head_of place deeper so_far d)
+head_gives : (place : ListPlace) (deeper : Bool) (so_far : SoFar) (d : Data) → Gives (λ head. head.starts ≡ own_values (runs (codes "init") d) (get (codes "config") d)) (head_of place deeper so_far d)
 head_gives place deeper so_far d =
     gave (object_of d) (λ entry object.
     gave (value_or (BadConfig field.Name) (name_at (codes "name") entry)) (λ told_name told.
     gave (new_name so_far.entries place.init told_name) (λ name new.
-    gave (binary_told name (get (codes "binary") entry)) (λ binary is.
+    gave (binary_of_entry name (get (codes "binary") entry)) (λ binary is.
     gave (value_or (BadConfig field.Quantum) (amount_at (codes "quantum") entry)) (λ ram _.
     gave (value_or (BadConfig field.Caps) (whole_at (codes "caps") 0 4294967295 entry)) (λ caps _.
     gave (value_or (BadConfig field.Provides) (provided binary (get (codes "provides") entry))) (λ provides _.
     gave (value_or (BadConfig field.Route) (own_route (get (codes "route") entry))) (λ route _.
-    gave (reserve_told binary entry) (λ reserve _.
-    gave (own_told binary deeper so_far.met (get (codes "config") entry)) (λ own own_is. record {
+    gave (reserve_of_entry binary entry) (λ reserve _.
+    gave (list_of_entry binary deeper so_far.met (get (codes "config") entry)) (λ own own_is. record {
       given =
           told_starts binary deeper so_far.met (get (codes "config") entry) own own_is
           ∙ ap (λ init. own_values init (get (codes "config") entry))
@@ -140,7 +140,7 @@ head_gives place deeper so_far d =
           ∙ ap (λ e. own_values (runs (codes "init") e) (get (codes "config") e)) (object_is d entry object);
     }))))))))))
 
-pub head_starts : (place : Place) (deeper : Bool) (so_far : SoFar) (d : Data) (head : Head) → head_of place deeper so_far d ≡ Ok head
+pub head_starts : (place : ListPlace) (deeper : Bool) (so_far : SoFar) (d : Data) (head : EntryHead) → head_of place deeper so_far d ≡ Ok head
     → head.starts ≡ own_values (runs (codes "init") d) (get (codes "config") d)
 head_starts place deeper so_far d head is =
     subst (λ r. IfOk r (λ head. head.starts ≡ own_values (runs (codes "init") d) (get (codes "config") d))) is (head_gives place deeper so_far d).given

@@ -7,9 +7,9 @@ use Rattle.serde_json.specs.Data.{Data}
 use Rattle.serde_json.specs.Find.{as_array, get}
 use Rattle.serde_json.specs.View.{items_view, view}
 use Rattle.serde_json.specs.declared.value.Value.{Value}
-use Rattle.start_lists.proofs.MemberLemmas.{elements_of_items}
+use Rattle.list_parser.proofs.MemberLemmas.{elements_of_items}
 use Rattle.list_faults.specs.Values.{EntryValue, elements_in, found_at, found_within, runs, starts_in, step_down, with_own}
-use Rattle.list_parts.specs.declared.part.Step.{Step}
+use Rattle.list_parts.specs.declared.list_part.EntryStep.{EntryStep}
 
 -- the elements of a list that is there
 pub elements_there : (d : Option Data) (values : List Value) → Some (items_view values) ≡ option_and_then as_array d → map view values ≡ elements_in d
@@ -46,7 +46,7 @@ less : (n : ℕ) → n ≡ suc n - 1
 less n = omega arith
 
 -- an init with those that it starts
-pub own_more : (deeper : ℕ) (above : List Step) (place : ℕ) (d : Data) (before now after : List EntryValue) (steps : List Step) (config : Option Data)
+pub own_more : (deeper : ℕ) (above : List EntryStep) (place : ℕ) (d : Data) (before now after : List EntryValue) (steps : List EntryStep) (config : Option Data)
     → 0 < deeper → true ≡ runs (codes "init") d → steps ≡ step_down above (place, d) → config ≡ get (codes "config") d
     → now ≡ before ++ found_at above (place, d) ∷ [] → after ≡ now ++ found_within (deeper - 1) steps (starts_in config)
     → after ≡ before ++ with_own deeper above (place, d)
@@ -61,12 +61,12 @@ own_more (suc deeper) above place d before now after steps config some init step
     ∙ ap (λ own. before ++ found_at above (place, d) ∷ own) (rw (← init) refl)
 
 -- another entry, or an init where none may be
-pub own_none : (deeper : ℕ) (above : List Step) (place : ℕ) (d : Data) (before now : List EntryValue) → deeper ≡ 0
+pub own_none : (deeper : ℕ) (above : List EntryStep) (place : ℕ) (d : Data) (before now : List EntryValue) → deeper ≡ 0
     → now ≡ before ++ found_at above (place, d) ∷ [] → now ≡ before ++ with_own deeper above (place, d)
 own_none zero above place d before now none is = is
 own_none (suc deeper) above place d before now none is = absurd (omega (arith, none))
 
-pub own_other : (deeper : ℕ) (above : List Step) (place : ℕ) (d : Data) (before now : List EntryValue) → false ≡ runs (codes "init") d
+pub own_other : (deeper : ℕ) (above : List EntryStep) (place : ℕ) (d : Data) (before now : List EntryValue) → false ≡ runs (codes "init") d
     → now ≡ before ++ found_at above (place, d) ∷ [] → now ≡ before ++ with_own deeper above (place, d)
 own_other zero above place d before now none is = is
 own_other (suc deeper) above place d before now none is = is ∙ ap (λ own. before ++ found_at above (place, d) ∷ own) (rw (← none) refl)

@@ -1,49 +1,49 @@
--- Where a fault is told to be.
+-- The reported place of a fault.
 use Rattle.std.specs.Prelude.{◌≡◌, ℕ, List, [], codes, is_some, not, if◌then◌else◌, Option, Some, None, Result, Ok, Err}
 use Rattle.std.specs.List.{enumerate_from, find, slice_get}
 use Rattle.std.specs.Option.{option_and_then, option_copied, unwrap_or, IsSome}
 use Rattle.std.specs.Result.{result_ok}
 use Rattle.serde_json.specs.Data.{Data}
 use Rattle.serde_json.specs.Find.{get}
-use Rattle.start_lists.specs.Quota.{quota_fault}
-use Rattle.start_lists.specs.Members.{is_object, short_list}
-use Rattle.start_lists.specs.Misread.{entry_at_fault}
-use Rattle.start_lists.specs.Rules.{rule_of}
-use Rattle.start_lists.specs.StartText.{list_in, list_of}
-use Rattle.start_lists.specs.declared.fault.BootFault.{BootFault}
-use Rattle.start_lists.specs.declared.fault.BootFault.TheVariants.{BadJson, BadConfig, DuplicateName, UnknownBinary, QuotaExceeded, NoMemory}
-use Rattle.start_lists.specs.declared.fault.Field.{Field}
-use Rattle.start_lists.specs.declared.fault.Field.TheVariants as field
+use Rattle.list_parser.specs.Quota.{quota_fault}
+use Rattle.list_parser.specs.Members.{is_object, short_list}
+use Rattle.list_parser.specs.FaultPlace.{entry_at_fault}
+use Rattle.list_parser.specs.Rules.{rule_of}
+use Rattle.list_parser.specs.StartText.{list_in, list_of}
+use Rattle.list_parser.specs.declared.fault.BootFault.{BootFault}
+use Rattle.list_parser.specs.declared.fault.BootFault.TheVariants.{BadJson, BadConfig, DuplicateName, UnknownBinary, QuotaExceeded, NoMemory}
+use Rattle.list_parser.specs.declared.fault.ConfigField.{ConfigField}
+use Rattle.list_parser.specs.declared.fault.ConfigField.TheVariants as field
 use Rattle.own_model.specs.Listed.{Listed}
-use Rattle.list_parts.specs.Left.{first_lack}
+use Rattle.list_parts.specs.Left.{first_shortfall}
 use Rattle.list_faults.specs.RuleFaults.{rule_fault}
 use Rattle.list_parts.specs.Steps.{rule_at}
 use Rattle.list_faults.specs.Values.{EntryValue, found_in}
-use Rattle.list_faults.specs.declared.fault.Whereabouts.{Whereabouts}
-use Rattle.list_faults.specs.declared.fault.Whereabouts.TheVariants as whereabouts
-use Rattle.list_faults.specs.declared.flaw.Flaw.{Flaw}
-use Rattle.list_parts.specs.declared.left.Lack.{Lack}
-use Rattle.list_parts.specs.declared.part.Owner.{Owner}
-use Rattle.list_parts.specs.declared.part.Owner.TheVariants as owner
-use Rattle.list_parts.specs.declared.part.Part.{Part}
-use Rattle.list_parts.specs.declared.part.Part.TheVariants as parts
-use Rattle.list_parts.specs.declared.part.Step.{Step}
+use Rattle.list_faults.specs.declared.list_fault.FaultPlace.{FaultPlace}
+use Rattle.list_faults.specs.declared.list_fault.FaultPlace.TheVariants as whereabouts
+use Rattle.list_faults.specs.declared.value_flaw.ValueFlaw.{ValueFlaw}
+use Rattle.list_parts.specs.declared.start_quota.EntryShortfall.{EntryShortfall}
+use Rattle.list_parts.specs.declared.list_part.RuleOwner.{RuleOwner}
+use Rattle.list_parts.specs.declared.list_part.RuleOwner.TheVariants as owner
+use Rattle.list_parts.specs.declared.list_part.ListPart.{ListPart}
+use Rattle.list_parts.specs.declared.list_part.ListPart.TheVariants as parts
+use Rattle.list_parts.specs.declared.list_part.EntryStep.{EntryStep}
 
 -- ---- where a fault of a value is
 
 -- a part of a list, and the member of it, if it is one's
 pub record Spot : Type 0 where
-  pub part : Part
+  pub part : ListPart
   pub member : Option (List ℕ)
 
-abbrev pub member_in : Part → List ℕ → Spot
+abbrev pub member_in : ListPart → List ℕ → Spot
 member_in part member = record { part = part; member = Some member }
 
-abbrev pub whole : Part → Spot
+abbrev pub whole : ListPart → Spot
 whole part = record { part = part; member = None }
 
 -- the member that has a bad value
-abbrev pub member_of : Field → List ℕ
+abbrev pub member_of : ConfigField → List ℕ
 member_of field.Size = codes "size"
 member_of field.Machine = codes "machine"
 member_of field.Pages = codes "pages"
@@ -59,18 +59,18 @@ member_of field.Reserve = codes "reserve"
 member_of field.ReserveCaps = codes "reserve-caps"
 member_of field.Config = codes "config"
 
--- the first value of a list that is no rule, by its place, where it is a list of at most 32
+-- the first value of a list that is no rule, by its place, if the list has at most 32 elements
 abbrev pub bad_rule : Option Data → Option (ℕ × Data)
 bad_rule d = option_and_then (λ rules. find (λ rule. not (is_some (rule_of rule.1))) (enumerate_from 0 rules)) (option_and_then short_list d)
 
 -- of a list of rules, which is a member of a part: that rule, or else the member
-abbrev pub rules_spot : Owner → List Step → Part → List ℕ → Option (ℕ × Data) → Spot
+abbrev pub rules_spot : RuleOwner → List EntryStep → ListPart → List ℕ → Option (ℕ × Data) → Spot
 rules_spot whose steps part member None = member_in part member
 rules_spot whose steps part member (Some rule) =
     record { part = rule_at whose steps rule.0; member = unwrap_or (rule_fault rule.1) None }
 
 -- before the entries
-abbrev pub spot_before : Data → Field → Option Spot
+abbrev pub spot_before : Data → ConfigField → Option Spot
 spot_before list field.Machine = Some (member_in parts.List (codes "machine"))
 spot_before list field.Pages = Some (member_in parts.Machine (codes "pages"))
 spot_before list field.Caps = Some (member_in parts.Machine (codes "caps"))
@@ -80,7 +80,7 @@ spot_before list field.Start = Some (member_in parts.List (codes "start"))
 spot_before list other = None
 
 -- of the default route of what an init starts
-abbrev pub inner_rules_spot : ℕ → List Step → Option Data → Spot
+abbrev pub inner_rules_spot : ℕ → List EntryStep → Option Data → Spot
 inner_rules_spot number steps config =
     rules_spot (owner.Inner number) steps (parts.Config number steps) (codes "default-route")
     (bad_rule (option_and_then (get (codes "default-route")) config))
@@ -98,7 +98,7 @@ start_spot number found =
     else whole (parts.Entry number found.steps)
 
 -- of the entry of a number
-abbrev pub spot_in : ℕ → Field → EntryValue → Option Spot
+abbrev pub spot_in : ℕ → ConfigField → EntryValue → Option Spot
 spot_in number field.Size found = None
 spot_in number field.Machine found = None
 spot_in number field.Pages found = None
@@ -108,12 +108,12 @@ spot_in number field.Route found = Some (own_rules_spot number found)
 spot_in number other found = Some (member_in (parts.Entry number found.steps) (member_of other))
 
 -- of the engine's entry, or before the entries
-abbrev pub spot_at : Data → Option ℕ → Field → Option Spot
+abbrev pub spot_at : Data → Option ℕ → ConfigField → Option Spot
 spot_at list None bad = spot_before list bad
 spot_at list (Some number) bad = option_and_then (spot_in number bad) (slice_get (found_in list) number)
 
 -- the member that a fault of a value is of
-abbrev pub field_of : BootFault → Option Field
+abbrev pub field_of : BootFault → Option ConfigField
 field_of (BadConfig bad) = Some bad
 field_of (DuplicateName name) = Some field.Name
 field_of (UnknownBinary name) = Some field.Binary
@@ -121,7 +121,7 @@ field_of BadJson = None
 field_of (QuotaExceeded path) = None
 field_of NoMemory = None
 
--- where a fault of a value is
+-- the place of a fault of a value
 abbrev pub spot_of : Data → BootFault → Option Spot
 spot_of list fault = option_and_then (spot_at list (entry_at_fault list)) (field_of fault)
 
@@ -129,9 +129,9 @@ spot_of list fault = option_and_then (spot_at list (entry_at_fault list)) (field
 abbrev pub FaultsHavePlaces : Type 0
 FaultsHavePlaces = (list : Data) (fault : BootFault) → list_of list ≡ Err fault → IsSome (spot_of list fault)
 
--- ---- where it is told to be
+-- ---- its reported place
 
-abbrev pub spot_of_flaw : Flaw → Spot
+abbrev pub spot_of_flaw : ValueFlaw → Spot
 spot_of_flaw flaw = record { part = flaw.part; member = option_copied flaw.member }
 
 -- ---- why a text is no start list, or doesn't boot
@@ -144,11 +144,11 @@ abbrev pub fault_of : List ℕ → Option BootFault
 fault_of text = fault_in (list_in text)
 
 -- the first entry of a list that isn't covered, if it is read and there is one
-abbrev pub lack_in : Data → Option Lack
-lack_in list = option_and_then first_lack (result_ok (list_of list))
+abbrev pub lack_in : Data → Option EntryShortfall
+lack_in list = option_and_then first_shortfall (result_ok (list_of list))
 
--- a fault of what a text says, if it is JSON, is told where it is
-abbrev pub IsPlaced : Option Data → BootFault → Whereabouts → Type 0
+-- a fault of a text that is JSON is reported at its place
+abbrev pub IsPlaced : Option Data → BootFault → FaultPlace → Type 0
 IsPlaced list fault (whereabouts.Text line column reason) = fault ≡ BadJson
 IsPlaced list fault (whereabouts.List flaw) = option_and_then (λ d. spot_of d fault) list ≡ Some (spot_of_flaw flaw)
 IsPlaced list fault (whereabouts.Budget lack) = (fault ≡ QuotaExceeded lack.path) × (option_and_then lack_in list ≡ Some lack)

@@ -1,4 +1,4 @@
--- The entries of all lists as they stand in a start list's text, with the steps to each.
+-- The entries of all lists as a start list's text has them, with the steps to each.
 use Rattle.std.specs.Prelude.{ℕ, zero, suc, Bool, List, [], ◌∷◌, ◌++◌, codes, flat_map, if◌then◌else◌, Option, Some}
 use Rattle.std.specs.List.{enumerate_from}
 use Rattle.std.specs.Option.{option_and_then, option_map, option_or, unwrap_or}
@@ -6,18 +6,18 @@ use Rattle.std.specs.Str.{bytes_eq}
 use Rattle.serde_json.specs.Data.{Data}
 use Rattle.serde_json.specs.Find.{as_array, as_str, get}
 use Rattle.serde_json.specs.View.{view}
-use Rattle.start_lists.specs.Entries.{deepest}
-use Rattle.start_lists.specs.Members.{elements, name_at}
+use Rattle.list_parser.specs.Entries.{deepest}
+use Rattle.list_parser.specs.Members.{elements, name_at}
 use Rattle.list_parts.specs.Texts.{has}
-use Rattle.list_parts.specs.declared.part.Step.{Step}
+use Rattle.list_parts.specs.declared.list_part.EntryStep.{EntryStep}
 use Rattle.list_faults.specs.declared.values.EntryValue.{EntryValue as SeenValue}
 
 -- an entry's value, and the steps to it from the machine's list on
 pub record EntryValue : Type 0 where
-  pub steps : List Step
+  pub steps : List EntryStep
   pub value : Data
 
--- what an entry runs: without the member what has its name
+-- the binary of an entry: without the member the binary that has its name
 abbrev pub runs : List ℕ → Data → Bool
 runs binary entry = has (bytes_eq binary) (option_and_then as_str (option_or (get (codes "binary") entry) (get (codes "name") entry)))
 
@@ -29,15 +29,15 @@ elements_in d = unwrap_or (option_map elements (option_and_then as_array d)) []
 abbrev pub starts_in : Option Data → List Data
 starts_in list = elements_in (option_and_then (get (codes "start")) list)
 
--- the steps to an entry, at its place in a list to which those above lead
-abbrev pub step_down : List Step → ℕ × Data → List Step
+-- the steps to an entry, at its place in a list, after the steps to the list
+abbrev pub step_down : List EntryStep → ℕ × Data → List EntryStep
 step_down above entry = above ++ record { place = entry.0; name = name_at (codes "name") entry.1 } ∷ []
 
-abbrev pub found_at : List Step → ℕ × Data → EntryValue
+abbrev pub found_at : List EntryStep → ℕ × Data → EntryValue
 found_at above entry = record { steps = step_down above entry; value = entry.1 }
 
 -- an entry, and those that it starts if it is an init, where inits may nest so deep
-abbrev pub with_own : ℕ → List Step → ℕ × Data → List EntryValue
+abbrev pub with_own : ℕ → List EntryStep → ℕ × Data → List EntryValue
 with_own zero above entry = found_at above entry ∷ []
 with_own (suc deeper) above entry =
     found_at above entry
@@ -46,14 +46,14 @@ with_own (suc deeper) above entry =
     else [])
 
 -- the entries of a list, each before those that it starts
-abbrev pub found_within : ℕ → List Step → List Data → List EntryValue
+abbrev pub found_within : ℕ → List EntryStep → List Data → List EntryValue
 found_within deeper above starts = flat_map (with_own deeper above) (enumerate_from 0 starts)
 
 -- of all lists
 abbrev pub found_in : Data → List EntryValue
 found_in list = found_within deepest [] (starts_in (Some list))
 
--- ---- what the code's type stands for
+-- ---- what the code's type denotes
 
 abbrev pub seen : SeenValue → EntryValue
 seen found = record { steps = found.steps; value = view found.value.now }

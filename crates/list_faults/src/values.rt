@@ -1,42 +1,48 @@
-//! The values of the entries of all lists, as they stand in the text: an init's own stand in the `start` of its `config`.
+//! The values of the entries of all lists, as the text has them: an init's own are in the `start` of its `config`.
 ghost use Rattle.std.specs.Prelude.{◌≡◌, ◌∷◌, ◌++◌, [], codes, map, IfOk, OnOk};
 ghost use Rattle.std.specs.Option.{option_and_then, option_copied, option_map};
 ghost use Rattle.serde_json.specs.Find.{as_array, as_str, get};
 ghost use Rattle.serde_json.specs.View.{items_view, view};
-ghost use Rattle.start_lists.specs.Entries.{deepest};
-ghost use Rattle.start_lists.specs.Members.{name_at};
+ghost use Rattle.list_parser.specs.Entries.{deepest};
+ghost use Rattle.list_parser.specs.Members.{name_at};
 ghost use Rattle.list_faults.specs.Values.{elements_in, found_at, found_in, found_within, runs, seen, starts_in, step_down};
 
-use list_parts::{Step, Steps};
+use list_parser::Name;
+use list_parts::{EntryStep, EntrySteps};
 use serde_json::Value;
-use start_lists::Name;
 use std::alloc::{AllocError, Global};
 
-/// How deep inits nest below the machine's.
+/// The maximum depth of inits below the machine's.
 const DEEPEST: usize = 3;
 
 /// An entry's value, and the steps to it.
 #[derive(Drop)]
 pub struct EntryValue<'v> {
-    pub steps: Steps,
+    pub steps: EntrySteps,
     pub value: &'v Value,
 }
 
-/// The entries of all lists, an init directly before its own.
+/// Returns the values of the entries of all lists, each init directly before its own. Fails if the host is out of memory.
 pub fn find_entries(alloc: Global, list: &Value) -> Result<Vec<EntryValue<'_>>, AllocError>
     ensures { IfOk result (λ found. map seen found.items ≡ found_in (view list.now)) }
 {
     let mut found = Vec::new(alloc);
-    find_within(&mut found, alloc, DEEPEST, &Steps::none(alloc), Some(list))?;
+    find_within(
+        &mut found,
+        alloc,
+        DEEPEST,
+        &EntrySteps::none(alloc),
+        Some(list),
+    )?;
     Ok(found)
 }
 
-// Those of a list in which inits may nest so deep, and to which the steps above lead.
+// The entries of a list in which inits may nest so deep, with the steps to the list.
 fn find_within<'v>(
     found: &mut Vec<EntryValue<'v>>,
     alloc: Global,
     deeper: usize,
-    above: &Steps,
+    above: &EntrySteps,
     list: Option<&'v Value>,
 ) -> Result<(), AllocError>
     ensures { OnOk result (map seen found.new.items ≡ map seen found.old.items
@@ -52,20 +58,20 @@ fn find_within<'v>(
     Ok(())
 }
 
-// One of them, and the steps to it.
+// One entry, and the steps to it.
 fn find<'v>(
     found: &mut Vec<EntryValue<'v>>,
     alloc: Global,
-    above: &Steps,
+    above: &EntrySteps,
     place: usize,
     entry: &'v Value,
-) -> Result<Steps, AllocError>
+) -> Result<EntrySteps, AllocError>
     ensures steps { IfOk result (λ steps. steps ≡ step_down above.now (place, view entry.now)) }
     ensures found { OnOk result (map seen found.new.items
         ≡ map seen found.old.items ++ found_at above.now (place, view entry.now) ∷ []) }
 {
     let mut steps = above.copy(alloc)?;
-    steps.push(Step {
+    steps.push(EntryStep {
         place,
         name: name_of(entry),
     })?;
@@ -83,7 +89,7 @@ fn starts(list: Option<&Value>) -> &[Value]
     elements(member(list, "start"))
 }
 
-/// The elements of a value that may be missing, and may be no list.
+/// Returns the elements of a value, or none if the value is missing or no list.
 pub fn elements(value: Option<&Value>) -> &[Value]
     ensures { map view result.now
         ≡ elements_in (option_map (λ value. view value.now) value.entry) }
@@ -102,7 +108,7 @@ fn array_of(value: Option<&Value>) -> Option<&Vec<Value>>
     value?.as_array()
 }
 
-/// Whether an entry is of a binary: without the member it runs what has its name.
+/// Returns whether an entry runs a binary. Without the member `binary`, it runs the binary that has its name.
 pub fn runs(entry: &Value, binary: &str) -> bool
     ensures { result ≡ runs binary.now (view entry.now) }
 {
@@ -120,14 +126,14 @@ fn text_of(value: Option<&Value>) -> Option<&str>
     value?.as_str()
 }
 
-// The name of an entry, where it has one.
+// The name of an entry, if it has one.
 fn name_of(entry: &Value) -> Option<Name>
     ensures { result ≡ name_at (codes "name") (view entry.now) }
 {
     Name::read(entry.get("name")?.as_str()?)
 }
 
-/// A member of a value that may be missing.
+/// Returns the member of a value that has a key, or none if the value or the member is missing.
 pub fn member<'v>(value: Option<&'v Value>, key: &str) -> Option<&'v Value>
     ensures { option_map (λ value. view value.now) result
         ≡ option_and_then (get key.now) (option_map (λ value. view value.now) value.entry) }

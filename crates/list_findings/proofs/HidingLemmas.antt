@@ -5,10 +5,10 @@ use Rattle.std.specs.Str.{bytes_eq}
 use Rattle.std.proofs.lemmas.Bool.Decides.{nat_tests}
 use Rattle.std.proofs.lemmas.Slice.Eq.{bytes_eq-Decides}
 use Rattle.std.proofs.lemmas.Bool.{and_parts, and_from}
-use Rattle.reach.proofs.FirstLemmas.{front_then, end_then}
+use Rattle.list_reach.proofs.FirstLemmas.{front_then, end_then}
 use Rattle.own_model.specs.Routes.{as_asked}
 use Rattle.list_parts.specs.Texts.{has}
-use Rattle.list_findings.specs.Hiding.{covers, HiddenNeverDecide}
+use Rattle.list_findings.specs.UnreachableRules.{covers, UnreachableNeverDecide}
 
 -- what is asked of a text by both
 covers_on : (earlier later : Option (List ℕ)) (text : List ℕ) → covers earlier later ≡ true → as_asked (bytes_eq text) later ≡ true → as_asked (bytes_eq text) earlier ≡ true
@@ -38,7 +38,7 @@ ends_as (Some a) None (Some e) label covered is ends = end_then label e a ends c
 ends_as (Some a) (Some w) None label covered is ends = grind (arith, nat_tests, bytes_eq-Decides)
 ends_as (Some a) (Some w) (Some e) label covered is ends = grind (arith, nat_tests, bytes_eq-Decides, end_then label e a)
 
-pub hidden_never_decide : HiddenNeverDecide
+pub hidden_never_decide : UnreachableNeverDecide
 hidden_never_decide earlier later service label hidden asked =
     let hides = and_parts _ _ hidden in
     let labels = and_parts _ _ hides.1 in

@@ -8,8 +8,8 @@ use Rattle.serde_json.specs.declared.value.Value.{Value}
 use Rattle.list_findings.specs.Findings.{told}
 use Rattle.list_findings.specs.Unread.{names_of, unread, unread_in}
 use Rattle.list_findings.specs.declared.finding.Finding.{Finding}
-use Rattle.list_findings.specs.declared.members.Table.{Table}
-use Rattle.list_parts.specs.declared.part.Part.{Part}
+use Rattle.list_findings.specs.declared.members.ObjectKind.{ObjectKind}
+use Rattle.list_parts.specs.declared.list_part.ListPart.{ListPart}
 
 -- what is told of each name
 told_each : (f : List ℕ → List Finding) (entries : List (String Global × Value))
@@ -17,7 +17,7 @@ told_each : (f : List ℕ → List Finding) (entries : List (String Global × Va
 told_each f [] = refl
 told_each f (e ∷ entries) = ap (λ rest. f (string_bytes e.0) ++ rest) (told_each f entries)
 
-pub told_members : (kind : Table) (part : Part) (d : Option Data) (entries : List (String Global × Value))
+pub told_members : (kind : ObjectKind) (part : ListPart) (d : Option Data) (entries : List (String Global × Value))
     → Some (members_view entries) ≡ option_and_then as_object d
     → flat_map (λ key. told part (unread kind (string_bytes key))) (map (λ e. e.0) entries) ≡ unread_in kind part d
 told_members kind part d entries is = told_each (λ name. told part (unread kind name)) entries ∙ rw (← is) refl

@@ -5,19 +5,19 @@ use Rattle.std.specs.List.{list_any}
 use Rattle.std.proofs.lemmas.List.{append_assoc, append-nil, map-append}
 use Rattle.std.proofs.lemmas.List.Elements.{All-head, All-push, All-tail}
 use Rattle.own_model.specs.Listed.{Listed}
-use Rattle.reach.specs.Deciding.{AreTrails, TrailAt}
-use Rattle.reach.proofs.TrailLemmas.{trails_tell}
+use Rattle.list_reach.specs.Deciding.{AreDecisions, DecisionAt}
+use Rattle.list_reach.proofs.TrailLemmas.{trails_tell}
 use Rattle.list_findings.specs.Idle.{decides, is_among, is_idle}
-use Rattle.list_findings.specs.Reached.{is_led_to, is_sought, leads_somewhere, reaches}
+use Rattle.list_findings.specs.Reached.{is_routed_to, is_sought, is_routed_at_all, reaches}
 use Rattle.list_findings.specs.Views.{Asking, IsShown, ShowAll, Shows, ViewOf, asking_of, askings}
-use Rattle.list_parts.specs.declared.part.Owner.{Owner}
+use Rattle.list_parts.specs.declared.list_part.RuleOwner.{RuleOwner}
 
 -- a view tells of a rule what is so of all given labels
-abbrev told_by : Listed → Owner → ℕ → ViewOf → Bool
+abbrev told_by : Listed → RuleOwner → ℕ → ViewOf → Bool
 told_by list owner place view =
-    list_any (λ (trail : TrailAt). is_among list owner place view.client trail.rules) view.trails
+    list_any (λ (trail : DecisionAt). is_among list owner place view.client trail.rules) view.trails
 
-view_tells : (list : Listed) (owner : Owner) (place : ℕ) (view : ViewOf) → IsShown list view
+view_tells : (list : Listed) (owner : RuleOwner) (place : ℕ) (view : ViewOf) → IsShown list view
     → told_by list owner place view ≡ decides list owner place (asking_of view)
 unfolding decides
 view_tells list owner place view shown =
@@ -38,8 +38,8 @@ all_tell : (list : Listed) (told : ViewOf → Bool) (of : Asking → Bool) (view
 all_tell list told of views each show =
     views_tell list told of views each show.shown ∙ ap (λ a. list_any of a) show.asked
 
-pub idle_by_views : (list : Listed) (owner : Owner) (place : ℕ) (views : List ViewOf) → ShowAll list views
-    → not (list_any (λ (view : ViewOf). list_any (λ (trail : TrailAt). is_among list owner place view.client trail.rules) view.trails) views)
+pub idle_by_views : (list : Listed) (owner : RuleOwner) (place : ℕ) (views : List ViewOf) → ShowAll list views
+    → not (list_any (λ (view : ViewOf). list_any (λ (trail : DecisionAt). is_among list owner place view.client trail.rules) view.trails) views)
     ≡ is_idle list owner place
 idle_by_views list owner place views show =
     ap not (all_tell list (told_by list owner place) (decides list owner place) views (view_tells list owner place) show)
@@ -47,23 +47,23 @@ idle_by_views list owner place views show =
 -- ---- where they lead
 
 view_leads : (list : Listed) (sought : Option ℕ) (view : ViewOf) → IsShown list view
-    → list_any (λ (trail : TrailAt). is_sought sought trail.child) view.trails ≡ reaches list sought (asking_of view)
+    → list_any (λ (trail : DecisionAt). is_sought sought trail.child) view.trails ≡ reaches list sought (asking_of view)
 unfolding reaches
 view_leads list sought view shown =
     trails_tell list view.client view.service view.trails (λ rules child. is_sought sought child) shown
 
 pub led_by_views : (list : Listed) (child : ℕ) (views : List ViewOf) → ShowAll list views
-    → list_any (λ (view : ViewOf). list_any (λ (trail : TrailAt). is_sought (Some child) trail.child) view.trails) views ≡ is_led_to list child
+    → list_any (λ (view : ViewOf). list_any (λ (trail : DecisionAt). is_sought (Some child) trail.child) view.trails) views ≡ is_routed_to list child
 led_by_views list child views show =
-    all_tell list (λ (view : ViewOf). list_any (λ (trail : TrailAt). is_sought (Some child) trail.child) view.trails)
+    all_tell list (λ (view : ViewOf). list_any (λ (trail : DecisionAt). is_sought (Some child) trail.child) view.trails)
     (reaches list (Some child)) views (view_leads list (Some child)) show
 
 pub somewhere_by_views : (list : Listed) (client : ℕ) (views : List ViewOf) → ShowAll list views
-    → list_any (λ (view : ViewOf). view.client == client && list_any (λ (trail : TrailAt). is_sought None trail.child) view.trails) views
-    ≡ leads_somewhere list client
+    → list_any (λ (view : ViewOf). view.client == client && list_any (λ (trail : DecisionAt). is_sought None trail.child) view.trails) views
+    ≡ is_routed_at_all list client
 somewhere_by_views list client views show =
     all_tell list
-    (λ (view : ViewOf). view.client == client && list_any (λ (trail : TrailAt). is_sought None trail.child) view.trails)
+    (λ (view : ViewOf). view.client == client && list_any (λ (trail : DecisionAt). is_sought None trail.child) view.trails)
     (λ asking. asking.client == client && reaches list None asking) views
     (λ view shown. ap (λ b. view.client == client && b) (view_leads list None view shown)) show
 
@@ -78,7 +78,7 @@ pub shows_none : (list : Listed) (views : List ViewOf) → All (IsShown list) vi
 shows_none list views shown = record { asked = sym (append-nil (map asking_of views)); shown = shown }
 
 pub shows_one : (list : Listed) (views : List ViewOf) (view : ViewOf) → All (IsShown list) views
-    → AreTrails list view.client view.service view.trails → Shows list views (asking_of view ∷ []) (views ++ view ∷ [])
+    → AreDecisions list view.client view.service view.trails → Shows list views (asking_of view ∷ []) (views ++ view ∷ [])
 shows_one list views view shown one =
     record {
       asked = map-append asking_of views (view ∷ []);

@@ -1,5 +1,5 @@
 pub mod Findings
-pub mod Hiding
+pub mod UnreachableRules
 pub mod Idle
 pub mod Near
 pub mod Outer
@@ -8,4 +8,4 @@ pub mod Repeated
 pub mod Spare
 pub mod Unread
 pub mod Views
-pub mod Wishes
+pub mod RuleTargets

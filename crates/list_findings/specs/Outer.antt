@@ -3,7 +3,7 @@ use Rattle.std.specs.Prelude.{ℕ, ◌+◌, ◌&&◌, ◌||◌, Bool, true, fals
 use Rattle.std.specs.List.{enumerate_from, ends_with, list_all, list_any, starts_with}
 use Rattle.std.specs.Option.{option_map}
 use Rattle.std.specs.Str.{bytes_eq}
-use Rattle.start_lists.specs.Depth.{is_init}
+use Rattle.list_parser.specs.Depth.{is_init}
 use Rattle.own_model.specs.Listed.{Binary, Listed, ListedEntry, ListedRule}
 use Rattle.own_model.specs.Listed.Binary.{Script, Server, Init}
 use Rattle.own_model.specs.SessionArgs.{is_quotable}
@@ -11,24 +11,24 @@ use Rattle.list_parts.specs.Texts.{has}
 use Rattle.list_findings.specs.Idle.{is_of}
 use Rattle.list_findings.specs.declared.finding.Remark.{Remark}
 use Rattle.list_findings.specs.declared.finding.Remark.TheVariants.{Arrow, ChosenEnd, Idle, LetsIn, NoLabel}
-use Rattle.list_parts.specs.declared.part.Owner.{Owner}
+use Rattle.list_parts.specs.declared.list_part.RuleOwner.{RuleOwner}
 
--- ---- who asks an owner's list
+-- ---- the init that asks an owner's list
 
 -- an entry, by its number, is an init, and the owner's rules are those for it
-abbrev pub is_asked_by : Owner → ℕ × ListedEntry → Bool
+abbrev pub is_asked_by : RuleOwner → ℕ × ListedEntry → Bool
 is_asked_by owner entry = is_init entry.1 && is_of owner entry.0 entry.1
 
 abbrev pub entry_in : ℕ × ListedEntry → ListedEntry
 entry_in entry = entry.1
 
 -- the first such init
-abbrev pub outer_init : Listed → Owner → Option ListedEntry
+abbrev pub outer_init : Listed → RuleOwner → Option ListedEntry
 outer_init list owner = option_map entry_in (find (is_asked_by owner) (enumerate_from 0 list.entries))
 
 -- ---- texts that no label has
 
--- the most bytes that a list sees of a label, with names before it where some init asks it
+-- the maximum number of bytes of a label that a list sees, with names before it if some init asks the list
 abbrev pub most_seen : Bool → ℕ
 most_seen outer = if outer then 172 else 64
 
@@ -46,13 +46,13 @@ no_label_in outer rule =
 abbrev pub has_arrow : Bool → ListedRule → Bool
 has_arrow outer rule = outer && has (λ text. ends_with nat_eq text (codes " -> ")) rule.label
 
--- why a rule decides nothing, as far as its texts tell
+-- why a rule decides nothing, as far as its texts show
 abbrev pub idle_by : Option (List ℕ) → Bool → Remark
 idle_by (Some member) arrow = NoLabel member
 idle_by None arrow = if arrow then Arrow else Idle
 
-abbrev pub why_idle : Bool → ListedRule → Remark
-why_idle outer rule = idle_by (no_label_in outer rule) (has_arrow outer rule)
+abbrev pub idle_remark : Bool → ListedRule → Remark
+idle_remark outer rule = idle_by (no_label_in outer rule) (has_arrow outer rule)
 
 -- ---- fronts that are names
 
@@ -61,7 +61,7 @@ is_server Script = false
 is_server (Server service) = true
 is_server Init = false
 
--- an entry that asks, or whose own do, is below an init
+-- an entry that makes requests, or whose own entries do, is below an init
 abbrev pub is_below : ListedEntry → ListedEntry → Bool
 is_below init entry =
     not (is_server entry.binary)
@@ -75,21 +75,21 @@ names_from init entry = drop (length init.label + 4) entry.label
 abbrev pub is_named : ListedEntry → List ℕ → ListedEntry → Bool
 is_named init names entry = is_below init entry && bytes_eq (names_from init entry) names
 
--- its names begin so, and it isn't below who has these names
+-- its names begin so, and it isn't below the entry that has these names
 abbrev pub is_let_in : ListedEntry → List ℕ → ListedEntry → Bool
 is_let_in init names entry =
     is_below init entry
     && (starts_with nat_eq (names_from init entry) names
     && (not (bytes_eq (names_from init entry) names) && not (starts_with nat_eq (drop (length names) (names_from init entry)) (codes " -> "))))
 
--- an entry that is let in by the names of another one
+-- an entry whose names begin with the names of another one
 abbrev pub let_in_by : List ListedEntry → ListedEntry → List ℕ → Option ListedEntry
 let_in_by entries init names = if list_any (is_named init names) entries then find (is_let_in init names) entries else None
 
 abbrev pub lets_in : List ℕ → ListedEntry → Remark
 lets_in names entry = LetsIn names entry.name
 
--- a front that is meant for one and lets in another
+-- a prefix that names one entry and also matches the names of another
 abbrev pub wide_front : List ListedEntry → Option ListedEntry → Option (List ℕ) → Option Remark
 wide_front entries None front = None
 wide_front entries (Some init) None = None

@@ -2,16 +2,16 @@
 use Rattle.std.specs.Prelude.{◌&&◌, ◌||◌, List, [], ◌∷◌, flat_map, nat_lt, if◌then◌else◌, Option, Some, None}
 use Rattle.own_model.specs.Listed.{Listed, ListedEntry}
 use Rattle.list_findings.specs.Outer.{is_server}
-use Rattle.list_findings.specs.declared.spare.Spare.{Spare}
+use Rattle.list_findings.specs.declared.unused_budget.UnusedBudget.{UnusedBudget}
 
--- what an entry has, if it is a server's and has something
-abbrev pub spare_in : ListedEntry → List Spare
+-- the budget of an entry, if it is a server's and has RAM or capabilities
+abbrev pub spare_in : ListedEntry → List UnusedBudget
 spare_in entry =
     if is_server entry.binary && (nat_lt 0 entry.ram || nat_lt 0 entry.caps)
     then record { path = entry.path; ram = entry.ram; caps = entry.caps } ∷ [] else []
 
--- what all servers have
-abbrev pub spare_of : Listed → List Spare
+-- the budgets of all servers
+abbrev pub spare_of : Listed → List UnusedBudget
 spare_of list = flat_map spare_in list.entries
 
 -- a list that isn't empty

@@ -6,23 +6,23 @@ use Rattle.std.specs.Str.{bytes_eq}
 use Rattle.serde_json.specs.Data.{Data, Members, no_members, member}
 use Rattle.serde_json.specs.Find.{as_object, get}
 use Rattle.list_findings.specs.Findings.{told}
-use Rattle.near_words.specs.Near.{nearest}
+use Rattle.text_near_words.specs.Near.{nearest}
 use Rattle.list_parts.specs.Steps.{rule_at}
 use Rattle.list_faults.specs.Values.{EntryValue, elements_in, found_in, runs}
 use Rattle.list_findings.specs.declared.finding.Finding.{Finding}
 use Rattle.list_findings.specs.declared.finding.Remark.{Remark}
 use Rattle.list_findings.specs.declared.finding.Remark.TheVariants.{Unread}
-use Rattle.list_findings.specs.declared.members.Table.{Table}
-use Rattle.list_findings.specs.declared.members.Table.TheVariants as table
-use Rattle.list_parts.specs.declared.part.Owner.{Owner}
-use Rattle.list_parts.specs.declared.part.Owner.TheVariants as owner
-use Rattle.list_parts.specs.declared.part.Part.{Part}
-use Rattle.list_parts.specs.declared.part.Part.TheVariants as parts
-use Rattle.list_parts.specs.declared.part.Step.{Step}
+use Rattle.list_findings.specs.declared.members.ObjectKind.{ObjectKind}
+use Rattle.list_findings.specs.declared.members.ObjectKind.TheVariants as table
+use Rattle.list_parts.specs.declared.list_part.RuleOwner.{RuleOwner}
+use Rattle.list_parts.specs.declared.list_part.RuleOwner.TheVariants as owner
+use Rattle.list_parts.specs.declared.list_part.ListPart.{ListPart}
+use Rattle.list_parts.specs.declared.list_part.ListPart.TheVariants as parts
+use Rattle.list_parts.specs.declared.list_part.EntryStep.{EntryStep}
 
 -- ---- of an object
 
--- the members that are read of an entry, but for an init's `config`
+-- the members that are read of an entry, except an init's `config`
 abbrev pub entry_members : List (List ℕ)
 entry_members =
     codes "name" ∷ codes "binary" ∷ codes "quantum" ∷ codes "caps" ∷ codes "provides" ∷ codes "route"
@@ -34,7 +34,7 @@ rule_members =
     ∷ codes "child" ∷ codes "any-child" ∷ codes "parent" ∷ []
 
 -- the members that are read of an object; of the list itself also the one by which editors find their schema
-abbrev pub members_read : Table → List (List ℕ)
+abbrev pub members_read : ObjectKind → List (List ℕ)
 members_read table.List = codes "machine" ∷ codes "default-route" ∷ codes "start" ∷ codes "$schema" ∷ []
 members_read table.Machine = codes "pages" ∷ codes "caps" ∷ []
 members_read table.Entry = entry_members
@@ -46,11 +46,11 @@ members_read table.Rule = rule_members
 abbrev pub is_comment : List ℕ → Bool
 is_comment name = starts_with nat_eq name (codes "_")
 
-abbrev pub is_read : Table → List ℕ → Bool
+abbrev pub is_read : ObjectKind → List ℕ → Bool
 is_read kind name = list_any (λ known. bytes_eq known name) (members_read kind)
 
--- that nothing reads a member, and which name may have been meant
-abbrev pub unread : Table → List ℕ → Option Remark
+-- the remark that nothing reads a member, and the name that may have been meant
+abbrev pub unread : ObjectKind → List ℕ → Option Remark
 unread kind name =
     if is_comment name || is_read kind name then None else Some (Unread name (nearest (members_read kind) name))
 
@@ -58,27 +58,27 @@ abbrev pub names_of : Members → List (List ℕ)
 names_of no_members = []
 names_of (member name value others) = name ∷ names_of others
 
--- of the members of a value that may be missing, and may be no object
+-- the findings on the members of a value, none if it is missing or no object
 abbrev pub names_in : Option Data → List (List ℕ)
 names_in d = unwrap_or (option_map names_of (option_and_then as_object d)) []
 
-abbrev pub unread_in : Table → Part → Option Data → List Finding
+abbrev pub unread_in : ObjectKind → ListPart → Option Data → List Finding
 unread_in kind part d = flat_map (λ name. told part (unread kind name)) (names_in d)
 
 -- ---- of a list
 
--- of the rules of an owner's list, to whose entry these steps lead
-abbrev pub unread_in_rules : Owner → List Step → Option Data → List Finding
+-- the findings on the rules of an owner's list, with the steps to the owner's entry
+abbrev pub unread_in_rules : RuleOwner → List EntryStep → Option Data → List Finding
 unread_in_rules whose steps d =
     flat_map (λ rule. unread_in table.Rule (rule_at whose steps rule.0) (Some rule.1)) (enumerate_from 0 (elements_in d))
 
--- of what an init starts, but for its entries
-abbrev pub unread_in_config : ℕ → List Step → Option Data → List Finding
+-- the findings on what an init starts, except those on its entries
+abbrev pub unread_in_config : ℕ → List EntryStep → Option Data → List Finding
 unread_in_config number steps config =
     unread_in table.Config (parts.Config number steps) config
     ++ unread_in_rules (owner.Inner number) steps (option_and_then (get (codes "default-route")) config)
 
--- of an entry by its number, of its own route, and of what it starts if it is an init
+-- the findings on an entry, by its number, on its own route, and on what it starts if it is an init
 abbrev pub unread_in_entry : ℕ × EntryValue → List Finding
 unread_in_entry entry =
     let is_init = runs (codes "init") entry.1.value in
@@ -86,7 +86,7 @@ unread_in_entry entry =
     ++ unread_in_rules (owner.Entry entry.0) entry.1.steps (get (codes "route") entry.1.value)
     ++ (if is_init then unread_in_config entry.0 entry.1.steps (get (codes "config") entry.1.value) else [])
 
--- of all lists: of the machine's, of its machine, of its default route, and then of each entry
+-- the findings on all lists: on the machine's list, its machine, its default route, and then each entry
 abbrev pub unread_of : Data → List Finding
 unread_of list =
     unread_in table.List parts.List (Some list)

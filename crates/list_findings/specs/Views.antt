@@ -1,11 +1,12 @@
--- How the wishes of all scripts are decided, for each service that there is or that a rule asks for, and for any other.
+-- The route decisions on the requests of all scripts, for each service, for each name that a rule asks for, and for any other
+-- name.
 use Rattle.std.specs.Prelude.{◌≡◌, ℕ, List, [], ◌∷◌, ◌++◌, flat_map, map, if◌then◌else◌, Option, Some, None, All}
 use Rattle.std.specs.List.{enumerate_from, list_any}
 use Rattle.std.specs.Str.{bytes_eq}
 use Rattle.trade_base.specs.Service.{service_name, services}
 use Rattle.own_model.specs.Listed.{Listed, ListedEntry, ListedRule}
-use Rattle.reach.specs.Deciding.{AreTrails, TrailAt}
-use Rattle.list_findings.specs.Wishes.{is_script}
+use Rattle.list_reach.specs.Deciding.{AreDecisions, DecisionAt}
+use Rattle.list_findings.specs.RuleTargets.{is_script}
 
 -- ---- services
 
@@ -56,21 +57,21 @@ askings_for list service = flat_map (asking_by service) (enumerate_from 0 list.e
 abbrev pub askings : Listed → List Asking
 askings list = flat_map (askings_for list) (services_of list)
 
--- ---- how their wishes are decided
+-- ---- how their requests are decided
 
 pub record ViewOf : Type 0 where
   pub client : ℕ
   pub service : List ℕ
-  pub trails : List TrailAt
+  pub trails : List DecisionAt
 
 abbrev pub asking_of : ViewOf → Asking
 asking_of view = record { client = view.client; service = view.service }
 
--- a view's trails are those of its script's wishes for its service
+-- a view's decisions are those on its script's requests for its service
 abbrev pub IsShown : Listed → ViewOf → Type 0
-IsShown list view = AreTrails list view.client view.service view.trails
+IsShown list view = AreDecisions list view.client view.service view.trails
 
--- these askings have views, behind those that were there
+-- these askings have views, after those that were there
 pub record Shows (list : Listed) (old : List ViewOf) (more : List Asking) (new : List ViewOf) : Type 0 where
   pub asked : map asking_of new ≡ map asking_of old ++ more
   pub shown : All (IsShown list) new

@@ -1,18 +1,18 @@
-//! What a start list says that its writer can hardly have meant.
+//! Findings: parts of a start list that are probably not intended.
 ghost use Rattle.std.specs.Prelude.{◌≡◌, IfOk};
 
-use list_parts::{Asked, Part, show_escaped, show_quoted, show_within};
-use start_lists::Name;
+use list_parser::Name;
+use list_parts::{BudgetAmount, ListPart, show_escaped, show_quoted, show_within};
 use std::alloc::{AllocError, Global};
 use std::fmt;
 use std::marker::Model;
 
-/// Something that a start list says, and where.
+/// A finding: a part of a start list that is probably not intended, and why.
 #[derive(Drop)]
 pub struct Finding {
     /// The part of the list.
-    pub part: Part,
-    /// What is to be told of it.
+    pub part: ListPart,
+    /// The remark on the part.
     pub remark: Remark,
 }
 
@@ -22,13 +22,13 @@ impl fmt::Display for Finding {
     }
 }
 
-/// The name of a member, as it stands in a text.
+/// A text of a start list that a finding prints, such as the name of a member.
 #[derive(Drop)]
-pub struct Written {
+pub struct FindingText {
     text: String,
 }
 
-impl Model for Written {
+impl Model for FindingText {
     ghost use Rattle.std.specs.Prelude.{List, ℕ, string_bytes};
 
     ghost Value = { List ℕ };
@@ -36,17 +36,17 @@ impl Model for Written {
     ghost view = { λ written. string_bytes written.text };
 }
 
-impl Written {
-    /// Of a text.
-    pub(crate) fn copy_of(alloc: Global, text: &str) -> Result<Written, AllocError>
+impl FindingText {
+    /// Returns a copy of a text. Fails if the host is out of memory.
+    pub(crate) fn copy_of(alloc: Global, text: &str) -> Result<FindingText, AllocError>
         ensures { IfOk result (λ written. written ≡ text.now) }
     {
-        Ok(Written {
+        Ok(FindingText {
             text: String::from_str(alloc, text)?,
         })
     }
 
-    /// The name.
+    /// Returns the name as text, without quotes around it.
     pub fn as_str(&self) -> &str
         ensures { result.now ≡ self.now }
     {
@@ -54,11 +54,11 @@ impl Written {
     }
 }
 
-/// The name of a member that is read.
+/// A name that a start list can have, such as that of a member that is read or that of a service.
 #[derive(Drop)]
-pub struct Known(pub(crate) &'static str);
+pub struct StaticName(pub(crate) &'static str);
 
-impl Model for Known {
+impl Model for StaticName {
     ghost use Rattle.std.specs.Prelude.{List, ℕ};
 
     ghost Value = { List ℕ };
@@ -66,8 +66,8 @@ impl Model for Known {
     ghost view = { λ known. known.0.now };
 }
 
-impl Known {
-    /// The name.
+impl StaticName {
+    /// Returns the name as text, without quotes around it.
     pub fn as_str(&self) -> &'static str
         ensures { result.now ≡ self.now }
     {
@@ -75,42 +75,43 @@ impl Known {
     }
 }
 
-/// What is to be told of a part of a start list.
+/// A remark on a part of a start list.
 #[derive(Drop)]
 pub enum Remark {
     /// An earlier member of the same object has this name, too.
-    GivenTwice(Written),
-    /// Nothing reads a member; the nearest that is read, if one is near.
-    Unread(Written, Option<Known>),
-    /// No entry has the name of a rule's child; the nearest name, if one is near.
+    GivenTwice(FindingText),
+    /// Nothing reads a member. The second name is the nearest member that is read, if one is near.
+    Unread(FindingText, Option<StaticName>),
+    /// No entry has the name of a rule's child. The second name is the nearest one, if one is near.
     NoChild(Name, Option<Name>),
-    /// A rule's child, which doesn't provide a service that the rule is asked for.
+    /// A rule's child doesn't provide a service that the rule is asked for.
     NotProvided(Name, Name),
-    /// No entry provides the service that a rule leads to any child for.
+    /// No entry provides a service that a rule routes to any child.
     NoProvider(Name),
-    /// Several entries provide the service that a rule leads to any child for.
+    /// Several entries provide a service that a rule routes to any child.
     SeveralProviders(Name),
-    /// An earlier rule of the same list, at this place, matches whatever the rule does.
+    /// An earlier rule of the same list, at this place, matches all requests that the rule matches.
     Hidden(usize),
-    /// A rule asks for a service that no server has; one that differs in case alone.
-    OtherCase(Name, Known),
+    /// A rule asks for a service that no server has. The second name is the service that differs in case alone.
+    OtherCase(Name, StaticName),
     /// A rule decides nothing.
     Idle,
     /// A rule decides nothing, since this member asks for a text that no label has.
-    NoLabel(Known),
+    NoLabel(StaticName),
     /// A rule decides nothing, since it asks an outer list for a label that ends in the arrow.
     Arrow,
     /// A rule of an outer list asks for a label that begins with the names of one entry, and this one's names begin so, too.
-    LetsIn(Written, Name),
+    LetsIn(FindingText, Name),
     /// A rule of an outer list asks how a label ends.
     ChosenEnd,
     /// A server doesn't provide its service.
-    NotProviding(Known),
-    /// No script's route leads to the server.
+    NotProviding(StaticName),
+    /// No script's session request is routed to the server.
     Unreached,
-    /// A route leads to a server, but the RAM of the account and the reserve together pays for no session.
+    /// A request is routed to a server, but the RAM of the account and the reserve together is insufficient for a session.
     LowRam(u64, u64),
-    /// A route leads to a server, but the capabilities of the account and the reserve together pay for no session.
+    /// A request is routed to a server, but the capabilities of the account and the reserve together are insufficient for a
+    /// session.
     LowCaps(u32, u32),
     /// The RAM isn't whole pages.
     PartPages(u64),
@@ -128,7 +129,7 @@ impl fmt::Display for Remark {
 }
 
 impl Remark {
-    // What comes before the value.
+    // The text before the value.
     fn before(&self) -> &'static str {
         match self {
             Remark::GivenTwice(_) => "duplicate member `",
@@ -173,14 +174,14 @@ impl Remark {
             Remark::LetsIn(front, name) => show_let_in(f, front, name),
             Remark::NoLabel(known) | Remark::NotProviding(known) => f.write_str(known.as_str()),
             Remark::Hidden(rule) => show_within(f, "", rule, ""),
-            Remark::LowRam(own, kept) => show_within(f, "", &Asked::ram(*own, *kept), ""),
-            Remark::LowCaps(own, kept) => show_within(f, "", &Asked::caps(*own, *kept), ""),
+            Remark::LowRam(own, kept) => show_within(f, "", &BudgetAmount::ram(*own, *kept), ""),
+            Remark::LowCaps(own, kept) => show_within(f, "", &BudgetAmount::caps(*own, *kept), ""),
             Remark::PartPages(ram) | Remark::PartReserve(ram) => show_within(f, "", ram, ""),
             Remark::Idle | Remark::Arrow | Remark::ChosenEnd | Remark::Unreached => Ok(()),
         }
     }
 
-    // What comes after it.
+    // The text after the value.
     fn after(&self) -> &'static str {
         match self {
             Remark::GivenTwice(_) => "`; the last one counts",
@@ -202,7 +203,7 @@ impl Remark {
         }
     }
 
-    // What may have been meant, if something may.
+    // The name that may have been meant, if there is one.
     fn near(&self) -> Option<&str> {
         match self {
             Remark::Unread(_, Some(known)) | Remark::OtherCase(_, known) => Some(known.as_str()),
@@ -215,14 +216,14 @@ impl Remark {
 // Which component's labels begin with a prefix too.
 fn show_let_in<W: fmt::Write>(
     f: &mut fmt::Formatter<W>,
-    front: &Written,
+    front: &FindingText,
     name: &Name,
 ) -> fmt::Result {
     show_quoted(f, front.as_str())?;
     write!(f, " is a prefix of `{name}` too")
 }
 
-// What may have been meant, if something may.
+// The name that may have been meant, if there is one.
 fn show_near<W: fmt::Write>(f: &mut fmt::Formatter<W>, near: Option<&str>) -> fmt::Result {
     match near {
         Some(near) => write!(f, "; did you mean `{near}`?"),

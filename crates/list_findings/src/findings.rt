@@ -1,35 +1,35 @@
-//! What a start list says that its writer can hardly have meant, in the order of its parts: the rules of the machine's default
-//! route, and each entry with its own route and the default route of what it starts.
+//! The findings of a start list in the order of its parts. The first parts are the rules of the machine's default route. Each
+//! entry follows with its own route and the default route of what it starts.
 ghost use Rattle.std.specs.Prelude.{◌≡◌, ◌<◌, ◌++◌, is_some, take, OnOk};
 ghost use Rattle.std.specs.Option.{option_copied};
 ghost use Rattle.list_findings.specs.Findings.{entry_findings, findings_of, hidden, label_findings, low_caps, low_ram, missed, pages_findings, part_pages, part_reserve, route_findings, rule_findings, rules_findings, told, unreached, use_findings, useless};
 ghost use Rattle.list_findings.specs.Outer.{chosen_end, outer_init, wide_front};
 ghost use Rattle.list_parts.specs.Steps.{part_of};
 ghost use Rattle.list_findings.specs.Views.{ShowAll};
-ghost use Rattle.list_parts.specs.declared.part.About.TheVariants as about;
+ghost use Rattle.list_parts.specs.declared.list_part.PartId.TheVariants as about;
 
-use crate::finding::{Finding, Known, Remark};
-use crate::hiding::hidden_by;
-use crate::idle::is_idle;
+use crate::decision_views::{DecisionView, views_of};
+use crate::finding::{Finding, Remark, StaticName};
+use crate::idle_rules::is_idle;
+use crate::missing_targets::add_target_finding;
 use crate::near::other_case;
-use crate::outer::{chosen_end, outer_init, why_idle, wide_front};
-use crate::reached::{is_led_to, leads_somewhere};
-use crate::strays::tell_target;
-use crate::views::{View, views_of};
-use crate::wishes::before;
-use list_parts::{About, Owner};
-use start_lists::{Binary, Entry, Rule, StartList};
+use crate::outer_lists::{chosen_end, idle_remark, outer_init, wide_front};
+use crate::reached::{is_routed_at_all, is_routed_to};
+use crate::rule_targets::before;
+use crate::unreachable_rules::hidden_by;
+use list_parser::{Binary, ListEntry, Rule, StartList};
+use list_parts::{PartId, RuleOwner};
 use std::alloc::{AllocError, Global};
 use trade_base::Service;
 
-/// The least RAM in bytes that pays for a session.
+/// The minimum RAM in bytes that suffices for a session.
 const SESSION_RAM: u64 = 4096;
 
-/// The fewest capabilities that pay for a session.
+/// The minimum number of capabilities that suffices for a session.
 const SESSION_CAPS: u32 = 2;
 
-/// Tells all findings of a list.
-pub fn tell_findings(
+/// Adds the findings of a start list, in the order of its parts. Fails if the host is out of memory.
+pub fn add_findings(
     found: &mut Vec<Finding>,
     alloc: Global,
     list: &StartList,
@@ -44,7 +44,7 @@ pub fn tell_findings(
         list,
         views,
         0,
-        Owner::Default,
+        RuleOwner::Default,
         list.default_route(),
     )?;
     let entries = list.entries();
@@ -56,14 +56,14 @@ pub fn tell_findings(
     Ok(())
 }
 
-// Tells those of an entry, of its own route, and of the default route of what it starts.
+// Adds the findings of an entry, of its own route, and of the default route of what it starts.
 fn tell_entry(
     found: &mut Vec<Finding>,
     alloc: Global,
     list: &StartList,
-    views: &[View],
+    views: &[DecisionView],
     number: usize,
-    entry: &Entry,
+    entry: &ListEntry,
 ) -> Result<(), AllocError>
     requires number { number < 32 }
     requires views { ShowAll list.now views.now }
@@ -79,19 +79,19 @@ fn tell_entry(
         list,
         views,
         number + 1,
-        Owner::Inner(number),
+        RuleOwner::Inner(number),
         entry.inner_route(),
     )
 }
 
-// Tells those of an entry's own route, if it has one.
+// Adds the findings of an entry's own route, if it has one.
 fn tell_route(
     found: &mut Vec<Finding>,
     alloc: Global,
     list: &StartList,
-    views: &[View],
+    views: &[DecisionView],
     number: usize,
-    entry: &Entry,
+    entry: &ListEntry,
 ) -> Result<(), AllocError>
     requires views { ShowAll list.now views.now }
     ensures { OnOk result (found.new.items
@@ -104,44 +104,44 @@ fn tell_route(
             list,
             views,
             entry.home(),
-            Owner::Entry(number),
+            RuleOwner::Entry(number),
             rules,
         ),
         None => Ok(()),
     }
 }
 
-// Tells whether an entry's RAM, or its reserve's, isn't whole pages.
+// Adds the finding that an entry's RAM, or its reserve's, isn't whole pages.
 fn tell_pages(
     found: &mut Vec<Finding>,
     alloc: Global,
     list: &StartList,
     number: usize,
-    entry: &Entry,
+    entry: &ListEntry,
 ) -> Result<(), AllocError>
     ensures { OnOk result (found.new.items ≡ found.old.items
         ++ pages_findings (part_of list.now.entries (about.Entry number)) entry.now) }
 {
-    let about = About::Entry(number);
+    let about = PartId::Entry(number);
     tell(found, alloc, list, about, part_pages(entry))?;
     tell(found, alloc, list, about, part_reserve(entry))
 }
 
-// Tells of a script's means, or whether a server is reached.
+// Adds the findings on a script's budget, or the finding that a server isn't reached.
 fn tell_use(
     found: &mut Vec<Finding>,
     alloc: Global,
     list: &StartList,
-    views: &[View],
+    views: &[DecisionView],
     number: usize,
-    entry: &Entry,
+    entry: &ListEntry,
 ) -> Result<(), AllocError>
     requires views { ShowAll list.now views.now }
     ensures { OnOk result (found.new.items ≡ found.old.items
         ++ use_findings list.now (part_of list.now.entries (about.Entry number))
         (number, entry.now) entry.now.binary) }
 {
-    let about = About::Entry(number);
+    let about = PartId::Entry(number);
     match entry.binary() {
         Binary::Script => {
             tell(
@@ -168,7 +168,7 @@ fn tell_use(
 }
 
 // Whether an entry's RAM isn't whole pages.
-fn part_pages(entry: &Entry) -> Option<Remark>
+fn part_pages(entry: &ListEntry) -> Option<Remark>
     ensures { result ≡ part_pages entry.now }
 {
     if entry.ram() % 4096 == 0 {
@@ -178,8 +178,8 @@ fn part_pages(entry: &Entry) -> Option<Remark>
     }
 }
 
-// The same of its reserve.
-fn part_reserve(entry: &Entry) -> Option<Remark>
+// The same for its reserve.
+fn part_reserve(entry: &ListEntry) -> Option<Remark>
     ensures { result ≡ part_reserve entry.now }
 {
     let kept = entry.reserve_at_start().ram.0;
@@ -190,26 +190,37 @@ fn part_reserve(entry: &Entry) -> Option<Remark>
     }
 }
 
-// Whether a client that has a route to a server has too little RAM for a session, in its account and its reserve together.
-fn low_ram(list: &StartList, views: &[View], number: usize, entry: &Entry) -> Option<Remark>
+// The remark that a client whose requests are routed to a server has insufficient RAM for a session, in its account and its
+// reserve together.
+fn low_ram(
+    list: &StartList,
+    views: &[DecisionView],
+    number: usize,
+    entry: &ListEntry,
+) -> Option<Remark>
     requires views { ShowAll list.now views.now }
     ensures { result ≡ low_ram list.now (number, entry.now) }
 {
     let kept = entry.reserve_at_start().ram.0;
-    if leads_somewhere(views, number) && entry.ram().saturating_add(kept) < SESSION_RAM {
+    if is_routed_at_all(views, number) && entry.ram().saturating_add(kept) < SESSION_RAM {
         Some(Remark::LowRam(entry.ram(), kept))
     } else {
         None
     }
 }
 
-// The same of capabilities.
-fn low_caps(list: &StartList, views: &[View], number: usize, entry: &Entry) -> Option<Remark>
+// The same for capabilities.
+fn low_caps(
+    list: &StartList,
+    views: &[DecisionView],
+    number: usize,
+    entry: &ListEntry,
+) -> Option<Remark>
     requires views { ShowAll list.now views.now }
     ensures { result ≡ low_caps list.now (number, entry.now) }
 {
     let kept = entry.reserve_at_start().caps.0;
-    if leads_somewhere(views, number) && entry.caps().saturating_add(kept) < SESSION_CAPS {
+    if is_routed_at_all(views, number) && entry.caps().saturating_add(kept) < SESSION_CAPS {
         Some(Remark::LowCaps(entry.caps(), kept))
     } else {
         None
@@ -219,10 +230,10 @@ fn low_caps(list: &StartList, views: &[View], number: usize, entry: &Entry) -> O
 // Whether a server doesn't provide its service, or isn't reached.
 fn missed(
     list: &StartList,
-    views: &[View],
+    views: &[DecisionView],
     service: Service,
     number: usize,
-    entry: &Entry,
+    entry: &ListEntry,
 ) -> Option<Remark>
     requires views { ShowAll list.now views.now }
     ensures { result ≡ missed list.now service (number, entry.now) }
@@ -230,30 +241,30 @@ fn missed(
     if entry.provides() {
         unreached(list, views, number)
     } else {
-        Some(Remark::NotProviding(Known(service.name())))
+        Some(Remark::NotProviding(StaticName(service.name())))
     }
 }
 
-// Whether no script's wish leads to a server.
-fn unreached(list: &StartList, views: &[View], number: usize) -> Option<Remark>
+// The remark that no script's request is routed to a server.
+fn unreached(list: &StartList, views: &[DecisionView], number: usize) -> Option<Remark>
     requires views { ShowAll list.now views.now }
     ensures { result ≡ unreached list.now number }
 {
-    if is_led_to(views, number) {
+    if is_routed_to(views, number) {
         None
     } else {
         Some(Remark::Unreached)
     }
 }
 
-// Tells those of an owner's list of rules, which is one of an init's list.
+// Adds the findings of an owner's rules, which belong to an init's list.
 fn tell_rules(
     found: &mut Vec<Finding>,
     alloc: Global,
     list: &StartList,
-    views: &[View],
+    views: &[DecisionView],
     init: usize,
-    owner: Owner,
+    owner: RuleOwner,
     rules: &[Rule],
 ) -> Result<(), AllocError>
     requires views { ShowAll list.now views.now }
@@ -261,20 +272,20 @@ fn tell_rules(
         (found.new.items ≡ found.old.items ++ rules_findings list.now init owner rules.now) }
 {
     for (place, rule) in rules.iter().enumerate() {
-        let about = About::Rule(owner, place);
+        let about = PartId::Rule(owner, place);
         tell_labels(found, alloc, list, views, owner, rules, place, rule)?;
         tell_rule(found, alloc, list, init, about, before(rules, place), rule)?;
     }
     Ok(())
 }
 
-// Tells those of a rule, at its place in an owner's list, that its label has to do with.
+// Adds the findings on the label of a rule, at its place in an owner's list.
 fn tell_labels(
     found: &mut Vec<Finding>,
     alloc: Global,
     list: &StartList,
-    views: &[View],
-    owner: Owner,
+    views: &[DecisionView],
+    owner: RuleOwner,
     rules: &[Rule],
     place: usize,
     rule: &Rule,
@@ -284,7 +295,7 @@ fn tell_labels(
         ++ label_findings list.now (part_of list.now.entries (about.Rule owner place)) owner
         (outer_init list.now owner) (take place rules.now) (place, rule.now)) }
 {
-    let about = About::Rule(owner, place);
+    let about = PartId::Rule(owner, place);
     let init = outer_init(list, owner);
     let remark = useless(
         list,
@@ -299,13 +310,14 @@ fn tell_labels(
     tell_outer(found, alloc, list, about, init, rule)
 }
 
-// Tells what a rule's texts let in, to which some init is the first that asks it, if one does.
+// Adds the findings on labels that a rule's texts match unintentionally. `init` is the first init that asks the rule, if one
+// does.
 fn tell_outer(
     found: &mut Vec<Finding>,
     alloc: Global,
     list: &StartList,
-    about: About,
-    init: Option<&Entry>,
+    about: PartId,
+    init: Option<&ListEntry>,
     rule: &Rule,
 ) -> Result<(), AllocError>
     ensures { OnOk result (found.new.items ≡ found.old.items
@@ -322,8 +334,8 @@ fn tell_outer(
 // Why a rule decides nothing, if it does.
 fn useless(
     list: &StartList,
-    views: &[View],
-    owner: Owner,
+    views: &[DecisionView],
+    owner: RuleOwner,
     outer: bool,
     earlier: &[Rule],
     place: usize,
@@ -334,18 +346,18 @@ fn useless(
 {
     match hidden(earlier, rule) {
         Some(remark) => Some(remark),
-        None if is_idle(list, views, owner, place) => Some(why_idle(outer, rule)),
+        None if is_idle(list, views, owner, place) => Some(idle_remark(outer, rule)),
         None => None,
     }
 }
 
-// Tells those of a rule after those before it.
+// Adds the findings on the service and the target of a rule, which is after the earlier rules.
 fn tell_rule(
     found: &mut Vec<Finding>,
     alloc: Global,
     list: &StartList,
     init: usize,
-    about: About,
+    about: PartId,
     earlier: &[Rule],
     rule: &Rule,
 ) -> Result<(), AllocError>
@@ -354,10 +366,10 @@ fn tell_rule(
         (part_of list.now.entries about) earlier.now rule.now) }
 {
     tell(found, alloc, list, about, other_case(rule.service()))?;
-    tell_target(found, alloc, list, init, about, earlier, rule)
+    add_target_finding(found, alloc, list, init, about, earlier, rule)
 }
 
-// Whether an earlier rule hides one.
+// The remark that an earlier rule makes a rule unreachable.
 fn hidden(earlier: &[Rule], rule: &Rule) -> Option<Remark>
     ensures { result ≡ hidden earlier.now rule.now }
 {
@@ -367,12 +379,12 @@ fn hidden(earlier: &[Rule], rule: &Rule) -> Option<Remark>
     }
 }
 
-/// Tells something of a part, if there is something.
+/// Adds a remark on a part, if there is one. Fails if the host is out of memory.
 pub(crate) fn tell(
     found: &mut Vec<Finding>,
     alloc: Global,
     list: &StartList,
-    about: About,
+    about: PartId,
     remark: Option<Remark>,
 ) -> Result<(), AllocError>
     ensures { OnOk result

@@ -1,29 +1,29 @@
-//! Findings: what a start list that boots says that its writer can hardly have meant, as rules that decide nothing, members that
-//! nothing reads, and budgets that pay for no session. `start_review` calls it for `check`.
+//! Findings: parts of a start list that boots which are probably not intended. Examples are rules that decide nothing, members
+//! that nothing reads, and budgets that are insufficient for a session. `list_review` calls it for `check`.
 //!
 //! ```text
 //! start[2] alice: route[1]: unreachable rule: rule [0] of this list decides each of its requests first
 //! ```
 #![tactic(auto)]
 
+mod decision_views;
+mod duplicate_members;
 mod finding;
 mod findings;
-mod hiding;
-mod idle;
+mod idle_rules;
 mod members;
+mod missing_targets;
 mod near;
-mod outer;
+mod outer_lists;
 mod reached;
-mod repeated;
-mod spare;
-mod strays;
-mod unread;
-mod views;
-mod wishes;
+mod rule_targets;
+mod unreachable_rules;
+mod unread_members;
+mod unused_budget;
 
-pub use finding::{Finding, Known, Remark, Written};
-pub use findings::tell_findings;
-pub use hiding::hidden_rules_never_decide;
-pub use repeated::tell_repeated;
-pub use spare::{Advice, Spare, spare_of};
-pub use unread::tell_unread;
+pub use duplicate_members::add_duplicates;
+pub use finding::{Finding, FindingText, Remark, StaticName};
+pub use findings::add_findings;
+pub use unreachable_rules::unreachable_rules_never_decide;
+pub use unread_members::tell_unread;
+pub use unused_budget::{Advice, UnusedBudget, spare_of};

@@ -4,13 +4,13 @@ ghost use Rattle.std.specs.List.{list_any};
 ghost use Rattle.std.specs.Str.{bytes_eq};
 ghost use Rattle.list_findings.specs.Unread.{is_comment, is_read, members_read, unread};
 
-use crate::finding::{Known, Remark, Written};
-use near_words::nearest;
+use crate::finding::{FindingText, Remark, StaticName};
 use std::alloc::{AllocError, Global};
+use text_near_words::nearest;
 
 /// The kinds of objects in a start list.
 #[derive(Clone, Copy)]
-pub(crate) enum Table {
+pub(crate) enum ObjectKind {
     /// The list itself.
     List,
     /// Its machine.
@@ -25,15 +25,15 @@ pub(crate) enum Table {
     Rule,
 }
 
-impl Table {
-    /// The members that are read of such an object, and the one by which an editor finds their schema.
+impl ObjectKind {
+    /// Returns the members of this kind of object that are read, and `$schema`, by which an editor finds the schema.
     fn members(self) -> &'static [&'static str]
         ensures { map (λ known. known.now) result.now ≡ members_read self }
     {
         match self {
-            Table::List => &["machine", "default-route", "start", "$schema"],
-            Table::Machine => &["pages", "caps"],
-            Table::Entry => &[
+            ObjectKind::List => &["machine", "default-route", "start", "$schema"],
+            ObjectKind::Machine => &["pages", "caps"],
+            ObjectKind::Entry => &[
                 "name",
                 "binary",
                 "quantum",
@@ -43,7 +43,7 @@ impl Table {
                 "reserve",
                 "reserve-caps",
             ],
-            Table::Init => &[
+            ObjectKind::Init => &[
                 "name",
                 "binary",
                 "quantum",
@@ -54,8 +54,8 @@ impl Table {
                 "reserve-caps",
                 "config",
             ],
-            Table::Config => &["default-route", "start"],
-            Table::Rule => &[
+            ObjectKind::Config => &["default-route", "start"],
+            ObjectKind::Rule => &[
                 "service",
                 "any-service",
                 "label",
@@ -68,14 +68,15 @@ impl Table {
         }
     }
 
-    // Whether a member of such an object is read.
+    // Whether a member of this kind of object is read.
     fn reads(self, member: &str) -> bool
         ensures { result ≡ is_read self member.now }
     {
         is_among(self.members(), member)
     }
 
-    /// That nothing reads a member of such an object, where it is so, and which name may have been meant.
+    /// Returns the remark that nothing reads a member of this kind of object, with the name that may have been meant. Returns
+    /// none for a member that is read, and for a comment. Fails if the host is out of memory.
     pub(crate) fn unread(self, alloc: Global, member: &str) -> Result<Option<Remark>, AllocError>
         ensures { IfOk result (λ remark. remark ≡ unread self member.now) }
     {
@@ -83,14 +84,14 @@ impl Table {
             return Ok(None);
         }
         let near = match nearest(alloc, self.members(), member)? {
-            Some(known) => Some(Known(known)),
+            Some(known) => Some(StaticName(known)),
             None => None,
         };
-        Ok(Some(Remark::Unread(Written::copy_of(alloc, member)?, near)))
+        Ok(Some(Remark::Unread(FindingText::copy_of(alloc, member)?, near)))
     }
 }
 
-// Whether a word is one of these.
+// Whether a name is one of these.
 fn is_among(words: &[&str], word: &str) -> bool
     ensures { result
         ≡ list_any (λ known. bytes_eq known word.now) (map (λ known. known.now) words.now) }

@@ -1,20 +1,21 @@
-//! Which name may have been meant by a misspelt one.
+//! The name that may have been meant by a misspelt one.
 ghost use Rattle.std.specs.Prelude.{◌≡◌, ◌≤◌, IfOk, find};
 ghost use Rattle.std.specs.Option.{option_copied};
 ghost use Rattle.list_findings.specs.Findings.{case_of, other_case};
-ghost use Rattle.near_words.specs.Near.{is_away, nearest};
+ghost use Rattle.text_near_words.specs.Near.{is_away, nearest};
 ghost use Rattle.list_findings.specs.Near.{names_in};
 
-use crate::finding::{Known, Remark};
-use near_words::is_away;
-use start_lists::{Entry, Name};
+use crate::finding::{Remark, StaticName};
+use list_parser::{ListEntry, Name};
 use std::alloc::{AllocError, Global};
+use text_near_words::is_away;
 use trade_base::{SERVICES, Service};
 
-/// The name of an entry of an init's list that may be meant by one that none has, if one is near.
+/// Returns the name of an entry of an init's list that may have been meant by an unknown name, or none if none is near. Fails if
+/// the host is out of memory.
 pub(crate) fn near_name(
     alloc: Global,
-    entries: &[Entry],
+    entries: &[ListEntry],
     init: usize,
     written: &str,
 ) -> Result<Option<Name>, AllocError>
@@ -26,10 +27,10 @@ pub(crate) fn near_name(
     }
 }
 
-// The first such name that is so many edits away.
+// The first of these names that is so many edits away.
 fn name_away(
     alloc: Global,
-    entries: &[Entry],
+    entries: &[ListEntry],
     init: usize,
     count: usize,
     written: &str,
@@ -47,13 +48,13 @@ fn name_away(
     Ok(None)
 }
 
-/// Whether a rule asks for a service in another case.
+/// Returns the remark that a rule asks for a service in another case, if it does.
 pub(crate) fn other_case(service: Option<&Name>) -> Option<Remark>
     ensures { result ≡ other_case (option_copied service.entry) }
 {
     let written = service?;
     let meant = SERVICES.iter().find(|meant| case_of(written, **meant))?;
-    Some(Remark::OtherCase(written.copy(), Known(meant.name())))
+    Some(Remark::OtherCase(written.copy(), StaticName(meant.name())))
 }
 
 // Whether the name of a service differs from this in case alone.

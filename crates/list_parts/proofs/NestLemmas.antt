@@ -3,9 +3,9 @@ use Rattle.std.proofs.Common.{◌≡◌, ℕ, zero, suc, ◌-◌, ◌<◌, List,
 use Rattle.std.specs.List.{slice_get}
 use Rattle.own_model.specs.Listed.{ListedEntry}
 use Rattle.list_parts.specs.Steps.{place_in, step_to, steps_above, steps_at, steps_within}
-use Rattle.list_parts.specs.declared.part.Step.{Step}
+use Rattle.list_parts.specs.declared.list_part.EntryStep.{EntryStep}
 
-abbrev step_of : ℕ → List ℕ → Step
+abbrev step_of : ℕ → List ℕ → EntryStep
 step_of place name = record { place = place; name = Some name }
 
 fewer : (n : ℕ) → suc n - 1 ≡ n
@@ -16,11 +16,11 @@ steps_one : (lists : ℕ) (entries : List ListedEntry) (number : ℕ) → 0 < li
 steps_one zero entries number some = absurd (omega arith)
 steps_one (suc lists) entries number some = rw (fewer lists) refl
 
-above_one : (steps : ℕ → List Step) (home : ℕ) → 0 < home → steps_above steps home ≡ steps (home - 1)
+above_one : (steps : ℕ → List EntryStep) (home : ℕ) → 0 < home → steps_above steps home ≡ steps (home - 1)
 above_one steps zero some = absurd (omega arith)
 above_one steps (suc number) some = rw (fewer number) refl
 
-above_none : (steps : ℕ → List Step) (home : ℕ) → home ≡ 0 → steps_above steps home ≡ []
+above_none : (steps : ℕ → List EntryStep) (home : ℕ) → home ≡ 0 → steps_above steps home ≡ []
 above_none steps zero is = refl
 above_none steps (suc number) is = absurd (omega arith)
 
@@ -51,7 +51,7 @@ step_is entries number entry home place name home_is place_is name_is =
     ap (λ p. step_of p name) (place_is ∙ ap (λ h. place_in entries h number) home_is) ∙ ap (step_of (place_in entries entry.home number)) name_is
 
 -- behind those above it
-pub steps_then : (entries : List ListedEntry) (number : ℕ) (entry : ListedEntry) (home place : ℕ) (name : List ℕ) (above new : List Step)
+pub steps_then : (entries : List ListedEntry) (number : ℕ) (entry : ListedEntry) (home place : ℕ) (name : List ℕ) (above new : List EntryStep)
     → home ≡ entry.home → place ≡ place_in entries home number → name ≡ entry.name → new ≡ above ++ step_of place name ∷ []
     → new ≡ above ++ step_to entries number entry ∷ []
 steps_then entries number entry home place name above new home_is place_is name_is new_is =

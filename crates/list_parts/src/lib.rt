@@ -6,12 +6,14 @@
 //! ```
 #![tactic(auto)]
 
-mod asked;
-mod left;
-mod part;
-mod quoted;
+mod budget_amount;
+mod list_part;
+mod quoted_text;
+mod start_quota;
 
-pub use asked::Asked;
-pub use left::{Amount, Inits, Lack, Left, first_lack, kept, left_of};
-pub use part::{About, Owner, Part, Step, Steps, rule_at};
-pub use quoted::{Quoted, show_escaped, show_quoted, show_within};
+pub use budget_amount::BudgetAmount;
+pub use list_part::{EntryStep, EntrySteps, ListPart, PartId, RuleOwner, rule_at};
+pub use quoted_text::{QuotedText, show_escaped, show_quoted, show_within};
+pub use start_quota::{
+    Amount, EntryShortfall, InitQuotas, StartQuota, first_shortfall, kept, left_of,
+};

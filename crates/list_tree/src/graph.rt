@@ -1,29 +1,30 @@
-//! The components of a start list, and where their requests for sessions are routed, as a graph.
-use crate::decisions::Decision;
-use crate::node::Node;
-use crate::tree::Tree;
+//! The components of a start list, and the servers to which their session requests are routed, as a graph.
+use crate::node::TreeNode;
+use crate::script_decisions::ScriptDecision;
+use crate::tree::ListTree;
+use list_parser::{Binary, ListEntry, StartList};
 use list_parts::{left_of, show_within};
-use start_lists::{Binary, Entry, StartList};
 use std::alloc::{AllocError, Global};
 use std::fmt;
 
-/// The tree as a graph in DOT: an init is a box around what it starts, each other component a node, by its path, and an edge denotes
-/// the rules that decide some of a script's requests for a service. What is denied of a list's scripts has one grey node.
+/// A start list as a graph in DOT. An init is a box around what it starts, and each other component is a node, by its path. An
+/// edge denotes the rules that decide some of a script's requests for a service. The denied requests of a list's scripts have one
+/// grey node.
 #[derive(Drop)]
-pub struct Graph<'a> {
-    tree: Tree<'a>,
+pub struct ListGraph<'a> {
+    tree: ListTree<'a>,
 }
 
-impl<'a> Graph<'a> {
-    /// The graph of a list. An error is out of memory.
-    pub fn of(alloc: Global, list: &'a StartList) -> Result<Graph<'a>, AllocError> {
-        Ok(Graph {
-            tree: Tree::of(alloc, list)?,
+impl<'a> ListGraph<'a> {
+    /// Returns the graph of a start list. Fails if the host is out of memory.
+    pub fn of(alloc: Global, list: &'a StartList) -> Result<ListGraph<'a>, AllocError> {
+        Ok(ListGraph {
+            tree: ListTree::of(alloc, list)?,
         })
     }
 }
 
-impl fmt::Display for Graph<'_> {
+impl fmt::Display for ListGraph<'_> {
     fn fmt<W: fmt::Write>(&self, f: &mut fmt::Formatter<W>) -> fmt::Result {
         let list = self.tree.list;
         let left = left_of(&self.tree.inits, 0);
@@ -43,13 +44,13 @@ impl fmt::Display for Graph<'_> {
     }
 }
 
-impl Graph<'_> {
+impl ListGraph<'_> {
     // The nodes, each within the boxes of the inits above it.
     fn show_nodes<W: fmt::Write>(&self, f: &mut fmt::Formatter<W>) -> fmt::Result {
         self.show_denied(f, 0, 0)?;
         let mut open = 0;
         for (number, entry) in self.tree.list.entries().iter().enumerate() {
-            let node = Node::of(&self.tree.inits, number, entry);
+            let node = TreeNode::of(&self.tree.inits, number, entry);
             let depth = depth_of(entry);
             show_ends(f, depth, open)?;
             open = depth;
@@ -83,7 +84,10 @@ impl Graph<'_> {
 }
 
 // The edge of a decision, from the client to a server, or to the node of what its list has denied.
-fn show_edge<W: fmt::Write>(f: &mut fmt::Formatter<W>, decision: &Decision<'_>) -> fmt::Result {
+fn show_edge<W: fmt::Write>(
+    f: &mut fmt::Formatter<W>,
+    decision: &ScriptDecision<'_>,
+) -> fmt::Result {
     let service = decision.service;
     write!(f, "  \"{}\" -> ", decision.client.to_path())?;
     match decision.server() {
@@ -113,11 +117,11 @@ fn show_denied<W: fmt::Write>(
 }
 
 // How many inits are above an entry.
-fn depth_of(entry: &Entry) -> usize {
+fn depth_of(entry: &ListEntry) -> usize {
     entry.path().iter().filter(|sign| **sign == b'/').count()
 }
 
-// The ends of the boxes that stand open above a depth.
+// The ends of the boxes that are open above a depth.
 fn show_ends<W: fmt::Write>(f: &mut fmt::Formatter<W>, depth: usize, open: usize) -> fmt::Result {
     for level in (depth..open).rev() {
         show_margin(f, level)?;
@@ -138,7 +142,7 @@ fn show_margin<W: fmt::Write>(f: &mut fmt::Formatter<W>, depth: usize) -> fmt::R
 // The begin of the box of an init, and its text, below so many inits and itself.
 fn show_box<W: fmt::Write>(
     f: &mut fmt::Formatter<W>,
-    node: &Node<'_>,
+    node: &TreeNode<'_>,
     depth: usize,
 ) -> fmt::Result {
     write!(f, "subgraph \"cluster_{}\" {{\n", node.entry.to_path())?;
@@ -148,8 +152,8 @@ fn show_box<W: fmt::Write>(
     f.write_str("\";\n")
 }
 
-// The node of a component. Paths have no sign that is to be escaped.
-fn show_node<W: fmt::Write>(f: &mut fmt::Formatter<W>, node: &Node<'_>) -> fmt::Result {
+// The node of a component. Paths have no character that is to be escaped.
+fn show_node<W: fmt::Write>(f: &mut fmt::Formatter<W>, node: &TreeNode<'_>) -> fmt::Result {
     let entry = node.entry;
     let shape = match entry.binary() {
         Binary::Server(_) => "box",
@@ -160,8 +164,8 @@ fn show_node<W: fmt::Write>(f: &mut fmt::Formatter<W>, node: &Node<'_>) -> fmt::
     f.write_str("\"];\n")
 }
 
-// What is told of a component: its path, what it has, and what it provides.
-fn show_text<W: fmt::Write>(f: &mut fmt::Formatter<W>, node: &Node<'_>) -> fmt::Result {
+// The text of a component: its path, what it has, and what it provides.
+fn show_text<W: fmt::Write>(f: &mut fmt::Formatter<W>, node: &TreeNode<'_>) -> fmt::Result {
     let entry = node.entry;
     let binary = entry.binary();
     write!(f, "{} ({})\\n", entry.to_path(), binary.as_str())?;

@@ -1,15 +1,15 @@
-//! The components of a start list with their budgets, and where the session requests of each script are routed: as text, as
-//! documents of JSON, and as a graph. `start_review` calls it for `tree`.
+//! The components of a start list with their budgets, and the servers to which their session requests are routed. They are
+//! printed as text, as JSON documents, and as a graph. `list_review` calls it for `tree`.
 //!
 //! ```text
 //! alice: 64K, 16 caps
 //! ```
 #![tactic(auto)]
 
-mod decisions;
 mod graph;
 mod node;
+mod script_decisions;
 mod tree;
 
-pub use graph::Graph;
-pub use tree::Tree;
+pub use graph::ListGraph;
+pub use tree::ListTree;

@@ -1,49 +1,49 @@
 //! The components of a start list with their budgets.
-use list_parts::{Inits, Left, left_of};
-use start_lists::Entry;
+use list_parser::ListEntry;
+use list_parts::{InitQuotas, StartQuota, left_of};
 use std::fmt;
 
 /// A component with its budget at the start.
 #[derive(Clone, Copy)]
-pub(crate) struct Node<'a> {
+pub(crate) struct TreeNode<'a> {
     /// The component.
-    pub entry: &'a Entry,
-    /// Its account.
-    pub own: Left,
-    /// What it has in addition.
-    pub extra: Option<Extra>,
+    pub entry: &'a ListEntry,
+    /// The limits of the component's account.
+    pub own: StartQuota,
+    /// The budget that the component has in addition.
+    pub extra: Option<ExtraBudget>,
 }
 
-/// What a component has in addition to its account.
+/// A budget that a component has in addition to its account.
 #[derive(Clone, Copy)]
-pub(crate) enum Extra {
+pub(crate) enum ExtraBudget {
     /// The reserve of a script.
-    Reserve(Left),
-    /// What an init keeps.
-    Keeps(Left),
+    Reserve(StartQuota),
+    /// The RAM and the capabilities that an init keeps.
+    Keeps(StartQuota),
 }
 
-impl<'a> Node<'a> {
+impl<'a> TreeNode<'a> {
     /// Returns the entry of a number as a node, of a machine whose inits keep these.
-    pub(crate) fn of(inits: &Inits, number: usize, entry: &'a Entry) -> Node<'a> {
+    pub(crate) fn of(inits: &InitQuotas, number: usize, entry: &'a ListEntry) -> TreeNode<'a> {
         let extra = match entry.reserve() {
-            Some(reserve) => Some(Extra::Reserve(Left {
+            Some(reserve) => Some(ExtraBudget::Reserve(StartQuota {
                 ram: reserve.ram.0,
                 caps: reserve.caps.0,
             })),
             None if entry.is_init() => {
-                Some(Extra::Keeps(left_of(inits, number.saturating_add(1))))
+                Some(ExtraBudget::Keeps(left_of(inits, number.saturating_add(1))))
             }
             None => None,
         };
-        let own = Left {
+        let own = StartQuota {
             ram: entry.ram(),
             caps: entry.caps(),
         };
-        Node { entry, own, extra }
+        TreeNode { entry, own, extra }
     }
 
-    /// Writes its budget, with a text between the account and the rest.
+    /// Writes the budget of the component, with a text between the account and the rest.
     pub(crate) fn show_budget<W: fmt::Write>(
         &self,
         f: &mut fmt::Formatter<W>,
@@ -51,8 +51,8 @@ impl<'a> Node<'a> {
     ) -> fmt::Result {
         let own = self.own;
         match self.extra {
-            Some(Extra::Reserve(left)) => write!(f, "{own}{between}reserve {left}"),
-            Some(Extra::Keeps(left)) => write!(f, "{own}{between}keeps {left}"),
+            Some(ExtraBudget::Reserve(left)) => write!(f, "{own}{between}reserve {left}"),
+            Some(ExtraBudget::Keeps(left)) => write!(f, "{own}{between}keeps {left}"),
             None => write!(f, "{own}"),
         }
     }

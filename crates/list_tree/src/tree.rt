@@ -1,39 +1,43 @@
-//! The components of a start list, and where their requests for sessions are routed, as text and as documents.
-use crate::decisions::{Decision, Decisions, all_decisions};
-use crate::node::{Extra, Node};
-use json_documents::{Field, Listing};
-use list_parts::{Inits, kept, left_of, show_within};
-use start_lists::{Entry, StartList};
+//! The components of a start list, and the servers to which their session requests are routed, as text and as documents.
+use crate::node::{ExtraBudget, TreeNode};
+use crate::script_decisions::{ScriptDecision, ScriptDecisions, all_decisions};
+use list_parser::{ListEntry, StartList};
+use list_parts::{InitQuotas, kept, left_of, show_within};
 use std::alloc::{AllocError, Global};
 use std::fmt;
+use view_json::{JsonField, Listing};
 
-/// A start list's machine, what inits keep, each component with its budget, below its init, and for each script and service the
-/// server to which its requests are routed, by which rules, under which conditions on the label, and with which label, if others
-/// are routed elsewhere.
+/// The tree of a start list: its machine, what inits keep, and each component with its budget below its init. For each script and
+/// service it has the server to which requests are routed, and the rules with their conditions on the label. It has a label, if
+/// other labels are routed elsewhere.
 #[derive(Drop)]
-pub struct Tree<'a> {
+pub struct ListTree<'a> {
     pub(crate) list: &'a StartList,
-    pub(crate) inits: Inits,
-    pub(crate) decisions: Vec<Decisions<'a>>,
+    pub(crate) inits: InitQuotas,
+    pub(crate) decisions: Vec<ScriptDecisions<'a>>,
 }
 
-impl<'a> Tree<'a> {
-    /// The tree of a list. An error is out of memory.
-    pub fn of(alloc: Global, list: &'a StartList) -> Result<Tree<'a>, AllocError> {
-        Ok(Tree {
+impl<'a> ListTree<'a> {
+    /// Returns the tree of a start list. Fails if the host is out of memory.
+    pub fn of(alloc: Global, list: &'a StartList) -> Result<ListTree<'a>, AllocError> {
+        Ok(ListTree {
             list,
             inits: kept(list),
             decisions: all_decisions(alloc, list)?,
         })
     }
 
-    /// Returns it as a list of JSON: a document for the machine, for what its init keeps, and for each component, each followed by
-    /// those of its requests. An error is out of memory.
+    /// Returns the tree as a JSON list. It has a document for the machine, for what its init keeps, and for each component,
+    /// followed by those of its requests. Fails if the host is out of memory.
     pub fn documents(&self, alloc: Global) -> Result<Vec<u8>, AllocError> {
         let mut listing = Listing::new(alloc);
         self.add_machine(&mut listing)?;
         for (number, entry) in self.list.entries().iter().enumerate() {
-            add_node(alloc, &mut listing, &Node::of(&self.inits, number, entry))?;
+            add_node(
+                alloc,
+                &mut listing,
+                &TreeNode::of(&self.inits, number, entry),
+            )?;
             self.add_decisions(alloc, &mut listing, number)?;
         }
         listing.into_text()
@@ -43,13 +47,13 @@ impl<'a> Tree<'a> {
     fn add_machine(&self, listing: &mut Listing) -> Result<(), AllocError> {
         let left = left_of(&self.inits, 0);
         listing.add(&[
-            ("kind", Field::Word("machine")),
+            ("kind", JsonField::Word("machine")),
             ("pages", number_of(self.list.pages())),
             ("caps", number_of(self.list.caps())),
         ])?;
         listing.add(&[
-            ("kind", Field::Word("init")),
-            ("keeps_ram", Field::Number(left.ram)),
+            ("kind", JsonField::Word("init")),
+            ("keeps_ram", JsonField::Number(left.ram)),
             ("keeps_caps", number_of(left.caps)),
         ])
     }
@@ -88,7 +92,7 @@ impl<'a> Tree<'a> {
     }
 }
 
-impl fmt::Display for Tree<'_> {
+impl fmt::Display for ListTree<'_> {
     fn fmt<W: fmt::Write>(&self, f: &mut fmt::Formatter<W>) -> fmt::Result {
         let left = left_of(&self.inits, 0);
         writeln!(
@@ -98,7 +102,7 @@ impl fmt::Display for Tree<'_> {
             self.list.caps()
         )?;
         for (number, entry) in self.list.entries().iter().enumerate() {
-            show_node(f, &Node::of(&self.inits, number, entry))?;
+            show_node(f, &TreeNode::of(&self.inits, number, entry))?;
             self.show_decisions(f, number)?;
         }
         Ok(())
@@ -106,7 +110,7 @@ impl fmt::Display for Tree<'_> {
 }
 
 // A component with its budget, and what it provides.
-fn show_node<W: fmt::Write>(f: &mut fmt::Formatter<W>, node: &Node<'_>) -> fmt::Result {
+fn show_node<W: fmt::Write>(f: &mut fmt::Formatter<W>, node: &TreeNode<'_>) -> fmt::Result {
     let entry = node.entry;
     let binary = entry.binary();
     show_indent(f, entry)?;
@@ -119,8 +123,11 @@ fn show_node<W: fmt::Write>(f: &mut fmt::Formatter<W>, node: &Node<'_>) -> fmt::
     }
 }
 
-// Where requests are routed, by which rules, and with which label, if others are routed elsewhere.
-fn show_decision<W: fmt::Write>(f: &mut fmt::Formatter<W>, decision: &Decision<'_>) -> fmt::Result {
+// The server to which requests are routed, by which rules, and with which label, if others are routed elsewhere.
+fn show_decision<W: fmt::Write>(
+    f: &mut fmt::Formatter<W>,
+    decision: &ScriptDecision<'_>,
+) -> fmt::Result {
     show_indent(f, decision.client)?;
     write!(f, "  {} -> ", decision.service)?;
     match decision.server() {
@@ -135,8 +142,8 @@ fn show_decision<W: fmt::Write>(f: &mut fmt::Formatter<W>, decision: &Decision<'
     f.write_str("\n")
 }
 
-// Two spaces for each init around an entry.
-fn show_indent<W: fmt::Write>(f: &mut fmt::Formatter<W>, entry: &Entry) -> fmt::Result {
+// Two spaces for each init above an entry.
+fn show_indent<W: fmt::Write>(f: &mut fmt::Formatter<W>, entry: &ListEntry) -> fmt::Result {
     for sign in entry.path() {
         if *sign == b'/' {
             f.write_str("  ")?;
@@ -146,32 +153,32 @@ fn show_indent<W: fmt::Write>(f: &mut fmt::Formatter<W>, entry: &Entry) -> fmt::
 }
 
 // Adds a component with its budget, and the service that it provides: null if its binary has one and it provides none.
-fn add_node(alloc: Global, listing: &mut Listing, node: &Node<'_>) -> Result<(), AllocError> {
+fn add_node(alloc: Global, listing: &mut Listing, node: &TreeNode<'_>) -> Result<(), AllocError> {
     let entry = node.entry;
     let binary = entry.binary();
     let mut members = vec![in alloc;
-        ("kind", Field::Word("component")),
-        ("name", Field::Text(entry.path())),
-        ("binary", Field::Word(binary.as_str())),
-        ("ram", Field::Number(node.own.ram)),
+        ("kind", JsonField::Word("component")),
+        ("name", JsonField::Text(entry.path())),
+        ("binary", JsonField::Word(binary.as_str())),
+        ("ram", JsonField::Number(node.own.ram)),
         ("caps", number_of(node.own.caps)),
     ]?;
     match node.extra {
-        Some(Extra::Reserve(left)) => {
-            members.push(("reserve_ram", Field::Number(left.ram)))?;
+        Some(ExtraBudget::Reserve(left)) => {
+            members.push(("reserve_ram", JsonField::Number(left.ram)))?;
             members.push(("reserve_caps", number_of(left.caps)))?;
         }
-        Some(Extra::Keeps(left)) => {
-            members.push(("keeps_ram", Field::Number(left.ram)))?;
+        Some(ExtraBudget::Keeps(left)) => {
+            members.push(("keeps_ram", JsonField::Number(left.ram)))?;
             members.push(("keeps_caps", number_of(left.caps)))?;
         }
         None => {}
     }
     match binary.service() {
         Some(service) if entry.provides() => {
-            members.push(("provides", Field::Word(service.name())))?;
+            members.push(("provides", JsonField::Word(service.name())))?;
         }
-        Some(_) => members.push(("provides", Field::Nothing))?,
+        Some(_) => members.push(("provides", JsonField::Nothing))?,
         None => {}
     }
     listing.add(members.as_slice())
@@ -181,7 +188,7 @@ fn add_node(alloc: Global, listing: &mut Listing, node: &Node<'_>) -> Result<(),
 fn add_decision(
     alloc: Global,
     listing: &mut Listing,
-    decision: &Decision<'_>,
+    decision: &ScriptDecision<'_>,
 ) -> Result<(), AllocError> {
     let by = decision.rules(false).to_string(alloc)?;
     add_request(listing, *decision, by.as_str())
@@ -190,28 +197,28 @@ fn add_decision(
 // Adds a decision by these rules.
 fn add_request<'a>(
     listing: &mut Listing,
-    decision: Decision<'a>,
+    decision: ScriptDecision<'a>,
     by: &'a str,
 ) -> Result<(), AllocError> {
     let to = match decision.server() {
-        Some(server) => Field::Text(server.path()),
-        None => Field::Nothing,
+        Some(server) => JsonField::Text(server.path()),
+        None => JsonField::Nothing,
     };
     let label = match decision.label {
-        Some(label) => Field::Text(label.as_bytes()),
-        None => Field::Nothing,
+        Some(label) => JsonField::Text(label.as_bytes()),
+        None => JsonField::Nothing,
     };
     listing.add(&[
-        ("kind", Field::Word("wish")),
-        ("name", Field::Text(decision.client.path())),
-        ("service", Field::Word(decision.service)),
+        ("kind", JsonField::Word("wish")),
+        ("name", JsonField::Text(decision.client.path())),
+        ("service", JsonField::Word(decision.service)),
         ("to", to),
-        ("by", Field::Text(by.as_bytes())),
+        ("by", JsonField::Text(by.as_bytes())),
         ("label", label),
     ])
 }
 
 // A number of pages or of capabilities as a field.
-fn number_of(count: u32) -> Field<'static> {
-    Field::Number(u64::from(count))
+fn number_of(count: u32) -> JsonField<'static> {
+    JsonField::Number(u64::from(count))
 }

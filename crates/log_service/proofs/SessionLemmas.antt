@@ -11,7 +11,7 @@ use Rattle.own_model.specs.LogService.{labelled, written, Logged, IsPartial, IsU
 use Rattle.own_model.proofs.LogLemmas.{written-none, written_newline, writes_add, writes_lines}
 use Rattle.own_model.specs.Reply.{log_text}
 use Rattle.sliced_heap.specs.declared.heap.SlicedHeap.{SlicedHeap}
-use Rattle.calls.specs.Told.{Told}
+use Rattle.core_calls.specs.ReplyText.{Told}
 use Rattle.log_service.specs.Session.{LabelledLine, lines_text, Writes}
 
 -- one line

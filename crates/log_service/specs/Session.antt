@@ -10,7 +10,7 @@ use Rattle.sliced_heap.specs.Heap.{payer_of}
 use Rattle.sliced_heap.specs.Sliced.{IsLinked}
 use Rattle.sliced_heap.specs.declared.heap.SlicedHeap.{SlicedHeap}
 use Rattle.server_frame.specs.Session.{HasBlocksAlone}
-use Rattle.calls.specs.Told.{Told}
+use Rattle.core_calls.specs.ReplyText.{Told}
 
 -- its label, its line that isn't finished yet, and the sliced heap of its account, as it came
 pub record LabelledLine : Type 0 where
@@ -32,8 +32,8 @@ lines_text label lines = flat_map log_text (labelled label lines)
 abbrev pub as_kept : LabelledLine → Labelled
 as_kept line = record { label = line.label; state = Logging line.partial }
 
--- bytes that are written after a line that isn't finished yet, and what they make of a reply: the lines that they finish go
--- behind its lines, and each byte makes these and the line that is left longer by at most 213 bytes
+-- bytes are written after a partial line: the lines that they finish are appended to the reply's lines. Each byte lengthens
+-- these and the rest of the line by at most 213 bytes
 pub record Writes (before : LabelledLine) (told : Told) (bytes : List ℕ) (after : LabelledLine) (next : Told) : Type 0 where
   pub session : after ≡ record before { partial = (written before.partial bytes).partial }
   pub reply : next ≡ record told { lines = told.lines ++ lines_text before.label (written before.partial bytes).lines }

@@ -1,4 +1,5 @@
-//! The log service: each session has a line that isn't finished yet, and finished lines are printed with its label.
+//! The log service: each session has a partial line, and finished lines are printed with the session's label. `init_core`
+//! starts its servers and `pd_core` calls them. Example: `Server::boot(alloc, LogService, sessions, pages)?`.
 #![tactic(auto)]
 
 mod service;

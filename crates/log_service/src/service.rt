@@ -1,4 +1,4 @@
-//! The log service: what it answers to the requests of a session.
+//! The log service: its replies to the requests of a session.
 ghost use Rattle.std.specs.Prelude.{◌≡◌, [], None};
 ghost use Rattle.own_model.specs.LogService.{log_served};
 ghost use Rattle.own_model.specs.Session.{Labelled};
@@ -9,7 +9,7 @@ ghost use Rattle.server_frame.specs.Session.{service_step};
 ghost use Rattle.sliced_heap.specs.Heap.{payer_of};
 
 use crate::session::LogSession;
-use calls::Reply;
+use core_calls::Reply;
 use dataspace_core::Memory;
 use region_map::RegionMap;
 use server_frame::{Effect, Service};
@@ -17,13 +17,13 @@ use session_proto::{LogReply, LogRequest};
 use sliced_heap::SlicedHeap;
 use trade_base::DsId;
 
-/// The log service. It keeps nothing but its sessions.
+/// The log service. It stores nothing except its sessions.
 #[derive(Clone, Copy)]
 pub struct LogService;
 
 impl LogService {
-    /// Answers a request of a session: `OK` and how many bytes were written, or `ERR BAD_REQUEST`. The lines that the
-    /// bytes finish go to the reply, and what they leave of a line stays with the session.
+    /// Answers a request of a session: `OK` with the number of bytes written, or `ERR BAD_REQUEST`. Finished lines are added
+    /// to the reply, and the rest of the line remains in the session.
     pub fn answer(&self, session: &mut LogSession, request: &[u8], reply: &mut Reply)
         requires { reply.old.lines ≡ [] }
         ensures session { session.new

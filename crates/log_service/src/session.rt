@@ -1,4 +1,4 @@
-//! One session: its label, and its line that isn't finished yet.
+//! A session of the log service: its label and its partial line.
 ghost use Rattle.std.specs.Prelude.{◌≡◌, ◌+◌, ◌*◌, ◌<◌, ◌≤◌, [], ◌++◌, length, take, Some};
 ghost use Rattle.arrayvec.specs.ArrayVec.{array_vec_len};
 ghost use Rattle.own_model.specs.Reply.{log_text};
@@ -6,23 +6,23 @@ ghost use Rattle.own_model.specs.Text.{bytes_of_hex, hex_bytes};
 ghost use Rattle.log_service.specs.Session.{Writes};
 
 use arrayvec::ArrayVec;
-use calls::{LONGEST_LABEL, MOST_LINES, Reply};
+use core_calls::{LONGEST_LABEL, MOST_LINES, Reply};
 use sliced_heap::SlicedHeap;
 use std::marker::Model;
 use text_codec::{decode_hex_from, find_byte};
 
-/// A line of so many bytes is finished.
+/// The number of bytes at which a line is finished.
 const LONGEST_LINE: usize = 200;
 
-/// So many bytes are decoded at once.
+/// The number of bytes that are decoded at once.
 const PIECE: usize = 256;
 
-/// The most bytes that a byte that is written adds to the lines that are finished and to the one that isn't: itself, and
-/// what stands around a line.
+/// The most bytes by which one written byte lengthens the finished lines and the partial line: itself, and what surrounds a
+/// line.
 const MOST_ADDED: usize = LONGEST_LABEL + 5;
 
-/// What the log service keeps for a session. Contracts see it as its label, its line, and the sliced heap of its account,
-/// which it keeps as it came.
+/// What the log service stores for a session. Contracts see its label, its partial line, and the unchanged sliced heap of
+/// its account.
 #[derive(Drop)]
 pub struct LogSession {
     label: ArrayVec<u8, LONGEST_LABEL>,
@@ -43,7 +43,7 @@ impl Model for LogSession {
 }
 
 impl LogSession {
-    /// A session with an empty line.
+    /// Creates a session of this label with an empty line.
     pub(crate) fn open(heap: SlicedHeap, label: &[u8]) -> LogSession
         requires { length label.now ≤ LONGEST_LABEL }
         ensures { result ≡ record { label = label.now; partial = []; heap = heap } }
@@ -57,15 +57,15 @@ impl LogSession {
         }
     }
 
-    /// Its sliced heap, once it ends.
+    /// Returns the session's sliced heap and ends the session.
     pub(crate) fn into_heap(self) -> SlicedHeap
         ensures { result ≡ self.heap }
     {
         self.heap
     }
 
-    /// Writes the bytes that hexadecimal digits stand for. Lines that they finish go to the reply. It stands alone, since who
-    /// takes it in would clear its buffer at each call of any kind.
+    /// Writes the bytes that hexadecimal digits denote, and adds finished lines to the reply. The function is not inlined,
+    /// because each call of its caller would clear its buffer.
     #[tactic(auto, using(text_codec::proofs::HexLemmas::decodings))]
     #[inline(never)]
     pub(crate) fn write(&mut self, hex: &[u8], reply: &mut Reply)
@@ -86,7 +86,7 @@ impl LogSession {
         }
     }
 
-    /// Writes bytes. Lines that they finish go to the reply.
+    /// Writes bytes, and adds the lines that they finish to the reply.
     fn write_bytes(&mut self, bytes: &[u8], reply: &mut Reply)
         requires { length reply.old.lines + length self.old.partial + MOST_ADDED * length bytes.now
             ≤ MOST_LINES }
@@ -99,8 +99,8 @@ impl LogSession {
         }
     }
 
-    /// Writes bytes up to the one that finishes the line, or all, and tells how many these are. They are copied as one
-    /// run, so a byte costs next to nothing.
+    /// Writes bytes up to the one that finishes the line, or all, and returns their number. They are copied as one run, so
+    /// that the cost of a byte is small.
     fn write_some(&mut self, bytes: &[u8], reply: &mut Reply) -> usize
         requires some { 0 < length bytes.now }
         requires room { length reply.old.lines + length self.old.partial
@@ -128,7 +128,7 @@ impl LogSession {
     }
 }
 
-/// Adds bytes to a line, which has room for them.
+/// Appends bytes to a line, which must have room for them.
 fn add_run(line: &mut ArrayVec<u8, LONGEST_LINE>, run: &[u8])
     requires { array_vec_len line.old + length run.now ≤ LONGEST_LINE }
     ensures { line.new.items ≡ line.old.items ++ run.now }
@@ -136,7 +136,7 @@ fn add_run(line: &mut ArrayVec<u8, LONGEST_LINE>, run: &[u8])
     let _ = line.try_extend_from_slice(run);
 }
 
-/// Adds a line to the reply, and leaves it empty.
+/// Adds a line to the reply and clears the line.
 fn finish(label: &[u8], line: &mut ArrayVec<u8, LONGEST_LINE>, reply: &mut Reply)
     requires { length reply.old.lines + (length label.now + array_vec_len line.old + 4)
         ≤ MOST_LINES }

@@ -1,29 +1,30 @@
-//! The program for people: reads the arguments, calls the function of the command, and ends with the exit status that this returns.
+//! The program for people: reads the arguments, calls the function of the command, and ends with the exit status that this
+//! returns.
 #![tactic(auto)]
 
 use clap::Error;
 use cli_base::{Coloring, REFUSED, Settings, status_of};
-use cli_budgets::least_budgets;
+use cli_budgets::print_minimum_budgets;
 use cli_lists::{check_list, compare_lists, show_reach, show_route, show_tree};
+use cli_options::{
+    AloneOptions, CALLS, Command, CommandLine, RunOptions, TestOptions, alone_usage_error,
+    color_value_error, missing_command_error, words_given,
+};
 use cli_runs::{
     list_accounts, record_scenario, run_scenario, show_all_alone, show_alone, trace_scenario,
 };
 use cli_tests::run_tests;
 use std::process::ExitCode;
-use view_diagnostics::Form;
-use workbench_options::{
-    Alone, CALLS, Command, Request, Run, Test, alone_takes_a_name_or_all, color_is_one_of_three,
-    needs_command, words_given,
-};
+use view_diagnostics::DiagnosticForm;
 
 fn main(rt: HostRuntime) -> ExitCode {
     let words = match words_given(&rt) {
         Ok(words) => words,
         Err(error) => return ExitCode::from(refuse(&rt, &error)),
     };
-    let status = match Request::read(rt.alloc(), words.as_slice()) {
+    let status = match CommandLine::read(rt.alloc(), words.as_slice()) {
         Ok(Some(request)) => answer_request(&rt, &request),
-        Ok(None) => match needs_command(rt.alloc()) {
+        Ok(None) => match missing_command_error(rt.alloc()) {
             Ok(error) | Err(error) => refuse(&rt, &error),
         },
         Err(error) => refuse(&rt, &error),
@@ -40,7 +41,7 @@ fn refuse(rt: &HostRuntime, error: &Error) -> u8 {
     status_of(rt, printed)
 }
 
-// Tells which words are taken, and answers the exit status.
+// Prints which arguments are accepted, and returns the exit status.
 fn refuse_words(rt: &HostRuntime, told: Result<Error, Error>) -> u8 {
     match told {
         Ok(error) | Err(error) => {
@@ -50,12 +51,12 @@ fn refuse_words(rt: &HostRuntime, told: Result<Error, Error>) -> u8 {
     }
 }
 
-// Does what is asked for with the settings of the command line, and returns the exit status.
-fn answer_request(rt: &HostRuntime, request: &Request<'_>) -> u8 {
+// Runs the command of a request with the settings of the command line, and returns the exit status.
+fn answer_request(rt: &HostRuntime, request: &CommandLine<'_>) -> u8 {
     let form = if request.command.is_json() {
-        Form::Json
+        DiagnosticForm::Json
     } else {
-        Form::Text
+        DiagnosticForm::Text
     };
     match Settings::read(rt, request.given.as_slice(), form) {
         Ok(settings) => answer(rt, &request.command, settings),
@@ -63,7 +64,7 @@ fn answer_request(rt: &HostRuntime, request: &Request<'_>) -> u8 {
     }
 }
 
-// Does what is asked for, and answers the exit status.
+// Runs a command, and returns the exit status.
 fn answer<'a>(rt: &HostRuntime, command: &'a Command<'a>, settings: Settings<'a>) -> u8 {
     match command {
         Command::Run(asked) => answer_run(rt, asked, settings),
@@ -74,7 +75,7 @@ fn answer<'a>(rt: &HostRuntime, command: &'a Command<'a>, settings: Settings<'a>
         Command::Route(asked) => show_route(rt, asked, settings),
         Command::Trace(asked) => trace_scenario(rt, asked, settings),
         Command::Accounts(asked) => list_accounts(rt, asked, settings),
-        Command::Least(asked) => least_budgets(rt, asked, settings),
+        Command::Least(asked) => print_minimum_budgets(rt, asked, settings),
         Command::Alone(asked) => answer_alone(rt, asked, settings),
         Command::Diff(asked) => compare_lists(rt, asked, settings.form),
         Command::Test(asked) => answer_test(rt, asked, settings),
@@ -93,33 +94,33 @@ fn print_help(rt: &HostRuntime, topic: Option<&str>) -> u8 {
 
 // Prints the help that these arguments ask for, or why they are refused, and returns the exit status.
 fn print_help_of(rt: &HostRuntime, arguments: &[&str]) -> u8 {
-    match Request::read(rt.alloc(), arguments) {
+    match CommandLine::read(rt.alloc(), arguments) {
         Ok(_) => 0,
         Err(error) => refuse(rt, &error),
     }
 }
 
-// Answers a scenario, and answers the exit status.
-fn answer_run<'a>(rt: &HostRuntime, asked: &'a Run<'a>, settings: Settings<'a>) -> u8 {
+// Runs a scenario, and returns the exit status.
+fn answer_run<'a>(rt: &HostRuntime, asked: &'a RunOptions<'a>, settings: Settings<'a>) -> u8 {
     match Coloring::asked(rt, asked.color) {
         Some(coloring) => run_scenario(rt, asked, settings, coloring),
-        None => refuse_words(rt, color_is_one_of_three(rt.alloc())),
+        None => refuse_words(rt, color_value_error(rt.alloc())),
     }
 }
 
-// Shows what a component, or each, is told alone, and answers the exit status.
-fn answer_alone<'a>(rt: &HostRuntime, asked: &'a Alone<'a>, settings: Settings<'a>) -> u8 {
+// Prints the replies to a component, or to each script, in the whole run and alone. Returns the exit status.
+fn answer_alone<'a>(rt: &HostRuntime, asked: &'a AloneOptions<'a>, settings: Settings<'a>) -> u8 {
     match (asked.all, asked.scenario) {
         (false, Some(scenario)) if !asked.summary => show_alone(rt, asked, scenario, settings),
         (true, None) => show_all_alone(rt, asked, settings),
-        _ => refuse_words(rt, alone_takes_a_name_or_all(rt.alloc())),
+        _ => refuse_words(rt, alone_usage_error(rt.alloc())),
     }
 }
 
-// Runs scenarios as tests, and answers the exit status.
-fn answer_test<'a>(rt: &HostRuntime, asked: &'a Test<'a>, settings: Settings<'a>) -> u8 {
+// Runs scenarios as tests, and returns the exit status.
+fn answer_test<'a>(rt: &HostRuntime, asked: &'a TestOptions<'a>, settings: Settings<'a>) -> u8 {
     match Coloring::asked(rt, asked.color) {
         Some(coloring) => run_tests(rt, asked, settings, coloring.out),
-        None => refuse_words(rt, color_is_one_of_three(rt.alloc())),
+        None => refuse_words(rt, color_value_error(rt.alloc())),
     }
 }

@@ -14,10 +14,10 @@ use Rattle.own_model.proofs.BufferKeptLemmas.{taken_le}
 use Rattle.own_model.proofs.FileErrorLemmas as files_errors
 use Rattle.own_model.proofs.FileErrorLemmas.{IsGood, shortage_same, written_answers, no_error_good}
 use Rattle.own_model.specs.Account.{Account}
-use Rattle.own_model.specs.BufferLaws.{move_errors, buffer_errors, BufferErrorsComeInOrder, OtherBuffersAreServed, PutsAreWrites, Copies, GetsCopy}
+use Rattle.own_model.specs.BufferTheorems.{move_errors, buffer_errors, BufferErrorsComeInOrder, OtherBuffersAreServed, PutsAreWrites, Copies, GetsCopy}
 use Rattle.own_model.specs.BufferService.{BufferRequest, BufferServed, beside, make_refusal, unless_refused, made, given_back, put, got, buffer_served}
 use Rattle.own_model.specs.BufferService.BufferRequest.{Make, GiveBack, Put, Get}
-use Rattle.own_model.specs.FileLaws.{when, first_error, write_errors}
+use Rattle.own_model.specs.FileTheorems.{when, first_error, write_errors}
 use Rattle.own_model.specs.FileService.{Files, File, FileServed, file_named, is_longer, content_refusal, told, written}
 use Rattle.own_model.specs.FileService.{unless_refused as unless_write}
 use Rattle.own_model.specs.FileText.{FileError}

@@ -16,7 +16,7 @@ use Rattle.own_model.proofs.FileRequestLemmas.{KeptByRequests, request_kept, nei
 use Rattle.own_model.proofs.FileServiceLemmas.{files_kept}
 use Rattle.own_model.proofs.StepLemmas.{covers}
 use Rattle.own_model.specs.Account.{Account, WithinLimits, shortage, charged, credited}
-use Rattle.own_model.specs.BufferLaws.{AllKeepFiles, AllKeepCharges, AllKeepLimits, AllKeepWithinLimits, FitsBuffer, AllFitBuffers}
+use Rattle.own_model.specs.BufferTheorems.{AllKeepFiles, AllKeepCharges, AllKeepLimits, AllKeepWithinLimits, FitsBuffer, AllFitBuffers}
 use Rattle.own_model.specs.BufferService.{BufferRequest, SessionRequest, BufferServed, make_refusal, range_refusal, move_refusal, unless_refused, made, given_back, part_of, put, got, buffer_served, session_request_served, buffer_ram, buffer_caps}
 use Rattle.own_model.specs.BufferService.BufferRequest.{Make, GiveBack, Put, Get}
 use Rattle.own_model.specs.BufferService.SessionRequest.{OfFiles, OfBuffer}

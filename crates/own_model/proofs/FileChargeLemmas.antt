@@ -12,7 +12,7 @@ use Rattle.own_model.proofs.HeapOwnLemmas.{chunk_bytes-set}
 use Rattle.own_model.proofs.StepLemmas.{covers, accepted_growth}
 use Rattle.own_model.specs.Account.{Account, WithinLimits, charged}
 use Rattle.own_model.specs.BestFit.{Spot, chunk_of, given_in}
-use Rattle.own_model.specs.FileLaws.{RequestsKeepCharges, RequestsKeepLimits, RequestsKeepWithinLimits}
+use Rattle.own_model.specs.FileTheorems.{RequestsKeepCharges, RequestsKeepLimits, RequestsKeepWithinLimits}
 use Rattle.own_model.specs.FileService.{Files, File, IsCharged, node_size, content_ram, content_caps, created_in}
 use Rattle.own_model.specs.Growth.{Growth, Shape, growth_of, new_hole, shape_grown, shape_taken}
 use Rattle.own_model.specs.Heap.{bytes_in}

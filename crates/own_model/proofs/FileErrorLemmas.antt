@@ -9,7 +9,7 @@ use Rattle.trade_base.specs.Page.{page_of}
 use Rattle.trade_base.specs.declared.refusal.Refusal.TheVariants as refusal
 use Rattle.own_model.specs.Account.{Account}
 use Rattle.own_model.specs.BestFit.{Spot, block_size}
-use Rattle.own_model.specs.FileLaws.{first_error, node_errors, write_errors, read_errors, errors_of, ErrorsComeInOrder, OthersAreServed}
+use Rattle.own_model.specs.FileTheorems.{first_error, node_errors, write_errors, read_errors, errors_of, ErrorsComeInOrder, OthersAreServed}
 use Rattle.own_model.specs.FileService.{Files, File, FileServed, node_size, file_named, error_of, create_refusal, write_refusal, unless_refused, told, created, written, read, sized, cleared, dropped, named, request_served}
 use Rattle.own_model.specs.FileText.{FileRequest, FileError, file_request, file_reply, bytes_reply}
 use Rattle.own_model.specs.FileText.FileRequest.{Create, Write, Read, Size, Clear, Drop, Name, Stat}

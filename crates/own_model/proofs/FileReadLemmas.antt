@@ -15,7 +15,7 @@ use Rattle.own_model.proofs.FileListLemmas.{named_is}
 use Rattle.own_model.proofs.FileRequestLemmas.{neither_of, untold}
 use Rattle.own_model.specs.Account.{Account}
 use Rattle.own_model.specs.BestFit.{Spot}
-use Rattle.own_model.specs.FileLaws.{WrittenIsRead, OtherFilesStay}
+use Rattle.own_model.specs.FileTheorems.{WrittenIsRead, OtherFilesStay}
 use Rattle.own_model.specs.FileService.{Files, File, FileServed, node_size, is_named, file_named, rewritten, without, most_read, create_refusal, write_refusal, read_refusal, unless_refused, told, write_charged, created, written, read, sized, cleared, dropped, named}
 use Rattle.own_model.specs.FileText.{FileError, file_reply}
 use Rattle.own_model.specs.FileText.FileRequest.{Create, Write, Read, Size, Clear, Drop, Name, Stat}

@@ -17,7 +17,7 @@ use Rattle.own_model.proofs.FileShapeLemmas.{used, node_by, used_taken, not_used
 use Rattle.own_model.proofs.ListLemmas.{all_append, all_then}
 use Rattle.own_model.specs.Account.{Account}
 use Rattle.own_model.specs.BestFit.{Spot, block_size}
-use Rattle.own_model.specs.FileLaws.{RequestsKeepFiles}
+use Rattle.own_model.specs.FileTheorems.{RequestsKeepFiles}
 use Rattle.own_model.specs.FileService.{Files, File, AreFiles, AreUnlike, HasNode, IsShape, node_size, is_named, is_at, no_files, file_named, without, created_in}
 use Rattle.own_model.specs.Growth.{Shape, Growth, growth_of, new_hole, shape_taken, shape_given, shape_grown}
 use Rattle.own_model.specs.HeapStep.{size_taken}

@@ -11,7 +11,7 @@ use Rattle.std.specs.FinMap.{entries, entries_sorted, len, len-entries, is_sorte
 use Rattle.std.specs.FinMap.Entries.{below_all}
 use Rattle.own_model.specs.HeapWindow.{heap_low, heap_high, heap_gap, FitMachine, HeapHasGap, HeapGapsAgree}
 use Rattle.own_model.specs.NatMap.{NatMap, total}
-use Rattle.own_model.specs.Region.{Region, overlap, can_stand, first_gap, IsPlace, IsFirstGap}
+use Rattle.own_model.specs.Region.{Region, overlap, can_attach, first_gap, IsPlace, IsFirstGap}
 use Rattle.own_model.proofs.NatMapLemmas.{both_parts, is_less}
 use Rattle.own_model.proofs.RegionLemmas.{meets_none, first_gap_least, first_gap_is, stands}
 use Rattle.own_model.proofs.Totals.{len-total, total_le}
@@ -130,5 +130,5 @@ heap_gaps_agree machine larger regions pages fit small more = grind (arith, nat_
 -- ---- beside it
 
 -- pages can stand at a first gap
-pub first_gap_stands : (low high : ℕ) (regions : NatMap Region) (pages address : ℕ) → first_gap low high regions pages ≡ Some address → can_stand low high regions pages address ≡ true
+pub first_gap_stands : (low high : ℕ) (regions : NatMap Region) (pages address : ℕ) → first_gap low high regions pages ≡ Some address → can_attach low high regions pages address ≡ true
 first_gap_stands low high regions pages address is = grind (arith, nat_tests, first_gap_least, stands)

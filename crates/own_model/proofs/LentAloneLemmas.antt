@@ -18,7 +18,7 @@ use Rattle.own_model.specs.BestFit.{Spot}
 use Rattle.own_model.specs.Call.{Call}
 use Rattle.own_model.specs.Call.Call.{Alloc, Free, Attach, AttachAt, Detach, Peek, Poke, Capalloc, Capfree, New, Del, Snew, Sdel, Quota, Reserve, Request, Yield, Open, Upgrade, CallSession, Close, Exit}
 use Rattle.own_model.specs.Growth.{Growth, is_large, hole_for, growth_of, heap_refusal}
-use Rattle.own_model.specs.LentLaws.{IsPoked, BuffersStandAlone, GoneBuffersHaveNoRegions}
+use Rattle.own_model.specs.SharedBufferTheorems.{IsPoked, BuffersAreIndependent, ClosedBuffersHaveNoRegions}
 use Rattle.own_model.specs.NatMap.{NatMap}
 use Rattle.own_model.specs.OwnState.{OwnState, Object, NamedBuffer, is_buffer_of, buffer_of, bytes_of_buffer, new_selector, pages_in, zeros, with_part, object_with, named_bytes, session_named}
 use Rattle.own_model.specs.OwnState.Object.{Dataspace, RpcObject, OpenSession, Buffer}
@@ -29,7 +29,7 @@ use Rattle.own_model.specs.Region.{Region, without, most_regions, user_gap, atta
 use Rattle.own_model.specs.Session.{Session, Wish, wish, donation_refusal, new_session, upgraded, served}
 use Rattle.own_model.specs.Reserve.{reserve_account}
 use Rattle.own_model.specs.SessionArgs.{Arguments, arguments_of}
-use Rattle.own_model.specs.SessionLaws.{is_of}
+use Rattle.own_model.specs.SessionTheorems.{is_of}
 use Rattle.own_model.specs.Sliced.{sliced_size, sliced_refusal, block_found}
 use Rattle.own_model.specs.StartList.{Entry}
 
@@ -246,7 +246,7 @@ module _ (selector q : ℕ) (bytes : List ℕ) (s : OwnState) (there : get s.sel
   left_by call (Some refusal) o after = inl there
   left_by call None o after = after
 
-pub buffers_alone : BuffersStandAlone
+pub buffers_alone : BuffersAreIndependent
 buffers_alone entry call s selector q bytes there other =
     left_by selector q bytes s there call (turned_away entry.kind s) (entry_step entry call s) (leaves selector q bytes s there entry call other)
 
@@ -316,6 +316,6 @@ module _ (selector q : ℕ) (bytes : List ℕ) (s : OwnState) (there : get s.sel
   none_left (Some refusal) o after none = not_gone (get s.selectors selector) (Buffer q bytes) there none
   none_left None o after none = after none
 
-pub gone_has_none : GoneBuffersHaveNoRegions
+pub gone_has_none : ClosedBuffersHaveNoRegions
 gone_has_none entry call s selector q bytes there none =
     none_left selector q bytes s there (turned_away entry.kind s) (entry_step entry call s) (gone_by selector q bytes s there entry call) none

@@ -12,9 +12,9 @@ use Rattle.own_model.proofs.StepTableLemmas.{run_keeps}
 use Rattle.own_model.specs.NatMap.{NatMap}
 use Rattle.own_model.specs.OwnState.{OwnState, Object, NamedBuffer, is_buffer_of, buffer_of, bytes_of_buffer, new_selector, zeros, object_with, session_named}
 use Rattle.own_model.specs.OwnState.Object.{Dataspace, RpcObject, OpenSession, Buffer}
-use Rattle.own_model.specs.OwnStep.{selectors_lent, gone_state}
+use Rattle.own_model.specs.OwnStep.{selectors_lent, exited_state}
 use Rattle.own_model.specs.Session.{Session, new_session, upgraded, served}
-use Rattle.own_model.specs.LentLaws.{StartsLent, RunKeepsLent}
+use Rattle.own_model.specs.SharedBufferTheorems.{StartsLent, RunKeepsLent}
 use Rattle.own_model.specs.Sound.{AreLent}
 use Rattle.own_model.specs.StartList.{start_state}
 use Rattle.trade_base.specs.Page.{page_of}
@@ -213,8 +213,8 @@ none_lent m none = record {
 pub start_lent : StartsLent
 start_lent start = none_lent (start_state start).selectors get-empty
 
-pub gone_lent : AreLent gone_state.selectors
-gone_lent = none_lent gone_state.selectors get-empty
+pub gone_lent : AreLent exited_state.selectors
+gone_lent = none_lent exited_state.selectors get-empty
 
 pub run_lent : RunKeepsLent
 run_lent = run_keeps Lent effects_lent (λ s h. record { requests = λ _ _. h; yields = λ _ _. h }) sessions_lent gone_lent

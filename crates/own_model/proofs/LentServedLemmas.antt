@@ -10,7 +10,7 @@ use Rattle.own_model.proofs.LentLemmas.{buffer_is, buffer_none, only_buffer, apa
 use Rattle.own_model.proofs.NatMapLemmas.{get-insert_same, get-insert_other, get-remove_other, get-picked_at, alike_insert, apart_from_free}
 use Rattle.own_model.proofs.NewSelector.{new_selector_free}
 use Rattle.own_model.proofs.ServiceLemmas.{serve_new}
-use Rattle.own_model.specs.LentLaws.{IsServed, RequestsAreServed, LeavesOthers, SessionCallsLeaveOthers, lent_under}
+use Rattle.own_model.specs.SharedBufferTheorems.{IsServed, RequestsAreServed, LeavesOthers, SessionCallsLeaveOthers, lent_under}
 use Rattle.own_model.specs.NatMap.{NatMap}
 use Rattle.own_model.specs.OwnState.{OwnState, Object, NamedBuffer, is_buffer_of, buffer_of, bytes_of_buffer, new_selector, zeros, session_named}
 use Rattle.own_model.specs.OwnState.Object.{OpenSession, Buffer}

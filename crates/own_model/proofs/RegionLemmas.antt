@@ -7,7 +7,7 @@ use Rattle.std.specs.Option.{option_map, option_and_then}
 use Rattle.std.specs.List.{find, list_any, range_with_len}
 use Rattle.std.specs.FinMap.{get, insert, remove, entries, len}
 use Rattle.own_model.specs.NatMap.{NatMap, picked}
-use Rattle.own_model.specs.Region.{Region, overlap, meets, can_stand, first_gap, IsPlace, IsFirstGap, region_at, resolved, without, holds, attach_refusal, attach_at_refusal, detach_refusal}
+use Rattle.own_model.specs.Region.{Region, overlap, meets, can_attach, first_gap, IsPlace, IsFirstGap, region_at, resolved, without, holds, attach_refusal, attach_at_refusal, detach_refusal}
 use Rattle.own_model.proofs.NatMapLemmas.{same, get-picked, picked-insert_some, picked-remove, none_of}
 use Rattle.own_model.proofs.EntryLemmas.{sizes_alike, len-sizes, list_any-sized, find-sized, list_any-find, found_in_map, not_found_in_map, finds_none_in_map}
 use Rattle.own_model.proofs.Totals.{total-picked_le, len-total}
@@ -48,11 +48,11 @@ tests_of_place : (low high pages address : ℕ) (m : Bool) → address % 4096 �
 tests_of_place low high pages address m aligned from to clear = grind (arith, nat_tests)
 
 -- where pages can stand is a place
-pub place : (low high : ℕ) (regions : NatMap Region) (pages address : ℕ) → can_stand low high regions pages address ≡ true → IsPlace low high regions pages address
+pub place : (low high : ℕ) (regions : NatMap Region) (pages address : ℕ) → can_attach low high regions pages address ≡ true → IsPlace low high regions pages address
 place low high regions pages address can = grind (arith, nat_tests, parts_of_place, meets_none)
 
 -- pages can stand at a place
-pub stands : (low high : ℕ) (regions : NatMap Region) (pages address : ℕ) → IsPlace low high regions pages address → can_stand low high regions pages address ≡ true
+pub stands : (low high : ℕ) (regions : NatMap Region) (pages address : ℕ) → IsPlace low high regions pages address → can_attach low high regions pages address ≡ true
 stands low high regions pages address at = grind (arith, nat_tests, tests_of_place, clear_of_all)
 
 -- no region starts where pages can stand
@@ -103,14 +103,14 @@ module _ (low high : ℕ) (regions : NatMap Region) (pages : ℕ) where
   in_range b at = let from = at.from_low in let to = at.to_high in omega arith
 
   -- where pages can't stand is no place
-  fails_at : (b : ℕ) → can_stand low high regions pages b ≡ false → ¬ IsPlace low high regions pages b
+  fails_at : (b : ℕ) → can_attach low high regions pages b ≡ false → ¬ IsPlace low high regions pages b
   fails_at b fails at = true≢false (sym (stands low high regions pages b at) ∙ fails)
 
   -- the first gap is the least place
   pub first_gap_least : IsFirstGap low high regions pages (first_gap low high regions pages)
   unfolding first_gap
   first_gap_least =
-      let test = can_stand low high regions pages in
+      let test = can_attach low high regions pages in
       let count = high + 1 - low in
       elim (find test (range_with_len low count)) as (λ o. find test (range_with_len low count) ≡ o → IsFirstGap low high regions pages o) [
         | None ↦ λ is b at. fails_at b (none_in_range test count low is b at.from_low (in_range b at)) at

@@ -5,17 +5,17 @@ use Rattle.std.specs.Str.{bytes_eq}
 use Rattle.std.proofs.lemmas.List.Quantifiers.{position-Some}
 use Rattle.std.proofs.lemmas.Slice.Eq.{bytes_eq-Decides}
 use Rattle.own_model.proofs.RunLemmas.{own_part-append}
-use Rattle.own_model.specs.Call.{Call, Spoken, spoken}
+use Rattle.own_model.specs.Call.{Call, Spoken, parsed_call}
 use Rattle.own_model.specs.OwnState.{OwnState}
 use Rattle.own_model.specs.OwnStep.{own_run, own_step}
-use Rattle.own_model.specs.SaidBy.{Piece, PiecesAreTold, PiecesStandAlone, StateStandsAlone, component_of, is_said_by, is_under, joined, pieces, pieces_for, said_by}
+use Rattle.own_model.specs.LinesOfName.{Piece, PiecesAreOutput, PiecesAreIndependent, StateIsIndependent, component_of, is_line_of, is_under, joined, pieces, pieces_for, said_by}
 use Rattle.own_model.specs.StartList.{Entry, Kind}
 use Rattle.own_model.specs.StartList.Kind.{Script, Server, Init}
-use Rattle.own_model.specs.Transcript.{Made, Heard, own_part, nobody, entry_at, state_at, heard, heard_of, heard_call, heard_spoken, calls_in, calls_of, longest_line, outcome_text, told, told_after}
+use Rattle.own_model.specs.Transcript.{Made, Heard, own_part, nobody, entry_at, state_at, heard, classify_call, heard_call, heard_spoken, calls_in, calls_of, longest_line, outcome_text, told, transcript_after}
 use Rattle.own_model.specs.Transcript.Heard.{NoCall, Caller}
 
 -- the pieces are what is told
-pub pieces_are_told : PiecesAreTold
+pub pieces_are_told : PiecesAreOutput
 pieces_are_told entries starts earlier [] = refl
 pieces_are_told entries starts earlier (line ∷ lines) =
     ap (λ rest. told entries starts earlier (heard entries line) ++ rest) (pieces_are_told entries starts (earlier ++ calls_in (heard entries line)) lines)
@@ -49,7 +49,7 @@ module _ (entries : List Entry) (starts : List OwnState) (name : List ℕ) where
 
   -- another line makes no call of the name's component
   module _ (component : ℕ) (here : component_of entries name ≡ Some component) where
-    others_call : (kind : Kind) (says : Spoken) (k : ℕ) → eqb k component ≡ false → own_part component (calls_in (heard_of kind says k)) ≡ []
+    others_call : (kind : Kind) (says : Spoken) (k : ℕ) → eqb k component ≡ false → own_part component (calls_in (classify_call kind says k)) ≡ []
     others_call Script says k other = ap (λ b. cond b (says.call ∷ []) []) other
     others_call Server says k other = ap (λ b. cond b (says.call ∷ []) []) other
     others_call Init says k other = refl
@@ -77,7 +77,7 @@ module _ (entries : List Entry) (starts : List OwnState) (name : List ℕ) where
 
   -- so is a line of its name, whatever its kind
   told_of : (kind : Kind) (call : Call) (component : ℕ) (xs ys : List Made) → own_part component xs ≡ own_part component ys →
-      told entries starts xs (heard_of kind (record { name = name; call = call }) component) ≡ told entries starts ys (heard_of kind (record { name = name; call = call }) component)
+      told entries starts xs (classify_call kind (record { name = name; call = call }) component) ≡ told entries starts ys (classify_call kind (record { name = name; call = call }) component)
   told_of Script call component xs ys alike = answered_alike call component xs ys alike
   told_of Server call component xs ys alike = answered_alike call component xs ys alike
   told_of Init call component xs ys alike = refl
@@ -93,30 +93,30 @@ module _ (entries : List Entry) (starts : List OwnState) (name : List ℕ) where
       own_part-append component xs zs ∙ ap (λ part. part ++ own_part component zs) (alike component here) ∙ sym (own_part-append component ys zs)
 
   -- another line keeps them so where it stands in one of them alone
-  alike_past : (line : List ℕ) (xs ys : List Made) → is_said_by name line ≡ false → Alike xs ys → Alike (xs ++ calls_in (heard entries line)) ys
+  alike_past : (line : List ℕ) (xs ys : List Made) → is_line_of name line ≡ false → Alike xs ys → Alike (xs ++ calls_in (heard entries line)) ys
   alike_past line xs ys other alike component here =
       own_part-append component xs (calls_in (heard entries line))
-      ∙ ap (λ part. own_part component xs ++ part) (other_line component here (nat_le (length line) longest_line) (spoken line) other)
+      ∙ ap (λ part. own_part component xs ++ part) (other_line component here (nat_le (length line) longest_line) (parsed_call line) other)
       ∙ append-nil (own_part component xs) ∙ alike component here
 
   -- a name's lines are told alike among others and alone
-  told_line : (line : List ℕ) (xs ys : List Made) → is_said_by name line ≡ true → Alike xs ys → told entries starts xs (heard entries line) ≡ told entries starts ys (heard entries line)
+  told_line : (line : List ℕ) (xs ys : List Made) → is_line_of name line ≡ true → Alike xs ys → told entries starts xs (heard entries line) ≡ told entries starts ys (heard entries line)
   told_line line xs ys own alike =
-      let says = own_line (nat_le (length line) longest_line) (spoken line) own in
+      let says = own_line (nat_le (length line) longest_line) (parsed_call line) own in
       subst (λ what. told entries starts xs what ≡ told entries starts ys what) (sym says.1) (told_alike says.0 (component_of entries name) xs ys refl alike)
 
   told_alone : (lines : List (List ℕ)) (xs ys : List Made) → Alike xs ys →
-      joined (pieces_for name (pieces entries starts xs lines)) ≡ told_after entries starts ys (said_by (Some name) lines)
+      joined (pieces_for name (pieces entries starts xs lines)) ≡ transcript_after entries starts ys (said_by (Some name) lines)
   told_alone [] xs ys alike = refl
   told_alone (line ∷ lines) xs ys alike =
       let next = calls_in (heard entries line) in
       let here : Piece = record { line = line; text = told entries starts xs (heard entries line) } in
       let theirs = pieces_for name (pieces entries starts (xs ++ next) lines) in
       let ours = said_by (Some name) lines in
-      elim (is_said_by name line) as (λ b. is_said_by name line ≡ b → joined (cond b (here ∷ theirs) theirs) ≡ told_after entries starts ys (cond b (line ∷ ours) ours)) [
+      elim (is_line_of name line) as (λ b. is_line_of name line ≡ b → joined (cond b (here ∷ theirs) theirs) ≡ transcript_after entries starts ys (cond b (line ∷ ours) ours)) [
         | true ↦ λ own.
             ap (λ rest. here.text ++ rest) (told_alone lines (xs ++ next) (ys ++ next) (alike_more xs ys next alike))
-            ∙ ap (λ text. text ++ told_after entries starts (ys ++ next) ours) (told_line line xs ys own alike)
+            ∙ ap (λ text. text ++ transcript_after entries starts (ys ++ next) ours) (told_line line xs ys own alike)
         | false ↦ λ other. told_alone lines (xs ++ next) ys (alike_past line xs ys other alike)
       ] refl
 
@@ -129,18 +129,18 @@ module _ (entries : List Entry) (starts : List OwnState) (name : List ℕ) where
       let first : own_part component (calls_of entries (line ∷ lines)) ≡ own_part component next ++ own_part component (calls_of entries lines) =
       own_part-append component next (calls_of entries lines) in
       let later = calls_alike lines component here in
-      elim (is_said_by name line) as (λ b. is_said_by name line ≡ b → own_part component (calls_of entries (line ∷ lines)) ≡ own_part component (calls_of entries (cond b (line ∷ ours) ours))) [
+      elim (is_line_of name line) as (λ b. is_line_of name line ≡ b → own_part component (calls_of entries (line ∷ lines)) ≡ own_part component (calls_of entries (cond b (line ∷ ours) ours))) [
         | true ↦ λ own.
             first ∙ ap (λ part. own_part component next ++ part) later ∙ sym (own_part-append component next (calls_of entries ours))
         | false ↦ λ other.
-            first ∙ ap (λ part. part ++ own_part component (calls_of entries lines)) (other_line component here (nat_le (length line) longest_line) (spoken line) other) ∙ later
+            first ∙ ap (λ part. part ++ own_part component (calls_of entries lines)) (other_line component here (nat_le (length line) longest_line) (parsed_call line) other) ∙ later
       ] refl
 
 -- the law of the transcript
-pub pieces_stand_alone : PiecesStandAlone
+pub pieces_stand_alone : PiecesAreIndependent
 pieces_stand_alone entries starts name lines = told_alone entries starts name lines [] [] (λ component here. refl)
 
 -- and of the own state
-pub state_stands_alone : StateStandsAlone
+pub state_stands_alone : StateIsIndependent
 state_stands_alone entries starts name lines component here =
     ap (λ part. own_run (entry_at entries component) part (state_at starts component)) (calls_alike entries starts name lines component here)

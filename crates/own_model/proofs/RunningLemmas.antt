@@ -5,16 +5,16 @@ use Rattle.std.proofs.lemmas.Bool.{cases_lt}
 use Rattle.std.proofs.lemmas.Bool.Decides.{nat_tests}
 use Rattle.own_model.proofs.RunLemmas.{own_run-append, own_part-append}
 use Rattle.own_model.proofs.StepExitLemmas.{gone_left}
-use Rattle.own_model.specs.Laws.{InitsOverLast}
+use Rattle.own_model.specs.Theorems.{InitsOverLast}
 use Rattle.own_model.specs.Call.{Call}
 use Rattle.own_model.specs.OwnState.{OwnState}
 use Rattle.own_model.specs.OwnStep.{own_run, own_step}
-use Rattle.own_model.specs.Running.{running_step, states_after_call, states_after_heard, told_now, states_running, inits_after_heard, told_running}
+use Rattle.own_model.specs.Running.{running_step, states_after_call, states_after_line, told_now, states_running, inits_after_line, running_transcript}
 use Rattle.own_model.specs.StartList.{Entry}
 use Rattle.own_model.specs.Text.{lines_of}
-use Rattle.own_model.specs.Transcript.{Made, Heard, own_part, nothing, entry_at, state_at, state_after, heard, calls_in, calls_of, told, told_after, transcript}
+use Rattle.own_model.specs.Transcript.{Made, Heard, own_part, nothing, entry_at, state_at, state_after, heard, calls_in, calls_of, told, transcript_after, transcript}
 use Rattle.own_model.specs.Transcript.Heard.{NoCall, Stranger, Caller}
-use Rattle.own_model.specs.World.{World, world_running, world_after_heard}
+use Rattle.own_model.specs.World.{World, world_running, world_after_line}
 
 -- no call changes the state of who has nothing
 nothing_stays : (entry : Entry) (call : Call) → (own_step entry call nothing).next ≡ nothing
@@ -64,7 +64,7 @@ Tracks-call entries starts states earlier made h = search (rules, tracks_call, s
 
 -- after what was heard they are too
 pub Tracks-heard : (entries : List Entry) (starts states : List OwnState) (earlier : List Made) (what : Heard) →
-    Tracks entries starts states earlier → Tracks entries starts (states_after_heard entries states what) (earlier ++ calls_in what)
+    Tracks entries starts states earlier → Tracks entries starts (states_after_line entries states what) (earlier ++ calls_in what)
 Tracks-heard entries starts states earlier NoCall h = rw (append-nil earlier) h
 Tracks-heard entries starts states earlier (Stranger name) h = rw (append-nil earlier) h
 Tracks-heard entries starts states earlier (Caller made) h = Tracks-call entries starts states earlier made h
@@ -77,15 +77,15 @@ told_same entries starts states earlier (Stranger name) h = refl
 told_same entries starts states earlier (Caller made) h = rw (h.at made.component) refl
 
 -- what is told of the lines that follow is the same from both
-pub told_after-running : (entries : List Entry) (starts states : List OwnState) (earlier : List Made) (lines : List (List ℕ)) →
-    Tracks entries starts states earlier → told_after entries starts earlier lines ≡ told_running entries states lines
-told_after-running entries starts states earlier [] h = refl
-told_after-running entries starts states earlier (line ∷ lines) h =
+pub transcript_after-running : (entries : List Entry) (starts states : List OwnState) (earlier : List Made) (lines : List (List ℕ)) →
+    Tracks entries starts states earlier → transcript_after entries starts earlier lines ≡ running_transcript entries states lines
+transcript_after-running entries starts states earlier [] h = refl
+transcript_after-running entries starts states earlier (line ∷ lines) h =
     let here : told entries starts earlier (heard entries line) ≡ told_now entries states (heard entries line)
     = told_same entries starts states earlier (heard entries line) h in
-    let after : told_after entries starts (earlier ++ calls_in (heard entries line)) lines
-    ≡ told_running entries (states_after_heard entries states (heard entries line)) lines
-    = told_after-running entries starts (states_after_heard entries states (heard entries line))
+    let after : transcript_after entries starts (earlier ++ calls_in (heard entries line)) lines
+    ≡ running_transcript entries (states_after_line entries states (heard entries line)) lines
+    = transcript_after-running entries starts (states_after_line entries states (heard entries line))
     (earlier ++ calls_in (heard entries line)) lines
     (Tracks-heard entries starts states earlier (heard entries line) h) in
     cc
@@ -95,39 +95,39 @@ pub Tracks-running : (entries : List Entry) (starts states : List OwnState) (ear
     Tracks entries starts states earlier → Tracks entries starts (states_running entries states lines) (earlier ++ calls_of entries lines)
 Tracks-running entries starts states earlier [] h = rw (append-nil earlier) h
 Tracks-running entries starts states earlier (line ∷ lines) h =
-    subst (Tracks entries starts (states_running entries (states_after_heard entries states (heard entries line)) lines))
+    subst (Tracks entries starts (states_running entries (states_after_line entries states (heard entries line)) lines))
     (append_assoc earlier (calls_in (heard entries line)) (calls_of entries lines))
-    (Tracks-running entries starts (states_after_heard entries states (heard entries line)) (earlier ++ calls_in (heard entries line)) lines
+    (Tracks-running entries starts (states_after_line entries states (heard entries line)) (earlier ++ calls_in (heard entries line)) lines
     (Tracks-heard entries starts states earlier (heard entries line) h))
 
 -- the states after lines and one line more
 pub states_running-push : (entries : List Entry) (states : List OwnState) (lines : List (List ℕ)) (line : List ℕ) →
-    states_running entries states (lines ++ line ∷ []) ≡ states_after_heard entries (states_running entries states lines) (heard entries line)
+    states_running entries states (lines ++ line ∷ []) ≡ states_after_line entries (states_running entries states lines) (heard entries line)
 states_running-push entries states [] line = refl
-states_running-push entries states (first ∷ lines) line = grind (arith, nat_tests, states_running-push entries (states_after_heard entries states (heard entries first)) lines line)
+states_running-push entries states (first ∷ lines) line = grind (arith, nat_tests, states_running-push entries (states_after_line entries states (heard entries first)) lines line)
 
 -- inits' accounts after lines and one line more
 pub inits_running-push : InitsOverLast
 inits_running-push entries inits states [] line = refl
 inits_running-push entries inits states (first ∷ lines) line =
-    inits_running-push entries (inits_after_heard entries inits states (heard entries first)) (states_after_heard entries states (heard entries first)) lines line
+    inits_running-push entries (inits_after_line entries inits states (heard entries first)) (states_after_line entries states (heard entries first)) lines line
 
 -- so the world after lines and one line more
 pub world_running-push : (world : World) (lines : List (List ℕ)) (line : List ℕ) →
-    world_running world (lines ++ line ∷ []) ≡ world_after_heard (world_running world lines) (heard world.entries line)
+    world_running world (lines ++ line ∷ []) ≡ world_after_line (world_running world lines) (heard world.entries line)
 world_running-push world lines line = grind (arith, nat_tests, states_running-push, inits_running-push)
 
 -- what is told of lines and one line more
-pub told_running-push : (entries : List Entry) (states : List OwnState) (lines : List (List ℕ)) (line : List ℕ) →
-    told_running entries states (lines ++ line ∷ [])
-    ≡ told_running entries states lines ++ told_now entries (states_running entries states lines) (heard entries line)
-told_running-push entries states [] line = append-nil (told_now entries states (heard entries line))
-told_running-push entries states (first ∷ lines) line = grind (arith, nat_tests, append_assoc, told_running-push entries (states_after_heard entries states (heard entries first)) lines line)
+pub running_transcript-push : (entries : List Entry) (states : List OwnState) (lines : List (List ℕ)) (line : List ℕ) →
+    running_transcript entries states (lines ++ line ∷ [])
+    ≡ running_transcript entries states lines ++ told_now entries (states_running entries states lines) (heard entries line)
+running_transcript-push entries states [] line = append-nil (told_now entries states (heard entries line))
+running_transcript-push entries states (first ∷ lines) line = grind (arith, nat_tests, append_assoc, running_transcript-push entries (states_after_line entries states (heard entries first)) lines line)
 
 -- the law of both forms
 pub transcript-running : (entries : List Entry) (starts : List OwnState) (input : List ℕ) →
-    transcript entries starts input ≡ told_running entries starts (lines_of input)
-transcript-running entries starts input = search (rules, told_after-running, Tracks-none)
+    transcript entries starts input ≡ running_transcript entries starts (lines_of input)
+transcript-running entries starts input = search (rules, transcript_after-running, Tracks-none)
 
 -- each running state is own run
 pub states_running-at : (entries : List Entry) (starts : List OwnState) (lines : List (List ℕ)) (component : ℕ) →
@@ -136,7 +136,7 @@ states_running-at entries starts lines component =
     (Tracks-running entries starts starts [] lines (Tracks-none entries starts)).at component
 
 -- there are as many states after what was heard
-heard-length : (entries : List Entry) (states : List OwnState) (what : Heard) → length (states_after_heard entries states what) ≡ length states
+heard-length : (entries : List Entry) (states : List OwnState) (what : Heard) → length (states_after_line entries states what) ≡ length states
 heard-length entries states NoCall = refl
 heard-length entries states (Stranger name) = refl
 heard-length entries states (Caller made) = length-set states made.component (running_step entries states made).next
@@ -144,7 +144,7 @@ heard-length entries states (Caller made) = length-set states made.component (ru
 -- there are as many states after lines
 pub length-states_running : (entries : List Entry) (states : List OwnState) (lines : List (List ℕ)) → length (states_running entries states lines) ≡ length states
 length-states_running entries states [] = refl
-length-states_running entries states (line ∷ lines) = grind (arith, nat_tests, heard-length, length-states_running entries (states_after_heard entries states (heard entries line)) lines)
+length-states_running entries states (line ∷ lines) = grind (arith, nat_tests, heard-length, length-states_running entries (states_after_line entries states (heard entries line)) lines)
 
 -- the laws by which a loop over lines is proved
-pub ruleset running = (told_running-push, states_running-push, inits_running-push, length-states_running, transcript-running, states_running-at)
+pub ruleset running = (running_transcript-push, states_running-push, inits_running-push, length-states_running, transcript-running, states_running-at)

@@ -14,7 +14,7 @@ use Rattle.own_model.proofs.BufferMadeLemmas.{request_new}
 use Rattle.own_model.proofs.FileServiceLemmas.{no_files_are}
 use Rattle.own_model.proofs.LogLemmas.{writes_lines}
 use Rattle.own_model.specs.Account.{WithinLimits}
-use Rattle.own_model.specs.BufferLaws.{FitsBuffer}
+use Rattle.own_model.specs.BufferTheorems.{FitsBuffer}
 use Rattle.own_model.specs.BufferService.{buffer_caps, buffer_ram, session_request}
 use Rattle.own_model.specs.FileService.{IsCharged}
 use Rattle.own_model.specs.LogService.{IsUnbroken, IsPartial, log_served_bytes}

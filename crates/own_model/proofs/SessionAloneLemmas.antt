@@ -19,7 +19,7 @@ use Rattle.own_model.specs.OwnState.Object.{Dataspace, RpcObject, OpenSession, B
 use Rattle.own_model.specs.OwnStep.{Outcome, own_step, unless, turned_away, opened_by, session_opened, upgraded_by, session_upgraded, session_called, session_closed, selectors_lent}
 use Rattle.own_model.specs.Session.{Session, Wish, wish, donation_refusal, new_session, upgraded, served}
 use Rattle.own_model.specs.SessionArgs.{Arguments}
-use Rattle.own_model.specs.SessionLaws.{is_of, SessionsStandAlone}
+use Rattle.own_model.specs.SessionTheorems.{is_of, SessionsAreIndependent}
 use Rattle.own_model.specs.StartList.{Entry}
 
 module _ (selector : ℕ) (session : Session) where
@@ -131,5 +131,5 @@ module _ (selector : ℕ) (session : Session) where
   stays true entry call s there is other = stays_by entry call s there is other
   stays false entry call s there is other = others_go_on IsThere s there (effects_leave s there) entry call (λ _. record { requests = λ _ _. there; yields = λ _ _. there }) is (no_exit call other)
 
-pub stand_alone : SessionsStandAlone
+pub stand_alone : SessionsAreIndependent
 stand_alone entry call s selector session there other = stays selector session (is_of_session call) entry call s there refl other

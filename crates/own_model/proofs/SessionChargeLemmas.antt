@@ -19,9 +19,9 @@ use Rattle.own_model.specs.BufferService.{buffer_ram, buffer_caps}
 use Rattle.own_model.specs.NatMap.{NatMap}
 use Rattle.own_model.specs.OwnState.{OwnState, Object, NamedBuffer, is_buffer_of, buffer_of, bytes_of_buffer, bytes_named, new_selector, zeros, object_with, session_named}
 use Rattle.own_model.specs.OwnState.Object.{Dataspace, RpcObject, OpenSession, Buffer}
-use Rattle.own_model.specs.OwnStep.{selectors_lent, gone_state}
+use Rattle.own_model.specs.OwnStep.{selectors_lent, exited_state}
 use Rattle.own_model.specs.Session.{Session, Wish, new_session, upgraded, served}
-use Rattle.own_model.specs.SessionLaws.{RunKeepsCharges}
+use Rattle.own_model.specs.SessionTheorems.{RunKeepsCharges}
 use Rattle.own_model.specs.Sound.{AreLent}
 use Rattle.own_model.specs.Use.{UsesItsCharge, UseTheirCharges}
 
@@ -256,7 +256,7 @@ sessions_pay s h =
       closes = λ selector x there. (lent.closes selector x there, charged_closed m h.0 selector x there h.1);
     }
 
-gone_pays : Pays gone_state
+gone_pays : Pays exited_state
 gone_pays = (gone_lent, λ q x is. absurd (none-some (OpenSession x) (sym (get-empty q) ∙ is)))
 
 -- calls leave each session using what it is charged for

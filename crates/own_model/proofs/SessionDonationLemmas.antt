@@ -23,8 +23,8 @@ use Rattle.own_model.specs.OwnStep.{Outcome, own_step, own_run, unless, turned_a
 use Rattle.own_model.specs.Reply.{Reply}
 use Rattle.own_model.specs.Reply.Reply.{Done, Refused}
 use Rattle.own_model.specs.Routes.{Level, ServerAt, label_with, provider}
-use Rattle.own_model.specs.Session.{Session, Wish, given_by, wish_of, wish_in, donation_refusal, new_session, upgraded, served}
-use Rattle.own_model.specs.SessionLaws.{LimitsAreDonations, ClosesReturnDonations}
+use Rattle.own_model.specs.Session.{Session, Wish, given_by, routed_request, resolved_request, donation_refusal, new_session, upgraded, served}
+use Rattle.own_model.specs.SessionTheorems.{LimitsAreDonations, ClosesReturnDonations}
 use Rattle.own_model.specs.SessionArgs.{Arguments, arguments_of}
 use Rattle.own_model.specs.StartList.{Entry}
 
@@ -66,14 +66,14 @@ module _ (selector : ℕ) where
 
     -- one where the route leads somewhere or not
     opens_to : (service text name : List ℕ) (arguments : Arguments) → arguments_of text ≡ Some arguments → (to : Option ServerAt) →
-        IsCounted (Open service text) sum (opened_by (wish_of name arguments to) s)
+        IsCounted (Open service text) sum (opened_by (routed_request name arguments to) s)
     opens_to service text name arguments e None = h
     opens_to service text name arguments e (Some server) =
         let asked : Wish = record { server = server; label = label_with name arguments.label; ram = arguments.ram; caps = arguments.caps } in
         opens_by service text asked (ap (λ o. (given_by o).ram) (sym e), ap (λ o. (given_by o).caps) (sym e)) (donation_refusal s.account asked.ram asked.caps)
 
     opens : (service text name : List ℕ) (routes : List Level) (arguments : Option Arguments) → arguments_of text ≡ arguments →
-        IsCounted (Open service text) sum (opened_by (wish_in name routes service arguments) s)
+        IsCounted (Open service text) sum (opened_by (resolved_request name routes service arguments) s)
     opens service text name routes None e = h
     opens service text name routes (Some arguments) e = opens_to service text name arguments e (provider routes service arguments.label)
 

@@ -14,7 +14,7 @@ use Rattle.own_model.specs.OwnState.Object.{Dataspace, RpcObject, OpenSession, B
 use Rattle.own_model.specs.Session.{Session, Wish, donation_refusal, too_small, new_session, upgraded, served, session_ram, session_caps}
 use Rattle.trade_base.specs.declared.refusal.Refusal.{Refusal}
 use Rattle.std.proofs.lemmas.Bool.{ltb-false}
-use Rattle.own_model.specs.OwnStep.{gone_state, selectors_lent}
+use Rattle.own_model.specs.OwnStep.{exited_state, selectors_lent}
 
 -- ---- what a donation that is accepted has
 
@@ -90,7 +90,7 @@ module _ (Q : ℕ → Session → Type 0) where
   reserve_named s h = record { requests = λ _ _. h; yields = λ _ _. h }
 
   -- who has exited has none
-  pub gone_named : EachNamed gone_state
+  pub gone_named : EachNamed exited_state
   gone_named selector session is = absurd (none-some (OpenSession session) (sym (get-empty selector) ∙ is))
 
 module _ (Q : Session → Type 0) where
@@ -104,7 +104,7 @@ module _ (Q : Session → Type 0) where
   pub reserve_each : (s : OwnState) → EachSession Q s → KeptByReserve (EachSession Q) s
   reserve_each s h = reserve_named Named s h
 
-  pub gone_each : EachSession Q gone_state
+  pub gone_each : EachSession Q exited_state
   gone_each = gone_named Named
 
   -- calls of sessions keep what holds of a new session, of one with more, and of one that has served

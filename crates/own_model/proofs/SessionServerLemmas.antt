@@ -15,9 +15,9 @@ use Rattle.own_model.specs.OwnState.{OwnState, new_selector, buffer_of, bytes_of
 use Rattle.own_model.specs.OwnState.Object.{OpenSession}
 use Rattle.own_model.specs.OwnStep.{Outcome, own_step, unless, turned_away, opened_by, session_opened, upgraded_by, session_upgraded, session_called, session_closed, selectors_lent}
 use Rattle.own_model.specs.Routes.{Level, ServerAt, label_with, provider}
-use Rattle.own_model.specs.Session.{Labelled, Session, Wish, donation_refusal, given_by, new_session, served, session_with, upgraded, wish_in, wish_of}
+use Rattle.own_model.specs.Session.{Labelled, Session, Wish, donation_refusal, given_by, new_session, served, session_with, upgraded, resolved_request, routed_request}
 use Rattle.own_model.specs.SessionArgs.{Arguments, arguments_of}
-use Rattle.own_model.specs.SessionLaws.{SessionsHaveTheirServers, server_asked}
+use Rattle.own_model.specs.SessionTheorems.{SessionsHaveTheirServers, server_asked}
 use Rattle.own_model.specs.StartList.{Entry}
 
 -- ---- one request
@@ -48,14 +48,14 @@ module _ (s : OwnState) (asked : Option ℕ) where
       after_one Its s.selectors (new_selector s.selectors) (OpenSession (new_session wish)) at_first
       (sym (ap (λ o. option_or (server_named o) asked) (new_selector_free s.selectors) ∙ to))
 
-  opens_to : (client : List ℕ) (arguments : Arguments) (to : Option ServerAt) → asked ≡ option_map (λ server. server.place) to → HaveTheirs (opened_by (wish_of client arguments to) s).next
+  opens_to : (client : List ℕ) (arguments : Arguments) (to : Option ServerAt) → asked ≡ option_map (λ server. server.place) to → HaveTheirs (opened_by (routed_request client arguments to) s).next
   opens_to client arguments None is = at_first
   opens_to client arguments (Some server) is =
       let wish : Wish = record { server = server; label = label_with client arguments.label; ram = arguments.ram; caps = arguments.caps } in
       unless_have (donation_refusal s.account arguments.ram arguments.caps) (session_opened wish s) (opens wish is)
 
   opens_by : (client : List ℕ) (routes : List Level) (service : List ℕ) (arguments : Option Arguments) →
-      asked ≡ option_map (λ server. server.place) (provider routes service (given_by arguments).label) → HaveTheirs (opened_by (wish_in client routes service arguments) s).next
+      asked ≡ option_map (λ server. server.place) (provider routes service (given_by arguments).label) → HaveTheirs (opened_by (resolved_request client routes service arguments) s).next
   opens_by client routes service None is = at_first
   opens_by client routes service (Some arguments) is = opens_to client arguments (provider routes service arguments.label) is
 

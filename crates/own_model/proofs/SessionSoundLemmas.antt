@@ -3,7 +3,7 @@ use Rattle.own_model.proofs.ServiceLemmas.{Keeps, kept_after, kept_at_first}
 use Rattle.own_model.proofs.SessionLemmas.{effects_each, reserve_each, sessions_each, gone_each}
 use Rattle.own_model.proofs.StepTableLemmas.{run_keeps}
 use Rattle.own_model.specs.OwnState.{EachSession}
-use Rattle.own_model.specs.SessionLaws.{RunKeepsKept}
+use Rattle.own_model.specs.SessionTheorems.{RunKeepsKept}
 
 -- what is kept for a session is as it should be after calls
 pub run_kept : RunKeepsKept

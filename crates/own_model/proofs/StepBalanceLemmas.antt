@@ -12,14 +12,14 @@ use Rattle.own_model.proofs.ListLemmas.{all_set, all_at}
 use Rattle.own_model.specs.AccountList.{TotalsAreTheMachine, total_line}
 use Rattle.own_model.specs.Account.{Account}
 use Rattle.own_model.specs.Call.{Call, is_exit}
-use Rattle.own_model.specs.Laws.{StepKeepsBalance, LinesKeepBalance, StepKeepsBalanceFor, LinesKeepBalanceFor, LimitsFitTheMachine}
+use Rattle.own_model.specs.Theorems.{StepKeepsBalance, LinesKeepBalance, StepKeepsBalanceFor, LinesKeepBalanceFor, LimitsFitTheMachine}
 use Rattle.own_model.specs.Limits.{ram_limits, caps_limits, init_after, AreWithinLimits}
 use Rattle.own_model.specs.OwnState.{OwnState}
-use Rattle.own_model.specs.OwnStep.{own_step, gone_state}
+use Rattle.own_model.specs.OwnStep.{own_step, exited_state}
 use Rattle.own_model.specs.StartList.{Entry, StartEntry, StartList, entries_of, init_at, inits_kept, no_account, own_budget}
 use Rattle.own_model.specs.Transcript.{Heard, heard, entry_at, state_at, nobody, nothing}
 use Rattle.own_model.specs.Transcript.Heard.{NoCall, Stranger, Caller}
-use Rattle.own_model.specs.World.{World, HasItsBudget, ram_returned, caps_returned, init_for, IsUnused, IsBalanced, IsBalancedFor, world_after_heard, with_state, outcome_at}
+use Rattle.own_model.specs.World.{World, HasItsBudget, ram_returned, caps_returned, init_for, IsUnused, IsBalanced, IsBalancedFor, world_after_line, with_state, outcome_at}
 use Rattle.own_model.specs.Donation.{raised}
 
 -- a sum, where an element gives way to one that counts no more: with what is lost it is what it was
@@ -103,7 +103,7 @@ step_balanced pages caps world component call h =
     step_by pages caps world component call (home_there (length world.inits) world.entries component h.homes) h
 
 -- what was heard leaves it balanced
-heard_balanced : (pages caps : ℕ) (world : World) (what : Heard) → IsBalanced pages caps world → IsBalanced pages caps (world_after_heard world what)
+heard_balanced : (pages caps : ℕ) (world : World) (what : Heard) → IsBalanced pages caps world → IsBalanced pages caps (world_after_line world what)
 heard_balanced pages caps world NoCall h = h
 heard_balanced pages caps world (Stranger name) h = h
 heard_balanced pages caps world (Caller made) h = step_balanced pages caps world made.component made.call h
@@ -113,7 +113,7 @@ pub lines_balanced : LinesKeepBalance
 lines_balanced pages caps world [] h = h
 lines_balanced pages caps world (line ∷ lines) h =
     let what : Heard = heard world.entries line in
-    lines_balanced pages caps (world_after_heard world what) lines (heard_balanced pages caps world what h)
+    lines_balanced pages caps (world_after_line world what) lines (heard_balanced pages caps world what h)
 
 -- what stands somewhere in a list counts no more than all
 at_most : {X : Type 0} (f : X → ℕ) (xs : List X) (i : ℕ) (d : X) → f d ≡ 0 → f (get_or xs i d) ≤ sum_by f xs
@@ -136,16 +136,16 @@ world_on world component call on =
 
 -- an exit gives its caller's init all that its caller had
 pub world_exited : (world : World) (component : ℕ) →
-    with_state world component gone_state
+    with_state world component exited_state
     ≡ record world {
       inits = set world.inits (entry_at world.entries component).home
           (raised (init_at world.inits (entry_at world.entries component).home) (ram_limits (state_at world.states component)) (caps_limits (state_at world.states component)));
-      states = set world.states component gone_state;
+      states = set world.states component exited_state;
     }
 world_exited world component =
     let home : ℕ = (entry_at world.entries component).home in
     let gains = init_gains (init_at world.inits home) (state_at world.states component) in
-    λ i. record world { inits = set world.inits home (gains i); states = set world.states component gone_state }
+    λ i. record world { inits = set world.inits home (gains i); states = set world.states component exited_state }
 
 -- ---- the balance of a start list
 
@@ -277,7 +277,7 @@ step_balanced_for list world component call h =
     step_for list world component call (home_there (length world.inits) world.entries component h.balanced.homes) h
 
 -- what was heard leaves it
-heard_balanced_for : (list : StartList) (world : World) (what : Heard) → IsBalancedFor list world → IsBalancedFor list (world_after_heard world what)
+heard_balanced_for : (list : StartList) (world : World) (what : Heard) → IsBalancedFor list world → IsBalancedFor list (world_after_line world what)
 heard_balanced_for list world NoCall h = h
 heard_balanced_for list world (Stranger name) h = h
 heard_balanced_for list world (Caller made) h = step_balanced_for list world made.component made.call h
@@ -285,7 +285,7 @@ heard_balanced_for list world (Caller made) h = step_balanced_for list world mad
 -- lines leave it
 pub lines_balanced_for : LinesKeepBalanceFor
 lines_balanced_for list world [] h = h
-lines_balanced_for list world (line ∷ lines) h = let what : Heard = heard world.entries line in lines_balanced_for list (world_after_heard world what) lines (heard_balanced_for list world what h)
+lines_balanced_for list world (line ∷ lines) h = let what : Heard = heard world.entries line in lines_balanced_for list (world_after_line world what) lines (heard_balanced_for list world what h)
 
 -- the sums of the account list are the machine's
 pub totals : TotalsAreTheMachine

@@ -8,9 +8,9 @@ use Rattle.own_model.proofs.StepLemmas.{KeptByEffects, KeptByReserve, KeptBySess
 use Rattle.own_model.proofs.StepTableLemmas.{goes_on}
 use Rattle.own_model.specs.Call.{Call, is_exit}
 use Rattle.own_model.specs.Call.Call.{Exit}
-use Rattle.own_model.specs.Laws.{ExitsAreDone, GoneAreTurnedAway, GoneStay, ExitsAlone, ExitsEndAll}
+use Rattle.own_model.specs.Theorems.{ExitsAreDone, ExitedAreRefused, ExitedStay, ExitsAlone, ExitsEndAll}
 use Rattle.own_model.specs.OwnState.{OwnState}
-use Rattle.own_model.specs.OwnStep.{own_step, own_run, entry_step, exits, exited, gone_state, unless, turned_away}
+use Rattle.own_model.specs.OwnStep.{own_step, own_run, entry_step, exits, exited, exited_state, unless, turned_away}
 use Rattle.own_model.specs.StartList.{Entry, Kind}
 use Rattle.own_model.specs.StartList.Kind.{Script, Server, Init}
 
@@ -20,13 +20,13 @@ exit_is Exit is = refl
 exit_is call is = absurd (true≢false (sym is))
 
 -- an exit is done or turned away
-done_or_not : (P : Bool → OwnState → Type 0) (s : OwnState) (why : Option Refusal) → P true gone_state → P false s → P (is_none why) (unless why s exited).next
+done_or_not : (P : Bool → OwnState → Type 0) (s : OwnState) (why : Option Refusal) → P true exited_state → P false s → P (is_none why) (unless why s exited).next
 done_or_not P s (Some refusal) gone same = same
 done_or_not P s None gone same = gone
 
 -- what holds after each call that isn't an exit, of who has exited, and where nothing is changed, holds after each call
 pub by_exit : (P : Bool → OwnState → Type 0) (entry : Entry) (call : Call) (s : OwnState) →
-    (is_exit call ≡ false → P false (own_step entry call s).next) → P true gone_state → P false s → P (exits entry call s) (own_step entry call s).next
+    (is_exit call ≡ false → P false (own_step entry call s).next) → P true exited_state → P false s → P (exits entry call s) (own_step entry call s).next
 by_exit P entry call s on gone same = search (rules, exit_is, done_or_not)
 
 -- a script that isn't gone exits
@@ -34,7 +34,7 @@ pub exits_done : ExitsAreDone
 exits_done entry s script here = ap (λ kind. unless (turned_away kind s) s exited) script ∙ ap (λ b. unless (cond b (Some Gone) None) s exited) here
 
 -- one that is gone is turned away
-pub gone_turned : GoneAreTurnedAway
+pub gone_turned : ExitedAreRefused
 gone_turned entry call s script gone = cc
 
 -- who is gone is left, whatever it is
@@ -47,7 +47,7 @@ pub gone_left : (entry : Entry) (call : Call) (s : OwnState) → s.gone ≡ true
 gone_left entry call s gone = left_by entry.kind entry call s gone
 
 -- and so after any calls
-pub gone_stays : GoneStay
+pub gone_stays : ExitedStay
 gone_stays entry [] s gone = refl
 gone_stays entry (call ∷ calls) s gone = ap (own_run entry calls) (gone_left entry call s gone) ∙ gone_stays entry calls s gone
 

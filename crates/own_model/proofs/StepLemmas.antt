@@ -15,7 +15,7 @@ use Rattle.own_model.specs.NatMap.{NatMap}
 use Rattle.own_model.specs.OwnState.{OwnState, Object, named_bytes, pages_in}
 use Rattle.own_model.specs.OwnState.Object.{Dataspace, RpcObject, OpenSession}
 use Rattle.own_model.specs.OwnStep.{allocated, freed, with_region, region_detached, poked_at, payload_poked, block_poked, block_taken, grown_at, large_at, given_back, sliced_at, sliced_freed, own_heap_gap, cap_allocated, cap_freed, reserve_requested, reserve_yielded, session_opened, session_upgraded, session_called, session_closed}
-use Rattle.own_model.specs.Region.{Region, most_regions, user_low, user_high, can_stand, first_gap, user_gap, attach_refusal, attach_at_refusal}
+use Rattle.own_model.specs.Region.{Region, most_regions, user_low, user_high, can_attach, first_gap, user_gap, attach_refusal, attach_at_refusal}
 use Rattle.own_model.specs.Reserve.{reserve_account}
 use Rattle.own_model.specs.Session.{Session, Wish, donation_refusal}
 use Rattle.own_model.specs.SessionArgs.{Arguments}
@@ -30,7 +30,7 @@ pub record KeptByEffects (P : OwnState → Type 0) (s : OwnState) : Type 0 where
   pub frees : (selector : ℕ) (bytes : List ℕ) → get s.selectors selector ≡ Some (Dataspace bytes) → P (freed selector (Some (Dataspace bytes)) s).next
   -- an attachment where the pages can stand and there is room
   pub attaches : (selector address : ℕ) (bytes : List ℕ) → named_bytes (get s.selectors selector) ≡ Some bytes →
-      can_stand user_low user_high s.regions (pages_in bytes) address ≡ true → nat_le most_regions (len s.regions) ≡ false →
+      can_attach user_low user_high s.regions (pages_in bytes) address ≡ true → nat_le most_regions (len s.regions) ≡ false →
       P (with_region selector (pages_in bytes) address s).next
   -- a detachment
   pub detaches : (address : ℕ) → P (region_detached address s).next
@@ -91,12 +91,12 @@ some_of None h = absurd (true≢false h)
 some_of (Some a) h = refl
 
 -- the first gap of the user window is a place, where there is one
-gap_stands : (regions : NatMap Region) (pages : ℕ) → is_none (first_gap user_low user_high regions pages) ≡ false → can_stand user_low user_high regions pages (user_gap regions pages) ≡ true
+gap_stands : (regions : NatMap Region) (pages : ℕ) → is_none (first_gap user_low user_high regions pages) ≡ false → can_attach user_low user_high regions pages (user_gap regions pages) ≡ true
 gap_stands regions pages there = grind (arith, nat_tests, some_of, first_gap_least, stands)
 
 -- where pages can be attached at a gap they can stand there, and there are fewer regions than the most
 pub attach_place : (most : ℕ) (regions : NatMap Region) (pages : ℕ) → attach_refusal most regions pages ≡ None →
-    (can_stand user_low user_high regions pages (user_gap regions pages) ≡ true) × (nat_le most (len regions) ≡ false)
+    (can_attach user_low user_high regions pages (user_gap regions pages) ≡ true) × (nat_le most (len regions) ≡ false)
 attach_place most regions pages accepted = grind (arith, nat_tests, neither, gap_stands)
 
 -- the same where the second test refuses what fails it
@@ -107,7 +107,7 @@ neither_then true false x y accepted = (refl, refl)
 
 -- the same of an address
 pub attach_at_place : (most : ℕ) (regions : NatMap Region) (pages address : ℕ) → attach_at_refusal most regions pages address ≡ None →
-    (can_stand user_low user_high regions pages address ≡ true) × (nat_le most (len regions) ≡ false)
+    (can_attach user_low user_high regions pages address ≡ true) × (nat_le most (len regions) ≡ false)
 attach_at_place most regions pages address accepted = search (rules, neither_then)
 
 -- an account that lacks nothing covers it

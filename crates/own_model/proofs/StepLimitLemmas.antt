@@ -11,8 +11,8 @@ use Rattle.own_model.specs.Account.{Account, WithinLimits, shortage}
 use Rattle.own_model.specs.Call.{Call, is_exit}
 use Rattle.own_model.specs.Call.Call.{Capalloc}
 use Rattle.own_model.specs.OwnState.{OwnState, Object, EachSession, new_selector, object_with, buffer_of, bytes_of_buffer}
-use Rattle.own_model.specs.OwnStep.{gone_state, own_step, own_run, entry_step, script_step, turned_away, unless, cap_allocated, selectors_lent, session_called, session_closed}
-use Rattle.own_model.specs.Laws.{ServersStay, StepKeepsLimits, OthersKeepOwnLimits, ExitsReturnLimits}
+use Rattle.own_model.specs.OwnStep.{exited_state, own_step, own_run, entry_step, script_step, turned_away, unless, cap_allocated, selectors_lent, session_called, session_closed}
+use Rattle.own_model.specs.Theorems.{ServersStay, StepKeepsLimits, OthersKeepOwnLimits, ExitsReturnLimits}
 use Rattle.own_model.specs.Donation.{raised}
 use Rattle.own_model.specs.Reply.Reply.{Refused}
 use Rattle.own_model.proofs.NewSelector.{new_selector_free}
@@ -55,7 +55,7 @@ reserve_within : (s : OwnState) → WithinLimits s.account → KeptByReserve (λ
 reserve_within s within = search (rules, covers)
 
 -- who has exited has nothing to overdraw
-gone_within : WithinLimits gone_state.account
+gone_within : WithinLimits exited_state.account
 gone_within = record { ram = lit≤ tt; caps = lit≤ tt }
 
 -- no call overdraws an account
@@ -79,7 +79,7 @@ step_all_within entry call s h = record {
 }
 
 -- nor are those of who has nothing
-pub gone_within_all : AreWithinLimits gone_state
+pub gone_within_all : AreWithinLimits exited_state
 gone_within_all = record { own = gone_within; sessions = gone_each IsWithin }
 
 -- a state with the limits of another
@@ -155,7 +155,7 @@ pub limits_move : (entry : Entry) (call : Call) (s : OwnState) → is_exit call 
 limits_move entry call s on = goes_on (SameInAll s) s (refl, refl) (effects_in_all s) entry call (λ _. reserve_moves s) (sessions_move s) on
 
 -- who has exited has none
-pub none_left : (ram_limits gone_state ≡ 0) × (caps_limits gone_state ≡ 0)
+pub none_left : (ram_limits exited_state ≡ 0) × (caps_limits exited_state ≡ 0)
 none_left = (omega (arith, total-empty ram_with), omega (arith, total-empty caps_with))
 
 -- so each call leaves the limits, but for an exit that is done
@@ -173,7 +173,7 @@ pub inits_stay : (home : ℕ) (inits : List Account) (s t : OwnState) → SameIn
 inits_stay home inits s t same = ap (set inits home) (init_stays (init_at inits home) s t same) ∙ set-get_or inits home no_account
 
 -- and all, where none are left
-pub init_gains : (init : Account) (s : OwnState) → init_after init s gone_state ≡ raised init (ram_limits s) (caps_limits s)
+pub init_gains : (init : Account) (s : OwnState) → init_after init s exited_state ≡ raised init (ram_limits s) (caps_limits s)
 init_gains init s = grind (arith, nat_tests, none_left)
 
 pub limits_returned : ExitsReturnLimits

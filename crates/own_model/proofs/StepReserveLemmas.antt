@@ -8,7 +8,7 @@ use Rattle.own_model.proofs.StepTableLemmas.{others_go_on, goes_on}
 use Rattle.own_model.specs.Account.{Account, shortage, parted_with}
 use Rattle.own_model.specs.OwnState.{OwnState}
 use Rattle.own_model.specs.Reserve.{no_reserve}
-use Rattle.own_model.specs.ReserveLaws.{OthersKeepReserve, LimitsAreMoved}
+use Rattle.own_model.specs.ReserveTheorems.{OthersKeepReserve, LimitsAreMoved}
 
 -- a state with the reserve of another
 abbrev SameReserve : OwnState → OwnState → Type 0

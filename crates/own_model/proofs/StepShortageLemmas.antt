@@ -20,9 +20,9 @@ use Rattle.own_model.specs.Amounts.{Amounts}
 use Rattle.own_model.specs.Donated.{donation_in}
 use Rattle.own_model.specs.Growth.{is_large, hole_for, least_growth, larger_growth}
 use Rattle.own_model.specs.HeapWindow.{largest_machine}
-use Rattle.own_model.specs.Laws.{RefusalsHaveReason}
+use Rattle.own_model.specs.Theorems.{RefusalsHaveReason}
 use Rattle.own_model.specs.OwnState.{OwnState}
-use Rattle.own_model.specs.OwnStep.{own_heap_gap, gone_state, own_run}
+use Rattle.own_model.specs.OwnStep.{own_heap_gap, exited_state, own_run}
 use Rattle.own_model.specs.Shortage.{asked_of, NoHiddenShortage, asked, asked_with, bytes_and_cap, NoHiddenShortageAfterLines}
 use Rattle.own_model.specs.Reserve.{reserve_account}
 use Rattle.own_model.specs.Sliced.{sliced_size}
@@ -193,7 +193,7 @@ no_hidden_shortage entry call s within sound uses small =
 -- ---- after any lines
 
 -- what holds of who starts and of who is gone, and after calls, holds of each component after lines
-after_lines : (P : OwnState → Type 0) → ((start : StartEntry) → P (start_state start)) → P gone_state →
+after_lines : (P : OwnState → Type 0) → ((start : StartEntry) → P (start_state start)) → P exited_state →
     ((entry : Entry) (calls : List Call) (s : OwnState) → P s → P (own_run entry calls s)) →
     (list : StartList) (lines : List (List ℕ)) (component : ℕ) → P (state_at (world_running (start_world list) lines).states component)
 after_lines P start gone run list lines component =

@@ -15,7 +15,7 @@ use Rattle.own_model.specs.Donation.{raised}
 use Rattle.own_model.specs.Amounts.{Amounts}
 use Rattle.own_model.specs.Reserve.{no_reserve}
 use Rattle.own_model.specs.Session.{Session, new_session, upgraded, served}
-use Rattle.own_model.specs.BufferLaws.{FitsBuffer}
+use Rattle.own_model.specs.BufferTheorems.{FitsBuffer}
 use Rattle.own_model.proofs.BufferKeptLemmas.{none_fits}
 use Rattle.own_model.proofs.ServiceLemmas.{serve_fits}
 use Rattle.own_model.proofs.LentLemmas.{buffer_there, lent_still}
@@ -28,8 +28,8 @@ use Rattle.own_model.specs.Call.Call.{Free, Attach, AttachAt}
 use Rattle.own_model.specs.NatMap.{NatMap, joined}
 use Rattle.own_model.specs.OwnState.{OwnState, Object, NamedBuffer, zeros, new_selector, pages_in, with_part, object_with, named_bytes, heap_ranges, buffer_of, bytes_of_buffer}
 use Rattle.own_model.specs.OwnState.Object.{Dataspace, RpcObject, OpenSession, Buffer}
-use Rattle.own_model.specs.OwnStep.{gone_state, own_step, own_run, script_step, refused, allocated, with_region, attached_first, attached_at, region_detached, poked_at, payload_poked, sliced_at, sliced_freed, own_heap_gap, cap_allocated, cap_freed, with_buffer}
-use Rattle.own_model.specs.Region.{Region, user_low, user_high, most_regions, can_stand, IsPlace, without}
+use Rattle.own_model.specs.OwnStep.{exited_state, own_step, own_run, script_step, refused, allocated, with_region, attached_first, attached_at, region_detached, poked_at, payload_poked, sliced_at, sliced_freed, own_heap_gap, cap_allocated, cap_freed, with_buffer}
+use Rattle.own_model.specs.Region.{Region, user_low, user_high, most_regions, can_attach, IsPlace, without}
 use Rattle.own_model.specs.Sound.{IsPages, NamesBytes, LieApart, AreMapped, IsBlock, KeysApart, IsSound}
 use Rattle.own_model.specs.OwnHeap.{ranges_of_heap, no_heap}
 use Rattle.own_model.specs.HeapWindow.{heap_low, heap_high, largest_machine}
@@ -233,7 +233,7 @@ fewer most n h = grind (arith, nat_tests)
 
 -- a region more, where its pages can stand and there is room, keeps an own state sound
 sound_attached : (selector address : ℕ) (bytes : List ℕ) (s : OwnState) → named_bytes (get s.selectors selector) ≡ Some bytes →
-    can_stand user_low user_high s.regions (pages_in bytes) address ≡ true → nat_le most_regions (len s.regions) ≡ false →
+    can_attach user_low user_high s.regions (pages_in bytes) address ≡ true → nat_le most_regions (len s.regions) ≡ false →
     IsSound s → IsSound (with_region selector (pages_in bytes) address s).next
 sound_attached selector address bytes s there can room h =
     let at = place user_low user_high s.regions (pages_in bytes) address can in
@@ -436,8 +436,8 @@ none_sound account reserve gone = record {
 pub start_sound : (start : StartEntry) → IsSound (start_state start)
 start_sound start = none_sound (start_state start).account (start_state start).reserve false
 
-pub gone_sound : IsSound gone_state
-gone_sound = none_sound gone_state.account no_reserve true
+pub gone_sound : IsSound exited_state
+gone_sound = none_sound exited_state.account no_reserve true
 
 -- a call keeps it so
 pub step_sound : (entry : Entry) (call : Call) (s : OwnState) → IsSound s → IsSound (own_step entry call s).next

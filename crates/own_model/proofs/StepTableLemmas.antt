@@ -19,14 +19,14 @@ use Rattle.own_model.specs.BestFit.{Spot, block_size}
 use Rattle.own_model.specs.Growth.{Growth, most_chunks, is_large, hole_for, growth_of, growth_refusal, small_refusal}
 use Rattle.own_model.specs.OwnState.{OwnState, Object, named_bytes, pages_in, session_named}
 use Rattle.own_model.specs.OwnState.Object.{Dataspace, RpcObject, OpenSession, Buffer}
-use Rattle.own_model.specs.OwnStep.{Outcome, own_step, own_run, entry_step, refused, unless, turned_away, allocated, freed, with_region, attached_first, attached_at, region_detached, count_refusal, peeked, poked, poked_at, payload_poked, block_poked, most_bytes, block_taken, grown_at, grown_in, large_at, large_in, small_new, given_back, deleted, sliced_at, sliced_in, sliced_freed, own_heap_gap, cap_allocated, cap_freed, told_quota, told_reserve, reserve_requested, requested_by, reserve_yielded, yielded_by, opened_by, session_opened, upgraded_by, session_upgraded, session_called, session_closed, exited, gone_state}
+use Rattle.own_model.specs.OwnStep.{Outcome, own_step, own_run, entry_step, refused, unless, turned_away, allocated, freed, with_region, attached_first, attached_at, region_detached, count_refusal, peeked, poked, poked_at, payload_poked, block_poked, most_bytes, block_taken, grown_at, grown_in, large_at, large_in, small_new, given_back, deleted, sliced_at, sliced_in, sliced_freed, own_heap_gap, cap_allocated, cap_freed, reported_quota, reported_reserve, reserve_requested, requested_by, reserve_yielded, yielded_by, opened_by, session_opened, upgraded_by, session_upgraded, session_called, session_closed, exited, exited_state}
 use Rattle.own_model.specs.Place.{Place, found}
 use Rattle.own_model.specs.Place.Place.{InDataspace, InPayload, InBlock}
-use Rattle.own_model.specs.Region.{Region, most_regions, user_low, user_high, can_stand, first_gap, user_gap, resolved, attach_refusal, attach_at_refusal}
+use Rattle.own_model.specs.Region.{Region, most_regions, user_low, user_high, can_attach, first_gap, user_gap, resolved, attach_refusal, attach_at_refusal}
 use Rattle.own_model.specs.Reply.Reply.{Refused}
 use Rattle.own_model.specs.Reserve.{reserve_account}
 use Rattle.own_model.specs.Routes.{ServerAt, label_with, provider}
-use Rattle.own_model.specs.Session.{Session, Wish, wish_of, wish_in, too_small, donation_refusal, session_ram, session_caps}
+use Rattle.own_model.specs.Session.{Session, Wish, routed_request, resolved_request, too_small, donation_refusal, session_ram, session_caps}
 use Rattle.own_model.specs.SessionArgs.{Arguments, arguments_of}
 use Rattle.own_model.specs.Sliced.{sliced_header, sliced_size, sliced_refusal, block_found}
 use Rattle.own_model.specs.Sound.{IsSound}
@@ -69,10 +69,10 @@ module _ (s : OwnState) where
   leaves None accepted refusal told is = absurd (none-some refusal (sym told ∙ ap refusal_in is))
 
 -- what holds of a state, after each thing that a call can do to it, and of who has exited
-module _ (session moves ends : Bool) (P : OwnState → Type 0) (s : OwnState) (h : P s) (k : KeptByEffects P s) (m : moves ≡ true → KeptByReserve P s) (q : session ≡ true → KeptBySessions P s) (g : ends ≡ true → P gone_state) where
+module _ (session moves ends : Bool) (P : OwnState → Type 0) (s : OwnState) (h : P s) (k : KeptByEffects P s) (m : moves ≡ true → KeptByReserve P s) (q : session ≡ true → KeptBySessions P s) (g : ends ≡ true → P exited_state) where
   -- a refusal for which nothing else has to be looked at
   refused_for : (refusal : Refusal) (line : List Test) → Some refusal ≡ first_failed line → Explained session P s (refused s refusal) line
-  refused_for refusal line first = record { why = Some refusal; accepted = told_quota s; told = refl; quiet = λ _. refl; is = refl; right = λ _ _. first; kept = λ _. h }
+  refused_for refusal line first = record { why = Some refusal; accepted = reported_quota s; told = refl; quiet = λ _. refl; is = refl; right = λ _ _. first; kept = λ _. h }
 
   -- what is done with no test left
   does : (accepted : Outcome) (line : List Test) → refusal_in accepted.reply ≡ None → accepted.lines ≡ [] → None ≡ first_failed line → P accepted.next → Explained session P s accepted line
@@ -117,14 +117,14 @@ module _ (session moves ends : Bool) (P : OwnState → Type 0) (s : OwnState) (h
   -- and one at an address
   attaches_at : (selector address : ℕ) (bytes : Option (List ℕ)) → named_bytes (get s.selectors selector) ≡ bytes → Explained session P s (attached_at selector address bytes s)
       (when (is_none bytes) InvalidCap ∷ when (nat_le most_regions (len s.regions)) TooManyRegions
-      ∷ when (not (can_stand user_low user_high s.regions (pages_in (unwrap_or bytes [])) address)) RegionConflict ∷ [])
+      ∷ when (not (can_attach user_low user_high s.regions (pages_in (unwrap_or bytes [])) address)) RegionConflict ∷ [])
   attaches_at selector address (Some bytes) e = record {
     why = attach_at_refusal most_regions s.regions (pages_in bytes) address;
     accepted = with_region selector (pages_in bytes) address s;
     told = refl;
     quiet = λ _. refl;
     is = refl;
-    right = λ _ _. ap (cond (nat_le most_regions (len s.regions)) (Some TooManyRegions)) (flip (can_stand user_low user_high s.regions (pages_in bytes) address) None (Some RegionConflict));
+    right = λ _ _. ap (cond (nat_le most_regions (len s.regions)) (Some TooManyRegions)) (flip (can_attach user_low user_high s.regions (pages_in bytes) address) None (Some RegionConflict));
     kept = λ accepted. let at = attach_at_place most_regions s.regions (pages_in bytes) address accepted in k.attaches selector address bytes e at.0 at.1;
   }
   attaches_at selector address None e = refused_for InvalidCap _ refl
@@ -136,7 +136,7 @@ module _ (session moves ends : Bool) (P : OwnState → Type 0) (s : OwnState) (h
   detaches address None = refused_for PageFault _ refl
 
   -- a size that is tested, and then a page fault
-  faults : (counts : Bool) → unless (cond counts None (Some InvalidSize)) s (refused s PageFault) ≡ unless (cond counts (Some PageFault) (Some InvalidSize)) s (told_quota s)
+  faults : (counts : Bool) → unless (cond counts None (Some InvalidSize)) s (refused s PageFault) ≡ unless (cond counts (Some PageFault) (Some InvalidSize)) s (reported_quota s)
   faults true = refl
   faults false = refl
 
@@ -144,7 +144,7 @@ module _ (session moves ends : Bool) (P : OwnState → Type 0) (s : OwnState) (h
   no_place : (count : ℕ) → Explained session P s (unless (count_refusal count) s (refused s PageFault)) (when (is_bad_count count) InvalidSize ∷ when true PageFault ∷ [])
   no_place count =
       let counts = nat_lt 0 count && nat_le count most_bytes in
-      record { why = cond counts (Some PageFault) (Some InvalidSize); accepted = told_quota s; told = refl; quiet = λ _. refl; is = faults counts; right = λ _ _. flip counts (Some PageFault) (Some InvalidSize); kept = λ _. h }
+      record { why = cond counts (Some PageFault) (Some InvalidSize); accepted = reported_quota s; told = refl; quiet = λ _. refl; is = faults counts; right = λ _ _. flip counts (Some PageFault) (Some InvalidSize); kept = λ _. h }
 
   -- where one is
   at_place : (count : ℕ) (accepted : Outcome) → refusal_in accepted.reply ≡ None → accepted.lines ≡ [] → P accepted.next → Explained session P s (unless (count_refusal count) s accepted) (when (is_bad_count count) InvalidSize ∷ when false PageFault ∷ [])
@@ -200,7 +200,7 @@ module _ (session moves ends : Bool) (P : OwnState → Type 0) (s : OwnState) (h
   -- a size, the chunks and an account that are tested, and then the gap
   gapless : (valid full ram caps : Bool) →
       unless (cond valid (cond full (Some TooManyChunks) (cond ram (Some OutOfRam) (cond caps (Some OutOfCaps) None))) (Some InvalidSize)) s (refused s OutOfRam)
-      ≡ unless (cond valid (cond full (Some TooManyChunks) (cond ram (Some OutOfRam) (cond caps (Some OutOfCaps) (Some OutOfRam)))) (Some InvalidSize)) s (told_quota s)
+      ≡ unless (cond valid (cond full (Some TooManyChunks) (cond ram (Some OutOfRam) (cond caps (Some OutOfCaps) (Some OutOfRam)))) (Some InvalidSize)) s (reported_quota s)
   gapless true true ram caps = refl
   gapless true false true caps = refl
   gapless true false false true = refl
@@ -211,7 +211,7 @@ module _ (session moves ends : Bool) (P : OwnState → Type 0) (s : OwnState) (h
   no_gap : (valid : Bool) (bytes : ℕ) → Explained session P s (unless (cond valid (shortage s.account bytes 1) (Some InvalidSize)) s (refused s OutOfRam)) (when (not valid) InvalidSize ∷ memory_line bytes None s)
   no_gap valid bytes =
       let short = cond (lacks_ram s.account bytes) (Some OutOfRam) (cond (lacks_caps s.account 1) (Some OutOfCaps) (Some OutOfRam)) in
-      record { why = cond valid short (Some InvalidSize); accepted = told_quota s; told = refl; quiet = λ _. refl; is = gapless valid false (lacks_ram s.account bytes) (lacks_caps s.account 1); right = λ _ _. flip valid short (Some InvalidSize); kept = λ _. h }
+      record { why = cond valid short (Some InvalidSize); accepted = reported_quota s; told = refl; quiet = λ _. refl; is = gapless valid false (lacks_ram s.account bytes) (lacks_caps s.account 1); right = λ _ _. flip valid short (Some InvalidSize); kept = λ _. h }
 
   -- and what finds one
   at_gap : (valid : Bool) (bytes start : ℕ) (accepted : Outcome) → refusal_in accepted.reply ≡ None → accepted.lines ≡ [] → (cond valid (shortage s.account bytes 1) (Some InvalidSize) ≡ None → P accepted.next) →
@@ -254,7 +254,7 @@ module _ (session moves ends : Bool) (P : OwnState → Type 0) (s : OwnState) (h
         let ram = lacks_ram s.account (page_of (block_size n)) in
         let caps = lacks_caps s.account 1 in
         let short = cond full (Some TooManyChunks) (cond ram (Some OutOfRam) (cond caps (Some OutOfCaps) (Some OutOfRam))) in
-        record { why = cond (is_valid_size n) short (Some InvalidSize); accepted = told_quota s; told = refl; quiet = λ _. refl; is = gapless (is_valid_size n) full ram caps; right = λ _ _. flip (is_valid_size n) short (Some InvalidSize); kept = λ _. h }
+        record { why = cond (is_valid_size n) short (Some InvalidSize); accepted = reported_quota s; told = refl; quiet = λ _. refl; is = gapless (is_valid_size n) full ram caps; right = λ _ _. flip (is_valid_size n) short (Some InvalidSize); kept = λ _. h }
 
     -- a block of a chunk
     smalls : (hole : Option Spot) → hole_for n s.heap.shape ≡ hole →
@@ -331,7 +331,7 @@ module _ (session moves ends : Bool) (P : OwnState → Type 0) (s : OwnState) (h
   yields None is = refused_for BadArgs _ refl
 
   -- an open, where the route leads somewhere or not
-  opens_to : (name : List ℕ) (arguments : Arguments) (to : Option ServerAt) → session ≡ true → Explained session P s (opened_by (wish_of name arguments to) s)
+  opens_to : (name : List ℕ) (arguments : Arguments) (to : Option ServerAt) → session ≡ true → Explained session P s (opened_by (routed_request name arguments to) s)
       (when false BadArgs ∷ when (is_none to) ServiceDenied ∷ when (lacks_ram s.account arguments.ram) OutOfRam ∷ when (lacks_caps s.account arguments.caps) OutOfCaps
       ∷ when (nat_lt arguments.ram session_ram) InsufficientRamQuota ∷ when (nat_lt arguments.caps session_caps) InsufficientCapQuota ∷ [])
   opens_to name arguments (Some server) of =
@@ -348,7 +348,7 @@ module _ (session moves ends : Bool) (P : OwnState → Type 0) (s : OwnState) (h
   opens_to name arguments None of = refused_for ServiceDenied _ refl
 
   opens : (entry : Entry) (service : List ℕ) (arguments : Option Arguments) → session ≡ true →
-      Explained session P s (opened_by (wish_in entry.label entry.routes service arguments) s) (open_line entry.routes service arguments s)
+      Explained session P s (opened_by (resolved_request entry.label entry.routes service arguments) s) (open_line entry.routes service arguments s)
   opens entry service (Some arguments) of = opens_to entry.label arguments (provider entry.routes service arguments.label) of
   opens entry service None of = refused_for BadArgs _ refl
 
@@ -419,8 +419,8 @@ module _ (session moves ends : Bool) (P : OwnState → Type 0) (s : OwnState) (h
   explained entry (Del address) of move end = deletes address (get s.heap.payloads address) refl
   explained entry (Snew n) of move end = slices n (own_heap_gap (sliced_size n) s) refl
   explained entry (Sdel address) of move end = frees_block address (get s.sliced address) refl
-  explained entry Quota of move end = does (told_quota s) _ refl refl refl h
-  explained entry Reserve of move end = does (told_reserve s) _ refl refl refl h
+  explained entry Quota of move end = does (reported_quota s) _ refl refl refl h
+  explained entry Reserve of move end = does (reported_reserve s) _ refl refl refl h
   explained entry (Request text) of move end = requests (arguments_of text) (sym move)
   explained entry (Yield text) of move end = yields (arguments_of text) (sym move)
   explained entry (Open service text) of move end = opens entry service (arguments_of text) (sym of)
@@ -456,7 +456,7 @@ module _ (P : OwnState → Type 0) (s : OwnState) (h : P s) (k : KeptByEffects P
   others_go_on entry call m other on = step_keeps_by false (moves_reserve call) false P s h k m (λ e. absurd (true≢false (sym e))) (λ e. absurd (true≢false (sym e))) entry call other refl on
 
   -- any call but one of a session, where it holds of who has exited
-  pub others_keep : KeptByReserve P s → P gone_state → (entry : Entry) (call : Call) → is_of_session call ≡ false → P (own_step entry call s).next
+  pub others_keep : KeptByReserve P s → P exited_state → (entry : Entry) (call : Call) → is_of_session call ≡ false → P (own_step entry call s).next
   others_keep m gone entry call other = step_keeps_by false (moves_reserve call) (is_exit call) P s h k (λ _. m) (λ e. absurd (true≢false (sym e))) (λ _. gone) entry call other refl refl
 
   -- any call but an exit
@@ -464,11 +464,11 @@ module _ (P : OwnState → Type 0) (s : OwnState) (h : P s) (k : KeptByEffects P
   goes_on entry call m q on = step_keeps_by (is_of_session call) (moves_reserve call) false P s h k m (λ _. q) (λ e. absurd (true≢false (sym e))) entry call refl refl on
 
   -- and any call
-  pub step_keeps : KeptByReserve P s → KeptBySessions P s → P gone_state → (entry : Entry) (call : Call) → P (own_step entry call s).next
+  pub step_keeps : KeptByReserve P s → KeptBySessions P s → P exited_state → (entry : Entry) (call : Call) → P (own_step entry call s).next
   step_keeps m q gone entry call = step_keeps_by (is_of_session call) (moves_reserve call) (is_exit call) P s h k (λ _. m) (λ _. q) (λ _. gone) entry call refl refl refl
 
 -- and so do calls, where what a call can do keeps it in each state
-pub run_keeps : (P : OwnState → Type 0) → ((s : OwnState) → P s → KeptByEffects P s) → ((s : OwnState) → P s → KeptByReserve P s) → ((s : OwnState) → P s → KeptBySessions P s) → P gone_state →
+pub run_keeps : (P : OwnState → Type 0) → ((s : OwnState) → P s → KeptByEffects P s) → ((s : OwnState) → P s → KeptByReserve P s) → ((s : OwnState) → P s → KeptBySessions P s) → P exited_state →
     (entry : Entry) (calls : List Call) (s : OwnState) → P s → P (own_run entry calls s)
 run_keeps P each reserve sessions gone entry [] s h = h
 run_keeps P each reserve sessions gone entry (call ∷ calls) s h =

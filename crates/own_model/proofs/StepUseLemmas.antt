@@ -22,7 +22,7 @@ use Rattle.own_model.proofs.Totals.{total-empty, total-insert_new, total-insert_
 use Rattle.own_model.specs.Call.{Call}
 use Rattle.own_model.specs.OwnState.{OwnState, Object, zeros, new_selector, object_with, buffer_of, bytes_of_buffer}
 use Rattle.own_model.specs.OwnState.Object.{Dataspace, RpcObject, OpenSession, Buffer}
-use Rattle.own_model.specs.OwnStep.{gone_state, own_run, allocated, freed, poked_at, payload_poked, block_taken, chunk_added, large_at, given_back, sliced_at, sliced_freed, own_heap_gap, cap_allocated, cap_freed, with_buffer}
+use Rattle.own_model.specs.OwnStep.{exited_state, own_run, allocated, freed, poked_at, payload_poked, block_taken, chunk_added, large_at, given_back, sliced_at, sliced_freed, own_heap_gap, cap_allocated, cap_freed, with_buffer}
 use Rattle.own_model.specs.Account.{Account, opened, parted_with, alloc_refusal}
 use Rattle.own_model.specs.Amounts.{Amounts}
 use Rattle.own_model.specs.Reserve.{no_reserve}
@@ -40,7 +40,7 @@ none_uses ram caps reserve gone = search (rules, total-empty, len-empty)
 pub start_uses : (start : StartEntry) → UsesWhatItHolds (start_state start)
 start_uses start = none_uses (account_at_start start).ram (account_at_start start).caps (of_component start.entry.kind start.reserve) false
 
-pub gone_uses : UsesWhatItHolds gone_state
+pub gone_uses : UsesWhatItHolds exited_state
 gone_uses = none_uses 0 0 no_reserve true
 
 -- a new dataspace uses its bytes and a capability

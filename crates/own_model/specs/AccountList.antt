@@ -19,7 +19,7 @@ account_line name account = codes "account " ++ name ++ codes " " ++ quota_text 
 abbrev pub reserve_line : List ℕ → Amounts → List ℕ
 reserve_line name reserve = codes "reserve " ++ name ++ codes " " ++ amounts_text reserve ++ 10 ∷ []
 
--- a reserve is told where the start list gives one, and where it has anything
+-- a reserve is printed if the start list gives one, and if it has anything
 abbrev pub is_told : Option Amounts → Amounts → Bool
 is_told given reserve = is_some given || nat_lt 0 reserve.ram || nat_lt 0 reserve.caps
 

@@ -9,7 +9,7 @@ pub record Spot : Type 0 where
   pub chunk : ℕ
   pub offset : ℕ
 
--- the holes among blocks that stand from an offset of a chunk on
+-- the holes among the blocks from an offset of a chunk on
 abbrev pub holes_in : ℕ → ℕ → List Block → List Spot
 holes_in chunk offset [] = []
 holes_in chunk offset (Used n ∷ rest) = holes_in chunk (offset + n) rest
@@ -43,7 +43,7 @@ best_hole size (x ∷ rest) = if nat_le size x.size then Some (earlier x (best_h
 abbrev pub block_size : ℕ → ℕ
 block_size n = max least_block (header + (n + 15) / 16 * 16)
 
--- a hole cut: a block of so many bytes and a hole of what is left, where that is a block's least size; else all of it
+-- a hole cut: a block of so many bytes and a hole of what is left, if that is a block's least size; else all of it
 abbrev pub cut : ℕ → ℕ → List Block
 cut size n = if nat_lt (n - size) least_block then Used n ∷ [] else Used size ∷ Hole (n - size) ∷ []
 
@@ -56,7 +56,7 @@ taken_in size offset (b ∷ rest) = if offset == 0 then cut size (size_of b) ++ 
 abbrev pub chunk_of : Heap → ℕ → List Block
 chunk_of heap chunk = slice_index_or heap chunk []
 
--- the best hole taken for n bytes; the heap as it is where no hole is large enough
+-- the best hole taken for n bytes; the heap as it is if no hole is large enough
 abbrev pub taken_at : ℕ → Option Spot → Heap → Heap
 taken_at size None heap = heap
 taken_at size (Some hole) heap = slice_set heap hole.chunk (taken_in size hole.offset (chunk_of heap hole.chunk))

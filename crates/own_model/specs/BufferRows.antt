@@ -1,4 +1,4 @@
--- Worked inputs of the buffer that a client shares with its session, and what is told of them.
+-- Computed examples of the buffer that a client shares with its session, and their output.
 use Rattle.std.specs.Prelude.{ℕ, ◌+◌, Bool, List, [], ◌∷◌, ◌++◌, slice_range, Option, Some, None, is_none}
 use Rattle.std.specs.List.{list_all}
 use Rattle.std.specs.Option.{option_map, unwrap_or}

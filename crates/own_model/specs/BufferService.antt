@@ -34,7 +34,7 @@ abbrev pub after_number : {R : Type 0} → (ℕ → List ℕ → Option R) → L
 after_number request arguments =
     option_and_then (λ n. option_and_then (request n) (first_word arguments).rest) (number_of (first_word arguments).word)
 
--- an offset, a place and a length, parted by spaces
+-- an offset, a place and a length, separated by spaces
 abbrev pub move_of : (List ℕ → ℕ → ℕ → ℕ → BufferRequest) → List ℕ → List ℕ → Option BufferRequest
 move_of request file =
     after_number (λ offset. after_number (λ place len. option_map (request file offset place) (number_of len)))
@@ -103,7 +103,7 @@ made n files account = record {
   buffer = Some (zeros (page_of n));
 }
 
--- the buffer goes, with a credit
+-- the buffer is removed, with a credit
 abbrev pub given_back : Option (List ℕ) → Files → Account → BufferServed
 given_back None files account = beside None (told (Refused NoBuffer) files account)
 given_back (Some bytes) files account =

@@ -58,11 +58,11 @@ pub record Spoken : Type 0 where
 abbrev pub some_bytes_of_hex : List ℕ → Option (List ℕ)
 some_bytes_of_hex text = if nat_lt 0 (length text) then bytes_of_hex text else None
 
--- a name as it stands
+-- a name, unchanged
 abbrev pub name_of : List ℕ → Option (List ℕ)
 name_of text = if is_name text then Some text else None
 
--- a form: its word, and the call that it makes of its arguments, which are what stands after the word and a space
+-- a form: its keyword, and the call that it makes of its arguments, the text after the keyword and a space
 pub record Form : Type 0 where
   pub word : List ℕ
   pub call : Option (List ℕ) → Option Call
@@ -75,7 +75,7 @@ of_none call arguments = if is_none arguments then Some call else None
 abbrev pub of_one : {X : Type 0} → (X → Call) → (List ℕ → Option X) → Option (List ℕ) → Option Call
 of_one call only arguments = option_map call (option_and_then only arguments)
 
--- of two, parted by a space
+-- of two, separated by a space
 abbrev pub of_two : {X Y : Type 0} → (X → Y → Call) → (List ℕ → Option X) → (List ℕ → Option Y) → Option (List ℕ) → Option Call
 of_two call first second None = None
 of_two call first second (Some arguments) =
@@ -117,7 +117,7 @@ forms =
     ∷ record { word = codes "yield"; call = of_rest Yield }
     ∷ []
 
--- the call of the form with this word
+-- the call of the form with this keyword
 abbrev pub call_in : List Form → List ℕ → Option (List ℕ) → Option Call
 call_in [] word arguments = None
 call_in (form ∷ rest) word arguments = if bytes_eq word form.word then form.call arguments else call_in rest word arguments
@@ -130,8 +130,8 @@ abbrev pub form_of : List ℕ → Option Call
 form_of text = call_of (first_word text).word (first_word text).rest
 
 -- a line of the grammar: a path, a space, and a call
-abbrev pub spoken : List ℕ → Option Spoken
-spoken line =
+abbrev pub parsed_call : List ℕ → Option Spoken
+parsed_call line =
     if is_path (first_word line).word
     then option_map (λ call. record { name = (first_word line).word; call = call }) (option_and_then form_of (first_word line).rest)
     else None

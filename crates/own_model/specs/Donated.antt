@@ -1,4 +1,4 @@
--- What a client donates for a session, read off its own calls and what they are answered.
+-- What a client donates for a session, read off its own calls and their answers.
 use Rattle.std.specs.Prelude.{ℕ, ◌==◌, List, [], ◌∷◌, if◌then◌else◌}
 use Rattle.own_model.specs.Amounts.{Amounts, no_amounts, more_of}
 use Rattle.own_model.specs.Call.{Call}

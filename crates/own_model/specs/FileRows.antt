@@ -1,4 +1,4 @@
--- Worked inputs of the file service, and what is told of them.
+-- Computed examples of the file service, and their output.
 use Rattle.std.specs.Prelude.{ℕ, List, [], ◌∷◌, ◌++◌}
 use Rattle.own_model.specs.Account.{Account}
 use Rattle.own_model.specs.FileService.{Files, no_files, file_served}

@@ -52,7 +52,7 @@ rewritten name bytes [] = []
 rewritten name bytes (file ∷ rest) =
     if is_named name file then record file { bytes = bytes } ∷ rest else file ∷ rewritten name bytes rest
 
--- the file of a name gone
+-- the file of a name removed
 abbrev pub without : List ℕ → List File → List File
 without name [] = []
 without name (file ∷ rest) = if is_named name file then rest else file ∷ without name rest
@@ -131,7 +131,7 @@ created_in name hole files = record {
   shape = shape_taken node_size hole files.shape;
 }
 
--- the best hole for it, if there is one: the heap grows where there is none
+-- the best hole for it, if there is one: the heap grows if there is none
 abbrev pub created : List ℕ → Option Spot → Files → Account → FileServed
 created name (Some hole) files account = told Done (created_in name hole files) account
 created name None files account =
@@ -152,7 +152,7 @@ written offset bytes (Some file) files account =
     (told (Count (length bytes)) (record files { files = rewritten file.name (with_bytes file.bytes offset bytes) files.files })
     (write_charged offset (length bytes) file account))
 
--- at most so many bytes are told from an offset on
+-- at most so many bytes are returned from an offset on
 abbrev pub read : ℕ → ℕ → Option File → Files → Account → FileServed
 read offset count None files account = told (Refused NotFound) files account
 read offset count (Some file) files account =
@@ -163,13 +163,13 @@ abbrev pub sized : Option File → Files → Account → FileServed
 sized None files account = told (Refused NotFound) files account
 sized (Some file) files account = told (Count (length file.bytes)) files account
 
--- a file's content goes
+-- a file's content is freed
 abbrev pub cleared : Option File → Files → Account → FileServed
 cleared None files account = told (Refused NotFound) files account
 cleared (Some file) files account =
     told Done (record files { files = rewritten file.name [] files.files }) (content_credited file account)
 
--- a file goes, with its content and the block of its node
+-- a file is removed, with its content and the block of its node
 abbrev pub dropped : Option File → Files → Account → FileServed
 dropped None files account = told (Refused NotFound) files account
 dropped (Some file) files account =
@@ -205,7 +205,7 @@ pub record HasNode (shape : Shape) (file : File) : Type 0 where
   pub there : used_at file.offset (chunk_of shape.chunks file.chunk) ≡ Some size
   pub fits : block_size node_size ≤ size
 
--- a file's node stands at a place
+-- a file's node is at a place
 abbrev pub is_at : ℕ → ℕ → File → Bool
 is_at chunk offset file = file.chunk == chunk && file.offset == offset
 

@@ -9,7 +9,7 @@ use Rattle.own_model.specs.Text.{first_word}
 use Rattle.own_model.specs.LogText.{longest_request, hex_or_nothing}
 use Rattle.own_model.specs.Reply.{hex_text, quota_text}
 
--- a request: of a file by its word, with an offset, and with bytes or a length
+-- a request: of a file by its keyword, with an offset, and with bytes or a length
 pub data FileRequest : Type 0 where
   Create : List ℕ → FileRequest
   Write : List ℕ → ℕ → List ℕ → FileRequest
@@ -20,11 +20,11 @@ pub data FileRequest : Type 0 where
   Name : ℕ → FileRequest
   Stat : FileRequest
 
--- a file word: one or more bytes without a space
+-- a file name: one or more bytes without a space
 abbrev pub file_word : List ℕ → Option (List ℕ)
 file_word word = if nat_lt 0 (length word) && list_all (λ b. not (b == 32)) word then Some word else None
 
--- a file word, a space, and more
+-- a file name, a space, and more
 abbrev pub of_file : {R : Type 0} → (List ℕ → List ℕ → Option R) → List ℕ → Option R
 of_file request arguments =
     option_and_then (λ file. option_and_then (request file) (first_word arguments).rest) (file_word (first_word arguments).word)
@@ -90,7 +90,7 @@ pub data FileReply : Type 0 where
   Lent : FileReply
   Refused : FileError → FileReply
 
--- the reply of bytes: no bytes are told without a space
+-- the reply of bytes: no bytes are printed without a space
 abbrev pub bytes_reply : List ℕ → List ℕ
 bytes_reply [] = codes "OK"
 bytes_reply (b ∷ bytes) = codes "OK " ++ hex_text (b ∷ bytes)

@@ -24,7 +24,7 @@ most_chunks = 64
 abbrev pub most_growth : ℕ
 most_growth = 64
 
--- the least size of a large block, which stands alone and takes nothing of a chunk
+-- the least size of a large block, which has pages of its own and takes nothing of a chunk
 abbrev pub least_large : ℕ
 least_large = 65536
 
@@ -60,7 +60,7 @@ least_growth n shape = record { bytes = page_of (block_size n); next = shape.gro
 abbrev pub larger_growth : ℕ → Shape → Growth
 larger_growth n shape = record { bytes = max (shape.growth * 4096) (page_of (block_size n)); next = min most_growth (2 * shape.growth) }
 
--- the larger chunk where the account covers it, else the least
+-- the larger chunk if the account covers it, else the least
 abbrev pub growth_of : ℕ → Shape → Account → Growth
 growth_of n shape account =
     if is_none (shortage account (larger_growth n shape).bytes 1) then larger_growth n shape else least_growth n shape

@@ -1,4 +1,4 @@
--- A heap: chunks of blocks. Addresses and payload bytes are no part of it: a script's heap has them beside it.
+-- A heap: chunks of blocks. Addresses and payload bytes are no part of it: a script's heap has them in addition.
 use Rattle.std.specs.Prelude.{◌≡◌, ℕ, ◌+◌, ◌*◌, ◌%◌, ◌/◌, ◌≤◌, List, [], ◌∷◌}
 
 -- a block of so many bytes, its header among them: used, or a hole

@@ -35,7 +35,7 @@ with_chunk growth start heap = record heap { shape = shape_grown growth heap.sha
 abbrev pub with_large : ℕ → ℕ → OwnHeap → OwnHeap
 with_large n start heap = record heap { large = insert heap.large start (page_of n); payloads = insert heap.payloads start (zeros (page_of n)) }
 
--- the large block at an address gone
+-- the large block at an address removed
 abbrev pub without_large : ℕ → OwnHeap → OwnHeap
 without_large address heap = record heap { large = remove heap.large address; payloads = remove heap.payloads address }
 
@@ -43,7 +43,7 @@ without_large address heap = record heap { large = remove heap.large address; pa
 abbrev pub with_poked : ℕ → List ℕ → ℕ → List ℕ → OwnHeap → OwnHeap
 with_poked address payload offset part heap = record heap { payloads = insert heap.payloads address (with_part payload offset part) }
 
--- the bytes of the payload that starts at an address, by the blocks: a large block's, or those of a used block behind its header
+-- the bytes of the payload that starts at an address, by the blocks: a large block's, or those of a used block after its header
 abbrev pub payload_size : OwnHeap → ℕ → Option ℕ
 payload_size heap address =
     option_or (get heap.large address)

@@ -1,4 +1,4 @@
--- The heap window: where it lies, and that a machine's window always has a gap for what the machine can hold.
+-- The heap window: where it lies, and the theorem that a machine's window always has a gap for what the machine can hold.
 use Rattle.std.specs.Prelude.{◌≡◌, ℕ, ◌+◌, ◌*◌, ◌≤◌, Option, Some, IsSome, unwrap_or}
 use Rattle.std.specs.FinMap.{get}
 use Rattle.own_model.specs.NatMap.{NatMap, total}
@@ -32,7 +32,7 @@ pub record FitMachine (machine : ℕ) (regions : NatMap Region) : Type 0 where
   pub some : (start : ℕ) (region : Region) → get regions start ≡ Some region → 1 ≤ region.pages
   pub few : pages_of_all regions ≤ machine
 
--- ---- laws
+-- ---- theorems
 
 -- whatever regions a machine can hold, wherever they lie, its heap window has a gap for as many pages as it has
 abbrev pub HeapHasGap : Type 0

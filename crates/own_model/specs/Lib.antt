@@ -29,10 +29,10 @@ pub mod Running
 pub mod Use
 pub mod Sound
 pub mod Table
-pub mod Laws
-pub mod ReserveLaws
-pub mod SlicedLaws
-pub mod HeapLaws
+pub mod Theorems
+pub mod ReserveTheorems
+pub mod SlicedTheorems
+pub mod HeapTheorems
 pub mod SessionArgs
 pub mod LogText
 pub mod FileText
@@ -45,10 +45,10 @@ pub mod Services
 pub mod Session
 pub mod BufferRows
 pub mod Donated
-pub mod FileLaws
-pub mod BufferLaws
-pub mod SessionLaws
-pub mod LentLaws
+pub mod FileTheorems
+pub mod BufferTheorems
+pub mod SessionTheorems
+pub mod SharedBufferTheorems
 pub mod CodedFiles
 pub mod CodedSession
 pub mod Listed
@@ -56,4 +56,4 @@ pub mod MachineA
 pub mod Rows
 pub mod AccountList
 pub mod Shortage
-pub mod SaidBy
+pub mod LinesOfName

@@ -28,7 +28,7 @@ ram_limits s = s.account.ram_limit + s.reserve.ram + total ram_with s.selectors
 abbrev pub caps_limits : OwnState → ℕ
 caps_limits s = s.account.caps_limit + s.reserve.caps + total caps_with s.selectors
 
--- an init's account after a component that it started goes from one own state to another: what that loses of limits, it gains
+-- an init's account after a component that it started changes from one own state to another: what that loses of limits, it gains
 abbrev pub init_after : Account → OwnState → OwnState → Account
 init_after init s next = raised init (ram_limits s - ram_limits next) (caps_limits s - caps_limits next)
 

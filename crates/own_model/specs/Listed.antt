@@ -1,4 +1,4 @@
--- A start list as its text tells it, and where its rules lead.
+-- A start list as its text denotes it, and where its rules lead.
 use Rattle.std.specs.Prelude.{◌≡◌, ℕ, ◌&&◌, ◌==◌, zero, suc, Bool, false, List, [], ◌∷◌, ◌++◌, map, position, count_by, nat_eq, if◌then◌else◌, Option, Some, None}
 use Rattle.std.specs.List.{starts_with, ends_with, slice_get}
 use Rattle.std.specs.Option.{option_and_then, option_map, unwrap_or}
@@ -88,12 +88,12 @@ offers init service entry = entry.home == init && (entry.provides && serves entr
 abbrev pub named_provider : List ListedEntry → ℕ → List ℕ → List ℕ → Option ℕ
 named_provider entries init name service = position (λ entry. bytes_eq entry.name name && offers init service entry) entries
 
--- the only child that provides the service; none where several do
+-- the only child that provides the service; none if several do
 abbrev pub only_provider : List ListedEntry → ℕ → List ℕ → Option ℕ
 only_provider entries init service =
     if count_by (offers init service) entries == 1 then position (offers init service) entries else None
 
--- a way: to the child at a place or to none, or outward
+-- the end of a route in one list: the child at a place, none, or outward
 pub data Way : Type 0 where
   Inside : Option ℕ → Way
   Outside : Way
@@ -121,7 +121,7 @@ way_by entries init (rule ∷ rules) service label =
 abbrev pub rules_for : Listed → ListedEntry → List ListedRule
 rules_for list entry = unwrap_or entry.route (default_of list entry.home)
 
--- where a way ends, if outward is there
+-- the child at the end of a route, if outward is that one
 abbrev pub end_of : Way → Option ℕ → Option ℕ
 end_of (Inside child) outward = child
 end_of Outside outward = outward
@@ -134,7 +134,7 @@ route_within (suc lists) list entry service label =
     end_of (way_by list.entries entry.home (rules_for list entry) service label)
     (option_and_then (λ init. route_within lists list init service (label_with entry.name label)) (init_entry list entry.home))
 
--- the child that a client's wish for a session leads to
+-- the child to which a client's session request is routed
 abbrev pub route_of : Listed → ℕ → List ℕ → List ℕ → Option ℕ
 route_of list client service label =
     option_and_then (λ entry. route_within most_lists list entry service label) (slice_get list.entries client)
@@ -198,7 +198,7 @@ own_rules entries init (rule ∷ rules) = own_rules_asking entries init rule rul
 abbrev pub level_of : Listed → ListedEntry → Level
 level_of list entry = record { name = entry.name; rules = own_rules list.entries entry.home (rules_for list entry) }
 
--- the levels of an entry's wishes, of so many lists at most: its own list's, and outward those of its init's
+-- the levels of an entry's session requests, of so many lists at most: its own list's, and outward those of its init's
 abbrev pub levels_within : ℕ → Listed → ListedEntry → List Level
 levels_within zero list entry = []
 levels_within (suc lists) list entry =
@@ -232,11 +232,11 @@ start_of list entry = record {
   reserve = reserve_of entry;
 }
 
--- the start list of the model that a list tells
+-- the start list of the model that a list denotes
 abbrev pub start_list_of : Listed → StartList
 start_list_of list = record { pages = list.pages; caps = list.caps; starts = map (start_of list) list.entries }
 
--- own step's routes lead where the list's rules do: to the child that the wish leads to, and to what that serves
+-- own step's routes lead where the list's rules do: to the child to which the session request is routed, and to its server
 abbrev pub RoutesLeadToProviders : Type 0
 RoutesLeadToProviders =
     (lists : ℕ) (list : Listed) (entry : ListedEntry) (service label : List ℕ) →

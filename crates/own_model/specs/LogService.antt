@@ -20,7 +20,7 @@ runs_in piece = length piece / longest_log_line
 abbrev pub full_runs : List ℕ → List (List ℕ)
 full_runs piece = first_chunks longest_log_line (runs_in piece) piece
 
--- the bytes behind them
+-- the bytes after them
 abbrev pub left_over : List ℕ → List ℕ
 left_over piece = drop (runs_in piece * longest_log_line) piece
 
@@ -65,7 +65,7 @@ log_served_bytes partial (Some bytes) = record {
 abbrev pub log_served : List ℕ → List ℕ → LogServed
 log_served partial request = log_served_bytes partial (log_request request)
 
--- ---- laws
+-- ---- theorems
 
 -- a byte that ends no line
 abbrev pub IsUnbroken : ℕ → Type 0
@@ -87,7 +87,7 @@ WritesAreLines =
     (partial bytes : List ℕ) → IsPartial partial →
     All IsLogLine (written partial bytes).lines × IsPartial (written partial bytes).partial
 
--- how bytes are parted into requests makes no difference
+-- how bytes are divided into requests makes no difference
 abbrev pub WritesAddUp : Type 0
 WritesAddUp =
     (partial xs ys : List ℕ) → IsPartial partial →

@@ -8,7 +8,7 @@ use Rattle.own_model.specs.Call.{some_bytes_of_hex}
 abbrev pub longest_request : ℕ
 longest_request = 8192
 
--- the bytes that hex stands for, or none where there is no hex
+-- the bytes that hex digits denote, or none if there is no hex
 abbrev pub hex_or_nothing : Option (List ℕ) → Option (List ℕ)
 hex_or_nothing None = Some []
 hex_or_nothing (Some hex) = some_bytes_of_hex hex

@@ -1,4 +1,4 @@
--- The built-in machine A, as its text tells it.
+-- The built-in machine A, as its text denotes it.
 use Rattle.std.specs.Prelude.{ℕ, Bool, List, [], ◌∷◌, true, false, codes, None}
 use Rattle.trade_base.specs.declared.service.Service.TheVariants.{Log, Files}
 use Rattle.own_model.specs.Listed.{Binary, Listed, ListedEntry}
@@ -25,7 +25,7 @@ of_machine name binary ram caps provides = record {
 abbrev pub alice : ListedEntry
 alice = of_machine (codes "alice") Script 65536 16 false
 
--- two servers and two scripts, whose wishes lead to the only child that provides what they ask for
+-- two servers and two scripts, whose session requests are routed to the only child that provides what they request
 abbrev pub machine_a : Listed
 machine_a = record {
   pages = 64;

@@ -1,4 +1,4 @@
--- A script's heap: a heap with addresses and bytes, and the large blocks beside it.
+-- A script's heap: a heap with addresses and bytes, and its large blocks.
 use Rattle.std.proofs.Common.{refl}
 use Rattle.std.specs.Prelude.{◌≡◌, ℕ, ◌+◌, ◌-◌, ◌/◌, ◌&&◌, Bool, true, false, List, [], ◌∷◌, nat_le, nat_lt, max, if◌then◌else◌, slice_index_or, Some}
 use Rattle.std.specs.Coded.{Coded, code_by, coded×, coded_ℕ, coded_bool, coded_list}
@@ -22,7 +22,7 @@ pub record OwnHeap : Type 0 where
 abbrev pub no_heap : OwnHeap
 no_heap = record { shape = no_chunks; starts = []; large = empty; payloads = empty }
 
--- ---- where it stands
+-- ---- its addresses
 
 -- where a chunk starts
 abbrev pub start_of : OwnHeap → ℕ → ℕ

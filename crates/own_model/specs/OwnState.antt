@@ -21,9 +21,9 @@ pub data Object : Type 0 where
   OpenSession : Session → Object
   Buffer : ℕ → List ℕ → Object
 
--- a component's account, its reserve, of which nothing is used, what its selectors name, its regions by their start addresses, each of a selector, its heap,
--- its sliced blocks by the addresses of their payloads, each by its payload's bytes, and whether it has exited.
--- A server has its account alone
+-- a component's account, its reserve, of which nothing is used, what its selectors name, its regions by their start
+-- addresses, each of a selector, its heap, its sliced blocks by the addresses of their payloads, each by its payload's
+-- bytes, and whether it has exited. A server has its account alone
 pub record OwnState : Type 0 where
   pub account : Account
   pub reserve : Amounts
@@ -37,7 +37,7 @@ pub record OwnState : Type 0 where
 abbrev pub EachSession : (Session → Type 0) → OwnState → Type 0
 EachSession Q s = (selector : ℕ) (session : Session) → get s.selectors selector ≡ Some (OpenSession session) → Q session
 
--- what stands in the heap window: sliced blocks, chunks and large blocks, as ranges of pages by their starts
+-- what is in the heap window: sliced blocks, chunks and large blocks, as ranges of pages by their starts
 abbrev pub heap_ranges : OwnState → NatMap Region
 heap_ranges s = joined (ranges_of_blocks s.sliced) (ranges_of_heap s.heap)
 
@@ -45,7 +45,7 @@ heap_ranges s = joined (ranges_of_blocks s.sliced) (ranges_of_heap s.heap)
 abbrev pub pages_in : List ℕ → ℕ
 pages_in bytes = length bytes / 4096
 
--- bytes with a part put over them at an offset, where it fits within them
+-- bytes with a part put over them at an offset, if it fits within them
 unfoldable pub with_part : List ℕ → ℕ → List ℕ → List ℕ
 with_part bytes offset part =
     if nat_le (offset + length part) (length bytes) then with_bytes bytes offset part else bytes

@@ -61,7 +61,7 @@ allocated n s = record {
   };
 }
 
--- the dataspace that the selector names goes, with its regions and a credit
+-- the dataspace that the selector names is removed, with its regions and a credit
 abbrev pub freed : ℕ → Option Object → OwnState → Outcome
 freed selector (Some (Dataspace bytes)) s = record {
   reply = Done;
@@ -77,7 +77,7 @@ freed selector (Some (OpenSession session)) s = refused s InvalidCap
 freed selector (Some (Buffer session bytes)) s = refused s InvalidCap
 freed selector None s = refused s InvalidCap
 
--- so many pages of what the selector names stand from an address on
+-- so many pages of what the selector names are attached from an address on
 abbrev pub with_region : ℕ → ℕ → ℕ → OwnState → Outcome
 with_region selector pages address s = record {
   reply = Attached address;
@@ -99,7 +99,7 @@ attached_at selector address (Some bytes) s =
     (with_region selector (pages_in bytes) address s)
 attached_at selector address None s = refused s InvalidCap
 
--- the region that starts at an address goes
+-- the region that starts at an address is removed
 abbrev pub region_detached : ℕ → OwnState → Outcome
 region_detached address s = record { reply = Done; lines = []; next = record s { regions = remove s.regions address } }
 
@@ -111,7 +111,7 @@ most_bytes = 1024
 abbrev pub count_refusal : ℕ → Option Refusal
 count_refusal count = if nat_lt 0 count && nat_le count most_bytes then None else Some InvalidSize
 
--- so many bytes are told from the place that a range of addresses finds
+-- so many bytes are returned from the place that a range of addresses finds
 abbrev pub peeked : ℕ → Option Place → OwnState → Outcome
 peeked count (Some place) s = record { reply = Bytes (bytes_from s place count); lines = []; next = s }
 peeked count None s = refused s PageFault
@@ -161,7 +161,7 @@ cap_allocated s = record {
   };
 }
 
--- the RPC object that the selector names goes, with a credit
+-- the RPC object that the selector names is removed, with a credit
 abbrev pub cap_freed : ℕ → Option Object → OwnState → Outcome
 cap_freed selector (Some RpcObject) s = record {
   reply = Done;
@@ -206,7 +206,7 @@ abbrev pub large_in : ℕ → Option ℕ → OwnState → Outcome
 large_in n (Some start) s = large_at n start s
 large_in n None s = refused s OutOfRam
 
--- the block whose payload starts at an address goes: a large block of so many bytes, with a credit, or a block of a chunk
+-- the block whose payload starts at an address is freed: a large block of so many bytes, with a credit, or a block of a chunk
 abbrev pub given_back : ℕ → Option ℕ → OwnState → Outcome
 given_back address (Some bytes) s = record {
   reply = Done;
@@ -230,12 +230,12 @@ sliced_at n start s = record {
   };
 }
 
--- the same at a gap of the heap window. It has none only where more RAM is in use than the largest machine has
+-- the same at a gap of the heap window. It has none only if more RAM is in use than the largest machine has
 abbrev pub sliced_in : ℕ → Option ℕ → OwnState → Outcome
 sliced_in n (Some start) s = sliced_at n start s
 sliced_in n None s = refused s OutOfRam
 
--- the sliced block whose payload starts at an address goes, with a credit
+-- the sliced block whose payload starts at an address is removed, with a credit
 abbrev pub sliced_freed : ℕ → Option (List ℕ) → OwnState → Outcome
 sliced_freed address (Some payload) s = record {
   reply = Done;
@@ -248,7 +248,7 @@ sliced_freed address None s = refused s PageFault
 abbrev pub own_heap_gap : ℕ → OwnState → Option ℕ
 own_heap_gap bytes s = heap_gap largest_machine (heap_ranges s) (bytes / 4096)
 
--- a block for fewer bytes than a large block's, with the best hole for it, if there is one: the heap grows where there is none
+-- a block for fewer bytes than a large block's, with the best hole for it, if there is one: the heap grows if there is none
 abbrev pub small_new : ℕ → Option Spot → OwnState → Outcome
 small_new n (Some hole) s = block_taken n hole s
 small_new n None s =
@@ -260,14 +260,14 @@ abbrev pub newed : ℕ → OwnState → Outcome
 newed n s = if is_large n then large_in n (own_heap_gap (page_of n) s) s else small_new n (hole_for n s.heap.shape) s
 
 -- the use and the limits of the caller's account
-abbrev pub told_quota : OwnState → Outcome
-told_quota s = record { reply = Quotas s.account; lines = []; next = s }
+abbrev pub reported_quota : OwnState → Outcome
+reported_quota s = record { reply = Quotas s.account; lines = []; next = s }
 
 -- ---- the reserve
 
 -- what the caller's reserve has
-abbrev pub told_reserve : OwnState → Outcome
-told_reserve s = record { reply = Reserved s.reserve; lines = []; next = s }
+abbrev pub reported_reserve : OwnState → Outcome
+reported_reserve s = record { reply = Reserved s.reserve; lines = []; next = s }
 
 -- so much goes from the reserve to the account's limits
 abbrev pub reserve_requested : Arguments → OwnState → Outcome
@@ -297,7 +297,7 @@ yielded_by None s = refused s BadArgs
 
 -- ---- sessions
 
--- a session that is asked for, under the new selector: what is donated for it leaves the client's limits
+-- a session that is requested, under the new selector: what is donated for it leaves the client's limits
 abbrev pub session_opened : Wish → OwnState → Outcome
 session_opened wish s = record {
   reply = Selected (new_selector s.selectors);
@@ -329,14 +329,14 @@ upgraded_by selector (Some session) None s = refused s BadArgs
 upgraded_by selector None arguments s = refused s InvalidSession
 
 -- what selectors name after the session under one of them, which had a buffer or none, has one of these bytes or none: one that
--- is made comes under the new selector, one that stays has the bytes, and one that is given back goes
+-- is made comes under the new selector, one that stays has the bytes, and one that is released is removed
 abbrev pub selectors_lent : ℕ → Option NamedBuffer → Option (List ℕ) → NatMap Object → NatMap Object
 selectors_lent q None None selectors = selectors
 selectors_lent q None (Some bytes) selectors = insert selectors (new_selector selectors) (Buffer q bytes)
 selectors_lent q (Some buffer) (Some bytes) selectors = insert selectors buffer.selector (Buffer q bytes)
 selectors_lent q (Some buffer) None selectors = remove selectors buffer.selector
 
--- the regions after that: those of a buffer that is given back go
+-- the regions after that: those of a buffer that is released are removed
 abbrev pub regions_lent : Option NamedBuffer → Option (List ℕ) → NatMap Region → NatMap Region
 regions_lent (Some buffer) None regions = without buffer.selector regions
 regions_lent (Some buffer) (Some bytes) regions = regions
@@ -346,7 +346,7 @@ abbrev pub with_buffer : ℕ → Option NamedBuffer → Option (List ℕ) → Ow
 with_buffer q old new s =
     record s { selectors = selectors_lent q old new s.selectors; regions = regions_lent old new s.regions }
 
--- the reply to a request: where a buffer is made its selector is told at the end
+-- the reply to a request: where a buffer is made its selector is printed at the end
 abbrev pub completed : Option NamedBuffer → Option (List ℕ) → ℕ → List ℕ → List ℕ
 completed None (Some bytes) selector reply = reply ++ decimal selector
 completed None None selector reply = reply
@@ -382,15 +382,16 @@ session_closed selector (Some session) s =
     }
 session_closed selector None s = refused s InvalidSession
 
--- nothing is left of who has exited: every session is closed, everything is dropped, and limits, use and reserve are 0
-abbrev pub gone_state : OwnState
-gone_state = record { account = opened 0 0; reserve = no_reserve; selectors = map.empty; regions = map.empty; heap = no_heap; sliced = map.empty; gone = true }
+-- nothing is left of a component that has exited: every session is closed, everything is dropped, and limits, use and
+-- reserve are 0
+abbrev pub exited_state : OwnState
+exited_state = record { account = opened 0 0; reserve = no_reserve; selectors = map.empty; regions = map.empty; heap = no_heap; sliced = map.empty; gone = true }
 
 -- a component exits
 abbrev pub exited : Outcome
-exited = record { reply = Done; lines = []; next = gone_state }
+exited = record { reply = Done; lines = []; next = exited_state }
 
--- what a call of a script does, whose label and routes its entry tells
+-- what a call of a script does, whose label and routes its entry states
 abbrev pub entry_step : Entry → Call → OwnState → Outcome
 entry_step entry (Alloc n) s = unless (alloc_refusal n s.account) s (allocated n s)
 entry_step entry (Free selector) s = freed selector (get s.selectors selector) s
@@ -406,8 +407,8 @@ entry_step entry (New n) s = unless (heap_refusal n s.heap.shape s.account) s (n
 entry_step entry (Del address) s = deleted address (get s.heap.payloads address) s
 entry_step entry (Snew n) s = unless (sliced_refusal n s.account) s (sliced_in n (own_heap_gap (sliced_size n) s) s)
 entry_step entry (Sdel address) s = sliced_freed address (get s.sliced address) s
-entry_step entry Quota s = told_quota s
-entry_step entry Reserve s = told_reserve s
+entry_step entry Quota s = reported_quota s
+entry_step entry Reserve s = reported_reserve s
 entry_step entry (Request text) s = requested_by (arguments_of text) s
 entry_step entry (Yield text) s = yielded_by (arguments_of text) s
 entry_step entry (Open service text) s = opened_by (wish entry.label entry.routes service text) s
@@ -420,7 +421,7 @@ entry_step entry Exit s = exited
 abbrev pub unrouted : Entry
 unrouted = record { name = []; label = []; kind = Script; home = 0; routes = [] }
 
--- what a call of a script does that leads along no route
+-- what a call of a script without routes does
 abbrev pub script_step : Call → OwnState → Outcome
 script_step call s = entry_step unrouted call s
 

@@ -34,21 +34,21 @@ overlap a pages b others = nat_lt a (b + others * 4096) && nat_lt b (a + pages *
 abbrev pub meets : NatMap Region → ℕ → ℕ → Bool
 meets regions address pages = list_any (λ e. overlap e.0 e.1.pages address pages) (entries regions)
 
--- so many pages can stand at an address: it is a multiple of a page, they lie within the window, and meet no region
-abbrev pub can_stand : ℕ → ℕ → NatMap Region → ℕ → ℕ → Bool
-can_stand low high regions pages address =
+-- so many pages can be at an address: it is a multiple of a page, they lie within the window, and meet no region
+abbrev pub can_attach : ℕ → ℕ → NatMap Region → ℕ → ℕ → Bool
+can_attach low high regions pages address =
     (address % 4096 == 0 && (nat_le low address && nat_le (address + pages * 4096) high))
     && not (meets regions address pages)
 
--- the first gap of a window for so many pages: the least address at which they can stand
+-- the first gap of a window for so many pages: the least address at which they can be
 unfoldable pub first_gap : ℕ → ℕ → NatMap Region → ℕ → Option ℕ
-first_gap low high regions pages = find (can_stand low high regions pages) (range_with_len low (high + 1 - low))
+first_gap low high regions pages = find (can_attach low high regions pages) (range_with_len low (high + 1 - low))
 
 -- the address of the first gap of the user window, if there is one
 abbrev pub user_gap : NatMap Region → ℕ → ℕ
 user_gap regions pages = unwrap_or (first_gap user_low user_high regions pages) 0
 
--- what `can_stand` tests
+-- what `can_attach` tests
 pub record IsPlace (low high : ℕ) (regions : NatMap Region) (pages address : ℕ) : Type 0 where
   pub aligned : address % 4096 ≡ 0
   pub from_low : low ≤ address
@@ -89,7 +89,7 @@ attach_refusal most regions pages =
 abbrev pub attach_at_refusal : ℕ → NatMap Region → ℕ → ℕ → Option Refusal
 attach_at_refusal most regions pages address =
     if nat_le most (len regions) then Some TooManyRegions
-    else (if can_stand user_low user_high regions pages address then None else Some RegionConflict)
+    else (if can_attach user_low user_high regions pages address then None else Some RegionConflict)
 
 abbrev pub detach_refusal : NatMap Region → ℕ → Option Refusal
 detach_refusal regions address = if is_some (get regions address) then None else Some PageFault

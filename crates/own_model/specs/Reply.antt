@@ -6,7 +6,7 @@ use Rattle.trade_base.specs.Refusal.{refusal_name}
 use Rattle.own_model.specs.Account.{Account}
 use Rattle.own_model.specs.Amounts.{Amounts}
 
--- what a call is answered. A service's reply is told as it stands
+-- what a call is answered. A service's reply is printed unchanged
 pub data Reply : Type 0 where
   Selected : ℕ → Reply
   Attached : ℕ → Reply

@@ -1,4 +1,4 @@
--- Routes: which server a client's wish for a session leads to.
+-- Routes: which server a client's session request is routed to.
 use Rattle.std.specs.Prelude.{ℕ, ◌&&◌, Bool, true, List, [], ◌∷◌, ◌++◌, codes, nat_eq, if◌then◌else◌, Option, Some, None}
 use Rattle.std.specs.List.{starts_with, ends_with}
 use Rattle.std.specs.Str.{bytes_eq}
@@ -40,7 +40,7 @@ abbrev pub decided : List Rule → List ℕ → List ℕ → Lead
 decided [] service label = Nowhere
 decided (rule ∷ rules) service label = if matches rule service label then rule.to else decided rules service label
 
--- names, and a label behind them, if there is one
+-- names, and a label after them, if there is one
 abbrev pub label_with : List ℕ → List ℕ → List ℕ
 label_with name [] = name
 label_with name (b ∷ given) = name ++ codes " -> " ++ b ∷ given
@@ -50,7 +50,7 @@ pub record Level : Type 0 where
   pub name : List ℕ
   pub rules : List Rule
 
--- where a lead ends, if outward is there
+-- the server at the end of a route, if outward is that one
 abbrev pub led_to : Lead → Option ServerAt → Option ServerAt
 led_to (To server) outward = Some server
 led_to Nowhere outward = None

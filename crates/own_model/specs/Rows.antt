@@ -1,4 +1,4 @@
--- Worked inputs of machine A, and what is told of them.
+-- Computed examples of machine A, and their output.
 use Rattle.std.specs.Prelude.{ℕ, List}
 use Rattle.own_model.specs.Listed.{start_list_of}
 use Rattle.own_model.specs.MachineA.{machine_a}
@@ -9,6 +9,6 @@ use Rattle.own_model.specs.Transcript.{transcript}
 abbrev pub start_of_a : StartList
 start_of_a = start_list_of machine_a
 
--- what machine A tells of an input
-abbrev pub told_by_a : List ℕ → List ℕ
-told_by_a input = transcript (entries_of start_of_a) (start_states start_of_a) input
+-- the output of machine A for an input
+abbrev pub transcript_of_a : List ℕ → List ℕ
+transcript_of_a input = transcript (entries_of start_of_a) (start_states start_of_a) input

@@ -18,13 +18,13 @@ running_step entries states made = own_step (entry_at entries made.component) ma
 abbrev pub states_after_call : List Entry → List OwnState → Made → List OwnState
 states_after_call entries states made = slice_set states made.component (running_step entries states made).next
 
--- the running states after what was heard
-abbrev pub states_after_heard : List Entry → List OwnState → Heard → List OwnState
-states_after_heard entries states NoCall = states
-states_after_heard entries states (Stranger name) = states
-states_after_heard entries states (Caller made) = states_after_call entries states made
+-- the running states after a classified line
+abbrev pub states_after_line : List Entry → List OwnState → Heard → List OwnState
+states_after_line entries states NoCall = states
+states_after_line entries states (Stranger name) = states
+states_after_line entries states (Caller made) = states_after_call entries states made
 
--- what is told of what was heard, from the running states
+-- the output for a classified line, from the running states
 abbrev pub told_now : List Entry → List OwnState → Heard → List ℕ
 told_now entries states NoCall = reply_line (codes "?") (Refused BadLine)
 told_now entries states (Stranger name) = reply_line name (Refused UnknownComponent)
@@ -35,25 +35,25 @@ told_now entries states (Caller made) =
 abbrev pub states_running : List Entry → List OwnState → List (List ℕ) → List OwnState
 states_running entries states [] = states
 states_running entries states (line ∷ lines) =
-    states_running entries (states_after_heard entries states (heard entries line)) lines
+    states_running entries (states_after_line entries states (heard entries line)) lines
 
--- what is told of these lines, each from the states that those before it left
-abbrev pub told_running : List Entry → List OwnState → List (List ℕ) → List ℕ
-told_running entries states [] = []
-told_running entries states (line ∷ lines) =
+-- the output for these lines, each from the states that those before it left
+abbrev pub running_transcript : List Entry → List OwnState → List (List ℕ) → List ℕ
+running_transcript entries states [] = []
+running_transcript entries states (line ∷ lines) =
     told_now entries states (heard entries line)
-    ++ told_running entries (states_after_heard entries states (heard entries line)) lines
+    ++ running_transcript entries (states_after_line entries states (heard entries line)) lines
 
--- inits' accounts after what was heard: a call may return limits of its caller's to its init
-abbrev pub inits_after_heard : List Entry → List Account → List OwnState → Heard → List Account
-inits_after_heard entries inits states NoCall = inits
-inits_after_heard entries inits states (Stranger name) = inits
-inits_after_heard entries inits states (Caller made) =
+-- inits' accounts after a classified line: a call may return limits of its caller's to its init
+abbrev pub inits_after_line : List Entry → List Account → List OwnState → Heard → List Account
+inits_after_line entries inits states NoCall = inits
+inits_after_line entries inits states (Stranger name) = inits
+inits_after_line entries inits states (Caller made) =
     inits_after (entry_at entries made.component).home inits (state_at states made.component) (running_step entries states made).next
 
 -- inits' accounts after these lines
 abbrev pub inits_running : List Entry → List Account → List OwnState → List (List ℕ) → List Account
 inits_running entries inits states [] = inits
 inits_running entries inits states (line ∷ lines) =
-    inits_running entries (inits_after_heard entries inits states (heard entries line))
-    (states_after_heard entries states (heard entries line)) lines
+    inits_running entries (inits_after_line entries inits states (heard entries line))
+    (states_after_line entries states (heard entries line)) lines

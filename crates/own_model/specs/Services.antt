@@ -1,4 +1,4 @@
--- What is told of each service, and of what its server keeps for a session: all that the model says of one service and not of
+-- The properties of each service, and of what its server stores for a session: all that the model says of one service and not of
 -- another.
 use Rattle.std.specs.Prelude.{◌≡◌, ◌⊎◌, ℕ, List, [], Option}
 use Rattle.std.proofs.Common.{zero, suc, refl, inl, inr}

@@ -12,7 +12,7 @@ use Rattle.own_model.specs.Sliced.{sliced_size}
 
 -- ---- donations
 
--- the bytes of the object that stands for a session: a sliced block of that size is charged to the session's account
+-- the bytes of the object that denotes a session: a sliced block of that size is charged to the session's account
 abbrev pub session_object : ℕ
 session_object = 256
 
@@ -37,16 +37,16 @@ donation_refusal client ram caps = option_or (shortage client ram caps) (too_sma
 abbrev pub session_account : ℕ → ℕ → Account
 session_account ram caps = charged (opened ram caps) session_ram session_caps
 
--- what arguments give: nothing where their text isn't in the grammar
+-- what arguments give: nothing if their text is not in the grammar
 abbrev pub given_by : Option Arguments → Arguments
 given_by arguments = unwrap_or arguments (record { ram = 0; caps = 0; label = [] })
 
 abbrev pub given : List ℕ → Arguments
 given text = given_by (arguments_of text)
 
--- ---- what is asked for
+-- ---- what is requested
 
--- a session that is asked for: the server, the label, which is the client's and then what it gave, and the donation
+-- a session that is requested: the server, the label, which is the client's and then what it gave, and the donation
 pub record Wish : Type 0 where
   pub server : ServerAt
   pub label : List ℕ
@@ -54,18 +54,18 @@ pub record Wish : Type 0 where
   pub caps : ℕ
 
 -- what arguments ask for where the route leads to a server
-abbrev pub wish_of : List ℕ → Arguments → Option ServerAt → Result Wish Refusal
-wish_of client arguments None = Err ServiceDenied
-wish_of client arguments (Some server) =
+abbrev pub routed_request : List ℕ → Arguments → Option ServerAt → Result Wish Refusal
+routed_request client arguments None = Err ServiceDenied
+routed_request client arguments (Some server) =
     Ok (record { server = server; label = label_with client arguments.label; ram = arguments.ram; caps = arguments.caps })
 
 -- what a client of this label and with these routes asks for: the arguments are read first, and then the route is taken
-abbrev pub wish_in : List ℕ → List Level → List ℕ → Option Arguments → Result Wish Refusal
-wish_in client routes service None = Err BadArgs
-wish_in client routes service (Some arguments) = wish_of client arguments (provider routes service arguments.label)
+abbrev pub resolved_request : List ℕ → List Level → List ℕ → Option Arguments → Result Wish Refusal
+resolved_request client routes service None = Err BadArgs
+resolved_request client routes service (Some arguments) = routed_request client arguments (provider routes service arguments.label)
 
 abbrev pub wish : List ℕ → List Level → List ℕ → List ℕ → Result Wish Refusal
-wish client routes service text = wish_in client routes service (arguments_of text)
+wish client routes service text = resolved_request client routes service (arguments_of text)
 
 -- the session that is made of it
 abbrev pub new_session : Wish → Session
@@ -86,7 +86,7 @@ upgraded session ram caps = record session { account = raised session.account ra
 abbrev pub served : Option (List ℕ) → Session → List ℕ → Served
 served buffer session request = served_by session.state buffer session request
 
--- ---- as a server keeps it: the account stands elsewhere
+-- ---- as a server keeps it: the account is elsewhere
 
 -- what a server keeps, with the session's label
 pub record Labelled : Type 0 where

@@ -1,4 +1,4 @@
--- The texts with which a session is asked for, and is given more.
+-- The texts with which a session is requested, and is given more.
 use Rattle.std.specs.Prelude.{◌≡◌, ℕ, ◌^◌, ◌-◌, ◌<◌, ◌≤◌, ◌==◌, ◌&&◌, ◌||◌, not, Bool, false, IsTrue, List, [], ◌∷◌, ◌++◌, length, take, drop, reverse, slice_index, codes, decimal, nat_lt, nat_le, if◌then◌else◌, find, Option, Some, None}
 use Rattle.std.specs.List.{list_all, before_first, after_first}
 use Rattle.std.specs.Option.{option_map, option_and_then}
@@ -26,7 +26,7 @@ is_key_start b = is_ascii_alphabetic b || b == 95
 abbrev pub is_key_byte : ℕ → Bool
 is_key_byte b = is_ascii_alphanumeric b || b == 95
 
--- what may stand between quotes: a printable byte but a quote and a backslash
+-- what may be between quotes: a printable byte except a quote and a backslash
 abbrev pub is_quotable : ℕ → Bool
 is_quotable b = (nat_le 32 b && nat_le b 126) && not (b == 34 || b == 92)
 
@@ -55,7 +55,7 @@ trimmed text = reverse (skip_spaces (reverse (skip_spaces text)))
 
 -- ---- pairs
 
--- a value: as it stands, or what stands between quotes
+-- a value: without quotes, or the text between quotes
 pub data Value : Type 0 where
   Bare : List ℕ → Value
   Quoted : List ℕ → Value
@@ -77,7 +77,7 @@ inner text = take (length text - 2) (drop 1 text)
 abbrev pub is_bare : List ℕ → Bool
 is_bare text = nat_lt 0 (length text) && list_all is_name_byte text
 
--- a quote, bytes that may stand between quotes, and a quote
+-- a quote, bytes that may be between quotes, and a quote
 abbrev pub is_quoted : List ℕ → Bool
 is_quoted text =
     (nat_le 2 (length text) && (is_quote (slice_index text 0) && is_quote (slice_index text (length text - 1))))
@@ -117,13 +117,13 @@ pub record Arguments : Type 0 where
 abbrev pub value_under : List ℕ → List Pair → Option Value
 value_under key pairs = option_map (λ pair. pair.value) (find (λ pair. bytes_eq pair.key key) pairs)
 
--- RAM is an amount, as it stands
+-- RAM is an amount, without quotes
 abbrev pub ram_of : Option Value → Option ℕ
 ram_of None = Some 0
 ram_of (Some (Bare text)) = amount_of text
 ram_of (Some (Quoted text)) = None
 
--- capabilities are a number below 2^32, as it stands
+-- capabilities are a number below 2^32, without quotes
 abbrev pub caps_of : Option Value → Option ℕ
 caps_of None = Some 0
 caps_of (Some (Bare text)) = option_and_then (λ n. if nat_lt n (2 ^ 32) then Some n else None) (number_of text)
@@ -143,7 +143,7 @@ arguments_in pairs =
     (caps_of (value_under (codes "cap_quota") pairs)))
     (ram_of (value_under (codes "ram_quota") pairs))
 
--- the arguments of a text, or none where it isn't in the grammar
+-- the arguments of a text, or none if it isn't in the grammar
 abbrev pub arguments_of : List ℕ → Option Arguments
 arguments_of text = option_and_then arguments_in (pairs_of text)
 
@@ -154,7 +154,7 @@ arguments_text arguments =
     codes "ram_quota=" ++ decimal arguments.ram ++ codes ", cap_quota=" ++ decimal arguments.caps
     ++ codes ", label=\"" ++ arguments.label ++ codes "\""
 
--- arguments that have a text: RAM within 64 bits, capabilities within 32, and at most 64 bytes that may stand between quotes
+-- arguments that have a text: RAM within 64 bits, capabilities within 32, and at most 64 bytes that may be between quotes
 pub record HasText (arguments : Arguments) : Type 0 where
   pub ram : arguments.ram < 2 ^ 64
   pub caps : arguments.caps < 2 ^ 32

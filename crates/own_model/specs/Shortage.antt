@@ -26,12 +26,12 @@ use Rattle.own_model.specs.World.{outcome_at, start_world, world_running}
 abbrev pub bytes_and_cap : ℕ → Amounts
 bytes_and_cap bytes = record { ram = bytes; caps = 1 }
 
--- what a block of the heap asks for, with the best hole for it, if there is one: without one, a chunk of the block's own pages
+-- what a block of the heap requests, with the best hole for it, if there is one: without one, a chunk of the block's own pages
 abbrev pub asked_with : ℕ → Option Spot → Amounts
 asked_with n (Some hole) = no_amounts
 asked_with n None = bytes_and_cap (page_of (block_size n))
 
--- what a call asks for: a charge, a donation, or what is to be moved between the caller's account and its reserve
+-- what a call requests: a charge, a donation, or what is to be moved between the caller's account and its reserve
 abbrev pub asked : Call → OwnState → Amounts
 asked (Alloc n) s = bytes_and_cap (page_of n)
 asked Capalloc s = bytes_and_cap 0
@@ -48,23 +48,23 @@ abbrev pub asked_of : Call → OwnState → Account
 asked_of (Request text) s = reserve_account s.reserve
 asked_of call s = s.account
 
--- a reply tells of want of RAM or of capabilities only where an account doesn't cover what is asked
-pub record TellsOwnShortage (a : Account) (more : Amounts) (reply : Reply) : Type 0 where
+-- a reply states a lack of RAM or of capabilities only if an account doesn't cover what is asked
+pub record ShowsOwnShortage (a : Account) (more : Amounts) (reply : Reply) : Type 0 where
   pub ram : reply ≡ Refused OutOfRam → a.ram_limit < a.ram_used + more.ram
   pub caps : reply ≡ Refused OutOfCaps → a.caps_limit < a.caps_used + more.caps
 
--- a call is refused for want of RAM or of capabilities only where what it asks, its caller's account or its reserve, doesn't
--- cover what it asks for: never for want of a page, a place in a table or a gap. The account has no more RAM than the
+-- a call is refused for lack of RAM or of capabilities only if what it asks, its caller's account or its reserve, doesn't
+-- cover what it requests: never for lack of a page, a place in a table or a gap. The account has no more RAM than the
 -- largest machine
 abbrev pub NoHiddenShortage : Type 0
 NoHiddenShortage =
     (entry : Entry) (call : Call) (s : OwnState) → WithinLimits s.account → IsSound s → UsesWhatItHolds s →
-    s.account.ram_limit ≤ largest_machine * 4096 → TellsOwnShortage (asked_of call s) (asked call s) (own_step entry call s).reply
+    s.account.ram_limit ≤ largest_machine * 4096 → ShowsOwnShortage (asked_of call s) (asked call s) (own_step entry call s).reply
 
--- so it is on any machine that has booted, after any lines
+-- this holds on any machine that has booted, after any lines
 abbrev pub NoHiddenShortageAfterLines : Type 0
 NoHiddenShortageAfterLines =
     (list : StartList) (lines : List (List ℕ)) (component : ℕ) (call : Call) → Boots list → list.pages ≤ largest_machine →
-    TellsOwnShortage (asked_of call (state_at (world_running (start_world list) lines).states component))
+    ShowsOwnShortage (asked_of call (state_at (world_running (start_world list) lines).states component))
     (asked call (state_at (world_running (start_world list) lines).states component))
     (outcome_at (world_running (start_world list) lines) component call).reply

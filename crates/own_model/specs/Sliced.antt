@@ -10,7 +10,7 @@ use Rattle.own_model.specs.Account.{Account, shortage}
 use Rattle.own_model.specs.NatMap.{NatMap, picked, moved_down}
 use Rattle.own_model.specs.Region.{Region}
 
--- the bytes of a sliced block's header, which stands before its payload
+-- the bytes of a sliced block's header, which is before its payload
 abbrev pub sliced_header : ℕ
 sliced_header = 32
 

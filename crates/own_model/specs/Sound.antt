@@ -1,4 +1,4 @@
--- What is true of every own state: of what has bytes, of its regions and of what stands in the heap window.
+-- What is true of every own state: of what has bytes, of its regions and of what is in the heap window.
 use Rattle.std.specs.Prelude.{◌≡◌, ◌≢◌, ℕ, ◌+◌, ◌*◌, ◌%◌, ◌≤◌, true, false, List, length, Some, None, IsSome}
 use Rattle.std.specs.FinMap.{get, len, from_entries}
 use Rattle.std.specs.List.{AllByRecursion}
@@ -37,7 +37,7 @@ pub record LieApart (low high : ℕ) (regions : NatMap Region) : Type 0 where
   pub within : (start : ℕ) (region : Region) → get regions start ≡ Some region → IsInWindow low high start region.pages
   pub apart : (a b : ℕ) (r q : Region) → get regions a ≡ Some r → get regions b ≡ Some q → a ≢ b → overlap a r.pages b q.pages ≡ false
 
--- a block with this payload fills whole pages, and its header stands before the payload's address
+-- a block with this payload fills whole pages, and its header is before the payload's address
 pub record IsBlock (address : ℕ) (payload : List ℕ) : Type 0 where
   pub header : sliced_header ≤ address
   pub whole : block_size payload ≡ block_pages payload * 4096
@@ -73,7 +73,7 @@ pub record AreLent (selectors : NatMap Object) : Type 0 where
   pub open_session : (k q : ℕ) → is_buffer_of q (get selectors k) ≡ true → IsSome (session_named (get selectors q))
   pub only : (j k q : ℕ) → is_buffer_of q (get selectors j) ≡ true → is_buffer_of q (get selectors k) ≡ true → j ≡ k
 
--- what has bytes is pages, regions are mapped, each sliced block is pages, the heap is one, and what stands in the heap
+-- what has bytes is pages, regions are mapped, each sliced block is pages, the heap is one, and what is in the heap
 -- window lies apart
 pub record IsSound (s : OwnState) : Type 0 where
   pub whole : (selector : ℕ) (bytes : List ℕ) → named_bytes (get s.selectors selector) ≡ Some bytes → IsPages bytes

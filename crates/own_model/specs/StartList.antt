@@ -13,9 +13,9 @@ pub data Kind : Type 0 where
   Server : Kind
   Init : Kind
 
--- what a start list says of a component, but for its budget: the name by which lines call it, the label under which it opens
+-- what a start list states about a component, except its budget: the name by which lines call it, the label under which it opens
 -- sessions, its kind, the number of its init, and, list by list outward, where its
--- wishes for sessions lead. The machine's init has the number 0, and
+-- session requests are routed. The machine's init has the number 0, and
 -- one that is itself started has the number after its place
 pub record Entry : Type 0 where
   pub name : List ℕ

@@ -14,7 +14,7 @@ use Rattle.own_model.specs.OwnState.{OwnState, Object, pages_in, named_bytes, by
 use Rattle.own_model.specs.OwnState.Object.{Dataspace, RpcObject, OpenSession, Buffer}
 use Rattle.own_model.specs.OwnStep.{most_bytes, own_heap_gap}
 use Rattle.own_model.specs.Place.{found}
-use Rattle.own_model.specs.Region.{most_regions, user_low, user_high, can_stand, first_gap}
+use Rattle.own_model.specs.Region.{most_regions, user_low, user_high, can_attach, first_gap}
 use Rattle.own_model.specs.Reply.{Reply}
 use Rattle.own_model.specs.Reply.Reply.{Selected, Attached, Bytes, Done, Quotas, Reserved, Told, Refused}
 use Rattle.own_model.specs.Reserve.{reserve_account}
@@ -25,7 +25,7 @@ use Rattle.own_model.specs.Sliced.{sliced_header, sliced_size}
 use Rattle.own_model.specs.StartList.{Entry, Kind}
 use Rattle.own_model.specs.StartList.Kind.{Script, Server, Init}
 
--- a refusal, and whether there is reason for it
+-- a refusal, and whether its condition holds
 pub record Test : Type 0 where
   pub refusal : Refusal
   pub fails : Bool
@@ -33,7 +33,7 @@ pub record Test : Type 0 where
 abbrev pub when : Bool → Refusal → Test
 when fails refusal = record { refusal = refusal; fails = fails }
 
--- the first refusal for which there is reason
+-- the first refusal whose condition holds
 abbrev pub first_failed : List Test → Option Refusal
 first_failed [] = None
 first_failed (test ∷ tests) = if test.fails then Some test.refusal else first_failed tests
@@ -72,12 +72,12 @@ pages_named object = pages_in (bytes_named object)
 abbrev pub is_bad_count : ℕ → Bool
 is_bad_count count = not (nat_lt 0 count && nat_le count most_bytes)
 
--- the end of a line for what takes so many bytes and a capability, and stands at a gap of the heap window: it finds none only
+-- the end of a line for what takes so many bytes and a capability, and is at a gap of the heap window: it finds none only
 -- where no machine has the RAM that is in use
 abbrev pub memory_line : ℕ → Option ℕ → OwnState → List Test
 memory_line bytes gap s = when (lacks_ram s.account bytes) OutOfRam ∷ when (lacks_caps s.account 1) OutOfCaps ∷ when (is_none gap) OutOfRam ∷ []
 
--- that for a block of the heap, with the best hole for it, if there is one: where there is none, a chunk of the block's own
+-- that for a block of the heap, with the best hole for it, if there is one: if there is none, a chunk of the block's own
 -- pages decides
 abbrev pub small_line : ℕ → Option Spot → OwnState → List Test
 small_line n (Some hole) s = []
@@ -88,7 +88,7 @@ small_line n None s =
 abbrev pub new_line : ℕ → OwnState → List Test
 new_line n s = if is_large n then memory_line (page_of n) (own_heap_gap (page_of n) s) s else small_line n (hole_for n s.heap.shape) s
 
--- the line for a session of a service: the arguments, the route, the client's account, and the least donation
+-- the line for a session of a service: the arguments, the route, the client's account, and the minimum donation
 abbrev pub open_line : List Level → List ℕ → Option Arguments → OwnState → List Test
 open_line routes service arguments s =
     when (is_none arguments) BadArgs ∷ when (is_none (provider routes service (given_by arguments).label)) ServiceDenied
@@ -116,7 +116,7 @@ line_of entry (Attach selector) s =
     ∷ when (is_none (first_gap user_low user_high s.regions (pages_named (get s.selectors selector)))) RegionConflict ∷ []
 line_of entry (AttachAt selector address) s =
     when (is_none (named_bytes (get s.selectors selector))) InvalidCap ∷ when (nat_le most_regions (len s.regions)) TooManyRegions
-    ∷ when (not (can_stand user_low user_high s.regions (pages_named (get s.selectors selector)) address)) RegionConflict ∷ []
+    ∷ when (not (can_attach user_low user_high s.regions (pages_named (get s.selectors selector)) address)) RegionConflict ∷ []
 line_of entry (Detach address) s = when (is_none (get s.regions address)) PageFault ∷ []
 line_of entry (Peek address count) s = when (is_bad_count count) InvalidSize ∷ when (is_none (found s address count)) PageFault ∷ []
 line_of entry (Poke address bytes) s =
@@ -147,7 +147,7 @@ line_by Script entry call s = when s.gone Gone ∷ line_of entry call s
 abbrev pub whole_line : Entry → Call → OwnState → List Test
 whole_line entry call s = line_by entry.kind entry call s
 
--- the refusal that a reply tells, if it tells one
+-- the refusal that a reply contains, if it contains one
 abbrev pub refusal_in : Reply → Option Refusal
 refusal_in (Selected selector) = None
 refusal_in (Attached address) = None

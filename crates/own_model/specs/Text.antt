@@ -6,7 +6,7 @@ use Rattle.std.specs.Char.{is_ascii_alphanumeric}
 use Rattle.std.specs.Str.{bytes_eq}
 pub use Rattle.trade_base.specs.Amount.{number_of}
 
--- the pieces of a text between its newlines, but for a last piece that is empty
+-- the pieces of a text between its newlines, except a last piece that is empty
 abbrev pub without_empty_end : List (List ℕ) → List (List ℕ)
 without_empty_end [] = []
 without_empty_end ([] ∷ []) = []
@@ -36,7 +36,7 @@ is_name_byte b = is_ascii_alphanumeric b || (b == 95 || (b == 45 || b == 46))
 abbrev pub is_name : List ℕ → Bool
 is_name bs = (nat_le 1 (length bs) && nat_le (length bs) 32) && list_all is_name_byte bs
 
--- a path: 1 to 4 names parted by `/`
+-- a path: 1 to 4 names separated by `/`
 abbrev pub is_path : List ℕ → Bool
 is_path bs = nat_le (length (slice_split (λ b. b == 47) bs)) 4 && list_all is_name (slice_split (λ b. b == 47) bs)
 
@@ -48,12 +48,12 @@ hex_digit_of b =
     else (if nat_le 48 b && nat_le b 57 then Some (b - 48)
     else None))
 
--- the number that hex digits stand for which follow those of n
+-- the number that hex digits denote which follow those of n
 abbrev pub hex_number_after : ℕ → List ℕ → Option ℕ
 hex_number_after n [] = Some n
 hex_number_after n (b ∷ bs) = option_and_then (λ digit. hex_number_after (n * 16 + digit) bs) (hex_digit_of b)
 
--- the address that `0x` and 1 to 16 hex digits stand for
+-- the address that `0x` and 1 to 16 hex digits denote
 abbrev pub address_of : List ℕ → Option ℕ
 address_of text =
     if bytes_eq (take 2 text) (codes "0x") && (nat_le 3 (length text) && nat_le (length text) 18)
@@ -71,6 +71,6 @@ bytes_of_hex (digit ∷ []) = None
 bytes_of_hex (high ∷ low ∷ rest) =
     option_and_then (λ byte. option_map (λ bytes. byte ∷ bytes) (bytes_of_hex rest)) (byte_of_hex high low)
 
--- the same, or nothing where a text isn't that
+-- the same, or nothing if a text isn't that
 abbrev pub hex_bytes : List ℕ → List ℕ
 hex_bytes text = unwrap_or (bytes_of_hex text) []

@@ -3,9 +3,9 @@ use Rattle.std.specs.Prelude.{ℕ, ◌==◌, ◌++◌, List, [], ◌∷◌, leng
 use Rattle.std.specs.List.{flat_map, position}
 use Rattle.std.specs.Str.{bytes_eq}
 use Rattle.trade_base.specs.declared.refusal.Refusal.TheVariants.{BadLine, UnknownComponent}
-use Rattle.own_model.specs.Call.{Call, Spoken, spoken}
+use Rattle.own_model.specs.Call.{Call, Spoken, parsed_call}
 use Rattle.own_model.specs.OwnState.{OwnState}
-use Rattle.own_model.specs.OwnStep.{Outcome, gone_state, own_step, own_run}
+use Rattle.own_model.specs.OwnStep.{Outcome, exited_state, own_step, own_run}
 use Rattle.own_model.specs.Reply.{Reply, reply_text, log_text}
 use Rattle.own_model.specs.Reply.Reply.{Refused}
 use Rattle.own_model.specs.StartList.{Entry, Kind}
@@ -33,7 +33,7 @@ entry_at entries component = slice_index_or entries component nobody
 
 -- what it has: nothing, as if it had exited
 abbrev pub nothing : OwnState
-nothing = gone_state
+nothing = exited_state
 
 abbrev pub state_at : List OwnState → ℕ → OwnState
 state_at states component = slice_index_or states component nothing
@@ -48,7 +48,7 @@ abbrev pub answer : List Entry → List OwnState → List Made → Made → Outc
 answer entries starts earlier made =
     own_step (entry_at entries made.component) made.call (state_after entries starts earlier made.component)
 
--- what a line is to a machine with these entries: no call, one of a name that no component has, or a component's
+-- how a line is classified by a machine with these entries: no call, one of a name that no component has, or a component's
 pub data Heard : Type 0 where
   NoCall : Heard
   Stranger : List ℕ → Heard
@@ -59,23 +59,23 @@ abbrev pub longest_line : ℕ
 longest_line = 8192
 
 -- an init makes no calls: its name is none that a line can call
-abbrev pub heard_of : Kind → Spoken → ℕ → Heard
-heard_of Script says component = Caller (record { component = component; call = says.call })
-heard_of Server says component = Caller (record { component = component; call = says.call })
-heard_of Init says component = Stranger says.name
+abbrev pub classify_call : Kind → Spoken → ℕ → Heard
+classify_call Script says component = Caller (record { component = component; call = says.call })
+classify_call Server says component = Caller (record { component = component; call = says.call })
+classify_call Init says component = Stranger says.name
 
 abbrev pub heard_call : List Entry → Spoken → Option ℕ → Heard
 heard_call entries says None = Stranger says.name
-heard_call entries says (Some component) = heard_of (entry_at entries component).kind says component
+heard_call entries says (Some component) = classify_call (entry_at entries component).kind says component
 
 abbrev pub heard_spoken : List Entry → Option Spoken → Heard
 heard_spoken entries None = NoCall
 heard_spoken entries (Some says) = heard_call entries says (position (λ entry. bytes_eq entry.name says.name) entries)
 
 abbrev pub heard : List Entry → List ℕ → Heard
-heard entries line = if nat_le (length line) longest_line then heard_spoken entries (spoken line) else NoCall
+heard entries line = if nat_le (length line) longest_line then heard_spoken entries (parsed_call line) else NoCall
 
--- the calls in what was heard
+-- the calls in a classified line
 abbrev pub calls_in : Heard → List Made
 calls_in NoCall = []
 calls_in (Stranger name) = []
@@ -89,23 +89,23 @@ reply_line name reply = name ++ codes ": " ++ reply_text reply ++ 10 ∷ []
 abbrev pub outcome_text : List ℕ → Outcome → List ℕ
 outcome_text name outcome = flat_map log_text outcome.lines ++ reply_line name outcome.reply
 
--- what is told of a line after earlier calls
+-- the output for a line after earlier calls
 abbrev pub told : List Entry → List OwnState → List Made → Heard → List ℕ
 told entries starts earlier NoCall = reply_line (codes "?") (Refused BadLine)
 told entries starts earlier (Stranger name) = reply_line name (Refused UnknownComponent)
 told entries starts earlier (Caller made) =
     outcome_text (entry_at entries made.component).name (answer entries starts earlier made)
 
--- what is told of lines, one after another, after earlier calls
-abbrev pub told_after : List Entry → List OwnState → List Made → List (List ℕ) → List ℕ
-told_after entries starts earlier [] = []
-told_after entries starts earlier (line ∷ lines) =
+-- the output for lines, one after another, after earlier calls
+abbrev pub transcript_after : List Entry → List OwnState → List Made → List (List ℕ) → List ℕ
+transcript_after entries starts earlier [] = []
+transcript_after entries starts earlier (line ∷ lines) =
     told entries starts earlier (heard entries line)
-    ++ told_after entries starts (earlier ++ calls_in (heard entries line)) lines
+    ++ transcript_after entries starts (earlier ++ calls_in (heard entries line)) lines
 
 -- the transcript of an input: each line in turn, each call answered by its caller's own run on its own part of the calls before
 abbrev pub transcript : List Entry → List OwnState → List ℕ → List ℕ
-transcript entries starts input = told_after entries starts [] (lines_of input)
+transcript entries starts input = transcript_after entries starts [] (lines_of input)
 
 -- the calls of an input
 abbrev pub calls_of : List Entry → List (List ℕ) → List Made

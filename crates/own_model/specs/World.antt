@@ -7,7 +7,7 @@ use Rattle.own_model.specs.Donation.{raised}
 use Rattle.own_model.specs.Limits.{ram_limits, caps_limits, inits_after, AreWithinLimits}
 use Rattle.own_model.specs.OwnState.{OwnState}
 use Rattle.own_model.specs.OwnStep.{Outcome}
-use Rattle.own_model.specs.Running.{running_step, states_after_heard, states_running, inits_after_heard, inits_running}
+use Rattle.own_model.specs.Running.{running_step, states_after_line, states_running, inits_after_line, inits_running}
 use Rattle.own_model.specs.StartList.{Entry, Kind, StartEntry, StartList, own_budget, entries_of, start_states, init_at, inits_kept}
 use Rattle.own_model.specs.StartList.Kind.{Script, Server, Init}
 use Rattle.own_model.specs.Transcript.{Heard, entry_at, state_at}
@@ -33,11 +33,11 @@ with_state world component s = record world {
   states = slice_set world.states component s;
 }
 
--- the world after what was heard
-abbrev pub world_after_heard : World → Heard → World
-world_after_heard world what = record world {
-  inits = inits_after_heard world.entries world.inits world.states what;
-  states = states_after_heard world.entries world.states what;
+-- the world after a classified line
+abbrev pub world_after_line : World → Heard → World
+world_after_line world what = record world {
+  inits = inits_after_line world.entries world.inits world.states what;
+  states = states_after_line world.entries world.states what;
 }
 
 -- and after these lines
@@ -87,12 +87,12 @@ pub record IsBalanced (pages caps : ℕ) (world : World) : Type 0 where
   pub ram_adds_up : all_ram world ≡ pages * 4096
   pub caps_add_up : all_caps world ≡ caps
 
--- a component with its reserve and its open sessions has the budget that it started with, or nothing once it is gone
+-- a component with its reserve and its open sessions has the budget that it started with, or nothing after its exit
 pub record HasItsBudget (start : StartEntry) (s : OwnState) : Type 0 where
   pub ram : ram_limits s ≡ (if s.gone then 0 else (own_budget start).ram)
   pub caps : caps_limits s ≡ (if s.gone then 0 else (own_budget start).caps)
 
--- the budgets of those of an init's that are gone
+-- the budgets of those of an init's that have exited
 abbrev pub ram_returned : ℕ → List StartEntry → List OwnState → ℕ
 ram_returned home starts states =
     sum_by (λ p. if p.1.gone && p.0.entry.home == home then (own_budget p.0).ram else 0) (zip starts states)
@@ -102,12 +102,12 @@ caps_returned home starts states =
     sum_by (λ p. if p.1.gone && p.0.entry.home == home then (own_budget p.0).caps else 0) (zip starts states)
 
 -- what the account of the init of a number is for a start list: what the start left it, and the budgets of those of its own
--- list that are gone
+-- list that have exited
 abbrev pub init_for : StartList → List OwnState → ℕ → Account
 init_for list states number =
     raised (init_at (inits_kept list) number) (ram_returned number list.starts states) (caps_returned number list.starts states)
 
--- a world is balanced for its start list: each component has its budget or is gone, and each init has all else of its own
+-- a world is balanced for its start list: each component has its budget or has exited, and each init has all else of its own
 pub record IsBalancedFor (list : StartList) (world : World) : Type 0 where
   pub balanced : IsBalanced list.pages list.caps world
   pub entries : world.entries ≡ entries_of list

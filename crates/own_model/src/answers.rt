@@ -1,50 +1,53 @@
-//! Laws of answers: what is told by history and from running states is the same, and hangs on the caller's own part alone.
-ghost use Rattle.own_model.specs.Laws.{TranscriptIsRunning, StatesAreOwnRuns, StatesOverFirst, StatesOverLast, StatesKeepLength, InitsOverFirst, InitsOverLast, ToldOverFirst, ToldOverLast, EqualPartsEqualStates, EqualPartsEqualAnswers};
-ghost use Rattle.own_model.specs.SaidBy.{PiecesAreTold, PiecesStandAlone, StateStandsAlone};
+//! Theorems on answers: the answers computed from the call history equal those of the running states, and depend on the
+//! caller's own part only.
+ghost use Rattle.own_model.specs.Theorems.{TranscriptIsRunning, StatesAreOwnRuns, StatesOverFirst, StatesOverLast, StatesKeepLength, InitsOverFirst, InitsOverLast, OutputOverFirst, OutputOverLast, EqualPartsEqualStates, EqualPartsEqualAnswers};
+ghost use Rattle.own_model.specs.LinesOfName.{PiecesAreOutput, PiecesAreIndependent, StateIsIndependent};
 
-/// The transcript, whose answers come from the history of calls, is what the running states tell.
+/// States that the transcript, whose answers are computed from the history of calls, equals the output of the running
+/// states.
 pub fn transcript_is_running()
     ensures { TranscriptIsRunning }
 {}
 
-/// Each running state is its component's own run on its own part of the calls.
+/// States that each running state is the component's own run over its own part of the calls.
 pub fn states_are_own_runs()
     ensures { StatesAreOwnRuns }
 {}
 
-/// A line is one step of the running states, before other lines and after them.
+/// States that a line is one step of the running states, both at the start and at the end of a list of lines.
 pub fn states_over_a_line()
     ensures first { StatesOverFirst }
     ensures last { StatesOverLast }
     ensures count { StatesKeepLength }
 {}
 
-/// Inits' accounts go on line by line too.
+/// States that the accounts of inits also advance line by line.
 pub fn inits_over_a_line()
     ensures first { InitsOverFirst }
     ensures last { InitsOverLast }
 {}
 
-/// What is told of lines is told line by line: the first from the states at hand, the last from those that the others left.
-pub fn told_over_a_line()
-    ensures first { ToldOverFirst }
-    ensures last { ToldOverLast }
+/// States that the output for a list of lines is that of the first line, followed by that of the others. The others start
+/// from the states after the first.
+pub fn output_over_a_line()
+    ensures first { OutputOverFirst }
+    ensures last { OutputOverLast }
 {}
 
-/// Calls of all whose parts are equal for a component leave it equal own states.
+/// States that two lists of calls with equal parts for a component leave the component equal own states.
 pub fn equal_parts_equal_states()
     ensures { EqualPartsEqualStates }
 {}
 
-/// A component's call is answered alike after calls of all whose parts are equal for it.
+/// States that a component's call has the same answer after any two lists of calls with equal parts for the component.
 pub fn equal_parts_equal_answers()
     ensures { EqualPartsEqualAnswers }
 {}
 
-/// One component's lines alone are told what they are told among the lines of all: their pieces of the whole transcript,
-/// put together, are the transcript of those lines. So is the component's own state.
-pub fn lines_stand_alone()
-    ensures told { PiecesAreTold }
-    ensures alone { PiecesStandAlone }
-    ensures state { StateStandsAlone }
+/// States isolation: the output for one component's lines alone is that component's part of the transcript of all lines.
+/// The same holds for the component's own state.
+pub fn lines_are_independent()
+    ensures told { PiecesAreOutput }
+    ensures alone { PiecesAreIndependent }
+    ensures state { StateIsIndependent }
 {}

@@ -1,6 +1,6 @@
-//! Laws of the buffer that a client shares with its session of the file service, and worked inputs that compute.
+//! Theorems on the buffer that a client shares with its session of the file service, and computed examples.
 ghost use Rattle.std.specs.Prelude.{◌≡◌, [], ◌∷◌, true, Some, codes};
-ghost use Rattle.own_model.specs.BufferLaws.{BufferErrorsComeInOrder, OtherBuffersAreServed, PutsAreWrites, GetsCopy, AllKeepFiles, AllKeepCharges, AllKeepLimits, AllKeepWithinLimits, AllFitBuffers};
+ghost use Rattle.own_model.specs.BufferTheorems.{BufferErrorsComeInOrder, OtherBuffersAreServed, PutsAreWrites, GetsCopy, AllKeepFiles, AllKeepCharges, AllKeepLimits, AllKeepWithinLimits, AllFitBuffers};
 ghost use Rattle.own_model.specs.BufferRows.{turns_of, none_read};
 ghost use Rattle.own_model.specs.BufferRows.Turn.{Asks, Pokes, Peeks};
 ghost use Rattle.own_model.specs.BufferService.{session_request};
@@ -8,22 +8,23 @@ ghost use Rattle.own_model.specs.BufferService.BufferRequest.{Make, GiveBack, Pu
 ghost use Rattle.own_model.specs.BufferService.SessionRequest.{OfFiles, OfBuffer};
 ghost use Rattle.own_model.specs.FileText.FileRequest.{Create, Read, Write, Size, Stat};
 
-/// A request of the buffer is answered the first error on its line of the table of requests for which there is reason, and then
-/// leaves the buffer, the files and the account; where there is reason for none, it is answered none.
+/// States that a buffer request fails with the first error of its line in the table of requests whose condition holds,
+/// and then changes nothing. If no condition holds, the request succeeds.
 pub fn buffer_errors_come_in_order()
     ensures order { BufferErrorsComeInOrder }
     ensures others { OtherBuffersAreServed }
 {}
 
-/// A put is a write of the buffer's bytes. A get puts so many bytes of the file into the buffer, and leaves every other byte
-/// of it.
+/// States that `PUT` writes the buffer's bytes to a file. `GET` copies bytes of a file into the buffer and leaves all its
+/// other bytes.
 pub fn buffer_bytes_are_moved()
     ensures put { PutsAreWrites }
     ensures get { GetsCopy }
 {}
 
-/// Any request of a session leaves files as files are, changes no limit and overdraws no account, and the account then uses
-/// what the files and the buffer are charged, as it did. A new buffer is whole pages, and one that stays is as long as it was.
+/// States that each request of a session keeps the files well-formed, changes no limit and exceeds no limit. The
+/// account's use stays equal to the charges for files and buffer. A new buffer has whole pages, and a buffer never
+/// changes its length.
 pub fn buffers_are_charged()
     ensures files { AllKeepFiles }
     ensures charges { AllKeepCharges }
@@ -32,7 +33,7 @@ pub fn buffers_are_charged()
     ensures long { AllFitBuffers }
 {}
 
-/// A request of the buffer is told by its word, with numbers and a file's word parted by exactly one space.
+/// States how buffer requests are parsed: a keyword, and arguments separated by exactly one space.
 pub fn buffer_requests_are_read()
     ensures make { session_request (codes "BUFFER 05000") ≡ Some (OfBuffer (Make 5000)) }
     ensures back { session_request (codes "UNBUFFER") ≡ Some (OfBuffer GiveBack) }
@@ -46,8 +47,8 @@ pub fn buffer_requests_are_read()
         ≡ true }
 {}
 
-/// A buffer is made, filled by its client, put into a file and filled from one, given back and made again: then it is zero.
-/// What a file doesn't have of a range leaves the buffer there as it was.
+/// States a computed example. A buffer is created, filled by its client, written to a file, read from a file and
+/// released. Created again, it is zero. `GET` leaves buffer bytes for which the file has no bytes.
 pub fn buffer_is_shared_with_its_session()
     ensures shared { turns_of 40960 6
         (Asks (OfBuffer (Make 0)) ∷ Asks (OfFiles (Create (codes "a")))

@@ -1,37 +1,39 @@
-//! Laws of the file service, and worked inputs that compute.
+//! Theorems on the file service, and computed examples.
 ghost use Rattle.std.specs.Prelude.{◌≡◌, codes};
-ghost use Rattle.own_model.specs.FileLaws.{NoFilesAreFiles, RequestsKeepFiles, RequestsKeepCharges, RequestsKeepLimits, RequestsKeepWithinLimits, ErrorsComeInOrder, OthersAreServed, WrittenIsRead, OtherFilesStay};
+ghost use Rattle.own_model.specs.FileTheorems.{NoFilesAreFiles, RequestsKeepFiles, RequestsKeepCharges, RequestsKeepLimits, RequestsKeepWithinLimits, ErrorsComeInOrder, OthersAreServed, WrittenIsRead, OtherFilesStay};
 ghost use Rattle.own_model.specs.FileRows.{replies_of};
 
-/// What a session has at first is as files are, and so it stays after any request: each file has a name of its own, and a
-/// block for its node, and there are no more blocks.
+/// States that a session's files are well-formed at first and after each request. Each file has a unique name and one
+/// block for its node, and there are no other blocks.
 pub fn files_stay_files()
     ensures first { NoFilesAreFiles }
     ensures request { RequestsKeepFiles }
 {}
 
-/// A request changes no limit and overdraws no account, and the account then uses what the files are charged, as it did.
+/// States that a request changes no limit and exceeds no limit, and that the account's use stays equal to the charges for
+/// files.
 pub fn files_are_charged()
     ensures charges { RequestsKeepCharges }
     ensures limits { RequestsKeepLimits }
     ensures within { RequestsKeepWithinLimits }
 {}
 
-/// A request is answered the first error on its line of the table of requests for which there is reason, and then leaves the
-/// files and the account; where there is reason for none, it is answered none.
+/// States that a request fails with the first error of its line in the table of requests whose condition holds, and then
+/// changes nothing. If no condition holds, the request succeeds.
 pub fn file_errors_come_in_order()
     ensures order { ErrorsComeInOrder }
     ensures others { OthersAreServed }
 {}
 
-/// Where a write is done, a read of the same bytes tells them. A request of one file leaves the others, bytes and node.
+/// States that a read after a successful write returns the written bytes, and that a request for one file leaves all
+/// other files unchanged.
 pub fn written_files_are_read()
     ensures written { WrittenIsRead }
     ensures others { OtherFilesStay }
 {}
 
-/// Each request in turn, with its refusals: a file is made, written, read, cleared and dropped. A write that makes a file
-/// longer needs the bytes of both contents at once. A node needs bytes first, and then a capability.
+/// States a computed example with each request and its refusals: a file is created, written, read, cleared and dropped. A
+/// growing write needs the bytes of both contents at once. A node needs bytes first, and then a capability.
 pub fn file_requests_are_served()
     ensures writes { replies_of 32768 5
         (codes "CREATE a\nSTAT\nWRITE a 0 68656c6c6f\nREAD a 0 9\nWRITE a 7 00\nWRITE a 5 21\nSIZE a\nSTAT\n")

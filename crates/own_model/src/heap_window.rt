@@ -1,8 +1,8 @@
-//! Laws of the heap window: it never wants for a gap, and where the gap lies doesn't depend on the machine.
+//! Theorems on the heap window: it always has a gap, and the gap's address does not depend on the machine.
 ghost use Rattle.own_model.specs.HeapWindow.{HeapHasGap, HeapGapsAgree};
 
-/// Regions that a machine can hold leave a gap in its heap window for as many pages as the machine has, and the first
-/// one is where it would be in the window of any larger machine.
+/// States that the regions a machine can hold leave a gap in its heap window for as many pages as the machine has. The
+/// first gap is at the same address in the window of any larger machine.
 pub fn heap_has_gap()
     ensures there { HeapHasGap }
     ensures agree { HeapGapsAgree }

@@ -1,6 +1,7 @@
-//! The one-client model: what each component sees of the machine, stated over lists and finite maps.
+//! The one-client model: what each component observes of the machine, stated over lists and finite maps.
 //!
-//! The definitions stand in `specs/`. The functions here carry laws over them and do nothing at run time.
+//! The definitions are in `specs/`. The functions of this crate state theorems about them and do nothing at run time.
+//! Proofs of other crates use them; for example, `lines_are_independent` states isolation.
 #![tactic(auto)]
 
 mod accounts;
@@ -25,8 +26,8 @@ mod start;
 
 pub use accounts::totals_are_the_machine;
 pub use answers::{
-    equal_parts_equal_answers, equal_parts_equal_states, inits_over_a_line, lines_stand_alone,
-    states_are_own_runs, states_over_a_line, told_over_a_line, transcript_is_running,
+    equal_parts_equal_answers, equal_parts_equal_states, inits_over_a_line, lines_are_independent,
+    output_over_a_line, states_are_own_runs, states_over_a_line, transcript_is_running,
 };
 pub use buffers::{
     buffer_bytes_are_moved, buffer_errors_come_in_order, buffer_is_shared_with_its_session,
@@ -57,15 +58,15 @@ pub use regions::{
 };
 pub use reserves::{reserves_are_kept, yields_and_requests_undo};
 pub use rows::{
-    arguments_are_read, empty_budget_is_told, exits_are_told, lines_and_names_are_refused,
+    arguments_are_read, empty_budget_is_told, exits_are_reported, lines_and_names_are_refused,
     lines_end_and_overflow, long_lines_are_no_calls, longest_line_is_read, reserve_calls_are_read,
     reserves_are_moved, session_calls_are_read,
 };
 pub use runs::{own_part_over_append, own_run_over_append};
 pub use session_args::arguments_are_read_back;
 pub use sessions::{
-    buffers_are_of_sessions, buffers_stand_alone, closes_return_donations, requests_are_served,
-    sessions_stand_alone, sessions_stay_sound,
+    buffers_are_independent, buffers_are_of_sessions, closes_return_donations, requests_are_served,
+    sessions_are_independent, sessions_stay_sound,
 };
 pub use sliced::{
     gaps_fit_the_machine, new_blocks_are_zero, payloads_are_found, payloads_lie_apart,

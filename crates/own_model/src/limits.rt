@@ -1,14 +1,14 @@
-//! Laws of limits: what a call leaves of them, and of the whole machine's balance.
-ghost use Rattle.own_model.specs.Laws.{ServersStay, CapallocLacksCapsAlone, StepKeepsLimits, OthersKeepOwnLimits, StepKeepsWithinLimits, StepKeepsAllWithin, RunKeepsWithinLimits, StartsWithoutUse, RunKeepsUse, StepKeepsBalance, LinesKeepBalance, LimitsFitTheMachine, StepKeepsBalanceFor, LinesKeepBalanceFor};
+//! Theorems on limits: how a call changes them, and the balance of the whole machine.
+ghost use Rattle.own_model.specs.Theorems.{ServersStay, CapallocLacksCapsAlone, StepKeepsLimits, OthersKeepOwnLimits, StepKeepsWithinLimits, StepKeepsAllWithin, RunKeepsWithinLimits, StartsWithoutUse, RunKeepsUse, StepKeepsBalance, LinesKeepBalance, LimitsFitTheMachine, StepKeepsBalanceFor, LinesKeepBalanceFor};
 
-/// Every call leaves a server's own state.
+/// States that every call leaves a server's own state unchanged.
 pub fn servers_stay()
     ensures { ServersStay }
 {}
 
-/// No call but an exit changes the limits of its caller, of the caller's reserve and of its open sessions together, and but for
-/// calls of sessions, requests and yields none changes those of the caller's account alone; an exit that is done leaves none of
-/// them. No call overdraws any of these accounts.
+/// States that only an exit changes the sum of the limits of the caller, its reserve and its open sessions. Only session
+/// calls, requests and yields change the limits of the caller's account alone. A successful exit leaves none of these
+/// limits. No call makes an account use more than its limit.
 pub fn calls_keep_limits()
     ensures same { StepKeepsLimits }
     ensures own { OthersKeepOwnLimits }
@@ -17,21 +17,22 @@ pub fn calls_keep_limits()
     ensures run { RunKeepsWithinLimits }
 {}
 
-/// An account that isn't overdrawn is refused an RPC object for want of capabilities alone.
+/// States that the creation of an RPC object is refused only if the account has no free capability.
 pub fn capalloc_lacks_caps_alone()
     ensures { CapallocLacksCapsAlone }
 {}
 
-/// At the start and after any calls an account uses exactly what its component's dataspaces and heap are charged for, and a
-/// capability for each of these and each RPC object. Sessions and their buffers are charged to
-/// accounts of their own, and nothing to a reserve.
+/// States what an account uses at the start and after any calls: the charges of the component's dataspaces and heap. Each
+/// of these and each RPC object also uses one capability. Sessions and their buffers are charged to accounts of their
+/// own, and nothing is charged to a reserve.
 pub fn use_is_what_is_held()
     ensures start { StartsWithoutUse }
     ensures run { RunKeepsUse }
 {}
 
-/// A component's call leaves a balanced machine balanced, and so do lines; a component's limits then fit the machine. Where each
-/// component with its reserve and its open sessions has the budget that it started with, or nothing once it is gone, and init has all else, that stays too.
+/// States that each call, and each list of lines, keeps a balanced machine balanced, and that a component's limits then
+/// fit the machine. Each component with its reserve and open sessions keeps the budget of its start, or nothing after its
+/// exit, and init has the rest.
 pub fn calls_keep_balance()
     ensures call { StepKeepsBalance }
     ensures lines { LinesKeepBalance }

@@ -1,14 +1,14 @@
-//! Laws of reserves: what moves limits between an account and its component's reserve.
-ghost use Rattle.own_model.specs.ReserveLaws.{OthersKeepReserve, LimitsAreMoved, YieldsAreRequested, RequestsAreYielded};
+//! Theorems on reserves: how limits move between an account and its component's reserve.
+ghost use Rattle.own_model.specs.ReserveTheorems.{OthersKeepReserve, LimitsAreMoved, YieldsAreRequested, RequestsAreYielded};
 
-/// Requests and yields move limits between their caller's account and its reserve, and make none. No other call changes the
-/// reserve, but that an exit that is done leaves none.
+/// States that requests and yields move limits between the caller's account and its reserve, and create none. No other
+/// call changes the reserve, except that a successful exit leaves none.
 pub fn reserves_are_kept()
     ensures others { OthersKeepReserve }
     ensures moved { LimitsAreMoved }
 {}
 
-/// What was yielded can be requested again, and what was requested yielded: then all is as it was.
+/// States that a request undoes the same yield, and that a yield undoes the same request.
 pub fn yields_and_requests_undo()
     ensures yielded { YieldsAreRequested }
     ensures requested { RequestsAreYielded }

@@ -1,8 +1,8 @@
-//! Laws of session arguments.
+//! Theorems on session arguments.
 ghost use Rattle.own_model.specs.SessionArgs.{ArgumentsAreReadBack};
 
-/// Arguments that have a text are written in one way, and reading it gives them back: RAM within 64 bits, capabilities
-/// within 32, and a label of at most 64 bytes that may stand between quotes.
+/// States that arguments are printed in one form, and that parsing this form returns them. RAM has 64 bits, capabilities
+/// have 32 bits, and a label has at most 64 quotable bytes.
 pub fn arguments_are_read_back()
     ensures { ArgumentsAreReadBack }
 {}

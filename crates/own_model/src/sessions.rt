@@ -1,48 +1,50 @@
-//! Laws of sessions: what is charged to them, what servers keep for them, and that a close returns what was donated.
-ghost use Rattle.own_model.specs.LentLaws.{StartsLent, RunKeepsLent, BuffersStandAlone, GoneBuffersHaveNoRegions, RequestsAreServed, SessionCallsLeaveOthers};
-ghost use Rattle.own_model.specs.SessionLaws.{StartsWithoutSessions, RunKeepsCharges, RunKeepsKept, SessionsHaveTheirServers, SessionsStandAlone, LimitsAreDonations, ClosesReturnDonations};
+//! Theorems on sessions: what is charged to them, what servers hold for them, and that a close returns the donations.
+ghost use Rattle.own_model.specs.SharedBufferTheorems.{StartsLent, RunKeepsLent, BuffersAreIndependent, ClosedBuffersHaveNoRegions, RequestsAreServed, SessionCallsLeaveOthers};
+ghost use Rattle.own_model.specs.SessionTheorems.{StartsWithoutSessions, RunKeepsCharges, RunKeepsKept, SessionsHaveTheirServers, SessionsAreIndependent, LimitsAreDonations, ClosesReturnDonations};
 
-/// Nobody starts with a session. After any calls each session's account uses exactly what the session is charged for,
-/// its buffer among it, and what its server keeps for it is as it should be.
+/// States that no component starts with a session. After any calls the account of each session uses exactly the charges
+/// of the session and its buffer. The server's state of each session is well-formed.
 pub fn sessions_stay_sound()
     ensures start { StartsWithoutSessions }
     ensures charges { RunKeepsCharges }
     ensures kept { RunKeepsKept }
 {}
 
-/// Each buffer is of an open session, which has no other: nobody starts with a buffer, and calls leave it so.
+/// States that each buffer belongs to one open session, and each session has at most one buffer: at the start and after
+/// any calls.
 pub fn buffers_are_of_sessions()
     ensures start { StartsLent }
     ensures run { RunKeepsLent }
 {}
 
-/// A session stays as it is but for the upgrades, requests and the close that name its selector, and its client's exit.
-pub fn sessions_stand_alone()
-    ensures { SessionsStandAlone }
+/// States that a session changes only through the upgrades, requests and the close that name its selector, and through
+/// its client's exit.
+pub fn sessions_are_independent()
+    ensures { SessionsAreIndependent }
 {}
 
-/// A session is of the server that its client's routes led the open to that made it, and stays so.
+/// States that a session belongs to the server to which its client's routes resolved the `open` call, for its whole life.
 pub fn sessions_have_their_servers()
     ensures { SessionsHaveTheirServers }
 {}
 
-/// A buffer stays as it is but for the calls of its session, and for pokes found in its own regions, which change its bytes
-/// alone. Where a call takes it from its client's selectors no region shows it any more.
-pub fn buffers_stand_alone()
-    ensures alone { BuffersStandAlone }
-    ensures gone { GoneBuffersHaveNoRegions }
+/// States that a buffer changes only through calls of its session and through pokes into its own regions, which change
+/// its bytes only. A call that removes the buffer's selector also detaches the buffer's regions.
+pub fn buffers_are_independent()
+    ensures alone { BuffersAreIndependent }
+    ensures gone { ClosedBuffersHaveNoRegions }
 {}
 
-/// A request is served by the session that its selector names and by the buffer of that, as they are then: they are afterwards
-/// what it made of them. A buffer that it makes is all zero and stands under the new selector, which the reply tells. All that
-/// other selectors name stays, and all other regions; so it does at a close.
+/// States that the session and buffer of the named selector process the request, and are afterwards what the session made
+/// of them. A new buffer is zero and has the new selector, which the reply contains. All that other selectors name, and
+/// all other regions, stay; a close keeps them too.
 pub fn requests_are_served()
     ensures served { RequestsAreServed }
     ensures others { SessionCallsLeaveOthers }
 {}
 
-/// What a close returns to its client is the sum of what the client named in the open that was accepted and in the upgrades
-/// that were, read off the client's own calls. The client's use stays.
+/// States that a close returns to its client the donations of the accepted open and upgrades, as read from the client's
+/// own calls. The client's use stays the same.
 pub fn closes_return_donations()
     ensures limits { LimitsAreDonations }
     ensures closes { ClosesReturnDonations }

@@ -1,7 +1,7 @@
-//! Laws of the start: what boots is balanced, and machine A boots.
+//! Theorems on the start: each machine that boots is balanced, and machine A boots.
 ghost use Rattle.std.specs.Prelude.{◌≡◌, codes, Some, None};
 ghost use Rattle.own_model.specs.Account.{opened};
-ghost use Rattle.own_model.specs.Laws.{BootsBalanced};
+ghost use Rattle.own_model.specs.Theorems.{BootsBalanced};
 ghost use Rattle.trade_base.specs.declared.service.Service.TheVariants.{Log, Files};
 ghost use Rattle.own_model.specs.Routes.{provider};
 ghost use Rattle.own_model.specs.Listed.{levels_within, most_lists};
@@ -10,20 +10,21 @@ ghost use Rattle.own_model.specs.Rows.{start_of_a};
 ghost use Rattle.own_model.specs.StartList.{Boots};
 ghost use Rattle.own_model.specs.World.{IsBalancedFor, machine_init, start_world};
 
-/// A start list that boots starts with all of the machine's limits handed out, to each component its budget and to each init
-/// what is left, and nothing in use.
+/// States that a start list that boots distributes all limits of the machine. Each component gets its budget, each init
+/// has the rest, and nothing is in use.
 pub fn boots_balanced()
     ensures { BootsBalanced }
 {}
 
-/// Machine A boots: init covers each budget in turn, and keeps 96 KiB and 16 capabilities.
+/// States that machine A boots: init covers each budget in order, and retains 96 KiB and 16 capabilities.
 pub fn machine_a_boots()
     ensures covered { Boots start_of_a }
     ensures balanced { IsBalancedFor start_of_a (start_world start_of_a) }
     ensures kept { machine_init (start_world start_of_a) ≡ opened 98304 16 }
 {}
 
-/// Machine A's routes lead each of the two services to its server, whatever the label, and no other service anywhere.
+/// States how machine A's routes resolve requests of `alice` with the label `main`: `LOG` and `File_system` to their
+/// servers, and `Nic` to none.
 pub fn services_are_routed()
     ensures log { provider (levels_within most_lists machine_a alice) (codes "LOG") (codes "main")
         ≡ Some (record { kind = Log; place = 0 }) }

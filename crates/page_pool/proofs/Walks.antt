@@ -22,7 +22,7 @@ use denote.Signature.{Slot, plain}
 use denote.Struct.Owning.{shape}
 use denote.Struct.Struct.{Struct}
 use Rattle.page_pool.specs.Ownership.{bytes_of, block_owns}
-use Rattle.page_pool.specs.contracts.block.Block as block
+use Rattle.page_pool.specs.contracts.block.HostBlock as block
 
 -- the k-th of a signature's parameters
 abbrev pub slot_at : {n : ℕ} → ℕ → List (Slot n) → Slot n
@@ -49,7 +49,7 @@ plainly Rs = Struct (record { name = []; args = []; types = []; fields = Rs })
 abbrev pub Data : RattleType
 Data = Struct (shape block.the_type)
 
--- a pointer, a length and a size, as `Block` holds them
+-- a pointer, a length and a size, as `HostBlock` holds them
 abbrev pub block_val : Ptr → ℕ → ℕ → Val
 block_val p len size = vstruct (vcons (ptr_val p) (vcons (vint w64 len) (vcons (vint w64 size) vnil)))
 

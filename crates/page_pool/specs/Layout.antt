@@ -4,7 +4,7 @@ use Rattle.std.specs.List.{range_with_len}
 use Rattle.trade_base.specs.Word.{word_of}
 use Rattle.page_pool.specs.Pages.{fresh_pages, free_count}
 
--- whether a number stands in the list
+-- whether a number is in the list
 abbrev pub is_listed : List ℕ → ℕ → Bool
 is_listed [] page = false
 is_listed (first ∷ rest) page = page == first || is_listed rest page
@@ -51,7 +51,7 @@ pub record IsLaidOut (free bytes : List ℕ) : Type 0 where
   -- as many are listed as are free
   pub counted : free_count (pages_of free bytes) ≡ length free
 
--- every page: behind those of the bytes come so many that have never been handed out
+-- every page: after those of the bytes come so many that have never been handed out
 abbrev pub pool_of : List ℕ → List ℕ → ℕ → List (Option (List ℕ))
 pool_of free bytes fresh = pages_of free bytes ++ fresh_pages fresh
 

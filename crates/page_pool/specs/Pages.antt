@@ -1,4 +1,4 @@
--- The pages of a pool as its callers see them: for each page by its number None where it is free, its bytes where
+-- The pages of a pool as its callers see them: for each page by its number None if it is free, its bytes where
 -- it is taken.
 use Rattle.std.specs.Prelude.{ℕ, Bool, List, [], Option, None, is_some, unwrap_or, replicate, slice_index_or, count_by}
 use Rattle.std.specs.Option.{is_none}

@@ -1,4 +1,4 @@
-//! A block of host memory: known bytes in front, and room for more after them. No other module holds a pointer.
+//! A block of host memory: initialized bytes, followed by uninitialized space. No other module holds a pointer.
 ghost use Rattle.std.specs.Prelude.{◌≡◌, ℕ, List, ◌-◌, ◌^◌, ◌<◌, ◌≤◌, ◌++◌, [], length, replicate, IfSome};
 ghost use Rattle.std.specs.Borrow.{sem};
 ghost use denote.RawPtr.{Ptr};
@@ -8,8 +8,8 @@ use std::alloc::Allocator;
 use std::marker::{Model, PhantomData};
 use std::slice;
 
-/// `len` known bytes, and room for as many more as `size` has.
-pub(crate) struct Block {
+/// A host memory block of `size` bytes, of which the first `len` are initialized.
+pub(crate) struct HostBlock {
     ptr: *mut u8,
     len: usize,
     size: usize,
@@ -17,13 +17,13 @@ pub(crate) struct Block {
     ghost fits: { (len ≤ size) × (size < 2 ^ 63) },
 }
 
-impl Model for Block {
+impl Model for HostBlock {
     ghost also_owns = { λ b. block_owns b.ptr b.len b.size b.bytes };
 
     ghost also_shares = { λ b _ κ. block_shares b.ptr b.len b.bytes κ };
 }
 
-/// The right to return the `size` bytes at `ptr` to the allocator they came from.
+/// The right to return the `size` bytes at `ptr` to the allocator that allocated them.
 pub(crate) struct Lease<A: Allocator> {
     marker: PhantomData<A>,
     ghost alloc: { A },
@@ -35,11 +35,11 @@ impl<A: Allocator> Model for Lease<A> {
     ghost also_owns = { λ l. A.dealloc_token l.alloc (bytes_of l.size) l.ptr };
 }
 
-impl Block {
+impl HostBlock {
     ghost use Rattle.page_pool.specs.Lends.{LendsBytes};
 
-    /// Allocates room for `size` bytes, none of them known, or returns `None` if the host has none.
-    pub(crate) fn new<A: Allocator>(alloc: &A, size: usize) -> Option<(Block, Lease<A>)>
+    /// Allocates a block of `size` bytes, none of them initialized, or returns `None` if the host has too little memory.
+    pub(crate) fn new<A: Allocator>(alloc: &A, size: usize) -> Option<(HostBlock, Lease<A>)>
         requires { size < 2 ^ 63 }
         ensures { IfSome result (λ m. (m.0.size ≡ size) × (m.0.len ≡ 0) × (m.0.bytes ≡ [])
             × (m.1.alloc ≡ alloc.now) × (m.1.ptr ≡ m.0.ptr) × (m.1.size ≡ size)) }
@@ -47,13 +47,13 @@ impl Block {
         match alloc.allocate(size, 1) {
             Ok(ptr) => {
                 let marker = PhantomData;
-                Some((Block { ptr, len: 0, size }, Lease { marker }))
+                Some((HostBlock { ptr, len: 0, size }, Lease { marker }))
             }
             Err(_) => None,
         }
     }
 
-    /// Returns the known bytes.
+    /// Returns the initialized bytes of the block.
     pub(crate) fn bytes(&self) -> &[u8]
         ensures value { result.now ≡ self.now.bytes }
         ensures len { length result.now ≡ self.now.len }
@@ -61,7 +61,7 @@ impl Block {
         unsafe { slice::from_raw_parts(self.ptr, self.len) }
     }
 
-    /// Returns the known bytes, to be written.
+    /// Returns the initialized bytes of the block for writing.
     pub(crate) fn bytes_mut(&mut self) -> &mut [u8]
         ensures* writes_back { sem 𝓛 (LendsBytes self.entry result) }
         ensures value { result.now ≡ self.old.bytes }
@@ -70,7 +70,7 @@ impl Block {
         unsafe { slice::from_raw_parts_mut(self.ptr, self.len) }
     }
 
-    /// Writes zeros into the room up to `end`, which are known bytes from then on.
+    /// Writes zeros to the uninitialized space up to `end`, so that the first `end` bytes are initialized.
     pub(crate) fn grow(&mut self, end: usize)
         requires { (self.old.len ≤ end) × (end ≤ self.old.size) }
         ensures { (self.new.ptr ≡ self.old.ptr) × (self.new.size ≡ self.old.size)
@@ -86,11 +86,11 @@ impl Block {
         self.len = end;
     }
 
-    /// Returns the block to the host.
+    /// Returns the block's memory to the allocator of the host.
     pub(crate) fn free<A: Allocator>(self, lease: Lease<A>, alloc: &A)
         requires { (lease.alloc ≡ alloc.now) × (lease.ptr ≡ self.ptr) × (lease.size ≡ self.size) }
     {
-        let Block { ptr, len: _, size } = self;
+        let HostBlock { ptr, len: _, size } = self;
         let Lease { marker: _ } = lease;
         unsafe { alloc.deallocate(ptr, size, 1) }
     }

@@ -7,7 +7,7 @@ ghost use Rattle.page_pool.specs.Layout.{word_at};
 
 use trade_base::PAGE;
 
-/// The bytes of a page, as a length.
+/// The size of a page in bytes, as a length.
 pub(crate) const PAGE_BYTES: usize = PAGE as usize;
 
 /// Fills `buffer` with the bytes from `start` on.
@@ -18,7 +18,7 @@ pub(crate) fn read(bytes: &[u8], start: usize, buffer: &mut [u8])
     buffer.copy_from_slice(&bytes[start..start + buffer.len()]);
 }
 
-/// Puts `part` at `start`.
+/// Writes `part` to `bytes` from `start` on.
 pub(crate) fn write(bytes: &mut [u8], start: usize, part: &[u8])
     requires { start + length part.now ≤ length bytes.old }
     ensures { bytes.new ≡ with_bytes bytes.old start part.now }
@@ -26,7 +26,7 @@ pub(crate) fn write(bytes: &mut [u8], start: usize, part: &[u8])
     bytes[start..start + part.len()].copy_from_slice(part);
 }
 
-/// Puts the `count` bytes at `from` at `to` as well, a range apart from theirs.
+/// Copies the `count` bytes at `from` to `to`. The two ranges do not overlap.
 pub(crate) fn copy(bytes: &mut [u8], from: usize, to: usize, count: usize)
     requires source { from + count ≤ length bytes.old }
     requires target { to + count ≤ length bytes.old }
@@ -42,7 +42,7 @@ pub(crate) fn copy(bytes: &mut [u8], from: usize, to: usize, count: usize)
     }
 }
 
-/// The word at `start`, its lowest byte first.
+/// Loads the little-endian word of 8 bytes at `start`.
 #[tactic(auto, unfolding(crate::specs::Layout::word_at, trade_base::specs::Word::word_of))]
 pub(crate) fn load(bytes: &[u8], start: usize) -> u64
     requires { start + 8 ≤ length bytes.now }
@@ -53,7 +53,7 @@ pub(crate) fn load(bytes: &[u8], start: usize) -> u64
     u64::from_le_bytes(word)
 }
 
-/// Puts `word` at `start`, its lowest byte first.
+/// Stores `word` as 8 little-endian bytes at `start`.
 #[tactic(auto, unfolding(trade_base::specs::Word::word_bytes))]
 pub(crate) fn store(bytes: &mut [u8], start: usize, word: u64)
     requires { start + 8 ≤ length bytes.old }
@@ -62,7 +62,7 @@ pub(crate) fn store(bytes: &mut [u8], start: usize, word: u64)
     write(bytes, start, &word.to_le_bytes());
 }
 
-/// Makes the page that begins at `start` all zero.
+/// Clears the page that begins at `start`.
 pub(crate) fn clear_page(bytes: &mut [u8], start: usize)
     requires { start + 4096 ≤ length bytes.old }
     ensures { bytes.new ≡ with_bytes bytes.old start zero_page }

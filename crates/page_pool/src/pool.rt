@@ -1,34 +1,34 @@
-//! The pool over one block of host memory. Each free page that has been handed out before begins with the number of the next;
-//! pages that have never been handed out are not touched.
+//! The pool over one block of host memory. Each free page that was in use before begins with the number of the next free
+//! page. Pages that were never in use are not touched.
 ghost use Rattle.std.specs.Prelude.{◌≡◌, ◌≢◌, ◌+◌, ◌%◌, ◌≤◌, length, IsTrue, IfOk, IfSome, IfNone, Some, None, is_some, nat_lt, slice_get, slice_set, slice_range};
 ghost use Rattle.trade_base.specs.Bytes.{with_bytes};
 ghost use Rattle.trade_base.specs.Word.{word_bytes, word_of};
 ghost use Rattle.page_pool.specs.Pages.{fresh_pages, free_count, is_taken, page_bytes, zero_page};
 
-use crate::block::{Block, Lease};
+use crate::block::{HostBlock, Lease};
 use crate::bytes::{self, PAGE_BYTES};
 use std::alloc::Global;
 use std::marker::Model;
 use trade_base::NoMemory;
 
-/// A page's number: there are at most 4096, so sixteen bits keep a table of these small.
+/// The number of a page, below 4096. It has 16 bits, which keeps tables of page numbers small.
 #[derive(Clone, Copy, PartialEq, Eq)]
 pub struct PageNo(pub u16);
 
-/// Pages, each free or taken. Contracts see them as a list: for each page by its number `None`
-/// where it is free, and its 4096 bytes where it is taken.
+/// Pages, each free or taken. Contracts see them as a list that has, for each page number, `None` for a free page and the
+/// 4096 bytes of a taken one.
 pub struct Pool {
-    /// Page after page, of those that have been handed out once; room for all is taken at the boot. The first word of a free page is
-    /// the number of the next free one.
-    block: Block,
-    /// The right to return the block, and where to.
+    /// The pages that were in use at least once, in order; boot reserves the space for all pages. The first word of a
+    /// free page is the number of the next free one.
+    block: HostBlock,
+    /// The right to return the block to `alloc`.
     lease: Lease<Global>,
     alloc: Global,
-    /// The free page that is taken next, where one is linked.
+    /// The first page of the list of free pages, if `free` is not 0.
     head: usize,
-    /// How many free pages are linked.
+    /// The number of pages in the list of free pages.
     free: usize,
-    /// How many pages have never been handed out. They come after the others.
+    /// The number of pages that were never in use. They follow the other pages.
     fresh: usize,
     ghost leased: { (lease.alloc ≡ alloc) × (lease.ptr ≡ block.ptr) × (lease.size ≡ block.size) },
 }
@@ -61,13 +61,13 @@ impl Drop for Pool {
 }
 
 impl Pool {
-    /// A pool of `pages` pages, all free, or `NoMemory` where the host has no room for them.
+    /// Creates a pool of `pages` pages, all free, or fails with `NoMemory` if the host has too little memory.
     pub fn boot(alloc: Global, pages: usize) -> Result<Pool, NoMemory>
         requires { pages ≤ 4096 }
         ensures fresh { IfOk result (λ pool. pool ≡ fresh_pages pages) }
         ensures count { IfOk result (λ pool. free_count pool ≡ pages) }
     {
-        match Block::new(&alloc, pages * PAGE_BYTES) {
+        match HostBlock::new(&alloc, pages * PAGE_BYTES) {
             Some((block, lease)) => Ok(Pool {
                 block,
                 lease,
@@ -80,7 +80,7 @@ impl Pool {
         }
     }
 
-    /// Any free page, all zero from now on, or `None` where no page is free.
+    /// Takes a free page and clears it, or returns `None` if no page is free.
     pub fn take(&mut self) -> Option<PageNo>
         ensures some { is_some result ≡ nat_lt 0 (free_count self.old) }
         ensures was_free { IfSome result (λ page. slice_get self.old page.0 ≡ Some None) }
@@ -106,7 +106,7 @@ impl Pool {
         Some(PageNo((known / PAGE_BYTES) as u16))
     }
 
-    /// Makes a taken page free. It takes no memory, and the page is cleared when it is next taken.
+    /// Frees a taken page. It allocates no memory; the next `take` of the page clears it.
     pub fn give(&mut self, page: PageNo)
         requires { IsTrue (is_taken self.old page.0) }
         ensures freed { self.new ≡ slice_set self.old page.0 None }
@@ -118,7 +118,7 @@ impl Pool {
         self.free += 1;
     }
 
-    /// Fills `buffer` with the bytes of a taken page that stand at `offset`.
+    /// Fills `buffer` with the bytes of a taken page from `offset` on.
     pub fn read(&self, page: PageNo, offset: usize, buffer: &mut [u8])
         requires taken { IsTrue (is_taken self.now page.0) }
         requires range { offset + length buffer.old ≤ 4096 }
@@ -130,7 +130,7 @@ impl Pool {
         bytes::read(self.block.bytes(), start, buffer);
     }
 
-    /// Puts `part` at `offset` into a taken page. Nothing else changes.
+    /// Writes `part` to a taken page at `offset`, in bytes. Nothing else changes.
     pub fn write(&mut self, page: PageNo, offset: usize, part: &[u8])
         requires taken { IsTrue (is_taken self.old page.0) }
         requires range { offset + length part.now ≤ 4096 }
@@ -143,7 +143,8 @@ impl Pool {
         bytes::write(self.block.bytes_mut(), start, part);
     }
 
-    /// Puts `count` bytes of a taken page, those from an offset on, into another one from an offset on. Nothing else changes.
+    /// Copies `count` bytes of a taken page from `from_offset` on to another taken page from `to_offset` on. Nothing else
+    /// changes.
     pub fn copy(
         &mut self,
         from: PageNo,
@@ -168,7 +169,7 @@ impl Pool {
         bytes::copy(self.block.bytes_mut(), source, target, count);
     }
 
-    /// The word of a taken page that stands at `offset`, its lowest byte first.
+    /// Loads the little-endian word of 8 bytes at `offset` of a taken page. `offset` is a multiple of 8.
     #[tactic(auto, unfolding(trade_base::specs::Word::word_of))]
     pub fn load(&self, page: PageNo, offset: usize) -> u64
         requires taken { IsTrue (is_taken self.now page.0) }
@@ -183,7 +184,7 @@ impl Pool {
         u64::from_le_bytes(bytes)
     }
 
-    /// Puts `word` at `offset` into a taken page, its lowest byte first. Nothing else changes.
+    /// Stores `word` as 8 little-endian bytes at `offset` of a taken page. Nothing else changes.
     #[tactic(auto, unfolding(trade_base::specs::Word::word_bytes))]
     pub fn store(&mut self, page: PageNo, offset: usize, word: u64)
         requires taken { IsTrue (is_taken self.old page.0) }
@@ -198,7 +199,7 @@ impl Pool {
         self.write(page, offset, &word.to_le_bytes());
     }
 
-    /// How many pages are free.
+    /// Returns the number of free pages of the pool.
     pub fn free_pages(&self) -> usize
         ensures { result ≡ free_count self.now }
     {

@@ -21,10 +21,10 @@ use Rattle.dataspace_core.specs.Share.{Share, share_in}
 use Rattle.dataspace_core.proofs.PartLaws.{IsPaidBy, paid_in_part, open_after}
 use Rattle.dataspace_core.proofs.ShareLaws.{share_alike}
 use Rattle.heap_core.specs.Heap.{payer_of as heap_payer}
-use Rattle.heap_core.specs.Laws.{block_region, HeapStays}
+use Rattle.heap_core.specs.Theorems.{block_region, HeapStays}
 use Rattle.heap_core.specs.Words.{are_bytes}
 use Rattle.sliced_heap.specs.Heap.{share_at, blocks_at, HoldsRange}
-use Rattle.sliced_heap.specs.Laws.{Pokes}
+use Rattle.sliced_heap.specs.Theorems.{Pokes}
 use Rattle.sliced_heap.specs.Sliced.{block_regions}
 use Rattle.sliced_heap.proofs.HeapLaws.{payload_poked, payload_read}
 use Rattle.pd_core.specs.Own.{Sessions, lent_in, object_of, own_at, own_of, part_at, own_heap_at, sliced_at, selector_of, IsFound, IsFoundInRegion, IsFoundInSliced, IsFoundInBlock}

@@ -10,8 +10,8 @@ use Rattle.dataspace_core.proofs.LimitLaws.{accounts_after}
 use Rattle.dataspace_core.proofs.PartLaws.{account_of-part, open_in_part, part_open}
 use Rattle.dataspace_core.proofs.RoomLaws.{room_stays}
 use Rattle.own_model.proofs.SessionRouteLemmas.{routes_alike}
-use Rattle.calls.specs.Call.{model_call, IsPlain}
-use Rattle.calls.specs.declared.call.Call.{Call}
+use Rattle.core_calls.specs.Call.{model_call, IsPlain}
+use Rattle.core_calls.specs.declared.call.Call.{Call}
 use Rattle.own_model.specs.OwnStep.{own_step, script_step}
 use Rattle.dataspace_core.specs.Store.{Store, part, account_of, account_in, accounts_in, caps_limits_in, space_at, IsOpenIn, PartBecomes}
 use Rattle.pd_core.specs.declared.script.Script.{Script}

@@ -17,7 +17,7 @@ use Rattle.trade_base.specs.declared.id.SessionId.{SessionId}
 use Rattle.pd_core.specs.Component.{Pays, payer_in, reserve_in, IsReserve, caps_in, places_in, own_in, lent_of, lent_by, NamesItsSessions, HasPlaces, IsSoundRole}
 use Rattle.pd_core.specs.Core.{Heads, Places, Roles, rows_at, sessions_in, Owner, Owns, NamesAccount, IsInitOf, IsInits, IsSoundCore}
 use Rattle.pd_core.specs.Exit.{IsScriptRole}
-use Rattle.pd_core.specs.SessionCalls.{IsAtHome}
+use Rattle.pd_core.specs.SessionCalls.{IsBelowParentInit}
 use Rattle.pd_core.proofs.ComponentLemmas.{pays_is}
 use Rattle.pd_core.specs.Core.Owner.{Init, Place, ReserveAt, SessionAt}
 use Rattle.pd_core.specs.Own.{Sessions}
@@ -152,14 +152,14 @@ module _ {i s key : ℕ} {store store' : Store} {roles roles' : Roles} (core : I
   inits_after account is = elim is [ inl root ↦ inl (changes.root ∙ root) | inr its ↦ inr (its.0, init_follows its.0 account its.1) ]
 
   -- and each component's account is below its init's still
-  home_kept : (k number account : ℕ) → Pays (roles k) account → Pays (roles' k) account → IsAtHome store roles number account → IsAtHome store' roles' number account
+  home_kept : (k number account : ℕ) → Pays (roles k) account → Pays (roles' k) account → IsBelowParentInit store roles number account → IsBelowParentInit store' roles' number account
   home_kept k zero account was pays at = changes.children k account was pays ∙ at ∙ ap Some (sym changes.root)
   home_kept k (suc place) account was pays at =
       let its = below_init store (roles place) account at in
       init_below store' (roles' place) account its.0 (init_follows place its.0 its.1.0) (changes.children k account was pays ∙ its.1.1)
 
-  pub homes_after : (places : Places) → ((k account : ℕ) → Pays (roles k) account → IsAtHome store roles (places k).home account) →
-      (k account : ℕ) → Pays (roles' k) account → IsAtHome store' roles' (places k).home account
+  pub homes_after : (places : Places) → ((k account : ℕ) → Pays (roles k) account → IsBelowParentInit store roles (places k).home account) →
+      (k account : ℕ) → Pays (roles' k) account → IsBelowParentInit store' roles' (places k).home account
   homes_after places homes k account pays = home_kept k (places k).home account (was_place k account pays) pays (homes k account (was_place k account pays))
 
   -- who has an account had it, or has the touched session's, which nobody else had

@@ -32,12 +32,12 @@ use Rattle.dataspace_core.specs.Share.{Share}
 use Rattle.dataspace_core.proofs.PartLaws.{open_in_part}
 use Rattle.own_model.specs.Use.{heap_count}
 use Rattle.heap_core.specs.Heap.{payer_of as heap_payer, HasNoBlocks as HasNoHeapBlocks}
-use Rattle.heap_core.specs.Laws.{IsMapOf}
+use Rattle.heap_core.specs.Theorems.{IsMapOf}
 use Rattle.heap_core.proofs.StayLemmas.{empty_map as empty_heap_map}
 use Rattle.sliced_heap.specs.Heap.{payer_of as sliced_payer, share_at, MapsMemory, HasNoBlocks}
 use Rattle.sliced_heap.specs.Sliced.{block_regions, payload_of, sliced_of}
-use Rattle.services.specs.Host.{table_of}
-use Rattle.services.proofs.HostLaws.{new_works, new_rows, still_new}
+use Rattle.server_kinds.specs.Host.{table_of}
+use Rattle.server_kinds.proofs.HostLaws.{new_works, new_rows, still_new}
 use Rattle.pd_core.specs.declared.component.Component.{Component}
 use Rattle.pd_core.specs.declared.component.Role.{Role}
 use Rattle.own_model.specs.OwnHeap.{no_heap}

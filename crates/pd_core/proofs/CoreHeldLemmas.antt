@@ -26,7 +26,7 @@ use Rattle.pd_core.specs.declared.component.Role.TheVariants.{Script, Server, In
 use Rattle.trade_base.specs.declared.id.SessionId.{SessionId}
 use Rattle.pd_core.proofs.ComponentLemmas.{a_script, account_open}
 use Rattle.pd_core.proofs.ServerLemmas.{paid_in, lent_paid, sound_works}
-use Rattle.services.proofs.HostLaws.{IsPaidRow}
+use Rattle.server_kinds.proofs.HostLaws.{IsPaidRow}
 
 -- ---- owners
 

@@ -12,7 +12,7 @@ use Rattle.own_model.specs.Session.{Labelled}
 use Rattle.dataspace_core.specs.Store.{Store, Part, account_of, opened_part, parents_in, root_in}
 use Rattle.dataspace_core.proofs.PartLaws.{open_in_part, part_open}
 use Rattle.server_frame.specs.Frame.{Row}
-use Rattle.calls.specs.Told.{Told as Written}
+use Rattle.core_calls.specs.ReplyText.{Told as Written}
 use Rattle.pd_core.specs.Answer.{Told, told, told_of}
 use Rattle.pd_core.specs.Component.{Place, Pays, IsReserve, reserve_in, entry_of, payer_in, payer_of, service_of, caps_in, places_in, rows_in, own_in, own, lent_by, NamesItsSessions, IsSoundRole, IsSound, Keeps}
 use Rattle.pd_core.specs.Core.{Places, Roles, roles_of, rows_at, sessions_in, NamesAccount, IsCore}

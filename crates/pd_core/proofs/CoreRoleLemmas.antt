@@ -16,9 +16,9 @@ use Rattle.dataspace_core.specs.Store.{Store, Part, part, account_of, space_at, 
 use Rattle.dataspace_core.proofs.PartLaws.{open_in_part, part_open}
 use Rattle.server_frame.specs.Frame.{Row}
 use Rattle.server_frame.proofs.FrameLemmas.{Stays}
-use Rattle.services.specs.Host.{rows_of}
-use Rattle.services.specs.declared.host.Host.{Host}
-use Rattle.services.proofs.HostLaws.{works_still, rows_stay as host_rows}
+use Rattle.server_kinds.specs.Host.{rows_of}
+use Rattle.server_kinds.specs.declared.any_server.AnyServer.{AnyServer}
+use Rattle.server_kinds.proofs.HostLaws.{works_still, rows_stay as host_rows}
 use Rattle.pd_core.specs.Own.{Sessions, no_sessions, object_of, regions_of, own_of, own_at, own_heap_at, sliced_at, part_at, Lent, lent_in, no_lent}
 use Rattle.pd_core.specs.declared.script.Script.{Script}
 use Rattle.pd_core.specs.Sound.{session_at, buffer_at, IsSoundScript}
@@ -68,7 +68,7 @@ module _ (store store' : Store) (Beside : ℕ → Type 0) (stays : (regions : Re
   AreBeside rows = (id : ℕ) (row : Row Labelled) → get rows id ≡ Some row → Beside row.key
 
   -- a server, all of whose sessions are on such accounts
-  module _ (host : Host) (beside : AreBeside (rows_of store host)) where
+  module _ (host : AnyServer) (beside : AreBeside (rows_of store host)) where
     session_stays : (id : ℕ) (row : Row Labelled) → get (rows_of store host) id ≡ Some row → (regions : Regions) → Stays row.key store store' regions regions
     session_stays id row there regions = stays regions row.key (beside id row there)
 

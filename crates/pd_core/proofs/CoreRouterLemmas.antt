@@ -8,7 +8,7 @@ use Rattle.own_model.proofs.NatMapLemmas.{nothing_from}
 use Rattle.trade_base.specs.declared.refusal.Refusal.TheVariants.{ServiceDenied}
 use Rattle.trade_base.specs.declared.service.Service.{Service}
 use Rattle.own_model.specs.Routes.{ServerAt, provider}
-use Rattle.own_model.specs.Session.{wish, wish_in, wish_of}
+use Rattle.own_model.specs.Session.{wish, resolved_request, routed_request}
 use Rattle.own_model.specs.SessionArgs.{Arguments, arguments_of}
 use Rattle.dataspace_core.specs.Store.{Store}
 use Rattle.pd_core.specs.Component.{service_of}
@@ -60,5 +60,5 @@ module _ (places : Places) (leads : Leads) (store : Store) (components : List Co
   pub denied_wish : (client text : List ℕ) (args : Arguments) → arguments_of text ≡ Some args → label ≡ args.label → leads i service label ≡ None →
       wish client (places i).routes service text ≡ Err ServiceDenied
   denied_wish client text args reads its none =
-      ap (wish_in client (places i).routes service) reads
-      ∙ ap (wish_of client args) (ap (provider (places i).routes service) (sym its) ∙ led_to_none none)
+      ap (resolved_request client (places i).routes service) reads
+      ∙ ap (routed_request client args) (ap (provider (places i).routes service) (sym its) ∙ led_to_none none)

@@ -13,7 +13,7 @@ use Rattle.dataspace_core.proofs.PartLaws.{paid_in_part}
 use Rattle.server_frame.specs.Frame.{Row}
 use Rattle.server_frame.specs.Laws.{WritesLent as WritesRow}
 use Rattle.server_frame.proofs.FrameLaws.{stays_of_others}
-use Rattle.services.proofs.HostLaws.{written as host_written}
+use Rattle.server_kinds.proofs.HostLaws.{written as host_written}
 use Rattle.pd_core.specs.Component.{Pays, reserve_in, caps_in, rows_in, Works, IsSoundRole}
 use Rattle.pd_core.specs.Core.{Heads, Roles, rows_at, Owner, Owns, IsInits, IsSoundCore}
 use Rattle.pd_core.specs.Exit.{IsScriptRole}

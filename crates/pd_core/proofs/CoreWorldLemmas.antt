@@ -24,13 +24,13 @@ use Rattle.own_model.proofs.StepBalanceLemmas.{with_state_same, world_on}
 use Rattle.own_model.proofs.StepLimitLemmas.{limits_move}
 use Rattle.dataspace_core.specs.Store.{Store, part, root_in, account_in, account_of}
 use Rattle.dataspace_core.proofs.PartLaws.{account_of-part}
-use Rattle.calls.specs.Told.{Told}
+use Rattle.core_calls.specs.ReplyText.{Told}
 use Rattle.trade_base.specs.declared.refusal.Refusal.{Refusal}
 use Rattle.pd_core.specs.Answer.{told_alone}
 use Rattle.pd_core.specs.Component.{entry_of, kind_of, served_by, service_of, places_in, own_in, own, HasPlaces}
 use Rattle.pd_core.specs.Core.{roles_of, Places, IsInitOf, IsInits, init_in, inits_of, entries_of, sessions_in, world_of, IsCore, IsCoreAt}
 use Rattle.pd_core.specs.Own.{Sessions}
-use Rattle.pd_core.specs.SessionCalls.{Agrees, AreAtHome, Answers, Goes, Leads, server_at, service_at}
+use Rattle.pd_core.specs.SessionCalls.{Agrees, AreBelowParents, Answers, Goes, Leads, server_at, service_at}
 use Rattle.pd_core.specs.declared.component.Component.{Component}
 use Rattle.pd_core.specs.declared.component.Role.{Role}
 use Rattle.pd_core.specs.declared.component.Role.TheVariants.{Script as AScript, Server as AServer, Init as AnInit, Gone}
@@ -143,7 +143,7 @@ module _ (before after : List Component) (faces : SameFaces before after) where
   same_server p = ap (option_map (stands p)) (same_service p)
 
   -- and routes lead where they did, if each account is below its init's still
-  pub same_leads : (store store' : Store) (places : Places) (leads : Leads) → (AreAtHome places store before → AreAtHome places store' after) → Agrees places leads store before → Agrees places leads store' after
+  pub same_leads : (store store' : Store) (places : Places) (leads : Leads) → (AreBelowParents places store before → AreBelowParents places store' after) → Agrees places leads store before → Agrees places leads store' after
   same_leads store store' places leads homes agrees = record {
     names = λ k d within. subst (λ (f : Face). length f.label ≤ 140) (sym (face_at k d)) (agrees.names k d (omega (arith, within, as_many)));
     each = λ i service label within.

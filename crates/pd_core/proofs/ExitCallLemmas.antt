@@ -22,13 +22,13 @@ use Rattle.own_model.specs.World.{World, with_state}
 use Rattle.own_model.proofs.NatMapLemmas.{get-empty}
 use Rattle.cap_space.specs.declared.cap.Cap.{Cap}
 use Rattle.dataspace_core.specs.Store.{Store, parent_in, ram_limits_in, caps_limits_in}
-use Rattle.calls.specs.Told.{Told}
+use Rattle.core_calls.specs.ReplyText.{Told}
 use Rattle.pd_core.specs.Answer.{told_alone}
 use Rattle.pd_core.specs.Component.{Place, entry_of, kind_of, payer_of, reserve_of, caps_in, caps_of, own_in, own, NamesItsSessions}
 use Rattle.pd_core.specs.Core.{Places, roles_of, entries_of, rows_at, sessions_in, world_of, IsCore}
-use Rattle.pd_core.specs.Exit.{ClosesBoth, IsScriptRole, places_told, HasSelectorsTo, HasClosedAt, ClosesTo}
+use Rattle.pd_core.specs.Exit.{ClosesBoth, IsScriptRole, places_or_refusal, HasSelectorsTo, HasClosedAt, ClosesTo}
 use Rattle.pd_core.specs.Own.{Sessions, own_of}
-use Rattle.pd_core.specs.SessionCalls.{AreAtHome, Goes, named_in}
+use Rattle.pd_core.specs.SessionCalls.{AreBelowParents, Goes, named_in}
 use Rattle.pd_core.specs.Sessions.{row_session}
 use Rattle.pd_core.specs.Sound.{session_at}
 use Rattle.pd_core.specs.declared.component.Component.{Component}
@@ -146,14 +146,14 @@ closes_on {i} {count} {old} {mid} {new} {before} {between} {after} q here script
 -- ---- after them
 
 -- who has places is a script
-script_with_places : (role : Role) (places : ℕ) → places_told role ≡ Ok places → IsScriptRole role
+script_with_places : (role : Role) (places : ℕ) → places_or_refusal role ≡ Ok places → IsScriptRole role
 script_with_places (AScript script) places is = refl
 script_with_places (AServer account host) places is = absurd (none-some places (ap result_ok is))
 script_with_places (AnInit key) places is = absurd (none-some places (ap result_ok is))
 script_with_places AGone places is = absurd (none-some places (ap result_ok is))
 
 module _ {i count : ℕ} {old mid : Store} {before between : List Component} (d e : Component) (was_core : IsCore old before) (here : i < length before)
-    (told : Ok count ≡ places_told (get_or before i d).role) (selectors : HasSelectorsTo count (get_or before i d).role) (closes : ClosesTo i count old before mid between) where
+    (told : Ok count ≡ places_or_refusal (get_or before i d).role) (selectors : HasSelectorsTo count (get_or before i d).role) (closes : ClosesTo i count old before mid between) where
   still_here : i < length between
   still_here = omega (arith, here, closes_many i count old mid before between closes.closed)
 
@@ -193,7 +193,7 @@ module _ {i count : ℕ} {old mid : Store} {before between : List Component} (d 
 
   -- its end is the model's exit
   pub exit_goes : {new : Store} {ended : Component} → ended ≡ record (get_or between i e) { role = AGone } → IfSome (reserve_of (get_or between i e)) (λ one. ClosesBoth (payer_of (get_or between i e)) one (parent_in mid (payer_of (get_or between i e))) mid new) →
-      ram_limits_in new ≡ ram_limits_in mid → caps_limits_in new ≡ caps_limits_in mid → (places : Places) → AreAtHome places old before →
+      ram_limits_in new ≡ ram_limits_in mid → caps_limits_in new ≡ caps_limits_in mid → (places : Places) → AreBelowParents places old before →
       Goes places Exit i (told_alone (reply_text Done)) old before new (set between i ended)
   exit_goes {new} gone ends ram caps places at_home =
       subst (λ c. Goes places Exit i (told_alone (reply_text Done)) old before new (set between i c)) (sym gone) (
@@ -215,7 +215,7 @@ module _ {i count : ℕ} {old mid : Store} {before between : List Component} (d 
 
 -- ---- an exit that is refused
 
-exit_refused : (S : Sessions) (store : Store) (place : Place) (component : Component) (role : Role) (refusal : Refusal) → places_told role ≡ Err refusal →
+exit_refused : (S : Sessions) (store : Store) (place : Place) (component : Component) (role : Role) (refusal : Refusal) → places_or_refusal role ≡ Err refusal →
     own_step (entry_of place (record component { role = role })) Exit (own_in S store role) ≡ refused (own_in S store role) refusal
 exit_refused S store place component (AScript script) refusal is = absurd (none-some refusal (ap result_err is))
 exit_refused S store place component (AServer account host) refusal is = ap (refused (own_in S store (AServer account host))) (same_Some NotAScript refusal (ap result_err is))
@@ -224,7 +224,7 @@ exit_refused S store place component AGone refusal is = ap (refused (own_in S st
 
 -- leaves all
 pub exit_refused_goes : (places : Places) {store : Store} (components : List Component) {i : ℕ} (d : Component) → IsCore store components → i < length components →
-    (refusal : Refusal) → Err refusal ≡ places_told (get_or components i d).role → Goes places Exit i (told_alone (reply_text (Refused refusal))) store components store components
+    (refusal : Refusal) → Err refusal ≡ places_or_refusal (get_or components i d).role → Goes places Exit i (told_alone (reply_text (Refused refusal))) store components store components
 exit_refused_goes places {store} components {i} d core here refusal is =
     refused_goes places components i d Exit refusal core here
     (exit_refused (sessions_in store (roles_of components)) store (places i) (get_or components i d) (get_or components i d).role refusal (sym is))

@@ -20,7 +20,7 @@ use Rattle.dataspace_core.proofs.PartLaws.{account_of-part, open_in_part, part_o
 use Rattle.heap_core.specs.declared.heap.Heap.{Heap}
 use Rattle.heap_core.specs.Calls.{GivesAll as GivesAllOfHeap}
 use Rattle.heap_core.specs.Heap.{payer_of as heap_payer, heap_at, IsSound as IsSoundHeap}
-use Rattle.heap_core.specs.Laws.{HeapStays}
+use Rattle.heap_core.specs.Theorems.{HeapStays}
 use Rattle.sliced_heap.specs.declared.heap.SlicedHeap.{SlicedHeap}
 use Rattle.sliced_heap.specs.Heap.{payer_of, share_at, IsSound as IsSoundSliced, KeepsOthers, GivesAll}
 use Rattle.sliced_heap.specs.Sliced.{block_regions}

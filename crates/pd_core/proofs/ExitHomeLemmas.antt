@@ -10,7 +10,7 @@ use Rattle.own_model.specs.StartList.{init_at, no_account}
 use Rattle.dataspace_core.specs.Store.{Store, part, account_in, root_in, IsChildIn}
 use Rattle.pd_core.specs.Core.{roles_of, IsInitOf, IsInits, init_in, inits_of, IsCore}
 use Rattle.pd_core.specs.Core.Owner.{Init, Place}
-use Rattle.pd_core.specs.SessionCalls.{IsAtHome}
+use Rattle.pd_core.specs.SessionCalls.{IsBelowParentInit}
 use Rattle.pd_core.specs.declared.component.Component.{Component}
 use Rattle.pd_core.proofs.CoreChangeLemmas.{ChangesCore, init_follows}
 use Rattle.pd_core.proofs.CoreHeldLemmas.{same_place, not_place, init_pays, below_init}
@@ -73,7 +73,7 @@ module _ {i s key : ℕ} {store store' : Store} (before after : List Component) 
         ])
 
   -- the init of the number that the account is below has more
-  pub inits_gain : (number : ℕ) → IsAtHome store (roles_of before) number payer →
+  pub inits_gain : (number : ℕ) → IsBelowParentInit store (roles_of before) number payer →
       inits_of store' after ≡ set (inits_of store before) number (raised (init_at (inits_of store before) number) more extra)
   inits_gain zero at =
       let root : root_in store ≡ head = same_Some _ _ (sym at ∙ child) in

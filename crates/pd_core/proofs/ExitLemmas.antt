@@ -9,7 +9,7 @@ use Rattle.std.specs.Prelude.{◌⊎◌, ◌+◌, IfSome, IsSome}
 use Rattle.own_model.specs.Account.{Account}
 use Rattle.own_model.specs.Donation.{raised}
 use Rattle.own_model.specs.NatMap.{NatMap}
-use Rattle.own_model.specs.OwnStep.{gone_state}
+use Rattle.own_model.specs.OwnStep.{exited_state}
 use Rattle.own_model.specs.Session.{Labelled}
 use Rattle.own_model.specs.StartList.{Entry, init_at}
 use Rattle.own_model.specs.StartList.Kind.{Script as AScriptKind}
@@ -26,7 +26,7 @@ use Rattle.pd_core.specs.Core.{Places, Roles, roles_of, rows_at, sessions_in, en
 use Rattle.pd_core.specs.Core.Owner.{Init, Place, ReserveAt, SessionAt}
 use Rattle.pd_core.specs.Exit.{IsScriptRole, ClosesBoth}
 use Rattle.pd_core.specs.Own.{Sessions, own_of}
-use Rattle.pd_core.specs.SessionCalls.{Agrees, AreAtHome, Leads}
+use Rattle.pd_core.specs.SessionCalls.{Agrees, AreBelowParents, Leads}
 use Rattle.pd_core.specs.Sound.{session_at, buffer_at}
 use Rattle.pd_core.specs.declared.component.Component.{Component}
 use Rattle.pd_core.specs.declared.component.Role.{Role}
@@ -336,7 +336,7 @@ module _ {store : Store} {components : List Component} {i : ℕ} {d : Component}
     pub core_alone : IsCore store' components'
     core_alone = core_after core changes
 
-    pub homes_alone : (places : Places) → AreAtHome places store components → AreAtHome places store' components'
+    pub homes_alone : (places : Places) → AreBelowParents places store components → AreBelowParents places store' components'
     homes_alone places = homes_after core changes places
 
     pub leads_alone : (places : Places) (leads : Leads) → Agrees places leads store components → Agrees places leads store' components'
@@ -355,11 +355,11 @@ module _ {store : Store} {components : List Component} {i : ℕ} {d : Component}
         ∙ raised_twice (account_of (part head store)) own.ram_limit own.caps_limit more.ram more.caps
         ∙ ap (λ a. raised a (own.ram_limit + more.ram) (own.caps_limit + more.caps)) (account_of-part head store)
 
-    pub world_alone : (places : Places) → AreAtHome places store components →
+    pub world_alone : (places : Places) → AreBelowParents places store components →
         let world = world_of places store components in let s = state_at world.states i in let number = (entry_at world.entries i).home in
         world_of places store' components' ≡ record world {
           inits = set world.inits number (raised (init_at world.inits number) (s.account.ram_limit + s.reserve.ram) (s.account.caps_limit + s.reserve.caps));
-          states = set world.states i gone_state;
+          states = set world.states i exited_state;
         }
     world_alone places homes =
         let S = sessions_in store roles in
@@ -377,5 +377,5 @@ module _ {store : Store} {components : List Component} {i : ℕ} {d : Component}
         })
         ∙ (λ j. record (world_of places store components) {
           inits = set world.inits (sym number j) (raised (init_at world.inits (sym number j)) ((sym account j).ram_limit + (sym held j).ram) ((sym account j).caps_limit + (sym held j).caps));
-          states = set world.states i gone_state;
+          states = set world.states i exited_state;
         })

@@ -11,7 +11,7 @@ use Rattle.own_model.specs.Limits.{ram_with, caps_with, ram_limits, caps_limits}
 use Rattle.own_model.specs.NatMap.{NatMap}
 use Rattle.own_model.specs.OwnState.{OwnState, Object, NamedBuffer, session_named, buffer_of}
 use Rattle.own_model.specs.OwnState.Object.{Dataspace, RpcObject, OpenSession, Buffer as ABuffer}
-use Rattle.own_model.specs.OwnStep.{Outcome, own_step, selectors_lent, session_closed, exited, gone_state}
+use Rattle.own_model.specs.OwnStep.{Outcome, own_step, selectors_lent, session_closed, exited, exited_state}
 use Rattle.own_model.specs.Session.{Session}
 use Rattle.own_model.specs.StartList.{Entry, init_at}
 use Rattle.own_model.specs.StartList.Kind.{Script as AScript}
@@ -115,11 +115,11 @@ pub record IsGoneFrom (i : ℕ) (old new : World) : Type 0 where
   pub none : (q : ℕ) → session_named (get (state_at old.states i).selectors q) ≡ None
   pub stepped : let s = state_at old.states i in let home = (entry_at old.entries i).home in new ≡ record old {
     inits = set old.inits home (raised (init_at old.inits home) (s.account.ram_limit + s.reserve.ram) (s.account.caps_limit + s.reserve.caps));
-    states = set old.states i gone_state;
+    states = set old.states i exited_state;
   }
 
 -- where its sessions were closed before, the world is that after its exit
-pub gone_world : (i count : ℕ) (old mid new : World) → HasClosedAt i count old mid → IsGoneFrom i mid new → new ≡ with_state old i gone_state
+pub gone_world : (i count : ℕ) (old mid new : World) → HasClosedAt i count old mid → IsGoneFrom i mid new → new ≡ with_state old i exited_state
 gone_world i count old mid new before goes =
     let was : OwnState = state_at old.states i in
     let s : OwnState = state_at mid.states i in
@@ -128,11 +128,11 @@ gone_world i count old mid new before goes =
     let caps : s.account.caps_limit + s.reserve.caps ≡ caps_limits was = sym alone.1 ∙ before.closed.caps in
     goes.stepped
     ∙ (λ j. let home = (entry_at mid.entries i).home in
-    record mid { inits = set mid.inits home (raised (init_at mid.inits home) (ram j) (caps j)); states = set mid.states i gone_state })
+    record mid { inits = set mid.inits home (raised (init_at mid.inits home) (ram j) (caps j)); states = set mid.states i exited_state })
     ∙ ap (λ (w : World). let home = (entry_at w.entries i).home in
-    record w { inits = set w.inits home (raised (init_at w.inits home) (ram_limits was) (caps_limits was)); states = set w.states i gone_state }) before.others
+    record w { inits = set w.inits home (raised (init_at w.inits home) (ram_limits was) (caps_limits was)); states = set w.states i exited_state }) before.others
     ∙ ap (λ states. let home = (entry_at old.entries i).home in
-    record old { inits = set old.inits home (raised (init_at old.inits home) (ram_limits was) (caps_limits was)); states = states }) (set-set old.states i s gone_state)
+    record old { inits = set old.inits home (raised (init_at old.inits home) (ram_limits was) (caps_limits was)); states = states }) (set-set old.states i s exited_state)
     ∙ sym (world_exited old i)
 
 -- a script that isn't gone may exit

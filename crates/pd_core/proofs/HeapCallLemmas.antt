@@ -15,7 +15,7 @@ use Rattle.region_map.specs.Regions.{Regions}
 use Rattle.dataspace_core.specs.Store.{Store, part, account_of, IsOpenIn}
 use Rattle.dataspace_core.specs.Share.{Share, share_in, KeepsShares}
 use Rattle.sliced_heap.specs.Heap.{share_at, blocks_at}
-use Rattle.sliced_heap.specs.Laws.{HeapStays}
+use Rattle.sliced_heap.specs.Theorems.{HeapStays}
 use Rattle.sliced_heap.specs.Sliced.{sliced_tag, block_regions}
 use Rattle.sliced_heap.proofs.HeapLaws.{heap_stays_among}
 use Rattle.sliced_heap.proofs.ShareLemmas.{shown_block}

@@ -27,7 +27,7 @@ use Rattle.sliced_heap.specs.Heap.{share_at, blocks_at}
 use Rattle.heap_core.specs.declared.heap.Heap.{Heap}
 use Rattle.heap_core.specs.Calls.{HoldsRange}
 use Rattle.heap_core.specs.Heap.{payer_of as heap_payer, heap_at, large_tag}
-use Rattle.heap_core.specs.Laws.{Pokes, block_region}
+use Rattle.heap_core.specs.Theorems.{Pokes, block_region}
 use Rattle.heap_core.specs.Words.{are_bytes}
 use Rattle.dataspace_core.proofs.ShareLaws.{in_share}
 use Rattle.pd_core.specs.Own.{Sessions, selector_of, own_of}

@@ -10,7 +10,7 @@ use Rattle.heap_core.specs.Words.{are_bytes}
 use Rattle.own_model.proofs.LogLemmas.{bytes_of_digits}
 use Rattle.text_codec.proofs.AddressLemmas.{digit_below}
 use Rattle.text_codec.proofs.HexLemmas.{parts}
-use Rattle.calls.specs.Call.{bytes_in}
+use Rattle.core_calls.specs.Call.{bytes_in}
 
 -- the same of the bytes that text stands for
 pub half_is : (text : List ℕ) → IsSome (bytes_of_hex text) → length text / 2 ≡ length (bytes_in text)

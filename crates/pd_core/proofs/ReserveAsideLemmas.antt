@@ -20,7 +20,7 @@ use Rattle.own_model.specs.StartList.{Entry}
 use Rattle.trade_base.specs.Page.{page_of}
 use Rattle.std.specs.FinMap.{get}
 use Rattle.std.specs.Prelude.{length}
-use Rattle.calls.specs.Call.{is_of_reserve}
+use Rattle.core_calls.specs.Call.{is_of_reserve}
 use Rattle.pd_core.specs.Component.{with_reserve}
 
 -- an outcome whose own state has this reserve

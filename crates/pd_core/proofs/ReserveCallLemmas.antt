@@ -10,7 +10,7 @@ use Rattle.own_model.specs.Call.Call.{Reserve, Request, Yield}
 use Rattle.own_model.specs.Donation.{raised}
 use Rattle.own_model.specs.NatMap.{total}
 use Rattle.own_model.specs.OwnState.{OwnState}
-use Rattle.own_model.specs.OwnStep.{Outcome, own_step, entry_step, refused, unless, told_reserve, requested_by, reserve_requested, yielded_by, reserve_yielded}
+use Rattle.own_model.specs.OwnStep.{Outcome, own_step, entry_step, refused, unless, reported_reserve, requested_by, reserve_requested, yielded_by, reserve_yielded}
 use Rattle.own_model.specs.Reply.{reply_text}
 use Rattle.own_model.specs.Reply.Reply.{Done, Refused, Reserved}
 use Rattle.own_model.specs.Reserve.{reserve_account, filled, drawn}
@@ -20,19 +20,19 @@ use Rattle.dataspace_core.specs.Store.{Store, part, account_of, account_in, open
 use Rattle.dataspace_core.proofs.PartLaws.{account_of-part}
 use Rattle.dataspace_core.proofs.RoomLaws.{room_is_shifted}
 use Rattle.pd_core.specs.Answer.{told_alone}
-use Rattle.calls.specs.Quotas.{reserve_amounts}
-use Rattle.calls.specs.declared.reserve.Reserve.{Reserve as ReserveTold}
+use Rattle.core_calls.specs.Quotas.{reserve_amounts}
+use Rattle.core_calls.specs.declared.reserve.Reserve.{Reserve as ReserveTold}
 use Rattle.pd_core.specs.Component.{Pays, amounts_in, with_reserve, payer_in, reserve_in, kind_of, entry_of, caps_in, own_in, own, IsSoundRole}
 use Rattle.pd_core.specs.Core.{Places, Roles, roles_of, sessions_in, IsBelowHead, IsCore}
 use Rattle.pd_core.specs.Core.Owner.{Place, ReserveAt}
 use Rattle.pd_core.specs.Own.{Sessions, HasSessions, own_of, own_at, part_at}
 use Rattle.pd_core.specs.SessionCalls.{Goes}
 use Rattle.pd_core.specs.Sound.{session_weight, IsSoundScript}
-use Rattle.pd_core.specs.Way.{call_by, giver, taker}
+use Rattle.pd_core.specs.ReserveDirection.{call_by, giver, taker}
 use Rattle.pd_core.specs.declared.component.Component.{Component}
 use Rattle.pd_core.specs.declared.component.Role.TheVariants.{Script as AScript}
-use Rattle.pd_core.specs.declared.reserves.Way.{Way}
-use Rattle.pd_core.specs.declared.reserves.Way.TheVariants.{FromReserve, ToReserve}
+use Rattle.pd_core.specs.declared.reserves.ReserveDirection.{ReserveDirection}
+use Rattle.pd_core.specs.declared.reserves.ReserveDirection.TheVariants.{FromReserve, ToReserve}
 use Rattle.pd_core.specs.declared.script.Script.{Script}
 use Rattle.pd_core.proofs.ScriptCostLemmas.{placed_with_reserve}
 use Rattle.pd_core.proofs.CoreHeldLemmas.{names_open, no_reserve_place, owned_open, place_outer, reserve_outer}
@@ -86,7 +86,7 @@ module _ (places : Places) {store : Store} (components : List Component) {i : �
   pub told_goes : (told : ReserveTold) → reserve_amounts told ≡ (own (sessions_in store (roles_of components)) store (get_or components i d)).reserve →
       Goes places Reserve i (told_alone (reply_text (Reserved (reserve_amounts told)))) store components store components
   told_goes told same =
-      stays_goes places components i d Reserve (told_reserve before) core here (ap (λ r. own_step (entry_of (places i) (get_or components i d)) Reserve (own_in S store r)) is ∙ steps Reserve)
+      stays_goes places components i d Reserve (reported_reserve before) core here (ap (λ r. own_step (entry_of (places i) (get_or components i d)) Reserve (own_in S store r)) is ∙ steps Reserve)
       (told_alone (reply_text (Reserved (reserve_amounts told)))) (ap (λ m. reply_text (Reserved m)) (same ∙ ap (λ r. (own_in S store r).reserve) is)) refl (ap (own_in S store) (sym is))
 
   -- ---- both accounts
@@ -222,20 +222,20 @@ module _ (places : Places) {store : Store} (components : List Component) {i : �
 
   -- ---- either way
 
-  pub way_siblings : (way : Way) → AreSiblingsIn store (giver way script) (taker way script)
+  pub way_siblings : (way : ReserveDirection) → AreSiblingsIn store (giver way script) (taker way script)
   way_siblings FromReserve = from_reserve
   way_siblings ToReserve = to_reserve
 
-  pub way_unread : (way : Way) (text : List ℕ) → arguments_of text ≡ None → Goes places (call_by way text) i (told_alone (reply_text (Refused BadArgs))) store components store components
+  pub way_unread : (way : ReserveDirection) (text : List ℕ) → arguments_of text ≡ None → Goes places (call_by way text) i (told_alone (reply_text (Refused BadArgs))) store components store components
   way_unread FromReserve = request_unread
   way_unread ToReserve = yield_unread
 
-  pub way_short : (way : Way) (text : List ℕ) {more : Arguments} → arguments_of text ≡ Some more → (refusal : Refusal) → Some refusal ≡ shortage (account_in store (giver way script)) more.ram more.caps →
+  pub way_short : (way : ReserveDirection) (text : List ℕ) {more : Arguments} → arguments_of text ≡ Some more → (refusal : Refusal) → Some refusal ≡ shortage (account_in store (giver way script)) more.ram more.caps →
       Goes places (call_by way text) i (told_alone (reply_text (Refused refusal))) store components store components
   way_short FromReserve text reads = request_short text reads
   way_short ToReserve text reads = yield_short text reads
 
-  pub way_goes : (way : Way) {store' : Store} (text : List ℕ) {more : Arguments} → arguments_of text ≡ Some more → ram_limits_in store' ≡ ram_limits_in store → caps_limits_in store' ≡ caps_limits_in store →
+  pub way_goes : (way : ReserveDirection) {store' : Store} (text : List ℕ) {more : Arguments} → arguments_of text ≡ Some more → ram_limits_in store' ≡ ram_limits_in store → caps_limits_in store' ≡ caps_limits_in store →
       None ≡ shortage (account_in store (giver way script)) more.ram more.caps → ShiftsPart (giver way script) (taker way script) more.ram more.caps store store' →
       Goes places (call_by way text) i (told_alone (reply_text Done)) store components store' components
   way_goes FromReserve text reads ram caps = request_goes text reads ram caps

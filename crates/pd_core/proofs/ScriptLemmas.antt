@@ -19,13 +19,13 @@ use Rattle.dataspace_core.specs.Store.{Store, Part, part, account_in, space_at, 
 use Rattle.dataspace_core.proofs.LimitLaws.{limits_after}
 use Rattle.dataspace_core.proofs.PartLaws.{account_of-part, open_after, open_in_part}
 use Rattle.heap_core.specs.Heap.{payer_of as heap_payer}
-use Rattle.heap_core.specs.Laws.{block_region, IsMapOf, HeapStays as HeapStaysAs}
+use Rattle.heap_core.specs.Theorems.{block_region, IsMapOf, HeapStays as HeapStaysAs}
 use Rattle.sliced_heap.specs.Heap.{payer_of as sliced_payer, share_at, blocks_at, MapsMemory}
 use Rattle.sliced_heap.specs.Sliced.{block_regions}
-use Rattle.sliced_heap.specs.Laws.{HeapStays}
+use Rattle.sliced_heap.specs.Theorems.{HeapStays}
 use Rattle.sliced_heap.proofs.ShareLemmas.{shown_block}
 use Rattle.sliced_heap.proofs.HeapLaws.{map_stays_for_payer, heap_stays, heap_stays_elsewhere}
-use Rattle.pd_core.specs.declared.answer.Granted.{Granted}
+use Rattle.pd_core.specs.declared.call_value.CallValue.{CallValue}
 use Rattle.pd_core.specs.Answer.{reply_of}
 use Rattle.pd_core.specs.Does.{Does, DoesBeside}
 use Rattle.pd_core.specs.Own.{Sessions, own_of, own_at, part_at, own_heap_at, sliced_at, lent_in}
@@ -38,7 +38,7 @@ use Rattle.pd_core.proofs.LentLemmas.{LendAlike, LendersStay, own_lent, script_l
 use Rattle.pd_core.proofs.ScriptSettleLemmas.{Settles}
 
 -- a refused call leaves all as it is
-pub refuses : {call : Call} {refusal : Refusal} {store : Store} {script : Script} {new : Store} {after : Script} (answered : Result Granted Refusal) → IsErrAnd answered (λ y. y ≡ refusal) →
+pub refuses : {call : Call} {refusal : Refusal} {store : Store} {script : Script} {new : Store} {after : Script} (answered : Result CallValue Refusal) → IsErrAnd answered (λ y. y ≡ refusal) →
     IsSoundScript store script → new ≡ store → after ≡ script → ((sessions : Sessions) → refused (own_at sessions store script) refusal ≡ script_step call (own_at sessions store script)) →
     Does call (reply_of answered) store script new after
 refuses {call} {refusal} {store} {script} {new} {after} answered err sound memory same is =

@@ -33,7 +33,7 @@ use Rattle.cap_space.specs.declared.cap.Cap.TheVariants.{Dataspace, RpcObject, S
 use Rattle.region_map.specs.Regions.{Regions}
 use Rattle.dataspace_core.specs.Store.{Store, Part, part, space_at, account_of, bytes_of, PartBecomes}
 use Rattle.dataspace_core.proofs.PartLaws.{paid_in_part}
-use Rattle.sliced_heap.specs.Laws.{KeepsHeapWindow}
+use Rattle.sliced_heap.specs.Theorems.{KeepsHeapWindow}
 use Rattle.pd_core.specs.Own.{Sessions, HasSessions, object_of, selector_of, regions_of, own_of, Lent, key_at}
 use Rattle.pd_core.specs.Sound.{rpc_weight, session_weight, session_at, buffer_at, IsOne, AreNamed, AreBlocks, IsLawful, IsScript}
 use Rattle.pd_core.proofs.ScriptSettleLemmas.{DoesOwn, Makes, Settles, same_window}

@@ -10,7 +10,7 @@ use Rattle.own_model.specs.Reply.{Reply}
 use Rattle.cap_space.specs.Space.{Space}
 use Rattle.region_map.specs.Regions.{Regions}
 use Rattle.dataspace_core.specs.Store.{Part, account_of}
-use Rattle.sliced_heap.specs.Laws.{KeepsHeapWindow}
+use Rattle.sliced_heap.specs.Theorems.{KeepsHeapWindow}
 use Rattle.pd_core.specs.Own.{Sessions, HasSessions, own_of, Lent}
 use Rattle.pd_core.specs.Sound.{session_weight, session_at, buffer_at, IsScript}
 

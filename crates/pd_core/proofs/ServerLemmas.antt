@@ -12,10 +12,10 @@ use Rattle.dataspace_core.specs.Room.{HasRoom}
 use Rattle.dataspace_core.specs.Store.{Store, part, space_at, account_in, caps_limits_in}
 use Rattle.server_frame.specs.Frame.{Row}
 use Rattle.server_frame.proofs.RowLaws.{IsNoRows}
-use Rattle.services.specs.Host.{Serves as HostServes, StaysServer as HostStays}
-use Rattle.services.specs.declared.host.Host.{Host}
-use Rattle.services.proofs.HostLaws as laws
-use Rattle.services.proofs.HostLaws.{IsPaidRow}
+use Rattle.server_kinds.specs.Host.{Serves as HostServes, StaysServer as HostStays}
+use Rattle.server_kinds.specs.declared.any_server.AnyServer.{AnyServer}
+use Rattle.server_kinds.proofs.HostLaws as laws
+use Rattle.server_kinds.proofs.HostLaws.{IsPaidRow}
 use Rattle.pd_core.specs.Core.{Heads, IsInitOf}
 use Rattle.pd_core.specs.Component.{payer_in, reserve_in, caps_in, places_in, rows_in, capacity_in, served_by, own_in, HasPlace, Works, IsSoundRole, Serves, StaysServer}
 use Rattle.pd_core.specs.Own.{Sessions, no_sessions, own_of, no_lent}
@@ -26,7 +26,7 @@ use Rattle.pd_core.specs.declared.component.Role.TheVariants.{Script as AScript,
 -- ---- rows
 
 -- a role with a row is a server
-pub server_of_row : (store : Store) (role : Role) (id : ℕ) (row : Row Labelled) → get (rows_in store role) id ≡ Some row → (key : AccountId) × ((host : Host) × (role ≡ AServer key host))
+pub server_of_row : (store : Store) (role : Role) (id : ℕ) (row : Row Labelled) → get (rows_in store role) id ≡ Some row → (key : AccountId) × ((host : AnyServer) × (role ≡ AServer key host))
 server_of_row store (AScript script) id row there = absurd (none-some row (sym (get-empty id) ∙ there))
 server_of_row store (AServer key host) id row there = (key, (host, refl))
 server_of_row store (AnInit key) id row there = absurd (none-some row (sym (get-empty id) ∙ there))
@@ -53,7 +53,7 @@ sound_works store (AnInit key) sound = tt
 sound_works store AGone sound = tt
 
 -- who serves is a server
-pub is_server : (role : Role) → IsSome (served_by role) → (key : AccountId) × ((host : Host) × (role ≡ AServer key host))
+pub is_server : (role : Role) → IsSome (served_by role) → (key : AccountId) × ((host : AnyServer) × (role ≡ AServer key host))
 is_server (AScript script) serves = absurd (true≢false (sym serves))
 is_server (AServer key host) serves = (key, (host, refl))
 is_server (AnInit key) serves = absurd (true≢false (sym serves))
@@ -106,19 +106,19 @@ place_in heads store role serves sound clients room client ram caps none fits le
 -- ---- the server of a component
 
 -- a component that is a server, on an account
-abbrev pub serving_as : Component → AccountId → Host → Component
+abbrev pub serving_as : Component → AccountId → AnyServer → Component
 serving_as component key host = record component { role = AServer key host }
 
 -- which it is where that is its role
-pub as_it_is : (component : Component) (key : AccountId) (host : Host) → component.role ≡ AServer key host → serving_as component key host ≡ component
+pub as_it_is : (component : Component) (key : AccountId) (host : AnyServer) → component.role ≡ AServer key host → serving_as component key host ≡ component
 as_it_is component key host is j = record component { role = sym is j }
 
 -- it serves its sessions
-pub host_serves_in : {store : Store} {id : ℕ} (component : Component) (key : AccountId) (host : Host) → Serves store (serving_as component key host) id → HostServes store host id
+pub host_serves_in : {store : Store} {id : ℕ} (component : Component) (key : AccountId) (host : AnyServer) → Serves store (serving_as component key host) id → HostServes store host id
 host_serves_in {store} {id} component key host serves = record { works = serves.sound.works; session = laws.has_session store host id serves.row }
 
 -- and after a call of one it is the same but for its server
-pub component_stays : {store store' : Store} (component : Component) (key : AccountId) {host host' : Host} → HostStays store host store' host' → StaysServer store (serving_as component key host) store' (serving_as component key host')
+pub component_stays : {store store' : Store} (component : Component) (key : AccountId) {host host' : AnyServer} → HostStays store host store' host' → StaysServer store (serving_as component key host) store' (serving_as component key host')
 component_stays component key stays = record {
   entry = λ place. refl;
   service = ap Some stays.service;

@@ -43,7 +43,7 @@ use Rattle.pd_core.proofs.LentPlaceLemmas.{counted_by_sessions}
 use Rattle.pd_core.proofs.ScriptNameLemmas.{buffer_key, own_or_lent, lent_key, Names}
 use Rattle.pd_core.proofs.LentLemmas.{LendAlike, paid_still}
 use Rattle.pd_core.proofs.ServerLemmas.{lent_paid, sound_works, place_in}
-use Rattle.services.proofs.HostLaws.{IsPaidRow}
+use Rattle.server_kinds.proofs.HostLaws.{IsPaidRow}
 use Rattle.pd_core.proofs.SessionChangeLemmas.{AreTwo, MovesAccounts, IsTied, KeepsBut, lent_pair, ChangesSession, at_script, calls, pays_client}
 use Rattle.pd_core.proofs.SessionTurnLemmas.{Turns}
 use Rattle.pd_core.proofs.SessionOpenLemmas.{NamesOpen, script_with, free_before}

@@ -22,7 +22,7 @@ use Rattle.dataspace_core.specs.Store.{Store, Part, part, account_of, opened_par
 use Rattle.dataspace_core.proofs.PartLaws.{open_in_part, part_open}
 use Rattle.server_frame.specs.Frame.{Row}
 use Rattle.server_frame.specs.Session.{holding}
-use Rattle.calls.specs.Told.{Told}
+use Rattle.core_calls.specs.ReplyText.{Told}
 use Rattle.pd_core.specs.Component.{Pays, amounts_in, with_reserve, reserve_in, caps_in, entry_of, kind_of, payer_in, payer_of, served_by, places_in, rows_in, own_in, lent_of, lent_by, NamesItsSessions, HasPlaces, IsSoundRole, StaysServer}
 use Rattle.pd_core.specs.Core.{Heads, Places, Roles, roles_of, rows_at, sessions_in, Owner, Owns, NamesAccount, IsInits, IsSoundCore}
 use Rattle.pd_core.specs.Exit.{IsScriptRole}
@@ -36,7 +36,7 @@ use Rattle.pd_core.specs.declared.component.Component.{Component}
 use Rattle.pd_core.specs.declared.component.Role.{Role}
 use Rattle.pd_core.specs.declared.component.Role.TheVariants.{Script as AScript, Gone}
 use Rattle.pd_core.specs.declared.script.Script.{Script}
-use Rattle.calls.specs.Call.{is_of_reserve}
+use Rattle.core_calls.specs.Call.{is_of_reserve}
 use Rattle.pd_core.proofs.ReserveAsideLemmas.{outcome_with, stands_aside}
 use Rattle.pd_core.proofs.CoreChangeLemmas.{ChangesCore, Follows}
 use Rattle.pd_core.proofs.ComponentLemmas.{account_open, pays_is, pays_server}

@@ -15,7 +15,7 @@ use Rattle.cap_space.specs.Space.{is_buffer, without_cap}
 use Rattle.cap_space.specs.declared.cap.Cap.TheVariants.{Session}
 use Rattle.dataspace_core.specs.Store.{Store, part, ClosesPart}
 use Rattle.server_frame.specs.Frame.{Row}
-use Rattle.server_frame.specs.Lent.{key_of}
+use Rattle.server_frame.specs.SessionBuffer.{key_of}
 use Rattle.pd_core.specs.Answer.{told_alone}
 use Rattle.pd_core.specs.Component.{caps_in, rows_in, rows_of, StaysServer}
 use Rattle.pd_core.specs.Core.{Places, roles_of}

@@ -28,7 +28,7 @@ use Rattle.dataspace_core.proofs.PartLaws.{account_of-part}
 use Rattle.dataspace_core.proofs.RoomLaws.{account_in_part}
 use Rattle.server_frame.specs.Frame.{Row}
 use Rattle.pd_core.specs.Answer.{reply_of}
-use Rattle.pd_core.specs.declared.answer.Granted.{Granted}
+use Rattle.pd_core.specs.declared.call_value.CallValue.{CallValue}
 use Rattle.pd_core.specs.Own.{Sessions, HasSessions, object_of, own_at, own_of, own_heap_at, sliced_at, part_at, lent_in}
 use Rattle.pd_core.specs.Sessions.{row_session, AgreeBut, NamesSession, DoesSession}
 use Rattle.pd_core.specs.Sound.{session_weight, lent_weight, buffer_at, AreOthers, IsSoundScript}
@@ -200,7 +200,7 @@ module _ (store : Store) (script : Script) (rows : NatMap (Row Labelled)) (selec
       (ap (λ a. shortage a more.ram more.caps) account ∙ short)
 
 -- a refusal that is passed on
-pub refused_reply : (r : Result Granted Refusal) (refusal : Refusal) → IsErrAnd r (λ y. y ≡ refusal) → reply_of r ≡ Refused refusal
+pub refused_reply : (r : Result CallValue Refusal) (refusal : Refusal) → IsErrAnd r (λ y. y ≡ refusal) → reply_of r ≡ Refused refusal
 refused_reply (Ok answer) refusal h = absurd h
 refused_reply (Err e) refusal h = ap Refused h
 

@@ -13,20 +13,20 @@ use Rattle.own_model.specs.Call.{Call}
 use Rattle.own_model.specs.Call.Call.{Open, Upgrade, CallSession, Close}
 use Rattle.own_model.specs.OwnState.{OwnState, session_named}
 use Rattle.own_model.specs.OwnState.Object.{Dataspace as ADataspace}
-use Rattle.own_model.specs.OwnStep.{own_step, entry_step, gone_state, refused, opened_by, upgraded_by, session_called, session_closed}
+use Rattle.own_model.specs.OwnStep.{own_step, entry_step, exited_state, refused, opened_by, upgraded_by, session_called, session_closed}
 use Rattle.own_model.specs.Reply.{reply_text}
 use Rattle.own_model.specs.Reply.Reply.{Refused}
 use Rattle.own_model.specs.Routes.{Level}
 use Rattle.own_model.specs.StartList.{Entry}
-use Rattle.own_model.specs.Session.{wish, wish_in}
+use Rattle.own_model.specs.Session.{wish, resolved_request}
 use Rattle.own_model.specs.SessionArgs.{Arguments, arguments_of}
 use Rattle.own_model.proofs.NatMapLemmas.{get-picked}
 use Rattle.cap_space.specs.declared.cap.Cap.{Cap}
 use Rattle.cap_space.specs.declared.cap.Cap.TheVariants.{Dataspace, RpcObject, Session, Buffer}
 use Rattle.dataspace_core.specs.Store.{Store, Part}
-use Rattle.calls.specs.Told.{Told}
+use Rattle.core_calls.specs.ReplyText.{Told}
 use Rattle.pd_core.specs.Answer.{told_alone, reply_of}
-use Rattle.pd_core.specs.declared.answer.Granted.{Granted}
+use Rattle.pd_core.specs.declared.call_value.CallValue.{CallValue}
 use Rattle.pd_core.specs.Component.{Place, entry_of, own_in}
 use Rattle.pd_core.specs.Core.{Places, roles_of, sessions_in, IsCore}
 use Rattle.pd_core.specs.Exit.{refusal_of}
@@ -105,14 +105,14 @@ module _ (S : Sessions) (store : Store) (place : Place) (component : Component) 
       asks (entry_of place (record component { role = AScript script })) (own_in S store (AScript script)) (unnamed S store script selector why.0) ∙ ap (refused (own_in S store (AScript script))) why.1
   unnamed_step call selector asks (AServer account host) refusal is = ap (refused (own_in S store (AServer account host))) (same_Some NotAScript refusal (ap result_err is))
   unnamed_step call selector asks (AnInit account) refusal is = ap (refused (own_in S store (AnInit account))) (same_Some NotAScript refusal (ap result_err is))
-  unnamed_step call selector asks AGone refusal is = ap (refused gone_state) (same_Some Gone refusal (ap result_err is))
+  unnamed_step call selector asks AGone refusal is = ap (refused exited_state) (same_Some Gone refusal (ap result_err is))
 
   -- a call of a server, or of one that has exited
   no_script : (call : Call) (role : Role) (refusal : Refusal) → ((script : Script) → role ≢ AScript script) → Some refusal ≡ option_or (refusal_of role) (Some NotAScript) → Refuses role call refusal
   no_script call (AScript script) refusal other why = absurd (other script refl)
   no_script call (AServer account host) refusal other why = ap (refused (own_in S store (AServer account host))) (same_Some NotAScript refusal (sym why))
   no_script call (AnInit account) refusal other why = ap (refused (own_in S store (AnInit account))) (same_Some NotAScript refusal (sym why))
-  no_script call AGone refusal other why = ap (refused gone_state) (same_Some Gone refusal (sym why))
+  no_script call AGone refusal other why = ap (refused exited_state) (same_Some Gone refusal (sym why))
 
   -- a script that asks for no session that there is
   unasked : (role : Role) (script : Script) (service text : List ℕ) (refusal : Refusal) → role ≡ AScript script → wish component.name.items place.routes service text ≡ Err refusal → Refuses role (Open service text) refusal
@@ -143,7 +143,7 @@ module _ (places : Places) {store : Store} (components : List Component) {i : �
       refused_goes places components i d (Open service text) refusal core here (unasked S store (places i) caller caller.role script service text refusal it is)
 
 -- what a call that is refused gives back
-pub passed_on : {places : Places} {call : Call} {i : ℕ} {store store' : Store} {components components' : List Component} (refusal : Refusal) (r : Result Granted Refusal) → IsErrAnd r (λ y. y ≡ refusal) →
+pub passed_on : {places : Places} {call : Call} {i : ℕ} {store store' : Store} {components components' : List Component} (refusal : Refusal) (r : Result CallValue Refusal) → IsErrAnd r (λ y. y ≡ refusal) →
     Goes places call i (told_alone (reply_text (Refused refusal))) store components store' components' → Goes places call i (told_alone (reply_text (reply_of r))) store components store' components'
 passed_on {places} {call} {i} {store} {store'} {components} {components'} refusal r is =
     subst (λ o. Goes places call i (told_alone (reply_text o)) store components store' components') (sym (refused_reply r refusal is))
@@ -157,7 +157,7 @@ unchanged {places} {call} {i} {told} {store} {components = components} s d {afte
 
 -- the text of arguments can't be read
 pub unread_wish : (client : List ℕ) (routes : List Level) (service text : List ℕ) → arguments_of text ≡ None → wish client routes service text ≡ Err BadArgs
-unread_wish client routes service text none = ap (wish_in client routes service) none
+unread_wish client routes service text none = ap (resolved_request client routes service) none
 
 -- arguments are their parts
 pub arguments_are : (text : List ℕ) {args : Arguments} (ram caps : ℕ) (label : List ℕ) → arguments_of text ≡ Some args → ram ≡ args.ram → caps ≡ args.caps → label ≡ args.label →

@@ -15,16 +15,16 @@ use Rattle.own_model.specs.Reply.{reply_text}
 use Rattle.own_model.specs.Reply.Reply.{Selected, Refused}
 use Rattle.trade_base.specs.declared.service.Service.{Service}
 use Rattle.own_model.specs.Routes.{provider, label_with}
-use Rattle.own_model.specs.Session.{Wish, donation_refusal, state_at_first, wish, wish_in, wish_of, Labelled}
+use Rattle.own_model.specs.Session.{Wish, donation_refusal, state_at_first, wish, resolved_request, routed_request, Labelled}
 use Rattle.own_model.specs.SessionArgs.{Arguments, arguments_of}
 use Rattle.own_model.proofs.NewSelector.{new_selector_free}
 use Rattle.dataspace_core.specs.Store.{Store, account_in}
 use Rattle.dataspace_core.proofs.PartLaws.{account_of-part}
 use Rattle.server_frame.specs.Frame.{OpensSession}
 use Rattle.server_frame.proofs.RowLaws.{IsNoRows}
-use Rattle.services.proofs.HostLaws.{is_none}
-use Rattle.services.specs.Host.{service_of, rows_of as rows_of_host, Admits, StaysServer}
-use Rattle.services.specs.declared.host.Host.{Host}
+use Rattle.server_kinds.proofs.HostLaws.{is_none}
+use Rattle.server_kinds.specs.Host.{service_of, rows_of as rows_of_host, Admits, StaysServer}
+use Rattle.server_kinds.specs.declared.any_server.AnyServer.{AnyServer}
 use Rattle.pd_core.specs.Answer.{told_alone}
 use Rattle.pd_core.specs.Component.{entry_of, kind_of, served_by, caps_of, caps_in, rows_in, service_of as service_of_component, own_in, HasPlace, IsSoundRole, StaysServer as StaysServerAs}
 use Rattle.pd_core.specs.Core.{Places, Roles, roles_of, sessions_in, IsCore}
@@ -86,7 +86,7 @@ module _ {places : Places} {leads : Leads} {store : Store} {components : List Co
   wished = record { server = record { kind = to_service.0; place = s }; label = label_with (get_or components i d).name.items args.label; ram = args.ram; caps = args.caps }
 
   asks : wish (get_or components i d).name.items (places i).routes service text ≡ Ok wished
-  asks = ap (wish_in (get_or components i d).name.items (places i).routes service) reads ∙ ap (wish_of (get_or components i d).name.items args) to_service.1
+  asks = ap (resolved_request (get_or components i d).name.items (places i).routes service) reads ∙ ap (routed_request (get_or components i d).name.items args) to_service.1
 
   -- a donation that is refused
   pub led_refused : (refusal : Refusal) → Some refusal ≡ donation_refusal (account_in store script.account.0) args.ram args.caps →
@@ -101,7 +101,7 @@ module _ {places : Places} {leads : Leads} {store : Store} {components : List Co
       (ap (λ a. donation_refusal a args.ram args.caps) (account_of-part script.account.0 store) ∙ sym is)))
 
   -- the server is read at its place
-  module _ (e : Component) (key : AccountId) (host : Host) (is : (get_or components s e).role ≡ AServer key host) where
+  module _ (e : Component) (key : AccountId) (host : AnyServer) (is : (get_or components s e).role ≡ AServer key host) where
     at_place : roles_of components s ≡ AServer key host
     at_place = role_at components s e to_service.2.0 ∙ is
 
@@ -120,7 +120,7 @@ module _ {places : Places} {leads : Leads} {store : Store} {components : List Co
     its_service = same_Some _ _ (ap served_by (sym is) ∙ to_service.2.1 e)
 
     -- a session is opened, and the script is read again
-    module _ (store' : Store) (opened : Host) (stays : StaysServer store host store' opened)
+    module _ (store' : Store) (opened : AnyServer) (stays : StaysServer store host store' opened)
         (accepted : None ≡ donation_refusal (account_in store script.account.0) args.ram args.caps) (session : SessionId) (whole : List ℕ) (labelled : whole ≡ label_with (get_or components i d).name.items args.label)
         (opening : OpensSession script.account.0 args.ram args.caps session.0 (record { label = whole; state = state_at_first (service_of host) }) store store' (rows_of_host store host) (rows_of_host store' opened)) (d' : Component) where
       abbrev first : Labelled

@@ -16,10 +16,10 @@ use Rattle.dataspace_core.proofs.PartLemmas.{space_at-some}
 use Rattle.dataspace_core.proofs.WindowLaws.{shown_of_part}
 use Rattle.heap_core.specs.declared.heap.Heap.{Heap}
 use Rattle.heap_core.specs.Heap.{payer_of as heap_payer, heap_in, heap_at, IsLaid, IsSound as IsSoundHeap}
-use Rattle.heap_core.specs.Laws.{block_region, IsMapOf}
+use Rattle.heap_core.specs.Theorems.{block_region, IsMapOf}
 use Rattle.sliced_heap.specs.Sliced.{block_regions}
 use Rattle.sliced_heap.specs.Heap.{payer_of as sliced_payer, blocks_at, MapsMemory}
-use Rattle.sliced_heap.specs.Laws.{HeapStays}
+use Rattle.sliced_heap.specs.Theorems.{HeapStays}
 use Rattle.sliced_heap.proofs.HeapLaws.{heap_stays_among}
 use Rattle.pd_core.specs.Own.{Sessions, own_of, own_at, own_heap_at, sliced_at, part_at, lent_in}
 use Rattle.pd_core.specs.Sound.{IsScript, AreOthers, IsLawful, IsSoundScript, HasHeaps}

@@ -13,7 +13,7 @@ use Rattle.own_model.specs.Call.Call.{CallSession}
 use Rattle.own_model.specs.NatMap.{NatMap, total}
 use Rattle.own_model.specs.OwnState.{OwnState, Object, is_buffer_of, buffer_of, bytes_of_buffer, new_selector, session_named}
 use Rattle.own_model.specs.OwnState.Object.{OpenSession}
-use Rattle.own_model.specs.OwnStep.{session_called, session_served, completed, script_step, gone_state}
+use Rattle.own_model.specs.OwnStep.{session_called, session_served, completed, script_step, exited_state}
 use Rattle.own_model.specs.Reply.{reply_text}
 use Rattle.own_model.specs.Reply.Reply.{Told as AnswerTold}
 use Rattle.own_model.specs.Session.{Session as AnOpenSession, Served as ModelServed, served, Labelled}
@@ -28,11 +28,11 @@ use Rattle.cap_space.specs.declared.cap.Cap.TheVariants.{Session}
 use Rattle.dataspace_core.specs.Store.{Store, Part, part, space_at, account_of}
 use Rattle.dataspace_core.proofs.PartLaws.{account_of-part}
 use Rattle.server_frame.specs.Frame.{Row, row_served, ServesSession}
-use Rattle.server_frame.specs.Lent.{IsEffect}
+use Rattle.server_frame.specs.SessionBuffer.{IsEffect}
 use Rattle.server_frame.specs.declared.effect.Effect.{Effect}
 use Rattle.server_frame.specs.declared.effect.Effect.TheVariants.{Nothing, Buffer as MakesBuffer, Gone as GivesBuffer}
 use Rattle.server_frame.specs.Session.{Served, service_step}
-use Rattle.calls.specs.Told.{Told}
+use Rattle.core_calls.specs.ReplyText.{Told}
 use Rattle.pd_core.specs.Component.{kind_of, served_by, caps_of, caps_in, rows_in, rows_of, StaysServer}
 use Rattle.pd_core.specs.Core.{Places, roles_of}
 use Rattle.pd_core.specs.Own.{Lent, lent_in, own_of}
@@ -78,7 +78,7 @@ module _ (x : AnOpenSession) (request bytes : List ℕ) (makes : (served None x 
   alone = insert empty 1 (OpenSession x)
 
   abbrev state : OwnState
-  state = record gone_state { selectors = insert empty 1 (OpenSession x) }
+  state = record exited_state { selectors = insert empty 1 (OpenSession x) }
 
   has_it : get alone 1 ≡ Some (OpenSession x)
   has_it = get-insert_same empty 1 (OpenSession x) 1 refl

@@ -25,7 +25,7 @@ use Rattle.cap_space.specs.declared.cap.Cap.TheVariants.{Dataspace, RpcObject, S
 use Rattle.dataspace_core.specs.Store.{Store, Part, part, space_at, account_in, RaisesPart}
 use Rattle.dataspace_core.proofs.PartLaws.{paid_in_part}
 use Rattle.server_frame.specs.Frame.{Row}
-use Rattle.server_frame.specs.Lent.{key_of}
+use Rattle.server_frame.specs.SessionBuffer.{key_of}
 use Rattle.pd_core.specs.Answer.{told_alone}
 use Rattle.pd_core.specs.Component.{amounts_in, entry_of, kind_of, served_by, caps_in, rows_in, rows_of, own_in, IsSoundRole, Serves, StaysServer}
 use Rattle.pd_core.specs.Core.{Places, roles_of, sessions_in, IsCore}

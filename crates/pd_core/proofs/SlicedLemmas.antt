@@ -31,7 +31,7 @@ use Rattle.dataspace_core.proofs.PartLaws.{account_of-part, part_open}
 use Rattle.dataspace_core.proofs.PartLemmas.{part-fresh}
 use Rattle.heap_core.specs.declared.heap.Heap.{Heap}
 use Rattle.heap_core.specs.Heap.{heap_at}
-use Rattle.heap_core.specs.Laws.{block_region, HeapStays}
+use Rattle.heap_core.specs.Theorems.{block_region, HeapStays}
 use Rattle.sliced_heap.specs.declared.heap.SlicedHeap.{SlicedHeap}
 use Rattle.sliced_heap.specs.Heap.{payer_of, share_at, blocks_at, IsSound as IsSoundSliced, KeepsOthers, TakesBlock, GivesBlock, IsNoBlock, free_refusal}
 use Rattle.sliced_heap.specs.Sliced.{sliced_tag, block_regions}

@@ -44,7 +44,7 @@ coded_object =
     (coded⊎ (coded_option (coded_list coded_ℕ)) (coded⊎ coded_session (coded× coded_ℕ (coded_list coded_ℕ))))
     object_parts object_from object_back
 
--- a kind is stored as whether it is a script, where it is no init
+-- a kind is stored as whether it is a script, if it is no init
 abbrev pub kind_code : Kind → Option Bool
 kind_code Script = Some true
 kind_code Server = Some false

@@ -8,7 +8,7 @@ use Rattle.own_model.specs.Limits.{caps_limits}
 use Rattle.own_model.specs.NatMap.{NatMap}
 use Rattle.own_model.specs.OwnHeap.{no_heap}
 use Rattle.own_model.specs.OwnState.{OwnState}
-use Rattle.own_model.specs.OwnStep.{gone_state}
+use Rattle.own_model.specs.OwnStep.{exited_state}
 use Rattle.own_model.specs.Reserve.{no_reserve}
 use Rattle.trade_base.specs.declared.service.Service.{Service}
 use Rattle.own_model.specs.Routes.{Level}
@@ -22,8 +22,8 @@ use Rattle.dataspace_core.specs.Store.{Store, Part, part, account_of, opened_par
 use Rattle.heap_core.specs.Heap.{payer_of as heap_payer}
 use Rattle.sliced_heap.specs.Heap.{payer_of as sliced_payer}
 use Rattle.server_frame.specs.Frame.{Row}
-use Rattle.services.specs.Host.{service_of as served_by_host, rows_of as rows_of_host, capacity_of, HasPlace as HostHasPlace, Works as HostWorks}
-use Rattle.services.specs.declared.host.Host.{Host}
+use Rattle.server_kinds.specs.Host.{service_of as served_by_host, rows_of as rows_of_host, capacity_of, HasPlace as HostHasPlace, Works as HostWorks}
+use Rattle.server_kinds.specs.declared.any_server.AnyServer.{AnyServer}
 use Rattle.pd_core.specs.Own.{Sessions, no_sessions, no_lent, own_of, own_at}
 use Rattle.pd_core.specs.Sound.{session_at, buffer_at, IsNewHeap, IsNewSliced, IsSoundScript, SparesOthers}
 use Rattle.pd_core.specs.declared.component.Role.{Role}
@@ -39,7 +39,7 @@ script_in (Init account) = None
 script_in Gone = None
 
 -- its server
-abbrev pub host_in : Role → Option Host
+abbrev pub host_in : Role → Option AnyServer
 host_in (Script script) = None
 host_in (Server account host) = Some host
 host_in (Init account) = None
@@ -107,8 +107,8 @@ tables_in role = option_map (λ script. (script.caps, script.regions)) (script_i
 abbrev pub tables_of : Component → Option (Space × Regions)
 tables_of component = tables_in component.role
 
--- what a start list says of a component's place: the name by which lines call it, the number of its init, and where its wishes
--- for sessions lead
+-- the description of a component's place in a start list: the name by which lines call it, the number of its init, and the
+-- routes of its session requests
 pub record Place : Type 0 where
   pub name : List ℕ
   pub home : ℕ
@@ -185,7 +185,7 @@ pub record IsSessionOf (role : Role) (session : Option (Row Labelled)) : Type 0 
   pub there : session ≡ Some row
   pub client : Pays role row.client
 
--- the key of what a session lends, where there is a row of it and it lends something
+-- the key of a session's buffer, if there is a row of the session and it has a buffer
 abbrev pub lent_of : Option (Row Labelled) → Option ℕ
 lent_of (Some row) = row.buffer
 lent_of None = None
@@ -223,14 +223,15 @@ with_reserve reserve s = record s { reserve = reserve }
 
 -- the own state of an init: it has nothing by itself, for its account is one of inits
 abbrev pub init_state : OwnState
-init_state = record gone_state { gone = false }
+init_state = record exited_state { gone = false }
 
--- the own state of a role: a script's has its reserve, a server has its account alone, and an init and who is gone have nothing
+-- the own state of a role: a script's has its reserve, a server has its account alone, and an init and an exited component
+-- have nothing
 abbrev pub own_in : Sessions → Store → Role → OwnState
 own_in sessions store (Script script) = with_reserve (amounts_in (part script.reserve.0 store)) (own_at sessions store script)
 own_in sessions store (Server account host) = own_of no_lent no_sessions (part account.0 store) empty empty no_heap empty
 own_in sessions store (Init account) = init_state
-own_in sessions store Gone = gone_state
+own_in sessions store Gone = exited_state
 
 -- the component's own state
 abbrev pub own : Sessions → Store → Component → OwnState
@@ -241,7 +242,7 @@ abbrev pub HasPlaces : Sessions → Store → Role → Type 0
 HasPlaces sessions store role = IfSome (places_in role) (λ places. caps_limits (own_in sessions store role) ≤ places)
 
 -- a server's account is open, it works on this memory, and it has a place for each two capabilities of the machine
-pub record IsSoundServer (store : Store) (account : ℕ) (host : Host) : Type 0 where
+pub record IsSoundServer (store : Store) (account : ℕ) (host : AnyServer) : Type 0 where
   pub is_open : IsSome (part account store).account
   pub works : HostWorks store host
   pub places : caps_limits_in store ≤ capacity_of host * 2 + 1
@@ -256,8 +257,8 @@ IsSoundRole store Gone = Unit {0}
 abbrev pub IsSound : Store → Component → Type 0
 IsSound store component = IsSoundRole store component.role
 
--- a server after a call of one of its sessions: it works on the memory, and is the same but for its sessions, and so are the
--- limits of RAM in all
+-- after a call of one of its sessions a server works on the memory, and is unchanged except for its sessions; so are all
+-- limits of RAM together
 pub record StaysServer (old : Store) (before : Component) (new : Store) (after : Component) : Type 0 where
   pub entry : (place : Place) → entry_of place after ≡ entry_of place before
   pub service : service_of after ≡ service_of before
@@ -271,10 +272,10 @@ pub record Serves (store : Store) (component : Component) (id : ℕ) : Type 0 wh
   pub sound : IsSound store component
   pub row : IsSome (get (rows_of store component) id)
 
--- what a script's call that is none of a session, none of the reserve and no exit keeps: the component is sound after it; its entry,
--- service, account and reserve, its limit of capabilities and its places for them, what sessions and buffers its selectors name and what it serves, the root's key, who is whose
--- parent, the places for accounts and the sum of all limits of RAM stay, and so do the parts of all other accounts, but for what a
--- session lends and the call writes into
+-- a script's call that is neither of sessions, nor of the reserve, nor an exit keeps the component sound. These stay: its
+-- entry, service, account and reserve, its limit of capabilities and its places for them, the sessions and buffers that its
+-- selectors name, and what it serves. So do the root's key, each account's parent, the places for accounts and the sum of
+-- all limits of RAM. The parts of all other accounts stay too, except for a session's buffer into which the call writes
 pub record Keeps (old : Store) (before : Component) (new : Store) (after : Component) : Type 0 where
   pub sound : IsSound new after
   pub entry : (place : Place) → entry_of place after ≡ entry_of place before

@@ -62,8 +62,8 @@ world_of places store components = record {
   states = map (own (sessions_in store (roles_of components)) store) components;
 }
 
--- who has accounts: the machine's init, the component at a place, its reserve, and the session of the server at a place under a
--- key
+-- the owners of accounts: the machine's init, the component at a place, its reserve, and the session of the server at a
+-- place under a key
 pub data Owner : Type 0 where
   Init : Owner
   Place : ℕ → Owner
@@ -115,10 +115,10 @@ AreHeld heads store roles =
     (child parent : ℕ) → IsChildIn store child parent → heads parent ≡ false →
     (place : ℕ) × NamesAccount (rows_at store roles) (roles place) child parent
 
--- which accounts are inits' is known, and the root is one; the root is open; each component is sound, its account is below an
--- init's, and its reserve beside it, of which nothing is used; no account has two owners, and no init is a session's client; each
--- session that a component names is its own, and so is what that lends; its capabilities find places; each session is named; and
--- the memory has room for those still to be opened
+-- it is known which accounts are inits'; the root is one and is open. Each component is sound, its account is below an
+-- init's, and its reserve is next to it and unused. No account has two owners, and no init is a session's client. Each
+-- session that a component names is its own, and so is the session's buffer. Its capabilities have places, each session is
+-- named, and the memory has room for the accounts still to be opened
 pub record IsSoundCore (store : Store) (roles : Roles) : Type 0 where
   pub heads : Heads
   pub root_head : heads (root_in store) ≡ true
@@ -138,7 +138,7 @@ pub record IsSoundCore (store : Store) (roles : Roles) : Type 0 where
 abbrev pub IsCore : Store → List Component → Type 0
 IsCore store components = IsSoundCore store (roles_of components)
 
--- so they are, and a component stands at this place
+-- the core is sound, and a component is at this place
 pub record IsCoreAt (i : ℕ) (store : Store) (components : List Component) : Type 0 where
   pub core : IsCore store components
   pub caller : i < length components

@@ -1,15 +1,15 @@
--- What a script's call does, as the model tells it, whatever the open sessions are.
+-- What a script's call does, as the model states it, for any open sessions.
 use Rattle.std.specs.Prelude.{◌≡◌, ℕ, List, []}
 use Rattle.own_model.specs.Call.{Call}
 use Rattle.own_model.specs.Call.Call.{Poke}
 use Rattle.own_model.specs.OwnStep.{Outcome, script_step}
 use Rattle.own_model.specs.Reply.{Reply}
 use Rattle.dataspace_core.specs.Store.{Store}
-use Rattle.calls.specs.Told.{Told}
-use Rattle.calls.specs.declared.call.Call.{Call as Called}
+use Rattle.core_calls.specs.ReplyText.{Told}
+use Rattle.core_calls.specs.declared.call.Call.{Call as Called}
 use Rattle.pd_core.specs.declared.script.Script.{Script}
 use Rattle.pd_core.specs.Answer.{told, told_of}
-use Rattle.calls.specs.Call.{IsPlain, IsWellFormed}
+use Rattle.core_calls.specs.Call.{IsPlain, IsWellFormed}
 use Rattle.pd_core.specs.Own.{Sessions, HasSessions, own_at}
 use Rattle.pd_core.specs.Sound.{IsSoundScript, OthersStay, SparesOthers, Keeps}
 
@@ -25,14 +25,14 @@ pub record DoesBeside (Beside : Type 0) (call : Call) (reply : Reply) (old : Sto
 abbrev pub Does : Call → Reply → Store → Script → Store → Script → Type 0
 Does call reply old before new after = DoesBeside (OthersStay before.account.0 old new) call reply old before new after
 
--- a poke may write into what a session lends
+-- a poke may write into a session's buffer
 abbrev pub DoesPoke : ℕ → List ℕ → Reply → Store → Script → Store → Type 0
 DoesPoke address bytes reply old script new =
     DoesBeside (SparesOthers script.account.0 script.caps.caps old new) (Poke address bytes) reply old script new script
 
--- the same outcome with what is told of the call
-abbrev pub DoesTold : Call → Told → Store → Script → Store → Script → Type 0
-DoesTold call reply old before new after =
+-- the same outcome with the text of the reply
+abbrev pub DoesWithText : Call → Told → Store → Script → Store → Script → Type 0
+DoesWithText call reply old before new after =
     (sessions : Sessions) → HasSessions sessions before.caps.caps →
     told reply (own_at sessions new after) ≡ told_of (script_step call (own_at sessions old before))
 

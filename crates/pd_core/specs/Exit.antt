@@ -10,12 +10,12 @@ use Rattle.own_model.specs.World.{World}
 use Rattle.pd_core.specs.Component.{caps_in}
 use Rattle.dataspace_core.specs.Store.{Store, ClosesPart, caps_limits_in}
 use Rattle.pd_core.specs.Core.{Places, world_of, IsCore}
-use Rattle.pd_core.specs.SessionCalls.{Agrees, AreAtHome, Leads}
+use Rattle.pd_core.specs.SessionCalls.{Agrees, AreBelowParents, Leads}
 use Rattle.pd_core.specs.declared.component.Component.{Component}
 use Rattle.pd_core.specs.declared.component.Role.{Role}
 use Rattle.pd_core.specs.declared.component.Role.TheVariants.{Script, Server, Init, Gone}
 
--- why a role's calls are refused, if they are
+-- the refusal of a role's calls, if they are refused
 abbrev pub refusal_of : Role → Option Refusal
 refusal_of (Script script) = None
 refusal_of (Server account host) = Some NotAScript
@@ -32,18 +32,18 @@ pub record ClosesBoth (account reserve parent : ℕ) (old new : Store) : Type 0 
   pub caps : caps_limits_in between ≡ caps_limits_in old
   pub last : ClosesPart reserve parent between new
 
--- for how many selectors a role has places, or why for none
-abbrev pub places_told : Role → Result ℕ Refusal
-places_told (Script script) = Ok script.caps.places
-places_told (Server account host) = Err NotAScript
-places_told (Init account) = Err NotAScript
-places_told Gone = Err IsGone
+-- the number of selectors for which a role has places, or the refusal
+abbrev pub places_or_refusal : Role → Result ℕ Refusal
+places_or_refusal (Script script) = Ok script.caps.places
+places_or_refusal (Server account host) = Err NotAScript
+places_or_refusal (Init account) = Err NotAScript
+places_or_refusal Gone = Err IsGone
 
 -- each selector in use is one of 1 to so many
 abbrev pub HasSelectorsTo : ℕ → Role → Type 0
 HasSelectorsTo count role = (selector : ℕ) → IsSome (get (caps_in role) selector) → (1 ≤ selector) × (selector ≤ count)
 
--- from one own state to another: the sessions of the selectors 1 to so many are closed, and their limits are the account's
+-- from one own state to another: the sessions of the selectors 1 to n are closed, and the account has their limits
 pub record HasClosed (count : ℕ) (old new : OwnState) : Type 0 where
   pub ram : ram_limits new ≡ ram_limits old
   pub caps : caps_limits new ≡ caps_limits old
@@ -51,15 +51,15 @@ pub record HasClosed (count : ℕ) (old new : OwnState) : Type 0 where
   pub none : (selector : ℕ) → 1 ≤ selector → selector ≤ count → session_named (get new.selectors selector) ≡ None
   pub no_more : (selector : ℕ) → session_named (get old.selectors selector) ≡ None → session_named (get new.selectors selector) ≡ None
 
--- the same of the component at a place of a world, of which all else stays
+-- the same of the component at a place of a world; all else is unchanged
 pub record HasClosedAt (i count : ℕ) (old new : World) : Type 0 where
   pub closed : HasClosed count (state_at old.states i) (state_at new.states i)
   pub others : new ≡ record old { states = slice_set old.states i (state_at new.states i) }
 
--- so many sessions of the component at a place are closed, the core is sound after it, each account is below its init's still, and
--- routes lead where they did
+-- the first sessions of the component at a place are closed and the core is sound afterwards. Each account is still below
+-- its init's, and routes are unchanged
 pub record ClosesTo (i count : ℕ) (old : Store) (before : List Component) (new : Store) (after : List Component) : Type 0 where
   pub closed : (places : Places) → HasClosedAt i count (world_of places old before) (world_of places new after)
   pub core : IsCore new after
-  pub homes : (places : Places) → AreAtHome places old before → AreAtHome places new after
+  pub homes : (places : Places) → AreBelowParents places old before → AreBelowParents places new after
   pub leads : (places : Places) (leads : Leads) → Agrees places leads old before → Agrees places leads new after

@@ -11,7 +11,7 @@ use Rattle.cap_space.specs.Space.{Space}
 use Rattle.region_map.specs.Regions.{Regions}
 use Rattle.dataspace_core.specs.Room.{IsOuter, HasRoom}
 use Rattle.dataspace_core.specs.Store.{Store, part, account_in, root_in, ram_limits_in, IsOpenIn}
-use Rattle.services.specs.Host.{IsNew}
+use Rattle.server_kinds.specs.Host.{IsNew}
 pub use Rattle.dataspace_core.specs.Store.{opened_part}
 use Rattle.pd_core.specs.Component.{Place, host_in, entry_of, payer_of, reserve_of, reserve_held, tables_of, HasNewHeap, IsReserve}
 use Rattle.pd_core.specs.Core.{Heads, Places, IsBelowHead, IsInits, inits_of, roles_of}
@@ -90,7 +90,7 @@ pub record AreFreshBelow (heads : Heads) (store : Store) (components : List Comp
   pub each : All (IsFresh heads store) components
   pub apart : AllPairs ShareNone components
 
--- so it is, and the memory has room for the sessions to come
+-- all parts are fresh, and the memory has room for later sessions
 pub record AreFresh (store : Store) (components : List Component) : Type 0 where
   pub heads : Heads
   pub parts : AreFreshBelow heads store components

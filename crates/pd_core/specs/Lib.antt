@@ -9,6 +9,6 @@ pub mod CodedWorld
 pub mod Core
 pub mod Fresh
 pub mod SessionCalls
-pub mod Way
+pub mod ReserveDirection
 pub mod Release
 pub mod Exit

@@ -39,9 +39,9 @@ abbrev pub HasSessions : Sessions → NatMap Cap → Type 0
 HasSessions sessions caps =
     (selector server : ℕ) (session : SessionId) → get caps selector ≡ Some (Session server session) → IsSome (sessions server session.0)
 
--- ---- what sessions lend
+-- ---- buffers of sessions
 
--- the bytes of dataspaces by their keys: those that sessions lend are read so
+-- the bytes of dataspaces by their keys, by which sessions' buffers are read
 abbrev pub Lent : Type 0
 Lent = ℕ → List ℕ
 
@@ -116,7 +116,7 @@ own_at sessions store script =
 
 -- ---- what a script looks up
 
--- the dataspace that what a selector has is a capability of, its own or one that a session lends, and its pages
+-- the dataspace of the capability of a selector, its own or a session's buffer, with its pages
 abbrev pub sized_at : Lent → Part → Option Cap → Result (DsId × ℕ) Refusal
 sized_at lent part (Some (Dataspace ds)) = Ok (ds, pages_in (bytes_of part ds.0))
 sized_at lent part (Some RpcObject) = Err InvalidCap
@@ -131,7 +131,7 @@ range_refusal user sliced heap address count =
     (if is_some (resolved user address count) || is_some (block_found sliced address count) || is_some (block_found heap.payloads address count) then None
     else Some PageFault)
 
--- so many bytes from an address on lie in one user region, so far into its dataspace
+-- a range of bytes from an address on is in one user region, at this offset of its dataspace
 abbrev pub IsFoundInRegion : Script → ℕ → ℕ → ℕ → ℕ → Type 0
 IsFoundInRegion script address count ds offset = resolved script.regions.user address count ≡ Some (ds, offset)
 
@@ -146,7 +146,7 @@ pub record IsFoundInBlock (store : Store) (script : Script) (address count ds of
   pub no_sliced : block_found (sliced_at store script) address count ≡ None
   pub holds : HoldsRangeInBlock script.heap store script.regions ds offset address count
 
--- so many bytes from an address on are found so far into a dataspace
+-- a range of bytes from an address on is found at this offset of a dataspace
 abbrev pub IsFound : Store → Script → ℕ → ℕ → ℕ → ℕ → Type 0
 IsFound store script address count ds offset =
     IsFoundInRegion script address count ds offset

@@ -19,9 +19,9 @@ use Rattle.cap_space.specs.declared.cap.Cap.{Cap}
 use Rattle.cap_space.specs.declared.cap.Cap.TheVariants.{Session as ASession, Buffer as ABuffer}
 use Rattle.region_map.specs.Regions.{all_detached}
 use Rattle.dataspace_core.specs.Store.{Store, root_in, IsChildIn}
-use Rattle.calls.specs.Told.{Told}
+use Rattle.core_calls.specs.ReplyText.{Told}
 use Rattle.pd_core.specs.Answer.{told_alone, reply_of}
-use Rattle.pd_core.specs.declared.answer.Granted.{Granted}
+use Rattle.pd_core.specs.declared.call_value.CallValue.{CallValue}
 use Rattle.pd_core.specs.Component.{Pays, script_in, service_of, caps_in}
 use Rattle.pd_core.specs.Core.{Places, Roles, roles_of, world_of, IsCore}
 use Rattle.pd_core.specs.Sound.{session_at}
@@ -30,7 +30,8 @@ use Rattle.pd_core.specs.declared.component.Role.TheVariants.{Script, Server, In
 use Rattle.pd_core.specs.declared.script.Script.{Script as AnyScript}
 use Rattle.pd_core.specs.declared.component.Component.{Component}
 
--- the place of the component that serves what the component at a place asks for: a service by its name, with a given label
+-- the place of the component that serves a request of the component at a place, for a service by its name, with a given
+-- label
 abbrev pub Leads : Type 0
 Leads = ℕ → List ℕ → List ℕ → Option ℕ
 
@@ -50,22 +51,22 @@ IsBelowInit store (InitRole key) account = IsChildIn store account key.0
 IsBelowInit store GoneRole account = ⊥
 
 -- an account is below that of the init of a number: the root's, or that of the init at the place before the number
-abbrev pub IsAtHome : Store → Roles → ℕ → ℕ → Type 0
-IsAtHome store roles zero account = IsChildIn store account (root_in store)
-IsAtHome store roles (suc place) account = IsBelowInit store (roles place) account
+abbrev pub IsBelowParentInit : Store → Roles → ℕ → ℕ → Type 0
+IsBelowParentInit store roles zero account = IsChildIn store account (root_in store)
+IsBelowParentInit store roles (suc place) account = IsBelowInit store (roles place) account
 
 -- each component's account is below that of its init
-abbrev pub AreAtHome : Places → Store → List Component → Type 0
-AreAtHome places store components =
-    (i account : ℕ) → Pays (roles_of components i) account → IsAtHome store (roles_of components) (places i).home account
+abbrev pub AreBelowParents : Places → Store → List Component → Type 0
+AreBelowParents places store components =
+    (i account : ℕ) → Pays (roles_of components i) account → IsBelowParentInit store (roles_of components) (places i).home account
 
--- what a component asks for leads to the server that its routes lead to, and to none where they lead to none; a label has room
--- for the name of each component; and each one's account is below its init's
+-- a request of a component is routed to the server of its routes, or is denied as they deny it; a label has room for the
+-- name of each component; and each component's account is below its init's
 pub record Agrees (places : Places) (leads : Leads) (store : Store) (components : List Component) : Type 0 where
   pub names : All (λ c. length c.name.items ≤ 140) components
   pub each : (i : ℕ) (service label : List ℕ) → i < length components →
       option_map (server_at components) (leads i service label) ≡ option_map Some (provider (places i).routes service label)
-  pub homes : AreAtHome places store components
+  pub homes : AreBelowParents places store components
 
 -- the session that a selector of a script names, by its server's entry and its key there, or why there is none
 abbrev pub named_in : Role → ℕ → Result (ℕ × SessionId) Refusal
@@ -113,7 +114,7 @@ pub record IsLentTo (space : ℕ) (caps : NatMap Cap) : Type 0 where
 abbrev pub NamesBuffer : ℕ → Role → Type 0
 NamesBuffer space role = IsSomeAnd (script_in role) (λ script. IsLentTo space script.caps.caps)
 
--- the buffer in a dataspace goes from its least selector, and its regions go
+-- the buffer in a dataspace is removed from its least selector, and its regions are removed
 pub record DropsBuffer (space : ℕ) (old new : Component) : Type 0 where
   pub selector : ℕ
   pub named : is_buffer space (get (caps_in old.role) selector) ≡ true
@@ -126,13 +127,13 @@ pub record Answers (places : Places) (call : Call) (i : ℕ) (reply : Told) (old
   pub lines : reply.lines ≡ flat_map log_text (outcome_at (world_of places old before) i call).lines
   pub stepped : world_of places new after ≡ with_state (world_of places old before) i (outcome_at (world_of places old before) i call).next
 
--- so it goes, the core is sound after it, each account is below its init's still, and routes lead where they did
+-- the call is answered so, the core is sound afterwards, each account is still below its init's, and routes are unchanged
 pub record Goes (places : Places) (call : Call) (i : ℕ) (reply : Told) (old : Store) (before : List Component) (new : Store) (after : List Component) : Type 0 where
   pub answers : Answers places call i reply old before new after
   pub core : IsCore new after
-  pub homes : (all : Places) → AreAtHome all old before → AreAtHome all new after
+  pub homes : (all : Places) → AreBelowParents all old before → AreBelowParents all new after
   pub leads : (all : Places) (leads : Leads) → Agrees all leads old before → Agrees all leads new after
 
--- so does one that is answered alone
-abbrev pub GoesWith : Places → Call → ℕ → Result Granted Refusal → Store → List Component → Store → List Component → Type 0
+-- the same of a call with this result and no log lines
+abbrev pub GoesWith : Places → Call → ℕ → Result CallValue Refusal → Store → List Component → Store → List Component → Type 0
 GoesWith places call i result old before new after = Goes places call i (told_alone (reply_text (reply_of result))) old before new after

@@ -22,17 +22,17 @@ use Rattle.pd_core.specs.declared.script.Script.{Script}
 abbrev pub row_session : ℕ → Row Labelled → AnOpenSession
 row_session server row = session_with server row.account row.value
 
--- all but one session are the same
+-- all sessions except one are the same
 abbrev pub AgreeBut : Sessions → Sessions → ℕ → ℕ → Type 0
 AgreeBut before after server key =
     (other_server other : ℕ) → ((other_server ≡ server) → (other ≡ key) → ⊥) → after other_server other ≡ before other_server other
 
--- a selector has what the session under another lends, and nothing where that lends nothing
+-- a selector has the buffer of the session under another, and nothing if that has no buffer
 pub record IsLentAt (caps : NatMap Cap) (q k : ℕ) (lent : Option ℕ) : Type 0 where
   pub has : buffer_at (get caps k) ≡ lent_from q lent
   pub free : lent ≡ None → get caps k ≡ None
 
--- and where it lends nothing it is the new selector; no other has a buffer of the session
+-- if the session has no buffer, it is the new selector; no other selector has a buffer of the session
 pub record HoldsLent (caps : NatMap Cap) (q k : ℕ) (lent : Option ℕ) : Type 0 where
   pub at : IsLentAt caps q k lent
   pub new : lent ≡ None → k ≡ new_selector caps
@@ -52,7 +52,7 @@ pub record NamesSession (script : Script) (store : Store) (rows : NatMap (Row La
   pub least : 2 ≤ row.account.caps_limit
   pub placed : (account_in store script.account.0).caps_limit + row.account.caps_limit + total session_weight script.caps.caps ≤ script.caps.places + 1 + lent_weight row.buffer
 
--- what a call of a session is to the model: its outcome, where all but that session are the same before and after
+-- a call of a session as the model has it: its outcome, if all sessions except that one are the same before and after
 abbrev pub DoesSession : Call → Reply → List LogLine → ℕ → ℕ → Option AnOpenSession → Option AnOpenSession → Store → Script → Store → Script → Type 0
 DoesSession call reply lines server key was is old before new after =
     (entry : Entry) (S S' : Sessions) → HasSessions S before.caps.caps → entry.kind ≡ AScript → AgreeBut S S' server key → S server key ≡ was → S' server key ≡ is →

@@ -19,7 +19,7 @@ use Rattle.dataspace_core.specs.Share.{Share, IsWindowOf}
 use Rattle.dataspace_core.specs.Store.{Store, Part, part, part_with_bytes, account_of, space_at, root_in, parents_in, room_in, ram_limits_in, Exists, IsOpenIn, PartBecomes}
 use Rattle.heap_core.specs.declared.heap.Heap.{Heap}
 use Rattle.heap_core.specs.Heap.{payer_of as heap_payer, heap_in, HasNoBlocks as HasNoHeapBlocks, IsSound as IsSoundHeap}
-use Rattle.heap_core.specs.Laws.{block_region}
+use Rattle.heap_core.specs.Theorems.{block_region}
 use Rattle.sliced_heap.specs.declared.heap.SlicedHeap.{SlicedHeap}
 use Rattle.sliced_heap.specs.Sliced.{block_regions}
 use Rattle.sliced_heap.specs.Heap.{payer_of as sliced_payer, share_at, MapsMemory, HasNoBlocks as HasNoSliced, IsSound as IsSoundSliced}
@@ -48,7 +48,7 @@ session_at (Some (Session server session)) = Some (server, session)
 session_at (Some (Buffer space session)) = None
 session_at None = None
 
--- what counts what is lent
+-- the weight of a buffer in a count
 abbrev pub lent_weight : Option ℕ → ℕ
 lent_weight None = 0
 lent_weight (Some key) = 1
@@ -62,7 +62,7 @@ buffer_at (Some (Session server session)) = None
 buffer_at (Some (Buffer space session)) = Some (session.0, space.0)
 buffer_at None = None
 
--- what the session under a selector lends, if it lends anything, as a capability of it tells that
+-- the buffer of the session under a selector, if it has one, as a capability of it
 abbrev pub lent_from : ℕ → Option ℕ → Option (ℕ × ℕ)
 lent_from q lent = option_map (λ key. (q, key)) lent
 
@@ -75,9 +75,9 @@ pub record IsNamed (part : Part) (caps : NatMap Cap) : Type 0 where
   pub there : (selector : ℕ) (ds : DsId) → get caps selector ≡ Some (Dataspace ds) → IsSome (get part.spaces ds.0)
   pub one : IsOne caps
 
--- the account is open; it uses a capability for each selector but those of sessions and of buffers, each sliced block, each
--- chunk and each large block, and one for each dataspace and each RPC object, where blocks and chunks are dataspaces without a
--- selector; and there is a place for as many selectors as it can pay for beside those
+-- the account is open. It uses a capability for each selector except those of sessions and of buffers, each sliced block,
+-- each chunk and each large block. It also uses one for each dataspace and each RPC object; blocks and chunks are dataspaces
+-- without a selector. There is a place for as many selectors as it can pay for in addition to those
 pub record IsPaid (part : Part) (space : Space) (heap : OwnHeap) (sliced : NatMap (List ℕ)) : Type 0 where
   pub is_open : IsSome part.account
   pub named : len space.caps + len sliced + heap_count heap ≤ (account_of part).caps_used + total session_weight space.caps
@@ -101,8 +101,8 @@ pub record IsLawful (s : OwnState) : Type 0 where
   pub uses : UsesWhatItHolds s
   pub within : WithinLimits s.account
 
--- what is true of a script with this part, these capabilities, these regions, this heap and these sliced blocks, whatever
--- its sessions are. The machine has at least the account's RAM
+-- what is true of a script with this part, these capabilities, these regions, this heap and these sliced blocks, for any
+-- sessions. The machine has at least the account's RAM
 pub record IsScript (lent : Lent) (part : Part) (space : Space) (regions : Regions) (heap : OwnHeap) (sliced : NatMap (List ℕ)) : Type 0 where
   pub named : IsNamed part space.caps
   pub paid : IsPaid part space heap sliced
@@ -125,8 +125,7 @@ pub record IsNewHeap (heap : Heap) : Type 0 where
       HasNoHeapBlocks (share_at (heap_payer heap) store regions) → IsSoundHeap heap store regions
   pub empty : (share : Share) → HasNoHeapBlocks share → heap_in heap share ≡ no_heap
 
--- a script's heaps take their blocks for the script's account, and all that stands in the heap window of its map is their
--- blocks
+-- a script's heaps take their blocks for the script's account, and all that is in the heap window of its map is their blocks
 pub record HasHeaps (store : Store) (script : Script) : Type 0 where
   pub heap : IsSoundHeap script.heap store script.regions
   pub sliced : IsSoundSliced script.sliced store script.regions
@@ -152,12 +151,12 @@ pub record IsSoundScript (store : Store) (script : Script) : Type 0 where
   pub lent : AreOthers script.account.0 store script.caps.caps
   pub heaps : HasHeaps store script
 
--- the part of each account but this stays
+-- the part of each account except this one is unchanged
 abbrev pub OthersStay : ℕ → Store → Store → Type 0
 OthersStay account old new = (other : ℕ) → other ≢ account → part other new ≡ part other old
 
--- bytes are put over those of the dataspace of a buffer that a selector names, within it: the part of who pays for it has them, and
--- every other part stays
+-- bytes overwrite those of the buffer that a selector names, within it: the part of the account that pays for it has them,
+-- and every other part is unchanged
 pub record WritesLent (caps : NatMap Cap) (old new : Store) : Type 0 where
   pub selector : ℕ
   pub session : ℕ
@@ -169,12 +168,13 @@ pub record WritesLent (caps : NatMap Cap) (old new : Store) : Type 0 where
   pub becomes : let payer = (space_at old key).payer in
       PartBecomes payer (part_with_bytes (part payer old) key offset bytes) old new
 
--- a call for an account leaves what isn't the account's, or it writes into what a session lends
+-- a call for an account leaves what is not the account's, or it writes into a session's buffer
 abbrev pub SparesOthers : ℕ → NatMap Cap → Store → Store → Type 0
 SparesOthers account caps old new = OthersStay account old new ⊎ WritesLent caps old new
 
--- the script is sound after a call; its account, its reserve, its limits, its places for capabilities, its sessions and their buffers, the
--- root's key, who is whose parent, the places for accounts and the sum of all limits of RAM stay
+-- the script is sound after a call. These stay: its account, its reserve, its limits, its places for capabilities, its
+-- sessions and their buffers. So do the root's key, each account's parent, the places for accounts and the sum of all limits
+-- of RAM
 pub record Keeps (old : Store) (before : Script) (new : Store) (after : Script) : Type 0 where
   pub sound : IsSoundScript new after
   pub account : after.account ≡ before.account

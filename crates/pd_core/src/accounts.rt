@@ -1,4 +1,4 @@
-//! The accounts of a core: their limits, and what of them is used.
+//! The accounts of a core: their limits and their use.
 ghost use Rattle.std.specs.Prelude.{◌≡◌, ◌+◌};
 ghost use Rattle.std.specs.FinMap.{get};
 ghost use Rattle.std.specs.Option.{option_map};
@@ -9,17 +9,17 @@ ghost use Rattle.own_model.specs.World.{account_at};
 ghost use Rattle.dataspace_core.specs.Store.{account_in, IsOpenIn};
 ghost use Rattle.own_model.specs.StartList.{init_at};
 ghost use Rattle.pd_core.specs.Answer.{quotas_account, CountsLimits};
-ghost use Rattle.calls.specs.Quotas.{reserve_amounts};
+ghost use Rattle.core_calls.specs.Quotas.{reserve_amounts};
 ghost use Rattle.pd_core.specs.Core.{Places, world_of, IsCoreAt};
 
 use crate::component::{Component, Role};
 use crate::machine::Core;
 use crate::router::Router;
-use calls::{Quotas, Reserve};
+use core_calls::{Quotas, Reserve};
 use dataspace_core::Memory;
 use trade_base::{AccountId, Caps, Ram, SessionId};
 
-/// The limits and the use of an account.
+/// Returns the limits and the use of an account.
 pub(crate) fn quotas_of(memory: &Memory, account: AccountId) -> Quotas
     requires { IsOpenIn memory.now account.0 }
     ensures { quotas_account result ≡ account_in memory.now account.0 }
@@ -44,9 +44,10 @@ impl<R: Router + Drop> Core<R> {
     ghost use Rattle.own_model.specs.World.{account_at, machine_init};
     ghost use Rattle.own_model.specs.StartList.{init_at};
     ghost use Rattle.pd_core.specs.Answer.{quotas_account, CountsLimits};
-    ghost use Rattle.calls.specs.Quotas.{reserve_amounts};
+    ghost use Rattle.core_calls.specs.Quotas.{reserve_amounts};
 
-    /// How many components there are: each has an entry, an own state, and a place among inits, where the machine's comes first.
+    /// Returns the number of components. Each has an entry, an own state, and a place among inits, where the machine's init
+    /// is first.
     pub fn count(&self) -> usize
         ensures entries { result ≡ length self.now.entries }
         ensures states { result ≡ length self.now.states }
@@ -55,7 +56,8 @@ impl<R: Router + Drop> Core<R> {
         self.components.as_slice().len()
     }
 
-    /// The limits and the use of the account of the component at a place: of an init, what it has for those that it starts.
+    /// Returns limits and use of the account of the component at a place. An init's account is what it has for the
+    /// components that it starts.
     pub fn account(&self, component: usize) -> Quotas
         requires { component < length self.now.entries }
         ensures value { quotas_account result ≡ account_at self.now component }
@@ -66,7 +68,7 @@ impl<R: Router + Drop> Core<R> {
         component_quotas(&self.memory, self.components.as_slice(), component)
     }
 
-    /// What the component at a place has in reserve.
+    /// Returns what the component at a place has in reserve.
     pub fn reserve(&self, component: usize) -> Reserve
         requires { component < length self.now.entries }
         ensures { reserve_amounts result ≡ (state_at self.now.states component).reserve }
@@ -74,15 +76,15 @@ impl<R: Router + Drop> Core<R> {
         component_reserve(&self.memory, self.components.as_slice(), component)
     }
 
-    /// The limits and the use of the account of the machine's init.
+    /// Returns the limits and the use of the account of the machine's init.
     pub fn init_account(&self) -> Quotas
         ensures { quotas_account result ≡ machine_init self.now }
     {
         quotas_of(&self.memory, self.memory.root())
     }
 
-    /// The limits and the use of the account of the session that a selector of the component at a place names, or `None`
-    /// where it names none.
+    /// Returns limits and use of a session's account. A selector of the component at a place names the session. Returns
+    /// `None` if it names no session.
     pub fn session_account(&self, component: usize, selector: u64) -> Option<Quotas>
         requires { component < length self.now.entries }
         ensures { option_map quotas_account result
@@ -97,8 +99,8 @@ impl<R: Router + Drop> Core<R> {
         )
     }
 
-    /// The place of the component that serves the session which a selector of the component at a place names, or `None`
-    /// where it names none.
+    /// Returns the place of the component that serves a session. A selector of the component at a place names the session.
+    /// Returns `None` if it names no session.
     pub fn server_of(&self, component: usize, selector: u64) -> Option<usize>
         requires { component < length self.now.entries }
         ensures { result
@@ -111,7 +113,7 @@ impl<R: Router + Drop> Core<R> {
         }
     }
 
-    /// No selector above this one, which is at most 4096, names anything of the component at a place.
+    /// Returns a selector of at most 4096 above which no selector of the component at a place names anything.
     pub fn last_selector(&self, component: usize) -> u64
         requires { component < length self.now.entries }
         ensures most { result ≤ 4096 }
@@ -128,14 +130,14 @@ impl Component {
     ghost use Rattle.dataspace_core.specs.Store.{IsOpenIn};
     ghost use Rattle.server_frame.specs.Frame.{AtRow};
     ghost use Rattle.pd_core.specs.Answer.{quotas_account};
-    ghost use Rattle.calls.specs.Quotas.{reserve_amounts};
+    ghost use Rattle.core_calls.specs.Quotas.{reserve_amounts};
     ghost use Rattle.pd_core.specs.Component.{kind_of, reserve_of, rows_of, own, IsSound, Serves};
     ghost use Rattle.own_model.specs.World.{account_by};
     ghost use Rattle.pd_core.specs.Core.{init_in};
     ghost use Rattle.pd_core.specs.Exit.{HasSelectorsTo};
     ghost use Rattle.pd_core.specs.Own.{Sessions};
 
-    /// The limits and the use of the component's account, all of them 0 once it has exited.
+    /// Returns limits and use of the component's account, all of them 0 after its exit.
     fn quotas(&self, memory: &Memory) -> Quotas
         requires { IsSound memory.now self.now }
         ensures { (sessions : Sessions) → quotas_account result
@@ -155,7 +157,7 @@ impl Component {
         }
     }
 
-    /// What the component has in reserve: nothing where it is a server or has exited.
+    /// Returns what the component has in reserve: nothing for a server or after an exit.
     pub(crate) fn reserve(&self, memory: &Memory) -> Reserve
         requires { IfSome (reserve_of self.now) (IsOpenIn memory.now) }
         ensures { (sessions : Sessions) → reserve_amounts result
@@ -173,7 +175,7 @@ impl Component {
         }
     }
 
-    /// The greatest selector that the component has a place for, or 0 where it has none.
+    /// Returns the greatest selector that the component has a place for, or 0 if it has none.
     #[tactic(auto, using(crate::proofs::QuotaLemmas::no_caps))]
     fn last_selector(&self) -> u64
         ensures all { HasSelectorsTo result self.now.role }
@@ -185,7 +187,7 @@ impl Component {
         }
     }
 
-    /// The limits and the use of the account of a session that the component serves.
+    /// Returns limits and use of the account of a session that the component serves.
     fn session_quotas(&self, memory: &Memory, id: SessionId) -> Quotas
         requires { Serves memory.now self.now id.0 }
         ensures { AtRow (rows_of memory.now self.now) id.0 (λ row.
@@ -219,7 +221,7 @@ fn component_reserve(memory: &Memory, components: &[Component], place: usize) ->
     components[place].reserve(memory)
 }
 
-// The same of the session that a selector of the component names, or `None` where it names none.
+// Limits and use of the account of the session that a selector names, or `None` if it names no session.
 fn session_quotas(
     memory: &Memory,
     components: &[Component],

@@ -1,4 +1,4 @@
-//! The bytes of peeks and pokes, as they are and in hexadecimal digits.
+//! The bytes of peeks and pokes, as bytes and in hexadecimal digits.
 ghost use Rattle.std.specs.Prelude.{◌≡◌, ◌+◌, ◌/◌, ◌≤◌, length, codes, ◌++◌, slice_range, Some};
 ghost use Rattle.dataspace_core.specs.Store.{Exists, space_at};
 ghost use Rattle.own_model.specs.Reply.{hex_text};
@@ -6,7 +6,7 @@ ghost use Rattle.own_model.specs.Text.{bytes_of_hex, hex_bytes};
 ghost use Rattle.pd_core.specs.Bytes.{PutsBytes};
 ghost use Rattle.pd_core.specs.Answer.{told_alone};
 
-use calls::Reply;
+use core_calls::Reply;
 use dataspace_core::Memory;
 use text_codec::decode_hex;
 use trade_base::DsId;
@@ -14,11 +14,17 @@ use trade_base::DsId;
 /// The most bytes of a peek or a poke.
 pub(crate) const MOST_BYTES: usize = 1024;
 
-/// So many bytes are peeked and poked by way of a small buffer, as a large one takes long to clear.
+/// The most bytes of a peek or poke through a small buffer, because a large one takes long to clear.
 const FEW_BYTES: usize = 128;
 
-/// Writes so many bytes of a dataspace in place of what the reply was.
-pub(crate) fn tell_range(reply: &mut Reply, memory: &Memory, space: DsId, offset: u64, count: usize)
+/// Sets the reply to `count` bytes of a dataspace from an offset on.
+pub(crate) fn write_range(
+    reply: &mut Reply,
+    memory: &Memory,
+    space: DsId,
+    offset: u64,
+    count: usize,
+)
     requires exists { Exists memory.now space.0 }
     requires range { offset + count ≤ length (space_at memory.now space.0).bytes }
     requires few { count ≤ MOST_BYTES }
@@ -32,7 +38,7 @@ pub(crate) fn tell_range(reply: &mut Reply, memory: &Memory, space: DsId, offset
     }
 }
 
-/// The same by way of a buffer of so many bytes. It stands alone, since who takes it in would clear its buffer at each call.
+/// Sets the same reply through a buffer of `N` bytes. It is not inlined, because each call would clear its buffer.
 #[inline(never)]
 fn tell_by<const N: usize>(
     reply: &mut Reply,
@@ -54,7 +60,7 @@ fn tell_by<const N: usize>(
     reply.write_bytes(bytes);
 }
 
-/// Puts the bytes that a text of hexadecimal digits stands for into a dataspace from an offset on.
+/// Writes the bytes that hexadecimal digits denote into a dataspace from an offset on.
 pub(crate) fn put_hex(memory: &mut Memory, space: DsId, offset: u64, hex: &[u8])
     requires hex { bytes_of_hex hex.now ≡ Some (hex_bytes hex.now) }
     requires exists { Exists memory.old space.0 }
@@ -69,7 +75,7 @@ pub(crate) fn put_hex(memory: &mut Memory, space: DsId, offset: u64, hex: &[u8])
     }
 }
 
-/// The same by way of a buffer of so many bytes, as `tell_by` does it.
+/// Writes the same bytes through a buffer of `N` bytes, as `tell_by` does.
 #[tactic(auto, using(text_codec::proofs::HexLemmas::decodings))]
 #[inline(never)]
 fn put_by<const N: usize>(memory: &mut Memory, space: DsId, offset: u64, hex: &[u8])

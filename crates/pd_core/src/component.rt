@@ -1,29 +1,29 @@
-//! A component: what it is, and what its calls do.
+//! A component: its role, and what its calls do.
 ghost use Rattle.std.specs.Prelude.{◌≡◌, ◌≤◌, length};
 
 use crate::script::Script;
 use arrayvec::ArrayVec;
-use calls::{Call, LONGEST_CLIENT, Reply};
 use cap_space::{Cap, CapSpace};
+use core_calls::{Call, LONGEST_CLIENT, Reply};
 use dataspace_core::Memory;
 use heap_core::Heap;
 use region_map::RegionMap;
 use server_frame::Server;
-use services::{FileService, Host, LogService};
+use server_kinds::{AnyServer, FileService, LogService};
 use sliced_heap::SlicedHeap;
 use std::mem;
 use trade_base::{AccountId, DsId, Refusal, Selector, SessionId};
 
-/// What a component is for. A server answers the calls of others, and is charged on the account; an init does neither.
+/// The role of a component. A server answers the calls of others and is charged on the account; an init does neither.
 #[derive(Drop)]
 pub(crate) enum Role {
-    /// It makes calls.
+    /// A script, which makes calls.
     Script(Script),
-    /// It answers calls of sessions.
-    Server(AccountId, Host),
+    /// A server, which answers calls of sessions.
+    Server(AccountId, AnyServer),
     /// An init: the components that it starts have accounts below this one.
     Init(AccountId),
-    /// It made calls and has exited.
+    /// A script that has exited.
     Gone,
 }
 
@@ -44,20 +44,20 @@ impl Component {
     ghost use Rattle.trade_base.specs.declared.service.Service.TheVariants.{Log as LogKind, Files as FilesKind};
     ghost use Rattle.own_model.specs.StartList.Kind.{Script as AScript, Server as AServer, Init as AnInit};
     ghost use Rattle.pd_core.specs.Answer.{told, told_of};
-    ghost use Rattle.calls.specs.Call.{model_call, IsPlain, IsWellFormed};
+    ghost use Rattle.core_calls.specs.Call.{model_call, IsPlain, IsWellFormed};
     ghost use Rattle.dataspace_core.specs.Store.{Store, parents_in, parent_in, ram_limits_in, caps_limits_in, IsLeafIn};
-    ghost use Rattle.pd_core.specs.Exit.{places_told, refusal_of, IsScriptRole, HasSelectorsTo, ClosesBoth};
+    ghost use Rattle.pd_core.specs.Exit.{places_or_refusal, refusal_of, IsScriptRole, HasSelectorsTo, ClosesBoth};
     ghost use Rattle.pd_core.specs.Sound.{session_at, buffer_at};
     ghost use Rattle.pd_core.specs.declared.component.Role.TheVariants.{Gone as GoneRole};
     ghost use Rattle.pd_core.specs.Component.{Place, entry_of, payer_of, reserve_of, service_of, HasReserveApart, HasOwnReserve, tables_of, caps_of, HasNewHeap, own, IsSound, Keeps};
     ghost use Rattle.pd_core.specs.Core.{IsInitOf};
-    ghost use Rattle.services.specs.Host.{service_of as service_in, HasNoSessions, IsNew};
+    ghost use Rattle.server_kinds.specs.Host.{service_of as service_in, HasNoSessions, IsNew};
     ghost use Rattle.pd_core.specs.Fresh.{IsNewServer};
     ghost use Rattle.pd_core.specs.Own.{Sessions, HasSessions};
     ghost use Rattle.pd_core.specs.SessionCalls.{named_in, with_session, with_buffer, without_selector, HasSelectorLeft, NamesBuffer, DropsBuffer};
 
-    /// A script of a name of at most 140 bytes that is charged on the account, with the account of its reserve, with these
-    /// capabilities and regions, and with empty heaps.
+    /// Creates a script with a name of at most 140 bytes. It is charged on the account, and has the account of its reserve,
+    /// these capabilities and regions, and empty heaps.
     pub fn script(
         name: &[u8],
         account: AccountId,
@@ -93,7 +93,7 @@ impl Component {
         }
     }
 
-    /// A log server of a name of at most 140 bytes that is charged on the account.
+    /// Creates a log server with a name of at most 140 bytes that is charged on the account.
     pub fn log(name: &[u8], account: AccountId, server: Server<LogService>) -> Component
         requires { length name.now ≤ 140 }
         ensures entry { (place : Place) → entry_of place result ≡ record {
@@ -111,10 +111,10 @@ impl Component {
             IsNewServer store result.role }
         ensures service { service_of result ≡ Some LogKind }
     {
-        Component::server(name, account, Host::Log(server))
+        Component::server(name, account, AnyServer::Log(server))
     }
 
-    /// A file server of a name of at most 140 bytes that is charged on the account.
+    /// Creates a file server with a name of at most 140 bytes that is charged on the account.
     pub fn files(name: &[u8], account: AccountId, server: Server<FileService>) -> Component
         requires { length name.now ≤ 140 }
         ensures entry { (place : Place) → entry_of place result ≡ record {
@@ -132,11 +132,11 @@ impl Component {
             IsNewServer store result.role }
         ensures service { service_of result ≡ Some FilesKind }
     {
-        Component::server(name, account, Host::Files(server))
+        Component::server(name, account, AnyServer::Files(server))
     }
 
-    /// A server of any service, of a name of at most 140 bytes, that is charged on the account.
-    pub fn server(name: &[u8], account: AccountId, host: Host) -> Component
+    /// Creates a server of any service, with a name of at most 140 bytes, that is charged on the account.
+    pub fn server(name: &[u8], account: AccountId, host: AnyServer) -> Component
         requires { length name.now ≤ 140 }
         ensures entry { (place : Place) → entry_of place result ≡ record {
           name = place.name;
@@ -158,7 +158,7 @@ impl Component {
         }
     }
 
-    /// An init of a name of at most 140 bytes that starts components below the account.
+    /// Creates an init with a name of at most 140 bytes that starts components below the account.
     pub fn init(name: &[u8], account: AccountId) -> Component
         requires { length name.now ≤ 140 }
         ensures entry { (place : Place) → entry_of place result ≡ record {
@@ -182,7 +182,7 @@ impl Component {
         }
     }
 
-    /// The session that a selector names, by its server's place and its key there, or why not: `NotAScript`, then
+    /// Returns the session that a selector names, by its server's place and its key there. Refuses with `NotAScript`, then
     /// `Gone`, then `InvalidSession`.
     pub(crate) fn session(&self, selector: u64) -> Result<(usize, SessionId), Refusal>
         ensures named { result ≡ named_in self.now.role selector }
@@ -201,7 +201,7 @@ impl Component {
         }
     }
 
-    /// Takes the session that a selector names out, which frees the selector, or tells why not: `NotAScript`,
+    /// Removes the session that a selector names, frees the selector, and returns the session. Refuses with `NotAScript`,
     /// then `Gone`, then `InvalidSession`.
     pub(crate) fn take_session(&mut self, selector: u64) -> Result<(usize, SessionId), Refusal>
         ensures named { result ≡ named_in self.old.role selector }
@@ -219,7 +219,7 @@ impl Component {
         }
     }
 
-    /// The selector under which a script keeps a new session, which is told by its server's place and its key there.
+    /// Stores a new session, given by its server's place and its key there, and returns its selector.
     pub(crate) fn keep_session(&mut self, server: usize, session: SessionId) -> Selector
         requires room { HasSelectorLeft self.old.role }
         ensures least { result.0 ≡ new_selector (caps_of self.old) }
@@ -232,7 +232,7 @@ impl Component {
         }
     }
 
-    /// The selector under which a script keeps a buffer: a dataspace that the session under a selector lends it.
+    /// Stores the buffer of the session under a selector, given by its dataspace, and returns the buffer's selector.
     pub(crate) fn keep_buffer(&mut self, space: DsId, session: Selector) -> Selector
         requires room { HasSelectorLeft self.old.role }
         ensures least { result.0 ≡ new_selector (caps_of self.old) }
@@ -245,7 +245,7 @@ impl Component {
         }
     }
 
-    /// A buffer goes that a script was lent, which frees its selector, and so do its regions. Its dataspace needn't be there.
+    /// Frees the selector and the regions of a script's buffer. The buffer's dataspace need not exist.
     pub(crate) fn drop_buffer(&mut self, space: DsId)
         requires lent { NamesBuffer space.0 self.old.role }
         ensures { DropsBuffer space.0 self.old self.new }
@@ -259,7 +259,7 @@ impl Component {
         }
     }
 
-    /// Why the calls of a component are refused that is no script, or no more.
+    /// Returns the refusal of all calls of a component that is no script or has exited.
     pub(crate) fn refusal(&self) -> Refusal
         ensures { Some result ≡ option_or (refusal_of self.now.role) (Some NotAScript) }
     {
@@ -269,9 +269,9 @@ impl Component {
         }
     }
 
-    /// For how many selectors a script has places, or why there are none: `NotAScript`, then `Gone`.
+    /// Returns the number of selectors for which a script has places. Refuses with `NotAScript`, then `Gone`.
     pub(crate) fn places(&self) -> Result<usize, Refusal>
-        ensures told { result ≡ places_told self.now.role }
+        ensures told { result ≡ places_or_refusal self.now.role }
         ensures within { IfOk result (λ places. HasSelectorsTo places self.now.role) }
     {
         match &self.role {
@@ -280,8 +280,8 @@ impl Component {
         }
     }
 
-    /// A script without a session and without a buffer exits: all that it holds goes, its account and its reserve close, and
-    /// their limits go back to its init's.
+    /// Ends a script without sessions and buffers: frees all that it holds, closes its account and its reserve, and returns
+    /// their limits to its init's account.
     pub(crate) fn leave(&mut self, memory: &mut Memory)
         requires sound { IsSound memory.old self.old }
         requires script { IsScriptRole self.old.role }
@@ -308,8 +308,8 @@ impl Component {
         }
     }
 
-    /// Carries a call of the component out that is none of a session, none of the reserve and no exit, and writes what it is
-    /// answered in place of what the reply was.
+    /// Carries out a call of the component and sets the reply to the result. The call is neither of sessions, nor of the
+    /// reserve, nor an exit.
     pub(crate) fn step(&mut self, memory: &mut Memory, call: Call<'_>, reply: &mut Reply)
         requires sound { IsSound memory.old self.old }
         requires call { IsWellFormed call }

@@ -1,27 +1,27 @@
 //! The core: the memory, and the components whose calls it carries out.
-ghost use Rattle.calls.specs.Call.{model_call, IsWellFormed};
+ghost use Rattle.core_calls.specs.Call.{model_call, IsWellFormed};
 ghost use Rattle.pd_core.specs.Core.{IsCoreAt};
 ghost use Rattle.pd_core.specs.SessionCalls.{Agrees, Goes};
 
-use crate::answer::tell;
+use crate::call_value::tell;
 use crate::component::Component;
-use crate::exiting::exit;
-use crate::reserves::{Way, reserve, shift};
+use crate::exit::exit;
+use crate::reserves::{ReserveDirection, reserve, shift};
 use crate::router::Router;
 use crate::session_calls::{self, close, open, upgrade};
-use calls::{Call, Reply};
+use core_calls::{Call, Reply};
 use dataspace_core::Memory;
 use std::boxed::BoxedSlice;
 use std::marker::Model;
 
-/// The machine's memory with its components. Contracts see the entries of the start list, what inits keep, and each
+/// The machine's memory with its components. Contracts see the entries of the start list, the accounts of inits, and each
 /// component's own state.
 #[derive(Drop)]
 pub struct Core<R: Router + Drop> {
     pub(crate) memory: Memory,
-    /// A boxed slice, so that no call makes it longer.
+    /// A boxed slice, so that no call can lengthen it.
     pub(crate) components: BoxedSlice<Component>,
-    /// It agrees with the components' routes.
+    /// The router, which agrees with the components' routes.
     routes: R,
 }
 
@@ -50,13 +50,13 @@ impl<R: Router + Drop> Core<R> {
     ghost use Rattle.own_model.specs.Reply.{reply_text, log_text};
     ghost use Rattle.own_model.specs.StartList.{StartList};
     ghost use Rattle.own_model.specs.World.{outcome_at, with_state, IsBalanced, IsBalancedFor};
-    ghost use Rattle.calls.specs.Call.{model_call, IsWellFormed};
+    ghost use Rattle.core_calls.specs.Call.{model_call, IsWellFormed};
     ghost use Rattle.pd_core.specs.Fresh.{started_world, AreFresh};
     ghost use Rattle.pd_core.specs.SessionCalls.{Agrees};
 
-    /// The core of fresh parts: a memory, and components that have made no call. Each has an account of its own, of which
-    /// nothing is used, and empty tables; it starts with the account's limits for its budget. The memory has room for the
-    /// accounts of sessions. The router leads where the components' routes do.
+    /// Creates a core from a memory and components that have made no call. Each component has an account of its own, with no
+    /// use, and empty tables. Its budget is the account's limits. The memory must have room for the accounts of sessions.
+    /// The router must route requests as the components' routes do.
     pub fn from_parts(memory: Memory, components: Vec<Component>, routes: R) -> Core<R>
         requires fresh { AreFresh memory components.items }
         requires leads { Agrees (R.places routes) (R.leads routes) memory components.items }
@@ -69,9 +69,8 @@ impl<R: Router + Drop> Core<R> {
         }
     }
 
-    /// Carries a call out, and writes the log lines that it finishes and what it is answered in place of what the
-    /// reply was: the text, and the outcome of which it is the rendering (`Reply::outcome`). Every other component's own state
-    /// stays.
+    /// Carries out a call of the component at a place. Sets the reply to the log lines that the call finishes, the text, and
+    /// the outcome whose rendering the text is (`Reply::outcome`). Every other component's own state is unchanged.
     pub fn step(&mut self, component: usize, call: Call<'_>, reply: &mut Reply)
         requires component { component < length self.old.entries }
         requires call { IsWellFormed call }
@@ -98,9 +97,9 @@ impl<R: Router + Drop> Core<R> {
     }
 }
 
-// Carries a call of the component at a place out, and writes the log lines that it finishes and what it is answered in
-// place of what the reply was. What goes beyond what a component has alone is told apart here: its sessions, its reserve and its
-// exit. Each of these stands alone, since who takes one in would clear its places at each call.
+// Carries out a call of the component at a place, and sets the reply to its log lines and its result. Calls that change more
+// than the component's own part are selected here: those of sessions, of the reserve, and an exit. Each of them is a
+// function that is not inlined, because each call would clear its places.
 fn carry_out<R: Router>(
     memory: &mut Memory,
     components: &mut [Component],
@@ -120,8 +119,20 @@ fn carry_out<R: Router>(
         Call::Upgrade { selector, args } => upgrade(memory, components, caller, selector, args),
         Call::Close(selector) => close(memory, components, caller, selector),
         Call::Reserve => reserve(memory, components, caller),
-        Call::Request(args) => shift(memory, components, caller, Way::FromReserve, args),
-        Call::Yield(args) => shift(memory, components, caller, Way::ToReserve, args),
+        Call::Request(args) => shift(
+            memory,
+            components,
+            caller,
+            ReserveDirection::FromReserve,
+            args,
+        ),
+        Call::Yield(args) => shift(
+            memory,
+            components,
+            caller,
+            ReserveDirection::ToReserve,
+            args,
+        ),
         Call::Exit => exit(memory, components, caller),
         Call::CallSession { selector, request } => {
             return session_calls::call(memory, components, caller, selector, request, reply);

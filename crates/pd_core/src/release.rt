@@ -1,4 +1,4 @@
-//! The end of a script: all that it holds goes, and then its account.
+//! The end of a script: all that it holds is freed, and then its account closes.
 
 use crate::script::Script;
 use cap_space::Cap;
@@ -11,8 +11,8 @@ impl Script {
     ghost use Rattle.pd_core.specs.Release.{IsCleared};
     ghost use Rattle.pd_core.specs.Sound.{session_at, buffer_at, IsSoundScript, OthersStay, Keeps};
 
-    /// All that a script without a session and without a buffer holds goes: its dataspaces with their regions, its RPC objects
-    /// and its heaps. Then its account closes, and its limits go back to the account above.
+    /// Frees all that a script without sessions and buffers holds: dataspaces with their regions, RPC objects and heaps.
+    /// Then closes its account and returns the limits to the account above.
     pub(crate) fn end(mut self, memory: &mut Memory)
         requires sound { IsSoundScript memory.old self }
         requires none { (selector : ℕ) → session_at (get self.caps.caps selector) ≡ None }
@@ -31,7 +31,7 @@ impl Script {
         memory.close(self.account);
     }
 
-    // What the selectors name goes.
+    // Frees what the selectors name.
     fn release_all(&mut self, memory: &mut Memory)
         requires sound { IsSoundScript memory.old self.old }
         requires none { (selector : ℕ) → session_at (get self.old.caps.caps selector) ≡ None }
@@ -46,7 +46,7 @@ impl Script {
         }
     }
 
-    // What a selector names goes, where that is no session and no buffer.
+    // Frees what a selector names, unless it is a session or a buffer.
     fn release(&mut self, memory: &mut Memory, selector: u64)
         requires sound { IsSoundScript memory.old self.old }
         requires plain { session_at (get self.old.caps.caps selector) ≡ None }
@@ -65,12 +65,12 @@ impl Script {
                 let _ = self.capfree(memory, selector);
             }
             None => {}
-            // Sessions are closed before, and their buffers go with them.
+            // Sessions are closed before, and their buffers are freed with them.
             Some(Cap::Session { .. } | Cap::Buffer { .. }) => unreachable!(),
         }
     }
 
-    // All blocks of both heaps go, and the account of a script without a selector then uses nothing.
+    // Frees all blocks of both heaps. The account of a script without a selector then uses nothing.
     fn end_heaps(&mut self, memory: &mut Memory)
         requires sound { IsSoundScript memory.old self.old }
         requires none { (selector : ℕ) → get self.old.caps.caps selector ≡ None }

@@ -1,22 +1,22 @@
-//! A script, and its calls: what each does to its account, its capabilities, its regions and the memory.
+//! A script and its calls: what each does to its account, capabilities, regions and memory.
 
 ghost use Rattle.std.specs.Prelude.{◌≡◌, ◌≤◌};
 ghost use Rattle.std.specs.Option.{option_map};
 ghost use Rattle.own_model.specs.Region.{resolved};
 
 use crate::accounts::quotas_of;
-use crate::answer::{Granted, tell};
-use crate::bytes::{MOST_BYTES, put_hex, tell_range};
-use calls::{Call, Quotas, Reply};
+use crate::bytes::{MOST_BYTES, put_hex, write_range};
+use crate::call_value::{CallValue, tell};
 use cap_space::{Cap, CapSpace};
+use core_calls::{Call, Quotas, Reply};
 use dataspace_core::Memory;
 use heap_core::Heap;
 use region_map::{HEAP_LOW, RegionMap};
 use sliced_heap::SlicedHeap;
 use trade_base::{AccountId, DsId, Refusal};
 
-/// A script: the account that it is charged on, the account of its reserve, its capabilities, its regions, its heap and the heap
-/// of its sliced blocks. Of the reserve nothing is ever used.
+/// A script: the account that it is charged on, the account of its reserve, its capabilities, its regions, its heap and its
+/// sliced heap. Nothing of the reserve is ever in use.
 #[derive(Drop)]
 pub(crate) struct Script {
     pub(crate) account: AccountId,
@@ -38,16 +38,16 @@ impl Script {
     ghost use Rattle.own_model.specs.Text.{bytes_of_hex};
     ghost use Rattle.dataspace_core.specs.Store.{account_in, ram_limits_in};
     ghost use Rattle.pd_core.specs.Answer.{quotas_account, reply_of};
-    ghost use Rattle.calls.specs.Call.{model_call, bytes_in};
-    ghost use Rattle.pd_core.specs.Does.{Does, DoesPoke, DoesTold, CanDo};
+    ghost use Rattle.core_calls.specs.Call.{model_call, bytes_in};
+    ghost use Rattle.pd_core.specs.Does.{Does, DoesPoke, DoesWithText, CanDo};
     ghost use Rattle.pd_core.specs.Own.{part_at, own_heap_at, sliced_at, lent_in, sized_at, range_refusal, IsFound};
     ghost use Rattle.pd_core.specs.Sound.{IsSoundScript, SparesOthers, Keeps};
 
-    /// Carries a call out that is none of a session, none of the reserve and no exit, and writes what it is answered in place of what the reply was.
-    /// Its arms share one place for their outcomes, which a function clears as it is entered.
+    /// Carries out a call that is neither of sessions, nor of the reserve, nor an exit, and sets the reply to the result.
+    /// The arms share one place for their outcomes, which a function clears when it is entered.
     pub(crate) fn step(&mut self, memory: &mut Memory, call: Call<'_>, reply: &mut Reply)
         requires { CanDo call memory.old self.old }
-        ensures outcome { DoesTold (model_call call.entry) reply.new
+        ensures outcome { DoesWithText (model_call call.entry) reply.new
             memory.old self.old memory.new self.new }
         ensures keeps { Keeps memory.old self.old memory.new self.new }
         ensures others { SparesOthers self.old.account.0 self.old.caps.caps memory.old memory.new }
@@ -66,24 +66,24 @@ impl Script {
             Call::Del(address) => self.del_block(memory, address),
             Call::Snew(bytes) => self.snew(memory, bytes),
             Call::Sdel(address) => self.sdel(memory, address),
-            Call::Quota => Ok(Granted::Quotas(self.quota(memory))),
+            Call::Quota => Ok(CallValue::Quotas(self.quota(memory))),
             _ => unreachable!(),
         };
         tell(outcome, reply);
     }
 
-    /// A dataspace under a new selector, or why not: `InvalidSize`, then `OutOfRam`, then `OutOfCaps`.
-    fn alloc(&mut self, memory: &mut Memory, bytes: u64) -> Result<Granted, Refusal>
+    /// Allocates a dataspace under a new selector. Refuses with `InvalidSize`, then `OutOfRam`, then `OutOfCaps`.
+    fn alloc(&mut self, memory: &mut Memory, bytes: u64) -> Result<CallValue, Refusal>
         requires { IsSoundScript memory.old self.old }
         ensures { Does (ModelledAlloc bytes) (reply_of result)
             memory.old self.old memory.new self.new }
     {
         let space = memory.alloc(self.account, bytes)?;
-        Ok(Granted::Selected(self.caps.insert(Cap::Dataspace(space))))
+        Ok(CallValue::Selected(self.caps.insert(Cap::Dataspace(space))))
     }
 
-    /// The dataspace that the selector names goes with its regions, or `InvalidCap` where it names none.
-    pub(crate) fn free(&mut self, memory: &mut Memory, selector: u64) -> Result<Granted, Refusal>
+    /// Frees the dataspace that the selector names, with its regions. Refuses with `InvalidCap` if it names none.
+    pub(crate) fn free(&mut self, memory: &mut Memory, selector: u64) -> Result<CallValue, Refusal>
         requires { IsSoundScript memory.old self.old }
         ensures { Does (ModelledFree selector) (reply_of result)
             memory.old self.old memory.new self.new }
@@ -93,21 +93,25 @@ impl Script {
         };
         self.regions.detach_all(space);
         memory.free(space);
-        Ok(Granted::Done)
+        Ok(CallValue::Done)
     }
 
-    /// An RPC object under a new selector, or `OutOfCaps`.
-    fn capalloc(&mut self, memory: &mut Memory) -> Result<Granted, Refusal>
+    /// Allocates an RPC object under a new selector. Refuses with `OutOfCaps`.
+    fn capalloc(&mut self, memory: &mut Memory) -> Result<CallValue, Refusal>
         requires { IsSoundScript memory.old self.old }
         ensures { Does ModelledCapalloc (reply_of result)
             memory.old self.old memory.new self.new }
     {
         memory.charge_cap(self.account)?;
-        Ok(Granted::Selected(self.caps.insert(Cap::RpcObject)))
+        Ok(CallValue::Selected(self.caps.insert(Cap::RpcObject)))
     }
 
-    /// The RPC object that the selector names goes, or `InvalidCap` where it names none.
-    pub(crate) fn capfree(&mut self, memory: &mut Memory, selector: u64) -> Result<Granted, Refusal>
+    /// Frees the RPC object that the selector names. Refuses with `InvalidCap` if it names none.
+    pub(crate) fn capfree(
+        &mut self,
+        memory: &mut Memory,
+        selector: u64,
+    ) -> Result<CallValue, Refusal>
         requires { IsSoundScript memory.old self.old }
         ensures { Does (ModelledCapfree selector) (reply_of result)
             memory.old self.old memory.new self.new }
@@ -116,64 +120,64 @@ impl Script {
             return Err(Refusal::InvalidCap);
         }
         memory.credit_cap(self.account);
-        Ok(Granted::Done)
+        Ok(CallValue::Done)
     }
 
-    /// The dataspace that a selector names is attached at the first gap, or why not: `InvalidCap`, then
-    /// `TooManyRegions`, then `RegionConflict`.
-    fn attach(&mut self, memory: &Memory, selector: u64) -> Result<Granted, Refusal>
+    /// Attaches the dataspace that a selector names at the first gap. Refuses with `InvalidCap`, then `TooManyRegions`, then
+    /// `RegionConflict`.
+    fn attach(&mut self, memory: &Memory, selector: u64) -> Result<CallValue, Refusal>
         requires { IsSoundScript memory.now self.old }
         ensures { Does (ModelledAttach selector) (reply_of result)
             memory.now self.old memory.now self.new }
     {
         let (space, pages) = self.dataspace(memory, selector)?;
         let address = self.regions.attach(space, pages)?;
-        Ok(Granted::Attached(address))
+        Ok(CallValue::Attached(address))
     }
 
-    /// The same at an address.
+    /// Attaches the dataspace that a selector names at an address.
     fn attach_at(
         &mut self,
         memory: &Memory,
         selector: u64,
         address: u64,
-    ) -> Result<Granted, Refusal>
+    ) -> Result<CallValue, Refusal>
         requires { IsSoundScript memory.now self.old }
         ensures { Does (ModelledAttachAt selector address) (reply_of result)
             memory.now self.old memory.now self.new }
     {
         let (space, pages) = self.dataspace(memory, selector)?;
         let address = self.regions.attach_at(space, pages, address)?;
-        Ok(Granted::Attached(address))
+        Ok(CallValue::Attached(address))
     }
 
-    /// The region that starts at an address goes, or `PageFault` where none does.
-    fn detach(&mut self, memory: &Memory, address: u64) -> Result<Granted, Refusal>
+    /// Detaches the region that starts at an address. Refuses with `PageFault` if none does.
+    fn detach(&mut self, memory: &Memory, address: u64) -> Result<CallValue, Refusal>
         requires { IsSoundScript memory.now self.old }
         ensures { Does (ModelledDetach address) (reply_of result)
             memory.now self.old memory.now self.new }
     {
         self.regions.detach(address)?;
-        Ok(Granted::Done)
+        Ok(CallValue::Done)
     }
 
-    /// So many bytes from an address on are told, or why not: `InvalidSize` where they are none or more than 1,024, then
-    /// `PageFault` where no region, no sliced block's payload and no payload of the heap holds them all.
+    /// Reads `count` bytes from an address on into the reply. Refuses with `InvalidSize` for 0 or more than 1024 bytes. Then
+    /// refuses with `PageFault` if no region, no sliced block's payload and no payload of the heap holds them all.
     fn peek(&self, memory: &mut Memory, address: u64, count: u64, reply: &mut Reply)
         requires { IsSoundScript memory.old self.now }
-        ensures outcome { DoesTold (ModelledPeek address count) reply.new
+        ensures outcome { DoesWithText (ModelledPeek address count) reply.new
             memory.old self.now memory.new self.now }
         ensures memory { memory.new ≡ memory.old }
     {
         match self.range(memory, address, count) {
-            Ok((space, offset)) => tell_range(reply, memory, space, offset, count as usize),
+            Ok((space, offset)) => write_range(reply, memory, space, offset, count as usize),
             Err(refusal) => reply.write_refusal(refusal),
         }
     }
 
-    /// The bytes that a text of hexadecimal digits stands for are put from an address on, or why not, as with `peek`. They may be
-    /// put into what a session lends.
-    fn poke(&self, memory: &mut Memory, address: u64, hex: &[u8]) -> Result<Granted, Refusal>
+    /// Writes the bytes that hexadecimal digits denote from an address on, also into a session's buffer. Refuses as `peek`
+    /// does.
+    fn poke(&self, memory: &mut Memory, address: u64, hex: &[u8]) -> Result<CallValue, Refusal>
         requires hex { IsSome (bytes_of_hex hex.now) }
         requires sound { IsSoundScript memory.old self.now }
         ensures { DoesPoke address (bytes_in hex.now) (reply_of result)
@@ -182,51 +186,51 @@ impl Script {
         let count = hex.len() / 2;
         let (space, offset) = self.range(memory, address, count as u64)?;
         put_hex(memory, space, offset, hex);
-        Ok(Granted::Done)
+        Ok(CallValue::Done)
     }
 
-    /// A block of the heap for so many bytes, or why not: `InvalidSize`, then, where the heap has to grow and has no room for
-    /// a chunk more, `TooManyChunks`, then `OutOfRam`, then `OutOfCaps`.
-    fn new_block(&mut self, memory: &mut Memory, bytes: u64) -> Result<Granted, Refusal>
+    /// Allocates a block of the heap for this number of bytes. Refuses with `InvalidSize`. Then, if the heap must grow and
+    /// cannot, refuses with `TooManyChunks`, then `OutOfRam`, then `OutOfCaps`.
+    fn new_block(&mut self, memory: &mut Memory, bytes: u64) -> Result<CallValue, Refusal>
         requires { IsSoundScript memory.old self.old }
         ensures { Does (ModelledNew bytes) (reply_of result)
             memory.old self.old memory.new self.new }
     {
         let address = self.heap.alloc(memory, &mut self.regions, bytes)?;
-        Ok(Granted::Attached(address))
+        Ok(CallValue::Attached(address))
     }
 
-    /// The block of the heap whose payload starts at an address goes, or `PageFault` where none does.
-    fn del_block(&mut self, memory: &mut Memory, address: u64) -> Result<Granted, Refusal>
+    /// Frees the block of the heap whose payload starts at an address. Refuses with `PageFault` if none does.
+    fn del_block(&mut self, memory: &mut Memory, address: u64) -> Result<CallValue, Refusal>
         requires { IsSoundScript memory.old self.old }
         ensures { Does (ModelledDel address) (reply_of result)
             memory.old self.old memory.new self.new }
     {
         self.heap.free(memory, &mut self.regions, address)?;
-        Ok(Granted::Done)
+        Ok(CallValue::Done)
     }
 
-    /// A sliced block for so many bytes, or why not: `InvalidSize`, then `OutOfRam`, then `OutOfCaps`.
-    fn snew(&mut self, memory: &mut Memory, bytes: u64) -> Result<Granted, Refusal>
+    /// Allocates a sliced block for this number of bytes. Refuses with `InvalidSize`, then `OutOfRam`, then `OutOfCaps`.
+    fn snew(&mut self, memory: &mut Memory, bytes: u64) -> Result<CallValue, Refusal>
         requires { IsSoundScript memory.old self.old }
         ensures { Does (ModelledSnew bytes) (reply_of result)
             memory.old self.old memory.new self.new }
     {
         let address = self.sliced.alloc(memory, &mut self.regions, bytes)?;
-        Ok(Granted::Attached(address))
+        Ok(CallValue::Attached(address))
     }
 
-    /// The sliced block whose payload starts at an address goes, or `PageFault` where none does.
-    fn sdel(&mut self, memory: &mut Memory, address: u64) -> Result<Granted, Refusal>
+    /// Frees the sliced block whose payload starts at an address. Refuses with `PageFault` if none does.
+    fn sdel(&mut self, memory: &mut Memory, address: u64) -> Result<CallValue, Refusal>
         requires { IsSoundScript memory.old self.old }
         ensures { Does (ModelledSdel address) (reply_of result)
             memory.old self.old memory.new self.new }
     {
         self.sliced.free(memory, &mut self.regions, address)?;
-        Ok(Granted::Done)
+        Ok(CallValue::Done)
     }
 
-    /// The use and the limits of the account.
+    /// Returns the use and the limits of the account.
     fn quota(&self, memory: &Memory) -> Quotas
         requires { IsSoundScript memory.now self.now }
         ensures { quotas_account result ≡ account_in memory.now self.now.account.0 }
@@ -234,7 +238,8 @@ impl Script {
         quotas_of(memory, self.account)
     }
 
-    /// The dataspace that a selector names, its own or a buffer's, and its pages, or `InvalidCap` where it names none.
+    /// Returns the dataspace that a selector names, its own or a buffer's, with its pages. Refuses with `InvalidCap` if it
+    /// names none.
     fn dataspace(&self, memory: &Memory, selector: u64) -> Result<(DsId, u64), Refusal>
         requires { IsSoundScript memory.now self.now }
         ensures sized { result
@@ -249,8 +254,8 @@ impl Script {
         }
     }
 
-    /// The dataspace that holds so many bytes from an address on, whole in one of its regions, in one sliced block's payload
-    /// or in one payload of the heap, and the offset in it, or why not: `InvalidSize`, then `PageFault`.
+    /// Finds the dataspace that holds `count` bytes from an address on, and the offset in it. They must be whole in one
+    /// region, in one sliced block's payload or in one payload of the heap. Refuses with `InvalidSize`, then `PageFault`.
     fn range(&self, memory: &mut Memory, address: u64, count: u64) -> Result<(DsId, u64), Refusal>
         requires { IsSoundScript memory.old self.now }
         ensures refusal { result_err result ≡ range_refusal
@@ -274,8 +279,8 @@ impl Script {
     }
 }
 
-/// Returns the dataspace and the offset of a range that one user region holds, or `None` where none does. A region of the
-/// heap window is a heap's, which alone knows the payloads in it.
+/// Returns the dataspace and the offset of a range that one user region holds, or `None` if none does. A region of the heap
+/// window is a heap's, and only the heap knows the payloads in it.
 fn user_range(regions: &RegionMap, address: u64, count: u64) -> Option<(DsId, u64)>
     requires { 1 ≤ count }
     ensures { option_map (λ at. (at.0.0, at.1)) result

@@ -1,27 +1,27 @@
-//! The calls of sessions in the core: each finds the component that makes it and the one that serves it.
+//! The calls of sessions in the core: each finds the calling component and the serving one.
 ghost use Rattle.own_model.specs.Call.Call.{Open as ModelledOpen, Upgrade as ModelledUpgrade};
 ghost use Rattle.own_model.specs.Call.Call.{CallSession as ModelledCallSession, Close as ModelledClose};
 ghost use Rattle.pd_core.specs.Core.{Places, IsCoreAt};
 ghost use Rattle.pd_core.specs.SessionCalls.{Agrees, Goes, GoesWith};
 
-use crate::answer::Granted;
+use crate::call_value::CallValue;
 use crate::component::{Component, Role};
 use crate::router::Router;
-use calls::{Reply, label_of};
+use core_calls::{Reply, label_of};
 use dataspace_core::Memory;
 use server_frame::Effect;
 use session_proto::SessionArgs;
 use trade_base::{Refusal, Selector};
 
-/// The session that a selector of the component at a place names goes, with the capability and the regions of its buffer, or
-/// why not: `NotAScript`, then `Gone`, then `InvalidSession`.
+/// Closes the session that a selector of the component at a place names, with the capability and the regions of its buffer.
+/// Refuses with `NotAScript`, then `Gone`, then `InvalidSession`.
 #[inline(never)]
 pub(crate) fn close(
     memory: &mut Memory,
     components: &mut [Component],
     caller: usize,
     selector: u64,
-) -> Result<Granted, Refusal>
+) -> Result<CallValue, Refusal>
     requires { IsCoreAt caller memory.old components.old }
     ensures { (places : Places) → GoesWith places (ModelledClose selector) caller result
         memory.old components.old memory.new components.new }
@@ -35,11 +35,11 @@ pub(crate) fn close(
     if let Some(space) = lent {
         components[caller].drop_buffer(space);
     }
-    Ok(Granted::Done)
+    Ok(CallValue::Done)
 }
 
-/// More is donated for the session that a selector of the component at a place names, or why not: `NotAScript`, then `Gone`,
-/// then `InvalidSession`, then `BadArgs`, then `OutOfRam`, then `OutOfCaps`.
+/// Upgrades the session that a selector of the component at a place names with a further donation. Refuses with
+/// `NotAScript`, then `Gone`, then `InvalidSession`, then `BadArgs`, then `OutOfRam`, then `OutOfCaps`.
 #[inline(never)]
 pub(crate) fn upgrade(
     memory: &mut Memory,
@@ -47,7 +47,7 @@ pub(crate) fn upgrade(
     caller: usize,
     selector: u64,
     text: &[u8],
-) -> Result<Granted, Refusal>
+) -> Result<CallValue, Refusal>
     requires { IsCoreAt caller memory.old components.old }
     ensures { (places : Places)
         → GoesWith places (ModelledUpgrade selector text.now) caller result
@@ -59,12 +59,12 @@ pub(crate) fn upgrade(
         unreachable!()
     };
     host.raise(memory, session, more.ram(), more.caps())?;
-    Ok(Granted::Done)
+    Ok(CallValue::Done)
 }
 
-/// A request of the session that a selector of the component at a place names is answered, and the lines that it finishes
-/// are told before the answer. A buffer that it makes comes under a new selector, which is told at the end of the reply, and one
-/// that it gives back goes with its regions. It is refused with `NotAScript`, `Gone` or else `InvalidSession`.
+/// Sends a request to the session that a selector of the component at a place names. Sets the reply to the request's log
+/// lines and its result. A buffer that is created has a new selector, at the end of the reply; one that is freed loses its
+/// regions. Refuses with `NotAScript`, then `Gone`, then `InvalidSession`.
 #[inline(never)]
 pub(crate) fn call(
     memory: &mut Memory,
@@ -108,7 +108,7 @@ pub(crate) fn open<R: Router>(
     caller: usize,
     service: &[u8],
     text: &[u8],
-) -> Result<Granted, Refusal>
+) -> Result<CallValue, Refusal>
     requires at { IsCoreAt caller memory.old components.old }
     requires routes { Agrees (R.places routes.now) (R.leads routes.now) memory.old components.old }
     ensures { GoesWith (R.places routes.now) (ModelledOpen service.now text.now) caller result
@@ -128,5 +128,5 @@ pub(crate) fn open<R: Router>(
         unreachable!()
     };
     let session = host.open(memory, account, &label, args.ram(), args.caps())?;
-    Ok(Granted::Selected(components[caller].keep_session(entry, session)))
+    Ok(CallValue::Selected(components[caller].keep_session(entry, session)))
 }

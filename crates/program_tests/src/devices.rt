@@ -3,25 +3,25 @@ use std::alloc::Global;
 use std::io;
 use std::io::{Error, ErrorKind, Read, Write};
 
-/// Gives its bytes in pieces, but for one read, which fails.
+/// A reader that returns its bytes in pieces. One of its reads can fail.
 #[derive(Drop)]
-pub struct Reader<'a> {
-    /// What it gives.
+pub struct TestReader<'a> {
+    /// The bytes that aren't read yet.
     pub bytes: &'a [u8],
-    /// How many bytes a read gives at most.
+    /// The most bytes that a read returns.
     pub size: usize,
-    /// Which read fails, from 1 on; none where it is 0.
+    /// The number of the read that fails, from 1 on, or 0 for none.
     pub failing: usize,
-    /// How it fails.
+    /// The kind of the error.
     pub kind: ErrorKind,
-    /// How often it was read.
+    /// The number of reads so far.
     pub reads: usize,
 }
 
-impl<'a> Reader<'a> {
-    /// One that doesn't fail.
-    pub fn new(bytes: &'a [u8], size: usize) -> Reader<'a> {
-        Reader {
+impl<'a> TestReader<'a> {
+    /// Returns a reader of these bytes that doesn't fail.
+    pub fn new(bytes: &'a [u8], size: usize) -> TestReader<'a> {
+        TestReader {
             bytes,
             size,
             failing: 0,
@@ -31,7 +31,7 @@ impl<'a> Reader<'a> {
     }
 }
 
-impl Read for Reader<'_> {
+impl Read for TestReader<'_> {
     fn read(&mut self, buffer: &mut [u8]) -> io::Result<usize> {
         self.reads = self.reads.saturating_add(1);
         if self.reads == self.failing {
@@ -44,25 +44,25 @@ impl Read for Reader<'_> {
     }
 }
 
-/// Takes a few bytes at a time, until it has all that it takes. Then it fails once, and after that it would take all.
+/// A writer that accepts a few bytes at a time, up to a limit. Then it fails once, and after that it accepts all bytes.
 #[derive(Drop)]
-pub struct Writer {
-    /// What it took.
+pub struct TestWriter {
+    /// The bytes that were written.
     pub bytes: Vec<u8>,
-    /// How many bytes it takes at a time.
+    /// The most bytes that a write accepts.
     pub size: usize,
-    /// How many it takes before it fails.
+    /// The number of bytes that are accepted before the failure.
     pub room: usize,
-    /// How it fails; without a kind it takes nothing.
+    /// The kind of the error; without a kind the failing write accepts no bytes.
     pub kind: Option<ErrorKind>,
-    /// How often it was written to.
+    /// The number of writes so far.
     pub writes: usize,
 }
 
-impl Writer {
-    /// One that doesn't fail.
-    pub fn new(alloc: Global) -> Writer {
-        Writer {
+impl TestWriter {
+    /// Returns a writer that doesn't fail, and accepts all bytes.
+    pub fn new(alloc: Global) -> TestWriter {
+        TestWriter {
             bytes: Vec::new(alloc),
             size: usize::MAX,
             room: usize::MAX,
@@ -72,7 +72,7 @@ impl Writer {
     }
 }
 
-impl Write for Writer {
+impl Write for TestWriter {
     fn write(&mut self, buffer: &[u8]) -> io::Result<usize> {
         self.writes = self.writes.saturating_add(1);
         if self.room == 0 {

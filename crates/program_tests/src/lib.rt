@@ -2,8 +2,8 @@
 #![tactic(auto)]
 
 #[cfg(test)]
-mod desk;
-#[cfg(test)]
 mod devices;
 #[cfg(test)]
 mod engine;
+#[cfg(test)]
+mod nethrywel;

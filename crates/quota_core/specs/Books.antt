@@ -77,7 +77,7 @@ with_moved books from to ram caps = record books {
   accounts = insert (insert books.accounts from (parted_with (account_at books from) ram caps)) to (raised (account_at books to) ram caps);
 }
 
--- an account goes, and its parent has its limits
+-- an account is removed, and its parent has its limits
 abbrev pub without_account : Books → ℕ → Books
 without_account books account =
     let parent = parent_at books account in
@@ -101,7 +101,7 @@ pub record KeepsLimits (old new : Books) : Type 0 where
   pub ram : ram_limits new ≡ ram_limits old
   pub caps : caps_limits new ≡ caps_limits old
 
--- a part of one account's limits is taken out where the account covers it, and is then in no account; where it doesn't,
+-- a part of one account's limits is taken out if the account covers it, and is then in no account; where it doesn't,
 -- nothing changes
 pub record TakesOut (account ram caps : ℕ) (result : Result Account Refusal) (old new : Books) : Type 0 where
   pub refusal : result_err result ≡ shortage (account_at old account) ram caps

@@ -1,3 +1,3 @@
 pub mod Books
-pub mod Kept
+pub mod SlabBooks
 pub mod SlabMap

@@ -7,7 +7,7 @@ ghost use Rattle.own_model.specs.Donation.{raised};
 use std::marker::Model;
 use trade_base::{Caps, Ram, Refusal};
 
-// Limits and uses: RAM in bytes, and capabilities. No use is above its limit.
+// Limits and uses: RAM in bytes, and capabilities. No use exceeds its limit.
 #[derive(Drop)]
 pub(crate) struct Account {
     ram_limit: u64,
@@ -34,7 +34,7 @@ impl Model for Account {
 }
 
 impl Account {
-    // An account of which nothing is used.
+    // Opens an account with these limits and no use.
     pub(crate) fn opened(ram: Ram, caps: Caps) -> Account
         ensures is { result ≡ opened ram.0 caps.0 }
         ensures ram { ram.0 < 2 ^ 64 }
@@ -48,7 +48,7 @@ impl Account {
         }
     }
 
-    // Whether so much more is left, and what falls short first: RAM, then capabilities.
+    // Tests whether the unused part of the limits covers the amount. Fails with `OutOfRam` before `OutOfCaps`.
     fn covers(&self, ram: Ram, caps: Caps) -> Result<(), Refusal>
         ensures { result_err result ≡ shortage self.now ram.0 caps.0 }
     {
@@ -61,6 +61,7 @@ impl Account {
         Ok(())
     }
 
+    // Adds an amount to the use. Fails as `covers` does, and then changes nothing.
     pub(crate) fn charge(&mut self, ram: Ram, caps: Caps) -> Result<(), Refusal>
         ensures refusal { result_err result ≡ shortage self.old ram.0 caps.0 }
         ensures ok { OnOk result (self.new ≡ charged self.old ram.0 caps.0) }
@@ -72,6 +73,7 @@ impl Account {
         Ok(())
     }
 
+    // Subtracts an amount from the use.
     pub(crate) fn credit(&mut self, ram: Ram, caps: Caps)
         requires ram_used { ram.0 ≤ self.old.ram_used }
         requires caps_used { caps.0 ≤ self.old.caps_used }
@@ -81,7 +83,7 @@ impl Account {
         self.caps_used -= caps.0;
     }
 
-    // Moves so much of the limits to a new account.
+    // Moves an amount of the limits to a new account. Fails as `covers` does.
     pub(crate) fn part_with(&mut self, ram: Ram, caps: Caps) -> Result<Account, Refusal>
         ensures refusal { result_err result ≡ shortage self.old ram.0 caps.0 }
         ensures rest { OnOk result (self.new ≡ parted_with self.old ram.0 caps.0) }
@@ -94,7 +96,7 @@ impl Account {
         Ok(Account::opened(ram, caps))
     }
 
-    // Takes the limits of another account over.
+    // Adds the limits of another account to this account's limits.
     pub(crate) fn take_over(&mut self, other: Account)
         requires ram { self.old.ram_limit + other.ram_limit < 2 ^ 64 }
         requires caps { self.old.caps_limit + other.caps_limit < 2 ^ 32 }
@@ -104,6 +106,7 @@ impl Account {
         self.caps_limit += other.caps_limit;
     }
 
+    // Returns the limits of RAM, in bytes, and of capabilities.
     pub(crate) fn limits(&self) -> (Ram, Caps)
         ensures ram { result.0.0 ≡ self.now.ram_limit }
         ensures caps { result.1.0 ≡ self.now.caps_limit }
@@ -112,6 +115,7 @@ impl Account {
         (Ram(self.ram_limit), Caps(self.caps_limit))
     }
 
+    // Returns the use of RAM, in bytes, and of capabilities.
     pub(crate) fn used(&self) -> (Ram, Caps)
         ensures ram { result.0.0 ≡ self.now.ram_used }
         ensures caps { result.1.0 ≡ self.now.caps_used }

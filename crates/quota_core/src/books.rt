@@ -1,4 +1,4 @@
-//! The accounts, and what is done to them.
+//! The accounts, and the operations on them.
 ghost use Rattle.std.specs.Prelude.{◌≡◌, ◌≢◌, ◌+◌, ◌^◌, ◌<◌, ◌≤◌, Some, None, IsSome, IfOk, OnOk, OnErr};
 ghost use Rattle.std.specs.Result.{result_err};
 ghost use Rattle.std.specs.FinMap.{get};
@@ -14,26 +14,26 @@ use std::alloc::Global;
 use std::marker::Model;
 use trade_base::{AccountId, Caps, NoMemory, Ram, Refusal};
 
-// An account, and the key of the account under which it was opened; the root's parent is 0, and is never looked at.
+// An account, and the key of the account under which it was opened. The root's parent is 0 and is never read.
 #[derive(Drop)]
-struct Entry {
+struct AccountEntry {
     account: Account,
     parent: AccountId,
 }
 
-/// The accounts of a machine, each under its key. The root has what no other account was given; each other account was
-/// opened under its parent, and gives its limits back to it when it closes.
+/// The accounts of a machine, each under its key. The root has all limits that no other account has. Each other account
+/// was opened under its parent, and its limits return to the parent when it closes.
 ///
-/// All memory is taken at the boot, so that no later call fails for want of it.
+/// Boot reserves all memory, so that no later call fails for lack of host memory.
 #[derive(Drop)]
 pub struct Books {
-    entries: Slab<Entry>,
+    entries: Slab<AccountEntry>,
     root: usize,
 }
 
 impl Model for Books {
     ghost use Rattle.quota_core.specs.Books.{Books as Numbers, coded_books, AreSound};
-    ghost use Rattle.quota_core.specs.Kept.{books_of};
+    ghost use Rattle.quota_core.specs.SlabBooks.{books_of};
 
     ghost Value = { Numbers };
 
@@ -46,10 +46,10 @@ impl Model for Books {
 
 #[tactic(auto, using(crate::proofs::SlabMap::slab_maps))]
 impl Books {
-    /// Books of one account, the root, which has all RAM (in bytes) and all capabilities. There is a place for so many
-    /// accounts in all, or more.
+    /// Creates books with one account, the root, which has all RAM (in bytes) and all capabilities. They have space for
+    /// at least `accounts` accounts in all.
     ///
-    /// It fails where the host has no memory for them.
+    /// Fails with `NoMemory` if the host has too little memory.
     pub fn boot(alloc: Global, ram: Ram, caps: Caps, accounts: usize) -> Result<Books, NoMemory>
         requires some { 1 ≤ accounts }
         requires few { accounts ≤ 4096 }
@@ -57,14 +57,14 @@ impl Books {
         ensures places { IfOk result (λ b. accounts ≤ b.room + 1) }
     {
         let mut entries = Slab::with_capacity(alloc, accounts).map_err(|_| NoMemory)?;
-        let root = entries.insert_reserved(Entry {
+        let root = entries.insert_reserved(AccountEntry {
             account: Account::opened(ram, caps),
             parent: AccountId(0),
         });
         Ok(Books { entries, root })
     }
 
-    /// The root's key.
+    /// Returns the key of the root account, which is always open.
     pub fn root(&self) -> AccountId
         ensures key { result.0 ≡ self.now.root }
         ensures open { IsOpen self.now result.0 }
@@ -72,9 +72,10 @@ impl Books {
         AccountId(self.root)
     }
 
-    /// Opens an account with limits that the parent parts with: RAM in bytes, and capabilities. It tells the new account's key.
+    /// Opens an account whose limits move from the parent: RAM in bytes, and capabilities. Returns the new account's key.
     ///
-    /// It is refused with `OutOfRam` where less RAM of the parent's limit is free, and else with `OutOfCaps` where fewer capabilities are.
+    /// Refuses with `OutOfRam` if the parent has less unused RAM, then with `OutOfCaps` if it has fewer unused
+    /// capabilities.
     pub fn open(&mut self, parent: AccountId, ram: Ram, caps: Caps) -> Result<AccountId, Refusal>
         requires parent { IsOpen self.old parent.0 }
         requires room { 0 < self.old.room }
@@ -88,13 +89,16 @@ impl Books {
         ensures limits { KeepsLimits self.old self.new }
     {
         let account = self.part_with(parent, ram, caps)?;
-        let child = self.entries.insert_reserved(Entry { account, parent });
+        let child = self
+            .entries
+            .insert_reserved(AccountEntry { account, parent });
         Ok(AccountId(child))
     }
 
-    /// Moves so much of the parent's limits to its child: RAM in bytes, and capabilities.
+    /// Moves an amount of the parent's limits to its child: RAM in bytes, and capabilities.
     ///
-    /// It is refused with `OutOfRam` where less RAM of the parent's limit is free, and else with `OutOfCaps` where fewer capabilities are.
+    /// Refuses with `OutOfRam` if the parent has less unused RAM, then with `OutOfCaps` if it has fewer unused
+    /// capabilities.
     pub fn raise(
         &mut self,
         parent: AccountId,
@@ -110,16 +114,15 @@ impl Books {
         ensures limits { KeepsLimits self.old self.new }
         ensures related { AreRelated self.old child.0 parent.0 }
     {
-        // A parent and its children are open accounts, as the books' invariant says.
+        // The parent and its children are open accounts by the books' invariant.
         let _ = &self.entries;
         self.pass_on(parent, child, ram, caps)
     }
 
-    /// Moves so much of an account's limits to another one that was opened under the same parent: RAM in bytes, and
-    /// capabilities.
+    /// Moves an amount of an account's limits to another account of the same parent: RAM in bytes, and capabilities.
     ///
-    /// It is refused with `OutOfRam` where less RAM of the one's limit is free, and else with `OutOfCaps` where fewer
-    /// capabilities are.
+    /// Refuses with `OutOfRam` if the source has less unused RAM, then with `OutOfCaps` if it has fewer unused
+    /// capabilities.
     pub fn shift(
         &mut self,
         from: AccountId,
@@ -139,7 +142,7 @@ impl Books {
         self.pass_on(from, to, ram, caps)
     }
 
-    /// Closes an account that isn't the root and that has no child. Nothing of it may be in use. Its limits go back to its parent.
+    /// Closes an account that is not the root, has no child and has no use. Its limits return to its parent.
     pub fn close(&mut self, account: AccountId)
         requires child { IsSome (get self.old.parents account.0) }
         requires leaf { HasNoChild self.old account.0 }
@@ -153,7 +156,7 @@ impl Books {
         self.take_over(closed.parent, closed.account);
     }
 
-    // Moves so much of an account's limits to another.
+    // Moves an amount of an account's limits to another account.
     fn pass_on(
         &mut self,
         from: AccountId,
@@ -171,7 +174,7 @@ impl Books {
         Ok(())
     }
 
-    // Takes so much out of an account's limits.
+    // Takes an amount from an account's limits.
     fn part_with(&mut self, account: AccountId, ram: Ram, caps: Caps) -> Result<Account, Refusal>
         requires { IsOpen self.old account.0 }
         ensures taken { TakesOut account.0 ram.0 caps.0 result self.old self.new }
@@ -180,7 +183,7 @@ impl Books {
         self.entries[account.0].account.part_with(ram, caps)
     }
 
-    // Adds the limits of an account that the books don't have to those of another.
+    // Adds the limits of an account that is not in the books to those of another account.
     fn take_over(&mut self, account: AccountId, limits: Account)
         requires open { IsOpen self.old account.0 }
         requires ram { ram_limits self.old + limits.ram_limit < 2 ^ 64 }
@@ -194,9 +197,10 @@ impl Books {
         self.entries[account.0].account.take_over(limits);
     }
 
-    /// Takes so much into an account's use: RAM in bytes, and capabilities.
+    /// Adds an amount to an account's use: RAM in bytes, and capabilities.
     ///
-    /// It is refused with `OutOfRam` where less RAM of the limit is free, and else with `OutOfCaps` where fewer capabilities are.
+    /// Refuses with `OutOfRam` if the account has less unused RAM, then with `OutOfCaps` if it has fewer unused
+    /// capabilities.
     pub fn charge(&mut self, account: AccountId, ram: Ram, caps: Caps) -> Result<(), Refusal>
         requires { IsOpen self.old account.0 }
         ensures refusal { result_err result
@@ -210,7 +214,7 @@ impl Books {
         self.entries[account.0].account.charge(ram, caps)
     }
 
-    /// Takes so much, RAM in bytes and capabilities, out of an account's use again.
+    /// Subtracts an amount from an account's use: RAM in bytes, and capabilities.
     pub fn credit(&mut self, account: AccountId, ram: Ram, caps: Caps)
         requires open { IsOpen self.old account.0 }
         requires ram_used { ram.0 ≤ (account_at self.old account.0).ram_used }
@@ -222,7 +226,7 @@ impl Books {
         self.entries[account.0].account.credit(ram, caps);
     }
 
-    /// An account's limits, of RAM in bytes and of capabilities.
+    /// Returns an account's limits of RAM, in bytes, and of capabilities.
     pub fn limits(&self, account: AccountId) -> (Ram, Caps)
         requires { IsOpen self.now account.0 }
         ensures ram { result.0.0 ≡ (account_at self.now account.0).ram_limit }
@@ -232,7 +236,7 @@ impl Books {
         self.entries[account.0].account.limits()
     }
 
-    /// What an account uses, of RAM in bytes and of capabilities.
+    /// Returns an account's use of RAM, in bytes, and of capabilities.
     pub fn used(&self, account: AccountId) -> (Ram, Caps)
         requires { IsOpen self.now account.0 }
         ensures ram { result.0.0 ≡ (account_at self.now account.0).ram_used }

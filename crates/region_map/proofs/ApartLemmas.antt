@@ -5,8 +5,8 @@ use Rattle.own_model.specs.Region.{Region}
 use Rattle.own_model.specs.Sound.{LieApart}
 use Rattle.own_model.proofs.RegionApartLemmas.{LieApart-empty, LieApart-insert}
 use Rattle.own_model.proofs.HeapGapLemmas.{ends_before}
-use Rattle.region_map.specs.declared.row.Row.{Row}
-use Rattle.region_map.specs.Rows.{region_of, tag_of, end_of, map_of, AreInOrder, IsTable}
+use Rattle.region_map.specs.declared.row.RegionRow.{RegionRow}
+use Rattle.region_map.specs.RegionRows.{region_of, tag_of, end_of, map_of, AreInOrder, IsTable}
 use Rattle.region_map.specs.Window.{IsWindow}
 use Rattle.region_map.proofs.GapLemmas.{ends}
 use Rattle.region_map.proofs.SearchLemmas.{same_starts}
@@ -23,7 +23,7 @@ from_lower lower low high regions less lie = record {
 }
 
 -- the regions of rows in order lie apart
-lie : (low high : ℕ) (rows : List Row) → AreInOrder low high rows → LieApart low high (map_of region_of rows)
+lie : (low high : ℕ) (rows : List RegionRow) → AreInOrder low high rows → LieApart low high (map_of region_of rows)
 unfolding map_of
 lie low high [] is = LieApart-empty low high (map_of region_of []) (λ start. refl)
 lie low high (row ∷ rows) is =
@@ -39,5 +39,5 @@ lie low high (row ∷ rows) is =
     (from_lower low (end_of row) high (map_of region_of rows) (omega arith) rest)
 
 -- so a table's window is sound, whatever number of regions it can have
-pub is_window : (low high most : ℕ) (rows : List Row) → IsTable low high rows → IsWindow (record { low = low; high = high; regions = map_of region_of rows; tags = map_of tag_of rows; most = most })
+pub is_window : (low high most : ℕ) (rows : List RegionRow) → IsTable low high rows → IsWindow (record { low = low; high = high; regions = map_of region_of rows; tags = map_of tag_of rows; most = most })
 is_window low high most rows is = record { lie = lie low high rows is.in_order; tagged = λ start. same_starts tag_of region_of rows start; small = is.small }

@@ -13,8 +13,8 @@ use Rattle.own_model.specs.NatMap.{picked}
 use Rattle.own_model.specs.Region.{Region, overlap, without}
 use Rattle.own_model.proofs.NatMapLemmas.{same, natmaps, get-insert}
 use Rattle.own_model.proofs.EntryLemmas.{value_of, value_of-cons}
-use Rattle.region_map.specs.declared.row.Row.{Row}
-use Rattle.region_map.specs.Rows.{region_of, end_of, map_of, AreInOrder, count_to}
+use Rattle.region_map.specs.declared.row.RegionRow.{RegionRow}
+use Rattle.region_map.specs.RegionRows.{region_of, end_of, map_of, AreInOrder, count_to}
 
 -- a test that passes with another
 both : (a b : Bool) → T a → T b → T (a && b)
@@ -29,13 +29,13 @@ less a b h = grind (arith, nat_tests)
 T-less : (a b : ℕ) → a < b → T (is_lt (nat_cmp a b))
 T-less a b h = subst T (sym (less a b h)) tt
 
-module _ {X : Type 0} (f : Row → X) where
+module _ {X : Type 0} (f : RegionRow → X) where
   -- a row's start with what f tells of it
-  abbrev pub entry : Row → ℕ × X
+  abbrev pub entry : RegionRow → ℕ × X
   entry row = (row.start, f row)
 
   -- rows that begin past a number start above it
-  above : (k low high : ℕ) (rows : List Row) → k < low → AreInOrder low high rows → T (below_all nat_cmp k (map entry rows))
+  above : (k low high : ℕ) (rows : List RegionRow) → k < low → AreInOrder low high rows → T (below_all nat_cmp k (map entry rows))
   above k low high [] less is = tt
   above k low high (row ∷ rows) less is =
       let some = row.some in
@@ -43,49 +43,49 @@ module _ {X : Type 0} (f : Row → X) where
       both _ _ (T-less k row.start first) (above k (end_of row) high rows (omega arith) is.1)
 
   -- rows in order have rising starts
-  sorted : (low high : ℕ) (rows : List Row) → AreInOrder low high rows → T (is_sorted nat_cmp (map entry rows))
+  sorted : (low high : ℕ) (rows : List RegionRow) → AreInOrder low high rows → T (is_sorted nat_cmp (map entry rows))
   sorted low high [] is = tt
   sorted low high (row ∷ rows) is =
       let some = row.some in
       both _ _ (above row.start (end_of row) high rows (omega arith) is.1) (sorted (end_of row) high rows is.1)
 
   -- a start has what the first row that starts there has
-  pub get-map_of : (rows : List Row) (q : ℕ) → get (map_of f rows) q ≡ value_of q (map entry rows)
+  pub get-map_of : (rows : List RegionRow) (q : ℕ) → get (map_of f rows) q ≡ value_of q (map entry rows)
   unfolding map_of
   get-map_of rows q = get-from_entries nat_cmp_total (map entry rows) q
 
   -- so the entries are the rows
-  pub entries-map_of : (low high : ℕ) (rows : List Row) → AreInOrder low high rows → entries (map_of f rows) ≡ map entry rows
+  pub entries-map_of : (low high : ℕ) (rows : List RegionRow) → AreInOrder low high rows → entries (map_of f rows) ≡ map entry rows
   entries-map_of low high rows is =
       same_entries nat_cmp nat_cmp_total nat_cmp-IsAntisymmetric (entries (map_of f rows)) (map entry rows)
       (entries_sorted (map_of f rows)) (sorted low high rows is) (λ q. sym (get-entries (map_of f rows) q) ∙ get-map_of rows q)
 
   -- and there are as many
-  pub len-map_of : (low high : ℕ) (rows : List Row) → AreInOrder low high rows → len (map_of f rows) ≡ length rows
+  pub len-map_of : (low high : ℕ) (rows : List RegionRow) → AreInOrder low high rows → len (map_of f rows) ≡ length rows
   len-map_of low high rows is = len-entries (map_of f rows) ∙ ap length (entries-map_of low high rows is) ∙ length-map rows entry
 
   -- what a row adds in front
-  pub map_of-cons : (row : Row) (rows : List Row) → map_of f (row ∷ rows) ≡ insert (map_of f rows) row.start (f row)
+  pub map_of-cons : (row : RegionRow) (rows : List RegionRow) → map_of f (row ∷ rows) ≡ insert (map_of f rows) row.start (f row)
   unfolding map_of
   map_of-cons row rows = refl
 
   -- ---- a row more
 
   -- a row more, anywhere, at a start that none has
-  value_of-insert : (rows : List Row) (i : ℕ) (row : Row) (q : ℕ) → value_of row.start (map entry rows) ≡ None → value_of q (map entry (insert_at rows i row)) ≡ cond (eqb q row.start) (Some (f row)) (value_of q (map entry rows))
+  value_of-insert : (rows : List RegionRow) (i : ℕ) (row : RegionRow) (q : ℕ) → value_of row.start (map entry rows) ≡ None → value_of q (map entry (insert_at rows i row)) ≡ cond (eqb q row.start) (Some (f row)) (value_of q (map entry rows))
   value_of-insert rows zero row q free = value_of-cons q (entry row) (map entry rows)
   value_of-insert [] (suc i) row q free = value_of-cons q (entry row) []
   value_of-insert (r ∷ rows) (suc i) row q free =
       grind (arith, nat_tests, value_of-cons q (entry r) (map entry (insert_at rows i row)), value_of-cons q (entry r) (map entry rows), value_of-cons row.start (entry r) (map entry rows), value_of-insert rows i row q)
 
   -- is what it has inserted
-  pub map_of-insert : (rows : List Row) (i : ℕ) (row : Row) → get (map_of f rows) row.start ≡ None → map_of f (insert_at rows i row) ≡ insert (map_of f rows) row.start (f row)
+  pub map_of-insert : (rows : List RegionRow) (i : ℕ) (row : RegionRow) → get (map_of f rows) row.start ≡ None → map_of f (insert_at rows i row) ≡ insert (map_of f rows) row.start (f row)
   map_of-insert rows i row free = same _ _ (λ q.
       get-map_of (insert_at rows i row) q ∙ value_of-insert rows i row q (sym (get-map_of rows row.start) ∙ free)
       ∙ ap (cond (eqb q row.start) (Some (f row))) (sym (get-map_of rows q)) ∙ sym (get-insert (map_of f rows) row.start (f row) q))
 
   -- a row less, where its start is no other's: what it has is removed
-  pub map_of-remove : (rows : List Row) (i : ℕ) (row : Row) → insert_at (remove_at rows i) i row ≡ rows → get (map_of f (remove_at rows i)) row.start ≡ None → map_of f (remove_at rows i) ≡ remove (map_of f rows) row.start
+  pub map_of-remove : (rows : List RegionRow) (i : ℕ) (row : RegionRow) → insert_at (remove_at rows i) i row ≡ rows → get (map_of f (remove_at rows i)) row.start ≡ None → map_of f (remove_at rows i) ≡ remove (map_of f rows) row.start
   map_of-remove rows i row back free =
       let whole : map_of f rows ≡ insert (map_of f (remove_at rows i)) row.start (f row) = ap (map_of f) (sym back) ∙ map_of-insert (remove_at rows i) i row free in
       same _ _ (λ q. grind (arith, natmaps, ap (λ m. get m q) whole))
@@ -93,19 +93,19 @@ module _ {X : Type 0} (f : Row → X) where
 -- ---- the order that stays
 
 -- what starts later still follows
-AreInOrder-from : (lower low high : ℕ) (rows : List Row) → lower ≤ low → AreInOrder low high rows → AreInOrder lower high rows
+AreInOrder-from : (lower low high : ℕ) (rows : List RegionRow) → lower ≤ low → AreInOrder low high rows → AreInOrder lower high rows
 AreInOrder-from lower low high [] less is = omega arith
 AreInOrder-from lower low high (row ∷ rows) less is = (let from = is.0 in omega arith, is.1)
 
 -- the rows but one are in order
-pub AreInOrder-remove : (low high i : ℕ) (rows : List Row) → AreInOrder low high rows → AreInOrder low high (remove_at rows i)
+pub AreInOrder-remove : (low high i : ℕ) (rows : List RegionRow) → AreInOrder low high rows → AreInOrder low high (remove_at rows i)
 AreInOrder-remove low high zero [] is = is
 AreInOrder-remove low high (suc i) [] is = is
 AreInOrder-remove low high zero (row ∷ rows) is = AreInOrder-from low (end_of row) high rows (let from = is.0 in omega arith) is.1
 AreInOrder-remove low high (suc i) (row ∷ rows) is = (is.0, AreInOrder-remove (end_of row) high i rows is.1)
 
 -- so are those that pass a test
-pub AreInOrder-filter : (keep : Row → Bool) (low high : ℕ) (rows : List Row) → AreInOrder low high rows → AreInOrder low high (filter keep rows)
+pub AreInOrder-filter : (keep : RegionRow → Bool) (low high : ℕ) (rows : List RegionRow) → AreInOrder low high rows → AreInOrder low high (filter keep rows)
 AreInOrder-filter keep low high [] is = is
 AreInOrder-filter keep low high (row ∷ rows) is =
     let rest = AreInOrder-filter keep (end_of row) high rows is.1 in
@@ -123,7 +123,7 @@ before_start : (start others address pages : ℕ) → 1 ≤ others → address <
 before_start start others address pages some after h = grind (arith, nat_tests)
 
 -- a row that overlaps none of those in order stands among them where the binary search says
-pub AreInOrder-insert : (low high : ℕ) (rows : List Row) (row : Row) → AreInOrder low high rows → low ≤ row.start → end_of row ≤ high → list_any (λ e. overlap e.0 e.1.pages row.start row.pages) (map (entry region_of) rows) ≡ false → AreInOrder low high (insert_at rows (count_to row.start rows) row)
+pub AreInOrder-insert : (low high : ℕ) (rows : List RegionRow) (row : RegionRow) → AreInOrder low high rows → low ≤ row.start → end_of row ≤ high → list_any (λ e. overlap e.0 e.1.pages row.start row.pages) (map (entry region_of) rows) ≡ false → AreInOrder low high (insert_at rows (count_to row.start rows) row)
 unfolding count_to
 AreInOrder-insert low high [] row is from to clear = (from, to)
 AreInOrder-insert low high (r ∷ rows) row is from to clear =
@@ -144,7 +144,7 @@ abbrev but : ℕ → Region → Option Region
 but ds region = cond (region.of == ds) None (Some region)
 
 -- the rows of other dataspaces have the entries that are picked
-entries-others : (ds : ℕ) (rows : List Row) → map (entry region_of) (filter (λ row. not (row.ds.0 == ds)) rows) ≡ filter_map (λ e. option_map (λ y. (e.0, y)) (but ds e.1)) (map (entry region_of) rows)
+entries-others : (ds : ℕ) (rows : List RegionRow) → map (entry region_of) (filter (λ row. not (row.ds.0 == ds)) rows) ≡ filter_map (λ e. option_map (λ y. (e.0, y)) (but ds e.1)) (map (entry region_of) rows)
 entries-others ds [] = refl
 entries-others ds (row ∷ rows) =
     let rest = entries-others ds rows in
@@ -154,7 +154,7 @@ entries-others ds (row ∷ rows) =
     ]
 
 -- without the rows of a dataspace its regions are gone
-pub map_of-others : (ds low high : ℕ) (rows : List Row) → AreInOrder low high rows → map_of region_of (filter (λ row. not (row.ds.0 == ds)) rows) ≡ without ds (map_of region_of rows)
+pub map_of-others : (ds low high : ℕ) (rows : List RegionRow) → AreInOrder low high rows → map_of region_of (filter (λ row. not (row.ds.0 == ds)) rows) ≡ without ds (map_of region_of rows)
 unfolding map_of picked
 map_of-others ds low high rows is =
     ap (λ es. from_entries {R = nat_cmp} es) (entries-others ds rows)

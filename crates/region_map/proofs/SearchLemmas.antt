@@ -11,14 +11,14 @@ use Rattle.std.specs.List.Sorted.{IsNonDecreasingBy}
 use Rattle.std.specs.FinMap.{get}
 use Rattle.own_model.specs.Region.{Region, overlap, holds, meets, region_at}
 use Rattle.own_model.proofs.NatMapLemmas.{get-insert, get-insert_same, get-insert_other, get-empty}
-use Rattle.region_map.specs.declared.row.Row.{Row}
-use Rattle.region_map.specs.Rows.{region_of, end_of, map_of, AreInOrder, count_to, last_to}
+use Rattle.region_map.specs.declared.row.RegionRow.{RegionRow}
+use Rattle.region_map.specs.RegionRows.{region_of, end_of, map_of, AreInOrder, count_to, last_to}
 use Rattle.region_map.proofs.RowLemmas.{entry, map_of-cons, entries-map_of}
 
 -- ---- how many rows start at an address or before
 
 -- rows in order start past where they begin
-pub from_low : (low high j : ℕ) (rows : List Row) (d : Row) → AreInOrder low high rows → j < length rows → low ≤ (get_or rows j d).start
+pub from_low : (low high j : ℕ) (rows : List RegionRow) (d : RegionRow) → AreInOrder low high rows → j < length rows → low ≤ (get_or rows j d).start
 from_low low high j [] d is h = absurd (omega arith)
 from_low low high zero (row ∷ rows) d is h = is.0
 from_low low high (suc j) (row ∷ rows) d is h =
@@ -27,7 +27,7 @@ from_low low high (suc j) (row ∷ rows) d is h =
     omega arith
 
 -- their starts rise
-pub rising : (low high : ℕ) (rows : List Row) → AreInOrder low high rows → IsNonDecreasingBy (λ row. row.start) rows
+pub rising : (low high : ℕ) (rows : List RegionRow) → AreInOrder low high rows → IsNonDecreasingBy (λ row. row.start) rows
 rising low high [] is i j d le h = absurd (omega arith)
 rising low high (row ∷ rows) is zero zero d le h = omega arith
 rising low high (row ∷ rows) is zero (suc j) d le h = let rest = from_low (end_of row) high j rows d is.1 (omega arith) in omega arith
@@ -37,7 +37,7 @@ rising low high (row ∷ rows) is (suc i) (suc j) d le h = rising (end_of row) h
 -- ---- the last of them
 
 -- where there are none there is no last
-pub last_of_none : (address : ℕ) (rows : List Row) → count_to address rows ≡ 0 → last_to address rows ≡ None
+pub last_of_none : (address : ℕ) (rows : List RegionRow) → count_to address rows ≡ 0 → last_to address rows ≡ None
 unfolding count_to last_to
 last_of_none address [] is = refl
 last_of_none address (row ∷ rows) is =
@@ -47,7 +47,7 @@ last_of_none address (row ∷ rows) is =
     ] is
 
 -- else it stands before the count
-pub last_of_some : (address n : ℕ) (rows : List Row) (row : Row) → count_to address rows ≡ suc n → row ≡ get_or rows n row → last_to address rows ≡ Some row
+pub last_of_some : (address n : ℕ) (rows : List RegionRow) (row : RegionRow) → count_to address rows ≡ suc n → row ≡ get_or rows n row → last_to address rows ≡ Some row
 unfolding count_to last_to
 last_of_some address n [] row is at = absurd (omega arith)
 last_of_some address zero (r ∷ rows) row is at =
@@ -66,18 +66,18 @@ later_ends : (a b c : ℕ) → b ≤ c → (nat_lt a b || nat_lt a c) ≡ nat_lt
 later_ends a b c h = grind (arith, nat_tests)
 
 -- rows that begin past an address have none up to it
-pub last_before : (address low high : ℕ) (rows : List Row) → address < low → AreInOrder low high rows → last_to address rows ≡ None
+pub last_before : (address low high : ℕ) (rows : List RegionRow) → address < low → AreInOrder low high rows → last_to address rows ≡ None
 unfolding last_to
 last_before address low high [] less is = refl
 last_before address low high (row ∷ rows) less is =
     ap (λ b. cond b (option_or (last_to address rows) (Some row)) None) (lt-leb row.start address (let from = is.0 in omega arith))
 
 -- the last row among rows that one stands in front of
-record IsLastOf (address : ℕ) (first : Row) (rows : List Row) (row : Row) : Type 0 where
+record IsLastOf (address : ℕ) (first : RegionRow) (rows : List RegionRow) (row : RegionRow) : Type 0 where
   among : ((last_to address rows ≡ None) × (first ≡ row) × (first.start ≤ address)) ⊎ (last_to address rows ≡ Some row)
 
 -- it is the first one, if no later one is
-cases_last : (address : ℕ) (first : Row) (rows : List Row) (row : Row) → last_to address (first ∷ rows) ≡ Some row → IsLastOf address first rows row
+cases_last : (address : ℕ) (first : RegionRow) (rows : List RegionRow) (row : RegionRow) → last_to address (first ∷ rows) ≡ Some row → IsLastOf address first rows row
 unfolding last_to
 cases_last address first rows row is =
     elim (nat_le first.start address) as (λ b. nat_le first.start address ≡ b → cond b (option_or (last_to address rows) (Some first)) None ≡ Some row → IsLastOf address first rows row) [
@@ -91,12 +91,12 @@ cases_last address first rows row is =
     ] refl is
 
 -- it starts where the rows begin or later, and at the address or before
-pub last_within : (address low high : ℕ) (rows : List Row) (row : Row) → AreInOrder low high rows → last_to address rows ≡ Some row → (low ≤ row.start) × (row.start ≤ address)
+pub last_within : (address low high : ℕ) (rows : List RegionRow) (row : RegionRow) → AreInOrder low high rows → last_to address rows ≡ Some row → (low ≤ row.start) × (row.start ≤ address)
 unfolding last_to
 last_within address low high [] row is last = absurd (none-some row last)
 last_within address low high (r ∷ rows) row is last =
     elim (cases_last address r rows row last).among [
-      | inl at ↦ subst (λ (x : Row). (low ≤ x.start) × (x.start ≤ address)) at.1 (is.0, at.2)
+      | inl at ↦ subst (λ (x : RegionRow). (low ≤ x.start) × (x.start ≤ address)) at.1 (is.0, at.2)
       | inr later ↦
           let rest = last_within address (end_of r) high rows row is.1 later in
           let from = is.0 in
@@ -106,15 +106,15 @@ last_within address low high (r ∷ rows) row is last =
 
 -- ---- what the maps have there
 
-module _ {X : Type 0} (f : Row → X) where
+module _ {X : Type 0} (f : RegionRow → X) where
   -- what f tells of it stands under its start
-  pub get_last : (address low high : ℕ) (rows : List Row) (row : Row) → AreInOrder low high rows → last_to address rows ≡ Some row → get (map_of f rows) row.start ≡ Some (f row)
+  pub get_last : (address low high : ℕ) (rows : List RegionRow) (row : RegionRow) → AreInOrder low high rows → last_to address rows ≡ Some row → get (map_of f rows) row.start ≡ Some (f row)
   unfolding last_to
   get_last address low high [] row is last = absurd (none-some row last)
   get_last address low high (r ∷ rows) row is last =
       ap (λ m. get m row.start) (map_of-cons f r rows)
       ∙ elim (cases_last address r rows row last).among [
-        | inl at ↦ get-insert_same (map_of f rows) r.start (f r) row.start (ap (λ (x : Row). x.start) (sym at.1)) ∙ ap (λ x. Some (f x)) at.1
+        | inl at ↦ get-insert_same (map_of f rows) r.start (f r) row.start (ap (λ (x : RegionRow). x.start) (sym at.1)) ∙ ap (λ x. Some (f x)) at.1
         | inr later ↦
             let past = (last_within address (end_of r) high rows row is.1 later).0 in
             let some = r.some in
@@ -122,7 +122,7 @@ module _ {X : Type 0} (f : Row → X) where
       ]
 
   -- nothing starts at an address where the last row up to it doesn't
-  pub get_nothing : (address low high : ℕ) (rows : List Row) → AreInOrder low high rows → ((row : Row) → last_to address rows ≡ Some row → row.start ≢ address) → get (map_of f rows) address ≡ None
+  pub get_nothing : (address low high : ℕ) (rows : List RegionRow) → AreInOrder low high rows → ((row : RegionRow) → last_to address rows ≡ Some row → row.start ≢ address) → get (map_of f rows) address ≡ None
   unfolding last_to map_of
   get_nothing address low high [] is other = get-empty address
   get_nothing address low high (r ∷ rows) is other =
@@ -143,7 +143,7 @@ module _ {X : Type 0} (f : Row → X) where
       ] refl
 
 -- a map of the same rows has the same starts
-pub same_starts : {X Y : Type 0} (f : Row → X) (g : Row → Y) (rows : List Row) (q : ℕ) → is_some (get (map_of f rows) q) ≡ is_some (get (map_of g rows) q)
+pub same_starts : {X Y : Type 0} (f : RegionRow → X) (g : RegionRow → Y) (rows : List RegionRow) (q : ℕ) → is_some (get (map_of f rows) q) ≡ is_some (get (map_of g rows) q)
 unfolding map_of
 same_starts f g [] q = ap is_some (get-empty q) ∙ sym (ap is_some (get-empty q))
 same_starts f g (row ∷ rows) q =
@@ -154,11 +154,11 @@ same_starts f g (row ∷ rows) q =
 -- ---- what holds a range
 
 -- a row's entry, if its region holds the range
-abbrev pub held : ℕ → ℕ → Row → Option (ℕ × Region)
+abbrev pub held : ℕ → ℕ → RegionRow → Option (ℕ × Region)
 held address length row = cond (holds address length (entry region_of row)) (Some (entry region_of row)) None
 
 -- only the last row up to the address can hold the range
-found_last : (address length low high : ℕ) (rows : List Row) → 1 ≤ length → AreInOrder low high rows → find (holds address length) (map (entry region_of) rows) ≡ option_and_then (held address length) (last_to address rows)
+found_last : (address length low high : ℕ) (rows : List RegionRow) → 1 ≤ length → AreInOrder low high rows → find (holds address length) (map (entry region_of) rows) ≡ option_and_then (held address length) (last_to address rows)
 unfolding last_to
 found_last address length low high [] more is = refl
 found_last address length low high (r ∷ rows) more is =
@@ -183,14 +183,14 @@ found_last address length low high (r ∷ rows) more is =
     ] refl
 
 -- so that is what the map finds
-pub region_at_last : (address length low high : ℕ) (rows : List Row) → 1 ≤ length → AreInOrder low high rows → region_at (map_of region_of rows) address length ≡ option_and_then (held address length) (last_to address rows)
+pub region_at_last : (address length low high : ℕ) (rows : List RegionRow) → 1 ≤ length → AreInOrder low high rows → region_at (map_of region_of rows) address length ≡ option_and_then (held address length) (last_to address rows)
 region_at_last address length low high rows more is =
     ap (find (holds address length)) (entries-map_of region_of low high rows is) ∙ found_last address length low high rows more is
 
 -- ---- what pages overlap
 
 -- whether a row, if there is one, ends past an address
-abbrev pub ends_after : ℕ → Option Row → Bool
+abbrev pub ends_after : ℕ → Option RegionRow → Bool
 ends_after address None = false
 ends_after address (Some row) = nat_lt address (end_of row)
 
@@ -199,7 +199,7 @@ abbrev pub overlap_at : ℕ → ℕ → ℕ × Region → Bool
 overlap_at address pages e = overlap e.0 e.1.pages address pages
 
 -- pages overlap a row where they overlap the last one that starts before their end
-overlap_last : (address pages bound low high : ℕ) (rows : List Row) → bound + 1 ≡ address + pages * 4096 → AreInOrder low high rows → list_any (overlap_at address pages) (map (entry region_of) rows) ≡ ends_after address (last_to bound rows)
+overlap_last : (address pages bound low high : ℕ) (rows : List RegionRow) → bound + 1 ≡ address + pages * 4096 → AreInOrder low high rows → list_any (overlap_at address pages) (map (entry region_of) rows) ≡ ends_after address (last_to bound rows)
 unfolding last_to
 overlap_last address pages bound low high [] e is = refl
 overlap_last address pages bound low high (r ∷ rows) e is =
@@ -226,6 +226,6 @@ overlap_last address pages bound low high (r ∷ rows) e is =
     ]
 
 -- so the map meets pages there
-pub meets_last : (address pages bound low high : ℕ) (rows : List Row) → bound + 1 ≡ address + pages * 4096 → AreInOrder low high rows → meets (map_of region_of rows) address pages ≡ ends_after address (last_to bound rows)
+pub meets_last : (address pages bound low high : ℕ) (rows : List RegionRow) → bound + 1 ≡ address + pages * 4096 → AreInOrder low high rows → meets (map_of region_of rows) address pages ≡ ends_after address (last_to bound rows)
 meets_last address pages bound low high rows e is =
     ap (list_any (overlap_at address pages)) (entries-map_of region_of low high rows is) ∙ overlap_last address pages bound low high rows e is

@@ -3,35 +3,35 @@ use Rattle.std.proofs.Common.{arith}
 use Rattle.std.specs.Prelude.{◌≡◌, ◌⊎◌, ℕ, ◌+◌, ◌*◌, ◌<◌, ◌≤◌, ◌==◌, List, [], ◌∷◌, ◌++◌, map, length, slice_index_or, if◌then◌else◌, refl}
 use Rattle.std.specs.List.{sum_by}
 use Rattle.std.specs.Coded.{Coded, code_by, coded×, coded_ℕ, coded_list}
-use Rattle.region_map.specs.declared.place.Place.{Place}
-use Rattle.region_map.specs.declared.row.Row.{Row}
-use Rattle.region_map.specs.declared.rows.Kept.{Kept}
+use Rattle.region_map.specs.declared.region_span.RegionSpan.{RegionSpan}
+use Rattle.region_map.specs.declared.row.RegionRow.{RegionRow}
+use Rattle.region_map.specs.declared.rows.SlotData.{SlotData}
 
 -- the rows of a table, and how many there are at most
 pub record RowList : Type 0 where
-  pub items : List Row
+  pub items : List RegionRow
   pub capacity : ℕ
 
 -- rows are stored as the pair of these
-abbrev pub coded_rows : Coded Row → Coded RowList
-coded_rows row = code_by (List Row × ℕ) (coded× (coded_list row) coded_ℕ) (λ r. (r.items, r.capacity)) (λ p. record { items = p.0; capacity = p.1 }) (λ _. refl)
+abbrev pub coded_rows : Coded RegionRow → Coded RowList
+coded_rows row = code_by (List RegionRow × ℕ) (coded× (coded_list row) coded_ℕ) (λ r. (r.items, r.capacity)) (λ p. record { items = p.0; capacity = p.1 }) (λ _. refl)
 
 -- ---- one row
 
 -- where the region at a place starts
-abbrev pub start_in : Place → ℕ
+abbrev pub start_in : RegionSpan → ℕ
 start_in place = place.page * 4096
 
 -- what a slot keeps that no row has
-abbrev pub no_row : Kept
+abbrev pub no_row : SlotData
 no_row = record { ds = record { 0 = 0 }; tag = 0 }
 
 -- what a slot keeps
-abbrev pub kept_in : List Kept → ℕ → Kept
+abbrev pub kept_in : List SlotData → ℕ → SlotData
 kept_in kept slot = slice_index_or kept slot no_row
 
 -- the row of a place
-abbrev pub row_at : List Kept → Place → Row
+abbrev pub row_at : List SlotData → RegionSpan → RegionRow
 row_at kept place = record {
   start = start_in place;
   pages = place.pages;
@@ -43,7 +43,7 @@ row_at kept place = record {
 }
 
 -- the rows of places
-abbrev pub rows_of : List Kept → List Place → List Row
+abbrev pub rows_of : List SlotData → List RegionSpan → List RegionRow
 rows_of kept places = map (row_at kept) places
 
 -- ---- slots
@@ -52,22 +52,22 @@ rows_of kept places = map (row_at kept) places
 abbrev pub is_slot : ℕ → ℕ → ℕ
 is_slot slot other = if other == slot then 1 else 0
 
--- how often a slot stands in a list
+-- how often a slot is in a list
 abbrev pub times : ℕ → List ℕ → ℕ
 times slot slots = sum_by (is_slot slot) slots
 
--- how many places name a slot
-abbrev pub named : ℕ → List Place → ℕ
+-- how many places refer to a slot
+abbrev pub named : ℕ → List RegionSpan → ℕ
 named slot places = sum_by (λ place. is_slot slot place.slot) places
 
 -- a slot was free and is so no more, or is new
-abbrev pub IsSlot : List Kept → List ℕ → ℕ → List Kept → List ℕ → Type 0
+abbrev pub IsSlot : List SlotData → List ℕ → ℕ → List SlotData → List ℕ → Type 0
 IsSlot kept free slot kept' free' =
     ((free ≡ free' ++ slot ∷ []) × (kept' ≡ kept))
     ⊎ ((free ≡ []) × (free' ≡ []) × (slot ≡ length kept) × (kept' ≡ kept ++ no_row ∷ []))
 
 -- each slot is named by one place, or is free, and there is room for all
-pub record AreStored (places : List Place) (kept : List Kept) (free : List ℕ) (capacity kept_room free_room : ℕ) : Type 0 where
+pub record AreStored (places : List RegionSpan) (kept : List SlotData) (free : List ℕ) (capacity kept_room free_room : ℕ) : Type 0 where
   pub counted : length places + length free ≡ length kept
   pub within : length kept ≤ capacity
   pub few : capacity ≤ 4096

@@ -46,11 +46,11 @@ fresh_regions most heap_most pages =
 abbrev pub attached : Regions → ℕ → ℕ → ℕ → Regions
 attached regions ds pages address = record regions { user = insert regions.user address (record { of = ds; pages = pages }) }
 
--- the region that starts at an address gone
+-- the region that starts at an address removed
 abbrev pub detached : Regions → ℕ → Regions
 detached regions address = record regions { user = remove regions.user address }
 
--- all regions of a dataspace gone
+-- all regions of a dataspace removed
 abbrev pub all_detached : Regions → ℕ → Regions
 all_detached regions ds = record regions { user = without ds regions.user }
 
@@ -67,7 +67,7 @@ heap_attached regions ds pages tag address = record regions {
   tags = insert regions.tags address tag;
 }
 
--- the heap region that starts at an address gone
+-- the heap region that starts at an address removed
 abbrev pub heap_detached : Regions → ℕ → Regions
 heap_detached regions address = record regions { heap = remove regions.heap address; tags = remove regions.tags address }
 

@@ -40,7 +40,7 @@ window_with window ds pages tag address = record window {
   tags = insert window.tags address tag;
 }
 
--- the region that starts at an address gone
+-- the region that starts at an address removed
 abbrev pub window_without : Window → ℕ → Window
 window_without window address = record window { regions = remove window.regions address; tags = remove window.tags address }
 

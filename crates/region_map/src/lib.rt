@@ -1,9 +1,12 @@
-//! Region maps: where dataspaces are attached, in the user window and in the heap window.
+//! Region maps: the addresses at which dataspaces are attached, in the user window and in the heap window.
+//!
+//! Each script and each server has one map, and the heaps attach their blocks in it. For example, `map.attach(ds, 1)` on
+//! an empty map returns the first address of the user window.
 #![tactic(auto)]
 
 mod map;
-mod packed;
-mod place;
+mod packed_rows;
+mod region_span;
 mod row;
 mod rows;
 mod search;

@@ -1,4 +1,4 @@
-//! The region map: a table for each window.
+//! The region map: one table for each window.
 ghost use Rattle.std.specs.Prelude.{◌≡◌, ◌+◌, ◌<◌, ◌≤◌, None, Some, IfOk, IfSome, IsSome, OnOk, OnErr};
 ghost use Rattle.std.specs.Option.{option_map};
 ghost use Rattle.std.specs.Result.{result_err};
@@ -7,7 +7,7 @@ ghost use Rattle.own_model.specs.HeapWindow.{largest_machine, heap_gap, pages_of
 ghost use Rattle.own_model.specs.Region.{user_low, user_high, first_gap, resolved, IsFirstGap, attach_refusal, attach_at_refusal, detach_refusal};
 ghost use Rattle.region_map.specs.Regions.{fresh_regions, attached, detached, all_detached, of_no_heap, heap_attached, heap_detached, heap_found, either_resolved, AreSound};
 
-use super::table::Table;
+use super::table::RegionTable;
 use std::alloc::Global;
 use std::marker::Model;
 use trade_base::{DsId, NoMemory, PAGE, Refusal};
@@ -15,24 +15,24 @@ use trade_base::{DsId, NoMemory, PAGE, Refusal};
 /// The first address of the user window.
 const USER_LOW: u64 = 0x1000_0000;
 
-/// The address after the user window.
+/// The first address after the user window.
 const USER_HIGH: u64 = 0x2000_0000;
 
 /// The first address of the heap window. Every user region ends before it.
 pub const HEAP_LOW: u64 = 0x1_0000_0000;
 
-/// The number kept with a heap region that is no heap's: neither that of a chunk (below 64) nor of a large block (64) nor
-/// of a sliced block (2^64 - 1).
+/// The number stored with a heap region that belongs to no heap. It differs from those of chunks (0 to 63), large blocks
+/// (64) and sliced blocks (2^64 - 1).
 const OF_NO_HEAP: u64 = 65;
 
-/// The user regions of a component, and the heap regions beside them. Contracts see both by their start addresses,
-/// each of a dataspace's key, the number kept with each heap region, how many regions there are at most in each
-/// window, and the machine's pages.
+/// The user regions and the heap regions of a component. Contracts see the regions of each window by their start
+/// addresses, each with its dataspace's key. They also see the numbers stored with heap regions, the maximum numbers of
+/// regions, and the machine's pages.
 #[derive(Drop)]
 pub struct RegionMap {
-    user: Table,
-    heap: Table,
-    /// The machine's pages, which contracts alone read.
+    user: RegionTable,
+    heap: RegionTable,
+    /// The number of the machine's pages, which only contracts read.
     pages: usize,
 }
 
@@ -58,8 +58,8 @@ impl Model for RegionMap {
 }
 
 impl RegionMap {
-    /// A map of at most `user_regions` user regions and `heap_regions` heap regions, for dataspaces of at most `pages`
-    /// pages, or `NoMemory` where the host has no room for them. No later call takes memory.
+    /// Creates a map of at most `user_regions` user regions and `heap_regions` heap regions, for dataspaces of at most
+    /// `pages` pages. Fails with `NoMemory` if the host has too little memory. No later call allocates memory.
     pub fn boot(
         alloc: Global,
         user_regions: usize,
@@ -72,13 +72,15 @@ impl RegionMap {
         ensures { IfOk result (λ map. map ≡ fresh_regions user_regions heap_regions pages) }
     {
         let heap_high = HEAP_LOW + pages as u64 * (pages as u64 + 2) * PAGE;
-        let user = Table::boot(alloc, USER_LOW, USER_HIGH, user_regions)?;
-        let heap = Table::boot(alloc, HEAP_LOW, heap_high, heap_regions)?;
+        let user = RegionTable::boot(alloc, USER_LOW, USER_HIGH, user_regions)?;
+        let heap = RegionTable::boot(alloc, HEAP_LOW, heap_high, heap_regions)?;
         Ok(RegionMap { user, heap, pages })
     }
 
-    /// Attaches `pages` pages of a dataspace at the first gap of the user window, and tells where. `TooManyRegions`
-    /// where there are as many regions as there can be, `RegionConflict` where no gap fits.
+    /// Attaches `pages` pages of a dataspace at the first gap of the user window, and returns the start address.
+    ///
+    /// Refuses with `TooManyRegions` if the map has its maximum number of user regions, then with `RegionConflict` if no
+    /// gap has enough pages.
     #[tactic(auto, using(own_model::proofs::RegionLemmas::first_gap_least, own_model::proofs::HeapGapLemmas::first_gap_stands))]
     pub fn attach(&mut self, ds: DsId, pages: u64) -> Result<u64, Refusal>
         requires some { 1 ≤ pages }
@@ -91,7 +93,7 @@ impl RegionMap {
         ensures free { IfOk result (λ address. get self.old.user address ≡ None) }
         ensures err { OnErr result (self.new ≡ self.old) }
 
-        // What the first gap is.
+        // This clause defines the first gap.
         ensures least { IsFirstGap user_low user_high self.old.user pages
             (first_gap user_low user_high self.old.user pages) }
     {
@@ -103,9 +105,11 @@ impl RegionMap {
         Ok(start)
     }
 
-    /// Attaches `pages` pages of a dataspace at an address, and tells it. `TooManyRegions` where there are as many
-    /// regions as there can be, `RegionConflict` where the pages can't stand there: the address isn't a multiple of a
-    /// page, they aren't within the user window, or they overlap a region.
+    /// Attaches `pages` pages of a dataspace at an address in the user window, and returns the address.
+    ///
+    /// Refuses with `TooManyRegions` if the map has its maximum number of user regions. Then refuses with
+    /// `RegionConflict` if the address is not a multiple of a page, or the pages leave the user window or overlap a
+    /// region.
     pub fn attach_at(&mut self, ds: DsId, pages: u64, address: u64) -> Result<u64, Refusal>
         requires some { 1 ≤ pages }
         requires few { pages ≤ self.old.pages }
@@ -119,14 +123,14 @@ impl RegionMap {
         if self.user.is_full() {
             return Err(Refusal::TooManyRegions);
         }
-        if !self.user.can_stand(pages, address) {
+        if !self.user.can_attach(pages, address) {
             return Err(Refusal::RegionConflict);
         }
         self.user.add(ds, pages, 0, address);
         Ok(address)
     }
 
-    /// Detaches the user region that starts at an address, or `PageFault` where none does.
+    /// Detaches the user region that starts at an address. Refuses with `PageFault` if no user region starts there.
     pub fn detach(&mut self, address: u64) -> Result<(), Refusal>
         ensures refusal { result_err result ≡ detach_refusal self.old.user address }
         ensures ok { OnOk result (self.new ≡ detached self.old address) }
@@ -139,15 +143,15 @@ impl RegionMap {
         }
     }
 
-    /// Detaches all user regions of a dataspace.
+    /// Detaches all regions of a dataspace in the user window.
     pub fn detach_all(&mut self, ds: DsId)
         ensures { self.new ≡ all_detached self.old ds.0 }
     {
         self.user.remove_all(ds);
     }
 
-    /// Attaches `pages` pages of a dataspace at the first gap of the heap window, keeps a number with the region, and
-    /// tells where. It never refuses: regions that a machine can hold always leave a gap.
+    /// Attaches `pages` pages of a dataspace at the first gap of the heap window, stores a number with the region, and
+    /// returns the start address. It never fails: regions that a machine can hold always leave a gap.
     pub fn attach_block(&mut self, ds: DsId, pages: u64, tag: u64) -> u64
         requires some { 1 ≤ pages }
         requires room { len self.old.heap < self.old.heap_most }
@@ -156,7 +160,7 @@ impl RegionMap {
         ensures attached { self.new ≡ heap_attached self.old ds.0 pages tag result }
         ensures free { get self.old.heap result ≡ None }
 
-        // The gap is where it would be on the largest machine.
+        // The gap has the same address on the largest machine.
         ensures lowest { heap_gap largest_machine self.old.heap pages ≡ Some result }
     {
         let start = self.heap.first_gap(pages).unwrap();
@@ -164,7 +168,8 @@ impl RegionMap {
         start
     }
 
-    /// The same of a region that is no heap's: the number kept with it is 65, which no heap takes for one of its own.
+    /// Attaches `pages` pages of a dataspace at the first gap of the heap window, and returns the start address. The
+    /// region belongs to no heap. The number stored with the region is 65, which no heap uses.
     pub fn attach_heap(&mut self, ds: DsId, pages: u64) -> u64
         requires some { 1 ≤ pages }
         requires room { len self.old.heap < self.old.heap_most }
@@ -185,14 +190,15 @@ impl RegionMap {
         self.heap.remove(address);
     }
 
-    /// A law for callers: the regions of every map lie apart. It does nothing at run time.
+    /// States for callers that the regions of every map do not overlap. It does nothing at run time.
     pub fn lies_apart(&self)
         ensures sound { AreSound self.now }
     {
         let _heap = &self.heap;
     }
 
-    /// The heap region that holds an address: its start, its dataspace, and the number kept with it.
+    /// Returns the start address, the dataspace and the stored number of the heap region that contains an address, or
+    /// `None` if no heap region does.
     pub fn heap_region(&self, address: u64) -> Option<(u64, DsId, u64)>
         ensures found { option_map (λ region. (region.0, region.1.0, region.2)) result
             ≡ heap_found self.now address }
@@ -202,8 +208,8 @@ impl RegionMap {
         Some((row.start, row.ds, row.tag))
     }
 
-    /// Returns the dataspace of the one region of either window that holds the whole range, and the offset in it at which the
-    /// range starts, in bytes; or `None` where no region holds the range.
+    /// Returns the dataspace of the region of either window that contains the whole range, and the range's offset in it,
+    /// in bytes. Returns `None` if no region contains the range.
     pub fn resolve(&self, address: u64, length: u64) -> Option<(DsId, u64)>
         requires { 1 ≤ length }
         ensures found { option_map (λ found. (found.0.0, found.1)) result
@@ -217,8 +223,8 @@ impl RegionMap {
     }
 }
 
-/// Returns the same of the one region of a table.
-fn resolve_in(table: &Table, address: u64, length: u64) -> Option<(DsId, u64)>
+/// Returns the dataspace and the offset, as `resolve` does, for the regions of one table.
+fn resolve_in(table: &RegionTable, address: u64, length: u64) -> Option<(DsId, u64)>
     requires { 1 ≤ length }
     ensures { option_map (λ found. (found.0.0, found.1)) result
         ≡ resolved table.now.regions address length }

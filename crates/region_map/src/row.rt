@@ -3,9 +3,9 @@ ghost use Rattle.std.specs.Prelude.{◌≡◌, ◌+◌, ◌*◌, ◌%◌, ◌^�
 
 use trade_base::{DsId, PAGE};
 
-/// A region: the address where it starts, its pages, the dataspace, and a number kept with it.
+/// A region: its start address, its number of pages, its dataspace, and a number stored with it.
 #[derive(Clone, Copy)]
-pub struct Row {
+pub struct RegionRow {
     pub start: u64,
     pub pages: u64,
     pub ds: DsId,
@@ -15,18 +15,18 @@ pub struct Row {
     pub ghost fits: { start + pages * 4096 < 2 ^ 63 },
 }
 
-impl Row {
+impl RegionRow {
     ghost use Rattle.own_model.specs.Region.{holds};
-    ghost use Rattle.region_map.specs.Rows.{region_of};
+    ghost use Rattle.region_map.specs.RegionRows.{region_of};
 
-    /// The address after the region.
+    /// Returns the first address after the end of the region.
     pub fn end(&self) -> u64
         ensures { result ≡ self.now.start + self.now.pages * 4096 }
     {
         self.start + self.pages * PAGE
     }
 
-    /// Whether the region holds the whole range.
+    /// Returns whether the region contains the whole range.
     pub fn holds(&self, address: u64, length: u64) -> bool
         ensures { result ≡ holds address length (self.now.start, region_of self.now) }
     {

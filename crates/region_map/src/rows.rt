@@ -1,42 +1,43 @@
-//! The rows of a table, in the order of their starts. What moves when a row comes or goes is its place, which is small. The
-//! rest of the row stays where it is, in a slot.
+//! The rows of a table, in the order of their start addresses. An insertion or removal moves only the small place of each
+//! later row. The rest of a row stays in its slot.
 ghost use Rattle.std.specs.Prelude.{◌≡◌, ℕ, ◌^◌, ◌<◌, ◌≤◌, ◌==◌, [], drop, length, not, nat_le, slice_index_or, vec_capacity, IfOk};
 ghost use Rattle.std.specs.List.{insert, remove, filter};
 ghost use Rattle.std.specs.List.Sorted.{IsNonDecreasingBy};
-ghost use Rattle.region_map.specs.declared.row.Row.{Row as AnyRow};
-ghost use Rattle.region_map.specs.Rows.{AreInOrder, count_to as counted_to, last_to as last_of, gap_from as first_from};
-ghost use Rattle.region_map.specs.Known.{AreKnown};
+ghost use Rattle.region_map.specs.declared.row.RegionRow.{RegionRow as AnyRow};
+ghost use Rattle.region_map.specs.RegionRows.{AreInOrder, count_to as counted_to, last_to as last_of, gap_from as first_from};
+ghost use Rattle.region_map.specs.PackedRows.{AreKnown};
 ghost use Rattle.region_map.specs.Places.{IsSlot};
 
-use super::packed::Packed;
-use super::place::Place;
-use super::row::Row;
+use super::packed_rows::PackedRows;
+use super::region_span::RegionSpan;
+use super::row::RegionRow;
 use super::search::{behind, count_to, gap_from};
 use std::alloc::Global;
 use std::marker::Model;
 use trade_base::{DsId, NoMemory};
 
-/// What of a row doesn't move.
+/// The part of a row that an insertion or removal does not move.
 #[derive(Clone, Copy)]
-struct Kept {
+struct SlotData {
     ds: DsId,
     tag: u64,
 }
 
-/// The rows of a table, which contracts see as a list, with room for so many.
+/// The rows of a table with a fixed capacity. Contracts see them as a list.
 #[derive(Drop)]
-pub struct Rows {
-    /// Where the regions lie, in the order of their starts, each with its slot.
-    places: Vec<Place>,
-    /// What doesn't move, by slots. A slot is made when a row comes and no slot is free, so a boot touches none.
-    kept: Vec<Kept>,
-    /// The slots that no place names.
+pub struct RegionRows {
+    /// The address range of each region, in the order of the start addresses, with the row's slot.
+    places: Vec<RegionSpan>,
+    /// The parts of rows that do not move, by slot. A slot is created when a row is inserted and no slot is free, so boot
+    /// touches none.
+    kept: Vec<SlotData>,
+    /// The slots to which no place refers.
     free: Vec<u16>,
 }
 
-impl Model for Rows {
+impl Model for RegionRows {
     ghost use Rattle.std.specs.Prelude.{vec_capacity};
-    ghost use Rattle.region_map.specs.contracts.row.Row as row;
+    ghost use Rattle.region_map.specs.contracts.row.RegionRow as row;
     ghost use Rattle.region_map.specs.Places.{RowList, coded_rows, rows_of, AreStored};
 
     ghost Value = { RowList };
@@ -53,9 +54,10 @@ impl Model for Rows {
         (vec_capacity r.places) (vec_capacity r.kept) (vec_capacity r.free) };
 }
 
-impl Rows {
-    /// No row, and room for so many, or `NoMemory` where the host has none. No later call takes memory.
-    pub fn boot(alloc: Global, most: usize) -> Result<Rows, NoMemory>
+impl RegionRows {
+    /// Creates an empty list with capacity for `most` rows, or fails with `NoMemory` if the host has too little memory.
+    /// No later call allocates memory.
+    pub fn boot(alloc: Global, most: usize) -> Result<RegionRows, NoMemory>
         requires { most ≤ 4096 }
         ensures none { IfOk result (λ rows. rows.items ≡ []) }
         ensures room { IfOk result (λ rows. rows.capacity ≡ most) }
@@ -63,24 +65,24 @@ impl Rows {
         let places = Vec::with_capacity(alloc, most).map_err(|_| NoMemory)?;
         let kept = Vec::with_capacity(alloc, most).map_err(|_| NoMemory)?;
         let free = Vec::with_capacity(alloc, most).map_err(|_| NoMemory)?;
-        Ok(Rows { places, kept, free })
+        Ok(RegionRows { places, kept, free })
     }
 
-    /// Whether there are as many as there is room for.
+    /// Returns whether the number of rows equals the capacity.
     pub fn is_full(&self) -> bool
         ensures { result ≡ nat_le self.now.capacity (length self.now.items) }
     {
         self.places.len() >= self.places.capacity()
     }
 
-    /// The row at an index.
-    pub fn row(&self, at: usize) -> Row
+    /// Returns the row at an index of the list.
+    pub fn row(&self, at: usize) -> RegionRow
         requires { at < length self.now.items }
         ensures { result ≡ slice_index_or self.now.items at result }
     {
         let place = self.places[at];
         let kept = self.kept[place.slot as usize];
-        Row {
+        RegionRow {
             start: place.start(),
             pages: place.pages as u64,
             ds: kept.ds,
@@ -88,8 +90,8 @@ impl Rows {
         }
     }
 
-    /// Puts a row in at an index.
-    pub fn insert(&mut self, at: usize, row: Row)
+    /// Inserts a row at an index of the list.
+    pub fn insert(&mut self, at: usize, row: RegionRow)
         requires there { at ≤ length self.old.items }
         requires room { length self.old.items < self.old.capacity }
         requires few { row.pages < 2 ^ 16 }
@@ -98,16 +100,16 @@ impl Rows {
         ensures capacity { self.new.capacity ≡ self.old.capacity }
     {
         let slot = free_slot(&mut self.kept, &mut self.free);
-        self.kept[slot as usize] = Kept {
+        self.kept[slot as usize] = SlotData {
             ds: row.ds,
             tag: row.tag,
         };
 
-        // There is room, so it is never refused.
-        let _ = self.places.insert(at, Place::of(row, slot));
+        // The capacity suffices, so `insert` never fails.
+        let _ = self.places.insert(at, RegionSpan::of(row, slot));
     }
 
-    /// Takes the row at an index out.
+    /// Removes the row at an index of the list.
     pub fn remove(&mut self, at: usize)
         requires { at < length self.old.items }
         ensures items { self.new.items ≡ remove self.old.items at }
@@ -117,7 +119,7 @@ impl Rows {
         self.free.push_reserved(place.slot);
     }
 
-    /// Takes all rows of a dataspace out, the last one first.
+    /// Removes all rows of a dataspace, the last one first.
     pub fn remove_of(&mut self, ds: DsId)
         ensures items { self.new.items
             ≡ filter (λ (row : AnyRow). not (row.ds.0 == ds.0)) self.old.items }
@@ -132,7 +134,7 @@ impl Rows {
         }
     }
 
-    /// How many start at an address or before.
+    /// Returns the number of rows that start at an address or before it.
     pub fn count_to(&self, address: u64) -> usize
         requires { IsNonDecreasingBy (λ (row : AnyRow). row.start) self.now.items }
         ensures count { result ≡ counted_to address self.now.items }
@@ -141,8 +143,8 @@ impl Rows {
         count_to(&self.places, address)
     }
 
-    /// The last that starts at an address or before.
-    pub fn last_to(&self, address: u64) -> Option<Row>
+    /// Returns the last row that starts at an address or before it, or `None` if there is none.
+    pub fn last_to(&self, address: u64) -> Option<RegionRow>
         requires { IsNonDecreasingBy (λ (row : AnyRow). row.start) self.now.items }
         ensures { result ≡ last_of address self.now.items }
     {
@@ -153,15 +155,16 @@ impl Rows {
         Some(self.row(count - 1))
     }
 
-    /// What is known of them, with those behind the first stretch that stand without a gap too.
-    pub fn raised(&self, packed: Packed) -> Packed
+    /// Returns `packed` extended by the rows after its first run that continue the run without a gap.
+    pub fn raised(&self, packed: PackedRows) -> PackedRows
         ensures { (low : ℕ) → AreKnown low packed self.now.items
             → AreKnown low result self.now.items }
     {
         packed.raised(&self.places)
     }
 
-    /// The lowest address, from one on and before another, at which so many pages lie between the rows from an index on.
+    /// Returns the lowest address from `low` on and before `high` at which `pages` pages fit between the rows from index
+    /// `from` on. Returns `None` if no gap has enough pages.
     pub fn gap_behind(&self, from: usize, low: u64, high: u64, pages: u64) -> Option<u64>
         requires there { from ≤ length self.now.items }
         requires few { pages ≤ 4096 }
@@ -172,8 +175,8 @@ impl Rows {
     }
 }
 
-/// Takes a free slot, or makes one where none is free.
-fn free_slot(kept: &mut Vec<Kept>, free: &mut Vec<u16>) -> u16
+/// Returns a free slot, or creates one if none is free.
+fn free_slot(kept: &mut Vec<SlotData>, free: &mut Vec<u16>) -> u16
     requires room { length free.old.items ≡ 0
         → length kept.old.items < vec_capacity kept.old }
     requires few { length kept.old.items ≤ 4096 }
@@ -185,7 +188,7 @@ fn free_slot(kept: &mut Vec<Kept>, free: &mut Vec<u16>) -> u16
         return slot;
     }
     let slot = kept.len() as u16;
-    kept.push_reserved(Kept {
+    kept.push_reserved(SlotData {
         ds: DsId(0),
         tag: 0,
     });

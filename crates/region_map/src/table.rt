@@ -1,33 +1,33 @@
-//! The table behind each window: its regions in the order of their starts, so that one is found by a binary search.
+//! The table of one window: its regions in the order of their start addresses, which a binary search finds.
 ghost use Rattle.std.specs.Prelude.{◌≡◌, ◌+◌, ◌*◌, ◌%◌, ◌^◌, ◌≤◌, ◌==◌, ◌&&◌, true, false, None, Some, IfOk, IfSome, is_some, nat_le};
 ghost use Rattle.std.specs.Bool.{OnTrue, OnFalse};
 ghost use Rattle.std.specs.Option.{option_map};
 ghost use Rattle.std.specs.FinMap.{get, len};
-ghost use Rattle.own_model.specs.Region.{meets, can_stand, first_gap as gap_in, region_at, without};
+ghost use Rattle.own_model.specs.Region.{meets, can_attach, first_gap as gap_in, region_at, without};
 ghost use Rattle.region_map.specs.Window.{fresh_window, window_with, window_without};
 
-use super::packed::Packed;
-use super::row::Row;
-use super::rows::Rows;
+use super::packed_rows::PackedRows;
+use super::row::RegionRow;
+use super::rows::RegionRows;
 use std::alloc::Global;
 use std::marker::Model;
 use trade_base::{DsId, NoMemory, PAGE};
 
 /// The regions in a window of addresses. Contracts see them by their start addresses.
 #[derive(Drop)]
-pub struct Table {
-    /// One row a region, in the order of their starts. There is room for as many as there are at most.
-    rows: Rows,
-    packed: Packed,
+pub struct RegionTable {
+    /// One row for each region, in the order of the start addresses. The capacity is the maximum number of regions.
+    rows: RegionRows,
+    packed: PackedRows,
     /// The first address of the window.
     low: u64,
-    /// The address after the window.
+    /// The first address after the window.
     high: u64,
 }
 
-impl Model for Table {
-    ghost use Rattle.region_map.specs.Rows.{map_of, region_of, tag_of};
-    ghost use Rattle.region_map.specs.Known.{IsKept};
+impl Model for RegionTable {
+    ghost use Rattle.region_map.specs.RegionRows.{map_of, region_of, tag_of};
+    ghost use Rattle.region_map.specs.PackedRows.{IsKept};
     ghost use Rattle.region_map.specs.Window.{Window, coded_window};
 
     ghost Value = { Window };
@@ -46,13 +46,13 @@ impl Model for Table {
     ghost invariant = { λ t. IsKept t.low t.high t.rows.items t.rows.capacity t.packed };
 }
 
-impl Table {
-    ghost use Rattle.region_map.specs.Rows.{region_of};
+impl RegionTable {
+    ghost use Rattle.region_map.specs.RegionRows.{region_of};
     ghost use Rattle.region_map.specs.Window.{IsWindow};
 
-    /// A table of at most `most` regions within a window, or `NoMemory` where the host has no room for them. No later
-    /// call takes memory.
-    pub fn boot(alloc: Global, low: u64, high: u64, most: usize) -> Result<Table, NoMemory>
+    /// Creates an empty table for at most `most` regions within a window, or fails with `NoMemory` if the host has too
+    /// little memory. No later call allocates memory.
+    pub fn boot(alloc: Global, low: u64, high: u64, most: usize) -> Result<RegionTable, NoMemory>
         requires few { most ≤ 4096 }
         requires aligned { low % 4096 ≡ 0 }
         requires within { low ≤ high }
@@ -60,9 +60,9 @@ impl Table {
         ensures fresh { IfOk result (λ table. table ≡ fresh_window low high most) }
         ensures sound { IfOk result IsWindow }
     {
-        let packed = Packed::front(0, low);
-        let rows = Rows::boot(alloc, most)?;
-        Ok(Table {
+        let packed = PackedRows::front(0, low);
+        let rows = RegionRows::boot(alloc, most)?;
+        Ok(RegionTable {
             rows,
             packed,
             low,
@@ -70,14 +70,14 @@ impl Table {
         })
     }
 
-    /// Whether there are as many regions as there can be.
+    /// Returns whether the table has its maximum number of regions.
     pub fn is_full(&self) -> bool
         ensures { result ≡ nat_le self.now.most (len self.now.regions) }
     {
         self.rows.is_full()
     }
 
-    /// The first gap for so many pages.
+    /// Returns the address of the first gap for `pages` pages, or `None` if no gap has enough pages.
     pub fn first_gap(&mut self, pages: u64) -> Option<u64>
         requires some { 1 ≤ pages }
         requires few { pages ≤ 4096 }
@@ -90,16 +90,16 @@ impl Table {
             .gap_behind(packed.count, packed.end, self.high, pages)
     }
 
-    /// Whether so many pages can stand at an address.
-    pub fn can_stand(&self, pages: u64, address: u64) -> bool
+    /// Returns whether a region of `pages` pages can be at an address: aligned, within the window and without an overlap.
+    pub fn can_attach(&self, pages: u64, address: u64) -> bool
         requires some { 1 ≤ pages }
         requires few { pages ≤ 4096 }
-        ensures { result ≡ can_stand self.now.low self.now.high self.now.regions pages address }
+        ensures { result ≡ can_attach self.now.low self.now.high self.now.regions pages address }
     {
         self.is_within(pages, address) && !self.meets(pages, address)
     }
 
-    /// Whether an address is a multiple of a page, and so many pages from it on lie within the window.
+    /// Returns whether an address is a multiple of a page, and `pages` pages from there lie within the window.
     fn is_within(&self, pages: u64, address: u64) -> bool
         requires { pages ≤ 4096 }
         ensures within { result
@@ -113,7 +113,8 @@ impl Table {
             && pages * PAGE <= self.high - address
     }
 
-    /// Whether the pages at an address overlap a region: the last one that starts before their end, if one does.
+    /// Returns whether the pages at an address overlap a region. It tests only the last region that starts before their
+    /// end.
     fn meets(&self, pages: u64, address: u64) -> bool
         requires some { 1 ≤ pages }
         requires few { pages ≤ 4096 }
@@ -126,19 +127,19 @@ impl Table {
         }
     }
 
-    /// Adds the region that starts at an address where the pages can stand.
+    /// Adds a region that starts at an address at which its pages can be.
     pub fn add(&mut self, ds: DsId, pages: u64, tag: u64, address: u64)
         requires sound { IsWindow self.old }
         requires some { 1 ≤ pages }
         requires few { pages ≤ 4096 }
         requires room { nat_le self.old.most (len self.old.regions) ≡ false }
-        requires place { can_stand self.old.low self.old.high self.old.regions pages address
+        requires place { can_attach self.old.low self.old.high self.old.regions pages address
             ≡ true }
         ensures added { self.new ≡ window_with self.old ds.0 pages tag address }
         ensures free { get self.old.regions address ≡ None }
         ensures sound { IsWindow self.new }
     {
-        self.put(Row {
+        self.put(RegionRow {
             start: address,
             pages,
             ds,
@@ -146,11 +147,11 @@ impl Table {
         });
     }
 
-    /// Puts a row in its place.
-    fn put(&mut self, row: Row)
+    /// Inserts a row at its place in the order.
+    fn put(&mut self, row: RegionRow)
         requires few { row.pages ≤ 4096 }
         requires room { nat_le self.old.most (len self.old.regions) ≡ false }
-        requires place { can_stand self.old.low self.old.high self.old.regions row.pages row.start
+        requires place { can_attach self.old.low self.old.high self.old.regions row.pages row.start
             ≡ true }
         ensures added { self.new ≡ window_with self.old row.ds.0 row.pages row.tag row.start }
         ensures free { get self.old.regions row.start ≡ None }
@@ -161,7 +162,7 @@ impl Table {
         self.rows.insert(at, row);
     }
 
-    /// Removes the region that starts at an address, and tells whether one does.
+    /// Removes the region that starts at an address, and returns whether there was one.
     pub fn remove(&mut self, address: u64) -> bool
         ensures found { result ≡ is_some (get self.old.regions address) }
         ensures removed { OnTrue result (self.new ≡ window_without self.old address) }
@@ -181,7 +182,7 @@ impl Table {
         true
     }
 
-    /// Removes all regions of a dataspace.
+    /// Removes all regions of a dataspace from the table.
     pub fn remove_all(&mut self, ds: DsId)
         ensures regions { self.new.regions ≡ without ds.0 self.old.regions }
         ensures most { self.new.most ≡ self.old.most }
@@ -189,12 +190,12 @@ impl Table {
         ensures high { self.new.high ≡ self.old.high }
         ensures sound { IsWindow self.new }
     {
-        self.packed = Packed::front(0, self.low);
+        self.packed = PackedRows::front(0, self.low);
         self.rows.remove_of(ds);
     }
 
-    /// The one row whose region holds the whole range.
-    pub fn holding(&self, address: u64, length: u64) -> Option<Row>
+    /// Returns the row of the region that contains the whole range, or `None` if no region does.
+    pub fn holding(&self, address: u64, length: u64) -> Option<RegionRow>
         requires { 1 ≤ length }
         ensures found { option_map (λ row. (row.start, region_of row)) result
             ≡ region_at self.now.regions address length }

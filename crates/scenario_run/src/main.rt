@@ -1,11 +1,11 @@
-//! The program: a scenario's lines come in on standard input, and each is answered in turn on standard output.
+//! The program `scenario_run`: reads a scenario's lines from standard input and prints each reply on standard output.
 #![tactic(auto)]
 
-pub use scenario::{
-    ConfigFault, DeviceFault, Failure, Input, LONGEST_CONFIG_READ, MAX_LINES, Options, Output,
-    ProgramEnd, RunFault, Sink, Source, Stopped, Summary, Task, boot_and_run, exit_status,
-    read_config, read_config_at, read_line, run, run_bytes, run_only, run_program, task_of,
-    write_accounts,
+pub use cli_engine::{
+    ConfigFault, DeviceFault, Input, LONGEST_CONFIG_READ, MAX_LINES, Options, Output, ProgramEnd,
+    RunFault, RunSummary, Sink, Source, Task, TaskFailure, UnfinishedTask, boot_and_run,
+    exit_status, read_config, read_config_at, read_line, run, run_bytes, run_only, run_program,
+    task_of, write_accounts,
 };
 
 fn main(rt: HostRuntime) -> ProgramEnd {

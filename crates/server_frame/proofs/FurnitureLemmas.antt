@@ -21,7 +21,7 @@ use Rattle.sliced_heap.specs.Sliced.{sliced_of}
 use Rattle.sliced_heap.specs.Heap.{payer_of, share_at, blocks_at, MapsMemory, IsSound, HasNoBlocks, TakesBlock, GivesAll, KeepsOthers}
 use Rattle.sliced_heap.specs.declared.heap.SlicedHeap.{SlicedHeap}
 use Rattle.server_frame.specs.Session.{holding, holding_of, IsSessionHeap, HasBlocksAlone}
-use Rattle.server_frame.specs.Frame.{Furnishes}
+use Rattle.server_frame.specs.Frame.{OpensChargedAccount}
 use Rattle.server_frame.proofs.HoldingLemmas.{on_ok, if_ok, lacks_nothing, held_by, maps_books, no_blocks, no_payloads, same_part}
 
 -- ---- a donation that is enough
@@ -116,7 +116,7 @@ module _ (client account ram caps : ℕ) (old mid : Store) (regions : Regions) (
     unfolding share_in sliced_of
     is_alone = subst (λ k. HasBlocksAlone (holding (share_at k new after))) (sym payer) (one ∙ sym one_block)
 
-    pub furnishes : Furnishes client ram caps account taken old new regions after
+    pub furnishes : OpensChargedAccount client ram caps account taken old new regions after
     furnishes = record {
       fresh = fresh;
       payer = payer;
@@ -141,7 +141,7 @@ module _ (client account ram caps : ℕ) (old mid : Store) (regions : Regions) (
 
   pub is_furnished : (heap taken : SlicedHeap) (new : Store) (after : Regions) (r : Result ℕ Refusal) → client ≢ account → payer_of heap ≡ account → result_err r ≡ sliced_refusal session_object (account_in mid (payer_of heap)) →
       IfOk r (λ address. TakesBlock (payer_of heap) session_object address mid new regions after) → IsSound taken new after → KeepsOthers (payer_of heap) mid new regions after → payer_of taken ≡ payer_of heap →
-      Furnishes client ram caps account taken old new regions after
+      OpensChargedAccount client ram caps account taken old new regions after
   is_furnished heap taken new after r apart payer refusal taken_if sound others same_payer =
       let accepted : result_err r ≡ None = refusal ∙ ap (λ k. sliced_refusal session_object (account_in mid k)) payer ∙ covers_object in
       let took = if_ok r accepted taken_if in

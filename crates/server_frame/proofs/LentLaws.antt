@@ -21,10 +21,10 @@ use Rattle.dataspace_core.proofs.PartLaws.{account_of-part, open_in_part, part_o
 use Rattle.dataspace_core.proofs.PokedLaws.{poked_length}
 use Rattle.dataspace_core.proofs.ShareLaws.{some_alike, share_alike}
 use Rattle.dataspace_core.proofs.WindowLaws.{own_account}
-use Rattle.sliced_heap.specs.Laws.{KeepsHeapWindow}
+use Rattle.sliced_heap.specs.Theorems.{KeepsHeapWindow}
 use Rattle.sliced_heap.specs.Heap.{MapsMemory}
 use Rattle.sliced_heap.proofs.HeapLaws.{map_stays_for_payer}
-use Rattle.server_frame.specs.Lent.{AllLendAside, LendsAside, share_with}
+use Rattle.server_frame.specs.SessionBuffer.{AllLendAside, LendsAside, share_with}
 use Rattle.server_frame.specs.Session.{IsSessionAccount, holding, holding_at}
 use Rattle.server_frame.specs.Frame.{Row, row_of, sessions_of, Holds, IsServer}
 use Rattle.server_frame.specs.Laws.{LentArePaid, WritesLent, WritesLeaveSessions}

@@ -17,13 +17,13 @@ use Rattle.sliced_heap.specs.Heap.{payer_of, share_at}
 use Rattle.sliced_heap.specs.Sliced.{IsLinked}
 use Rattle.sliced_heap.specs.declared.heap.SlicedHeap.{SlicedHeap}
 use Rattle.server_frame.specs.Session.{holding, holding_at, holding_of, HasBlocksAlone, IsSessionAccount}
-use Rattle.server_frame.specs.Frame.{row_of, new_row, sessions_of, Holds, IsServer, IsNoSession, Furnishes, OpensSession}
+use Rattle.server_frame.specs.Frame.{row_of, new_row, sessions_of, Holds, IsServer, IsNoSession, OpensChargedAccount, OpensSession}
 use Rattle.server_frame.specs.declared.server.Session.{Session}
 use Rattle.server_frame.proofs.FrameLemmas.{Stays, row_stays, map_of-written, server_with}
 use Rattle.server_frame.proofs.HoldingLemmas.{heap_account, heap_linked}
 
 module _ {T V : Type 0} (kept : T → ℕ → Share → Type 0) (value : T → Share → V) (buffer : T → Option ℕ) (sessions now : Slab (Session T)) (old new : Store) (regions after : Regions) (server : IsServer kept sessions old regions) (id : ℕ) (vacant : slab.get sessions id ≡ None)
-    (session : Session T) (heap : SlicedHeap) (ram caps : ℕ) (client_open : IsOpenIn old session.client.0) (no_session : IsNoSession sessions session.client.0) (furnishes : Furnishes session.client.0 ram caps session.account.0 heap old new regions after)
+    (session : Session T) (heap : SlicedHeap) (ram caps : ℕ) (client_open : IsOpenIn old session.client.0) (no_session : IsNoSession sessions session.client.0) (furnishes : OpensChargedAccount session.client.0 ram caps session.account.0 heap old new regions after)
     (written : Updates sessions now id (Some session)) (first : V) (is_first : (share : Share) → HasBlocksAlone share → value session.state share ≡ first) (is_kept : (share : Share) → HasBlocksAlone share → IsLinked share heap.first → kept session.state (payer_of heap) share) (nothing_lent : buffer session.state ≡ None) where
   -- another session is not the one under the key
   other_id : (k : ℕ) (s : Session T) → slab.get sessions k ≡ Some s → k ≢ id

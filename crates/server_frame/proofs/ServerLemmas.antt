@@ -18,7 +18,7 @@ use Rattle.dataspace_core.proofs.PartLaws.{account_of-part, open_in_part}
 use Rattle.sliced_heap.specs.Heap.{share_at, MapsMemory, KeepsOthers}
 use Rattle.server_frame.specs.Session.{Served, IsSessionAccount, PaysFor, holding, holding_at}
 use Rattle.server_frame.specs.Frame.{Row, row_of, row_served, sessions_of, Holds, IsServer, ServesSession}
-use Rattle.server_frame.specs.Lent.{IsEffect, bytes_lent}
+use Rattle.server_frame.specs.SessionBuffer.{IsEffect, bytes_lent}
 use Rattle.server_frame.specs.declared.effect.Effect.{Effect}
 use Rattle.server_frame.specs.declared.server.Session.{Session}
 use Rattle.server_frame.proofs.HoldingLemmas.{same_part, held_by, maps_books, account_held}

@@ -13,7 +13,7 @@ use Rattle.dataspace_core.specs.Store.{Store, part, parted_part, space_at, accou
 use Rattle.dataspace_core.specs.Share.{Share}
 use Rattle.sliced_heap.specs.Heap.{payer_of, MapsMemory}
 use Rattle.sliced_heap.specs.declared.heap.SlicedHeap.{SlicedHeap}
-use Rattle.server_frame.specs.Lent.{IsEffect, bytes_lent}
+use Rattle.server_frame.specs.SessionBuffer.{IsEffect, bytes_lent}
 use Rattle.server_frame.specs.Session.{Served, IsSessionAccount, IsSessionHeap, HasBlocksAlone, holding_at, holding_of}
 use Rattle.server_frame.specs.declared.effect.Effect.{Effect}
 use Rattle.server_frame.specs.declared.server.Session.{Session}
@@ -45,7 +45,7 @@ sessions_of value buffer sessions store regions = map_of (row_of value buffer st
 abbrev pub row_served : {V : Type 0} → (List ℕ → Account → Option (List ℕ) → V → Served V) → List ℕ → Store → Row V → Served V
 row_served step request store row = step request row.account (bytes_lent store row.buffer) row.value
 
--- what is so of the session under a key, where there is one
+-- a fact of the session under a key, if there is one
 abbrev pub AtRow : {V : Type 0} → NatMap (Row V) → ℕ → (Row V → Type 0) → Type 0
 AtRow {V} rows id P = (row : Row V) → get rows id ≡ Some row → P row
 
@@ -91,8 +91,8 @@ pub record Admits {T : Type 0} (kept : T → ℕ → Share → Type 0) (sessions
 
 -- ---- what calls do
 
--- an account is opened for a session, and furnished: charged for the session itself and for its object
-pub record Furnishes (client ram caps account : ℕ) (taken : SlicedHeap) (old new : Store) (regions after : Regions) : Type 0 where
+-- an account is opened for a session and charged for the session itself and for its object
+pub record OpensChargedAccount (client ram caps account : ℕ) (taken : SlicedHeap) (old new : Store) (regions after : Regions) : Type 0 where
   pub fresh : get (accounts_in old) account ≡ None
   pub payer : payer_of taken ≡ account
   pub heap : IsSessionHeap taken new after
@@ -112,8 +112,8 @@ abbrev pub new_row : {V : Type 0} → ℕ → ℕ → ℕ → ℕ → V → Row 
 new_row client key ram caps first =
     record { client = client; key = key; account = session_account ram caps; value = first; buffer = None }
 
--- a session that lends nothing is opened under a key that was free, on an account that nobody had: its client parts with the
--- limits, and every other account's part stays
+-- a session without a buffer is opened under a free key, on a new account: its client gives up the limits, and every other
+-- account's part is unchanged
 pub record OpensSession {V : Type 0} (client ram caps id : ℕ) (first : V) (old new : Store) (rows after : NatMap (Row V)) : Type 0 where
   pub key : ℕ
   pub fresh : get (accounts_in old) key ≡ None
@@ -126,7 +126,7 @@ pub record OpensSession {V : Type 0} (client ram caps id : ℕ) (first : V) (old
   pub parents : parents_in new ≡ insert (parents_in old) key client
   pub room : room_in new + 1 ≡ room_in old
 
--- a request is answered on a session, which lends after it what the effect tells: its account's part may change, and no other's
+-- a request is answered on a session, whose buffer afterwards is as the effect states: only its account's part may change
 pub record ServesSession {V : Type 0} (row : Row V) (id : ℕ) (effect : Effect) (served : Served V) (old new : Store) (rows after : NatMap (Row V)) : Type 0 where
   pub lent : Option ℕ
   pub effect_is : IsEffect effect row.buffer lent
@@ -137,7 +137,7 @@ pub record ServesSession {V : Type 0} (row : Row V) (id : ℕ) (effect : Effect)
   pub parents : parents_in new ≡ parents_in old
   pub room : room_in new ≡ room_in old
 
--- a session is closed: its row goes, its account closes, and its client's limits are raised by those of it
+-- a session is closed: its row is removed, its account closes, and its client's limits are raised by those of the account
 pub record ClosesSession {V : Type 0} (id : ℕ) (old new : Store) (rows after : NatMap (Row V)) : Type 0 where
   pub row : Row V
   pub there : get rows id ≡ Some row

@@ -1,5 +1,5 @@
--- Laws for callers, as statements: that the table of a server has a place for each session that can be paid for, what an
--- open does to the room for accounts, and what a client's writes to what its session lends leave.
+-- Statements of the theorems for callers: the table of a server has a place for each session that can be paid for. An open
+-- leaves room for accounts, and a client's writes to a buffer leave all else as it was.
 use Rattle.std.specs.Prelude.{◌≡◌, ℕ, ◌+◌, ◌*◌, ◌<◌, ◌≤◌, Bool, false, List, length, Option, Some}
 use Rattle.std.specs.FinMap.{get}
 use Rattle.slab.specs.Slab.{Slab, slab_len}
@@ -14,7 +14,7 @@ use Rattle.dataspace_core.specs.Share.{Share}
 use Rattle.server_frame.specs.Frame.{Row, sessions_of, AtSession, IsServer, IsNoSession, OpensSession}
 use Rattle.server_frame.specs.declared.server.Session.{Session}
 
--- no client is a head: an account under which components are opened has no sessions of its own
+-- no client is an init's account: an account under which components are opened has no sessions of its own
 abbrev pub HasClients : {T : Type 0} → (ℕ → Bool) → Slab (Session T) → Type 0
 HasClients {T} heads sessions = (id : ℕ) (session : Session T) → slab.get sessions id ≡ Some session → heads session.client.0 ≡ false
 
@@ -31,17 +31,17 @@ OpensAnAccount V =
     (client ram caps id : ℕ) (first : V) (old new : Store) (rows after : NatMap (Row V)) →
     (opens : OpensSession client ram caps id first old new rows after) → OpensBelow client opens.key ram caps (session_account ram caps) old new
 
--- ---- what sessions lend
+-- ---- buffers of sessions
 
--- what a session lends is a dataspace of its account's part
+-- the buffer of a session is a dataspace of its account's part
 abbrev pub LentArePaid : {T V : Type 0} → (T → ℕ → Share → Type 0) → (T → Share → V) → (T → Option ℕ) → Type 0
 LentArePaid {T} {V} kept value buffer =
     (sessions : Slab (Session T)) (store : Store) (regions : Regions) (id ds : ℕ) →
     IsServer kept sessions store regions → AtSession value buffer sessions store regions id (λ (row : Row V).
     row.buffer ≡ Some ds → get (part row.key store).spaces ds ≡ Some (space_at store ds).bytes)
 
--- bytes are put at an offset of the dataspace that a session lends, within it: the part of the session's account has them, and
--- every other part stays
+-- bytes are written at an offset of the buffer of a session, within it: the part of the session's account has them, and
+-- every other part is unchanged
 pub record WritesLent {V : Type 0} (row : Row V) (ds offset : ℕ) (bytes : List ℕ) (old new : Store) : Type 0 where
   pub lends : row.buffer ≡ Some ds
   pub within : offset + length bytes ≤ length (bytes_of (part row.key old) ds)

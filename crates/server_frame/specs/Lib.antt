@@ -1,4 +1,4 @@
-pub mod Lent
+pub mod SessionBuffer
 pub mod Session
 pub mod Frame
 pub mod Laws

@@ -21,8 +21,8 @@ pub record Served (Value : Type 0) : Type 0 where
   pub value : Value
   pub buffer : Option (List ℕ)
 
--- the step of a service that keeps a session as the one-client model does: what is kept and the account are a session, which
--- serves the request; where its server stands is of no matter
+-- the step of a service that stores a session as the one-client model does: the state and the account are a session, which
+-- serves the request; the place of its server does not matter
 abbrev pub service_step : List ℕ → Account → Option (List ℕ) → Labelled → Served Labelled
 service_step request account buffer kept =
     let o = served buffer (session_with 0 account kept) request in
@@ -34,7 +34,7 @@ service_step request account buffer kept =
       buffer = o.buffer;
     }
 
--- what an account has of the memory and of the map, whatever its limits and its use are
+-- what an account has of the memory and of the map, for any limits and use
 abbrev pub holding : Share → Share
 holding share = record share { part = record share.part { account = None } }
 

@@ -1,14 +1,14 @@
-//! What a request does to the buffer that a session lends its client.
+//! The effect of a request on the buffer that a session shares with its client.
 
 use trade_base::DsId;
 
-/// What a request did to a session's buffer, a dataspace of the session's account that its client may attach.
+/// The effect of a request on a session's buffer, a dataspace of the session's account that its client may attach.
 #[derive(Clone, Copy)]
 pub enum Effect {
-    /// The session lends what it lent before, if anything.
+    /// The session's buffer, if any, is the same as before.
     Nothing,
-    /// It lent nothing, and lends this dataspace from now on.
+    /// The session had no buffer and has this dataspace now.
     Buffer(DsId),
-    /// It lent this dataspace, and lends nothing from now on.
+    /// The session had this dataspace as its buffer and has none now.
     Gone(DsId),
 }

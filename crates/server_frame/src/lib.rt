@@ -1,13 +1,14 @@
-//! The frame of a server: sessions on accounts of their own, below their clients' accounts.
+//! The frame of a server: sessions on accounts of their own, below their clients' accounts. `init_core` starts the servers
+//! and `pd_core` calls them. Example: `Server::boot(alloc, service, sessions, pages)?` is a server without sessions.
 #![tactic(auto)]
 
 mod effect;
-mod furniture;
 mod laws;
 mod server;
 mod service;
+mod session_account;
 
-pub use calls::{LONGEST_LABEL, MOST_LINES, Quotas, Reply};
+pub use core_calls::{LONGEST_LABEL, MOST_LINES, Quotas, Reply};
 pub use effect::Effect;
 pub use laws::{lent_bytes_are_the_clients, sessions_find_places};
 pub use server::Server;

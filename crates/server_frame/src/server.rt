@@ -10,19 +10,19 @@ ghost use Rattle.own_model.specs.Session.{donation_refusal};
 ghost use Rattle.region_map.specs.Regions.{fresh_regions};
 ghost use Rattle.dataspace_core.specs.Store.{Store, account_in, ram_limits_in, IsOpenIn, room_in, RaisesPart};
 ghost use Rattle.server_frame.specs.Frame.{sessions_of, row_served, AtSession, IsServer, IsNoSession, OpensSession, ServesSession, ClosesSession};
-ghost use Rattle.server_frame.specs.Lent.{key_of};
+ghost use Rattle.server_frame.specs.SessionBuffer.{key_of};
 
 use crate::effect::Effect;
-use crate::furniture::{dismiss, furnish, test_donation};
 use crate::service::Service;
-use calls::{LONGEST_LABEL, Reply};
+use crate::session_account::{close_session_account, open_session_account, test_donation};
+use core_calls::{LONGEST_LABEL, Reply};
 use dataspace_core::Memory;
 use region_map::RegionMap;
 use slab::Slab;
 use std::alloc::Global;
 use trade_base::{AccountId, Caps, DsId, NoMemory, Ram, Refusal, SessionId};
 
-/// A session: its account and its client's, and what the service keeps for it.
+/// A session: its account, its client's account, and what the service stores for it.
 #[derive(Drop)]
 struct Session<T: Drop> {
     account: AccountId,
@@ -30,7 +30,7 @@ struct Session<T: Drop> {
     state: T,
 }
 
-/// A server: a service, its sessions, and the map in which all that they keep stands.
+/// A server: a service, its sessions, and the map at which all that they store is attached.
 #[derive(Drop)]
 pub struct Server<S: Service + Drop> {
     service: S,
@@ -39,8 +39,8 @@ pub struct Server<S: Service + Drop> {
 }
 
 impl<S: Service + Drop> Server<S> {
-    /// A server without sessions, with places for so many, or more, for a machine of so many pages. It fails where the host
-    /// has no memory for its tables. No later call takes memory of the host.
+    /// Returns a server without sessions, with at least `sessions` places, for a machine of `pages` pages. Returns
+    /// `NoMemory` if the host is out of memory. No later call allocates memory of the host.
     pub fn boot(
         alloc: Global,
         service: S,
@@ -64,7 +64,7 @@ impl<S: Service + Drop> Server<S> {
         })
     }
 
-    /// Whether a session is open.
+    /// Returns whether a session is open under this key.
     pub fn is_open(&self, id: SessionId) -> bool
         ensures session { result ≡ is_some (slab.get self.now.sessions id.0) }
         ensures row { (store : Store) → result ≡ is_some (get
@@ -73,7 +73,7 @@ impl<S: Service + Drop> Server<S> {
         self.sessions.contains(id.0)
     }
 
-    /// The account of a session.
+    /// Returns the account of the open session under this key.
     pub fn account(&self, id: SessionId) -> AccountId
         requires { ContainsKey self.now.sessions id.0 }
         ensures session { IfSome (slab.get self.now.sessions id.0)
@@ -85,7 +85,7 @@ impl<S: Service + Drop> Server<S> {
         self.sessions[id.0].account
     }
 
-    /// The dataspace that a session lends its client, if it lends one.
+    /// Returns the dataspace that a session shares with its client as a buffer, or `None`.
     pub fn buffer(&self, id: SessionId) -> Option<DsId>
         requires { ContainsKey self.now.sessions id.0 }
         ensures session { IfSome (slab.get self.now.sessions id.0) (λ session.
@@ -97,12 +97,12 @@ impl<S: Service + Drop> Server<S> {
         self.service.buffer(&self.sessions[id.0].state)
     }
 
-    /// Opens a session on an account of its own, with a donation of its client: RAM in bytes, and capabilities. The account is
-    /// charged for the session and for an object of 256 bytes. It tells the session's key.
+    /// Opens a session on an account of its own and returns its key. The donation of its client is RAM in bytes, and
+    /// capabilities. The account is charged for the session and for an object of 256 bytes.
     ///
-    /// It is refused with `OutOfRam` or else `OutOfCaps` where the client's account doesn't cover the donation, and else with
-    /// `InsufficientRamQuota` or else `InsufficientCapQuota` where the donation is less than the session uses from the start.
-    /// A refused call changes nothing.
+    /// Refuses with `OutOfRam`, then `OutOfCaps`, if the client's account does not cover the donation. Then refuses with
+    /// `InsufficientRamQuota`, then `InsufficientCapQuota`, if the donation is less than a session uses from the start. A
+    /// refused call changes nothing.
     pub fn open(
         &mut self,
         memory: &mut Memory,
@@ -132,7 +132,7 @@ impl<S: Service + Drop> Server<S> {
         ensures memory_err { OnErr result (memory.new ≡ memory.old) }
     {
         test_donation(memory, client, ram, caps)?;
-        let (account, heap) = furnish(memory, &mut self.map, client, ram, caps)?;
+        let (account, heap) = open_session_account(memory, &mut self.map, client, ram, caps)?;
         let state = self.service.open(heap, label);
         let id = self.sessions.insert_reserved(Session {
             account,
@@ -142,9 +142,9 @@ impl<S: Service + Drop> Server<S> {
         Ok(SessionId(id))
     }
 
-    /// Moves so much more of its client's limits to a session's account: RAM in bytes, and capabilities.
+    /// Moves limits from the client's account to the session's account: RAM in bytes, and capabilities.
     ///
-    /// It is refused with `OutOfRam` or else `OutOfCaps` where the client's account doesn't cover it. A refused call changes
+    /// Refuses with `OutOfRam`, then `OutOfCaps`, if the client's account does not cover them. A refused call changes
     /// nothing.
     pub fn upgrade(
         &mut self,
@@ -175,7 +175,7 @@ impl<S: Service + Drop> Server<S> {
         memory.raise(session.client, session.account, ram, caps)
     }
 
-    /// Answers a request of a session, and tells what it did to what the session lends.
+    /// Answers a request of a session and returns its effect on the session's buffer.
     pub fn serve(
         &mut self,
         memory: &mut Memory,
@@ -207,7 +207,7 @@ impl<S: Service + Drop> Server<S> {
             .serve(&mut session.state, memory, &mut self.map, request, reply)
     }
 
-    /// Closes a session: all that it has is given back, and its client's limits are raised by those of its account.
+    /// Closes a session: frees all that it has and returns its account's limits to its client's account.
     pub fn close(&mut self, memory: &mut Memory, id: SessionId)
         requires server { IsServer S.IsKept self.old.sessions memory.old self.old.map }
         requires open { ContainsKey self.old.sessions id.0 }
@@ -220,6 +220,6 @@ impl<S: Service + Drop> Server<S> {
     {
         let session = self.sessions.remove(id.0);
         let heap = self.service.end(session.state, memory, &mut self.map);
-        dismiss(memory, &mut self.map, session.account, heap);
+        close_session_account(memory, &mut self.map, session.account, heap);
     }
 }

@@ -1,50 +1,50 @@
-//! What a server does for a session.
+//! The trait of a service.
 ghost use Rattle.std.specs.Prelude.{◌≡◌, ℕ, ◌≤◌, List, [], length, Option, None};
 ghost use Rattle.own_model.specs.Account.{Account};
 ghost use Rattle.dataspace_core.specs.Store.{account_in};
 ghost use Rattle.dataspace_core.specs.Share.{Share};
 ghost use Rattle.sliced_heap.specs.Heap.{payer_of, KeepsOthers};
-ghost use Rattle.server_frame.specs.Lent.{AllLendAside, IsEffect, bytes_lent, key_of};
+ghost use Rattle.server_frame.specs.SessionBuffer.{AllLendAside, IsEffect, bytes_lent, key_of};
 ghost use Rattle.server_frame.specs.Session.{Served, IsSessionAccount, IsSessionHeap, HasBlocksAlone, PaysFor, holding_at, holding_of};
 ghost use Rattle.sliced_heap.specs.Sliced.{IsLinked};
 
 use crate::effect::Effect;
-use calls::{LONGEST_LABEL, Reply};
+use core_calls::{LONGEST_LABEL, Reply};
 use dataspace_core::Memory;
 use region_map::RegionMap;
 use sliced_heap::SlicedHeap;
 use trade_base::DsId;
 
-/// A service: what a server keeps for each session, and what it answers to a session's requests.
+/// A service: what a server stores for each session, and the replies to a session's requests.
 ///
-/// All that it keeps in the memory for a session is charged to the session's account. It may lend the session's client one
-/// dataspace of that account, its buffer, into which the client writes between its requests.
+/// All memory that a service stores for a session is charged to the session's account. A session may share one dataspace of
+/// that account with its client, its buffer. The client writes to the buffer between requests.
 pub trait Service {
-    /// What the service keeps for a session outside the memory.
+    /// What the service stores for a session outside the memory.
     type State: Drop;
 
-    // What a session is to its client: read out of what the service keeps of it, and out of what its account has.
+    // What a session is to its client, by what the service stores for it and what its account has.
     ghost Value: { Type 0 };
 
     ghost value: { Self.State → Share → Value };
 
-    // The key of the dataspace that a session lends its client, if it lends one.
+    // The key of the dataspace that a session shares with its client, if there is one.
     ghost buffer: { Self.State → Option ℕ };
 
-    // The key of the account for which a session is kept.
+    // The key of the account for which a session is stored.
     ghost payer: { Self.State → ℕ };
 
-    // What is true of a session between its requests, by its account's key and by what that account has.
+    // What is true of a session between its requests, by the key of its account and what that account has.
     ghost IsKept: { Self.State → ℕ → Share → Type 0 };
 
-    // A new session with this label.
+    // The value of a new session with this label.
     ghost first: { List ℕ → Value };
 
-    // What a request does, by the bytes of what is lent.
+    // What a request does, by the bytes of the buffer.
     ghost step: { List ℕ → Account → Option (List ℕ) → Value → Served Value };
 
-    /// A new session with this label. It owns the sliced heap of its account, to which all that the service keeps for it in
-    /// the memory is charged.
+    /// Creates a session with this label. It owns the sliced heap of its account, to which all memory of the session is
+    /// charged.
     fn open(&self, heap: SlicedHeap, label: &[u8]) -> Self::State
         requires { length label.now ≤ LONGEST_LABEL }
         ensures first { (share : Share) → HasBlocksAlone share →
@@ -53,11 +53,11 @@ pub trait Service {
             → IsKept result (payer_of heap) share }
         ensures buffer { buffer result ≡ None };
 
-    /// The dataspace that a session lends its client, if it lends one.
+    /// Returns the dataspace that a session shares with its client as a buffer, or `None`.
     fn buffer(&self, state: &Self::State) -> Option<DsId>
         ensures { key_of result ≡ buffer state.now };
 
-    /// Answers a request of a session, and tells what it did to what the session lends.
+    /// Answers a request of a session and returns its effect on the session's buffer.
     fn serve(
         &self,
         state: &mut Self::State,
@@ -86,7 +86,7 @@ pub trait Service {
         ensures payer { payer state.new ≡ payer state.old }
         ensures others { KeepsOthers (payer state.old) memory.old memory.new map.old map.new };
 
-    /// Gives back all that the service keeps for a session, but for the blocks of its sliced heap, and answers that heap.
+    /// Frees all that the service stores for a session, except the blocks of its sliced heap, and returns that heap.
     fn end(&self, state: Self::State, memory: &mut Memory, map: &mut RegionMap) -> SlicedHeap
         requires account { IsSessionAccount (payer state) memory.old map.old }
         requires kept { IsKept state (payer state) (holding_at (payer state) memory.old map.old) }
@@ -99,10 +99,10 @@ pub trait Service {
         ensures payer { payer_of result ≡ payer state }
         ensures others { KeepsOthers (payer state) memory.old memory.new map.old map.new };
 
-    // A session is kept for no other account than the one that pays.
+    // A session is stored for no account except the one that pays.
     ghost pays: { PaysFor IsKept payer };
 
-    // What a session lends is a dataspace of its account, by whose bytes goes neither what the session is to its client nor
-    // what is true of it.
+    // A session's buffer is a dataspace of its account. Neither what the session is to its client nor what is true of it
+    // depends on the buffer's bytes.
     ghost lends_aside: { AllLendAside IsKept value buffer };
 }

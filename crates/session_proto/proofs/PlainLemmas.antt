@@ -13,7 +13,7 @@ use Rattle.own_model.specs.SessionArgs.{Pair, is_bare, is_quotable, inner, piece
 use Rattle.own_model.specs.SessionArgs.Value.{Bare, Quoted}
 use Rattle.own_model.proofs.SessionArgsLemmas.{none_of_three, not_quoted, is_plain, onto, pair_in, pieces-plain, pieces-quoted, trimmed-plain, trimmed-quote, value-quoted}
 use Rattle.session_proto.specs.Pairs.{BeginsWith}
-use Rattle.session_proto.specs.Pieces.{pieces_after, behind_comma}
+use Rattle.session_proto.specs.Pieces.{pieces_after, after_comma}
 use Rattle.session_proto.proofs.PieceLemmas.{pieces_of-first}
 
 -- ---- bytes of a kind at the front
@@ -75,12 +75,12 @@ pieces-last (b ∷ bs) plain =
     ∙ ap (onto_first b) (pieces-last bs parts.1)
 
 -- up to the text's end or a comma it is the first
-pieces-bare : (xs : List ℕ) (rest : Option (List ℕ)) → list_all is_plain xs ≡ true → pieces_of false (xs ++ behind_comma rest) ≡ xs ∷ pieces_after rest
+pieces-bare : (xs : List ℕ) (rest : Option (List ℕ)) → list_all is_plain xs ≡ true → pieces_of false (xs ++ after_comma rest) ≡ xs ∷ pieces_after rest
 pieces-bare xs None plain = ap (pieces_of false) (append-nil xs) ∙ pieces-last xs plain
 pieces-bare xs (Some text) plain = pieces-plain xs text plain
 
 -- and so is what is quoted up to there
-pieces-label : (label : List ℕ) (rest : Option (List ℕ)) → list_all is_quotable label ≡ true → pieces_of true (label ++ 34 ∷ behind_comma rest) ≡ (label ++ 34 ∷ []) ∷ pieces_after rest
+pieces-label : (label : List ℕ) (rest : Option (List ℕ)) → list_all is_quotable label ≡ true → pieces_of true (label ++ 34 ∷ after_comma rest) ≡ (label ++ 34 ∷ []) ∷ pieces_after rest
 pieces-label label None quotable = pieces-quoted label quotable
 pieces-label [] (Some text) quotable = refl
 pieces-label (b ∷ bs) (Some text) quotable =
@@ -101,16 +101,16 @@ module _ (value : List ℕ) (rest : Option (List ℕ)) (bare : is_bare value ≡
   named : list_all is_plain value ≡ true
   named = names_plain value (and_parts _ _ bare).1
 
-  pub ram_first : BeginsWith (codes "ram_quota=" ++ (value ++ behind_comma rest)) (record { key = codes "ram_quota"; value = Bare value }) rest
-  ram_first = first_pair (codes "ram_quota=" ++ (value ++ behind_comma rest)) (codes "ram_quota=" ++ value) _ rest (pieces-bare (codes "ram_quota=" ++ value) rest named)
+  pub ram_first : BeginsWith (codes "ram_quota=" ++ (value ++ after_comma rest)) (record { key = codes "ram_quota"; value = Bare value }) rest
+  ram_first = first_pair (codes "ram_quota=" ++ (value ++ after_comma rest)) (codes "ram_quota=" ++ value) _ rest (pieces-bare (codes "ram_quota=" ++ value) rest named)
       (ap pair_in (trimmed-plain (codes "ram_quota=" ++ value) named) ∙ ap (option_map (λ v. record { key = codes "ram_quota"; value = v })) (value-bare value bare))
 
-  pub caps_first : BeginsWith (codes "cap_quota=" ++ (value ++ behind_comma rest)) (record { key = codes "cap_quota"; value = Bare value }) rest
-  caps_first = first_pair (codes "cap_quota=" ++ (value ++ behind_comma rest)) (codes "cap_quota=" ++ value) _ rest (pieces-bare (codes "cap_quota=" ++ value) rest named)
+  pub caps_first : BeginsWith (codes "cap_quota=" ++ (value ++ after_comma rest)) (record { key = codes "cap_quota"; value = Bare value }) rest
+  caps_first = first_pair (codes "cap_quota=" ++ (value ++ after_comma rest)) (codes "cap_quota=" ++ value) _ rest (pieces-bare (codes "cap_quota=" ++ value) rest named)
       (ap pair_in (trimmed-plain (codes "cap_quota=" ++ value) named) ∙ ap (option_map (λ v. record { key = codes "cap_quota"; value = v })) (value-bare value bare))
 
-pub label_first : (label : List ℕ) (rest : Option (List ℕ)) → list_all is_quotable label ≡ true → BeginsWith (codes "label=\"" ++ (label ++ 34 ∷ behind_comma rest)) (record { key = codes "label"; value = Quoted label }) rest
-label_first label rest quotable = first_pair (codes "label=\"" ++ (label ++ 34 ∷ behind_comma rest)) (codes "label=\"" ++ (label ++ 34 ∷ [])) _ rest (ap (onto (codes "label=\"")) (pieces-label label rest quotable))
+pub label_first : (label : List ℕ) (rest : Option (List ℕ)) → list_all is_quotable label ≡ true → BeginsWith (codes "label=\"" ++ (label ++ 34 ∷ after_comma rest)) (record { key = codes "label"; value = Quoted label }) rest
+label_first label rest quotable = first_pair (codes "label=\"" ++ (label ++ 34 ∷ after_comma rest)) (codes "label=\"" ++ (label ++ 34 ∷ [])) _ rest (ap (onto (codes "label=\"")) (pieces-label label rest quotable))
     (ap pair_in (trimmed-quote (codes "label=\"" ++ label)) ∙ ap (option_map (λ v. record { key = codes "label"; value = v })) (value-quoted label quotable))
 
 -- a space before a pair is nothing

@@ -1,11 +1,11 @@
--- The file service's requests, as the model's words.
+-- The file service's requests, in the terms of the model.
 use Rattle.std.specs.Prelude.{ℕ, List, IsSome}
 use Rattle.own_model.specs.BufferService as model
 use Rattle.own_model.specs.BufferService.{SessionRequest}
 use Rattle.own_model.specs.BufferService.SessionRequest.{OfFiles, OfBuffer}
 use Rattle.own_model.specs.FileText as files
 use Rattle.own_model.specs.Text.{bytes_of_hex, hex_bytes}
-use Rattle.session_proto.specs.declared.buffer.Move.{Move}
+use Rattle.session_proto.specs.declared.buffer.BufferTransfer.{BufferTransfer}
 use Rattle.session_proto.specs.declared.file.FileRequest.{FileRequest}
 use Rattle.session_proto.specs.declared.file.FileRequest.TheVariants.{Create, Write, Read, Size, Clear, Drop, Name, Stat, Buffer, Unbuffer, Put, Get}
 
@@ -30,5 +30,5 @@ HasHex (Write file offset hex) = IsSome (bytes_of_hex hex.now)
 HasHex _ = Unit {0}
 
 -- a request of these bytes, at these places
-abbrev pub request_of_move : (List ℕ → ℕ → ℕ → ℕ → model.BufferRequest) → Move → model.BufferRequest
+abbrev pub request_of_move : (List ℕ → ℕ → ℕ → ℕ → model.BufferRequest) → BufferTransfer → model.BufferRequest
 request_of_move request move = request move.file.now move.offset move.place move.len

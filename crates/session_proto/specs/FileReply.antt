@@ -1,8 +1,8 @@
--- The file service's replies, as the model's words.
+-- The file service's replies, in the terms of the model.
 use Rattle.std.specs.Prelude.{ℕ, ◌+◌, ◌*◌, length}
 use Rattle.own_model.specs.FileText as model
-pub use Rattle.calls.specs.FileError.{model_error}
-use Rattle.calls.specs.Quotas.{quotas_account}
+pub use Rattle.core_calls.specs.FileError.{model_error}
+use Rattle.core_calls.specs.Quotas.{quotas_account}
 use Rattle.session_proto.specs.declared.file_reply.FileReply.{FileReply}
 use Rattle.session_proto.specs.declared.file_reply.FileReply.TheVariants.{Done, Count, Bytes, Named, Quotas, Lent, Refused}
 
@@ -15,7 +15,7 @@ model_reply (Quotas quotas) = model.FileReply.Quotas (quotas_account quotas)
 model_reply Lent = model.FileReply.Lent
 model_reply (Refused e) = model.FileReply.Refused (model_error e)
 
--- the bytes that a reply wants at most
+-- the maximum number of bytes of a reply
 abbrev pub room_for : FileReply → ℕ
 room_for Done = 2
 room_for (Count count) = 23

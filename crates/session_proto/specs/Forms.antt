@@ -1,4 +1,4 @@
--- The forms of the file service's requests by their words, and the requests that they make.
+-- The forms of the file service's requests by their keywords, and the requests that they make.
 use Rattle.std.specs.Prelude.{ℕ, List, [], ◌∷◌, codes, find, is_none, if◌then◌else◌, Option, Some, None}
 use Rattle.std.specs.Option.{option_and_then, option_map}
 use Rattle.std.specs.Str.{bytes_eq}
@@ -28,7 +28,7 @@ word_of Unbuffer = codes "UNBUFFER"
 word_of Put = codes "PUT"
 word_of Get = codes "GET"
 
--- the form of a word
+-- the form of a keyword
 abbrev pub form_named : List ℕ → Option FileForm
 form_named word = find (λ form. bytes_eq word (word_of form)) forms
 
@@ -47,7 +47,7 @@ made_of Unbuffer arguments = if is_none arguments then Some (OfBuffer model.Buff
 made_of Put arguments = option_map OfBuffer (option_and_then (of_file (move_of model.BufferRequest.Put)) arguments)
 made_of Get arguments = option_map OfBuffer (option_and_then (of_file (move_of model.BufferRequest.Get)) arguments)
 
--- that of a form of one file word
+-- that of a form of one file name
 abbrev pub made_of_word : FileForm → List ℕ → Option SessionRequest
 made_of_word Create file = Some (OfFiles (files.FileRequest.Create file))
 made_of_word Size file = Some (OfFiles (files.FileRequest.Size file))

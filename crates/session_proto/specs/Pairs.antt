@@ -1,4 +1,4 @@
--- What the pairs so far have told: for each key the value of its first pair.
+-- The values of the pairs parsed so far: for each key the value of its first pair.
 use Rattle.std.specs.Prelude.{◌≡◌, ℕ, Bool, false, List, [], ◌∷◌, codes, true, Option, Some, None}
 use Rattle.std.specs.Option.{option_map, option_and_then, option_copied, unwrap_or}
 use Rattle.std.specs.Str.{bytes_eq}
@@ -49,6 +49,6 @@ with_pair k pair =
 abbrev pub told : Known → Arguments
 told k = record { ram = unwrap_or k.ram 0; caps = unwrap_or k.caps 0; label = unwrap_or k.label [] }
 
--- the first pair of a text, and the text behind its comma, if there is one
+-- the first pair of a text, and the text after its comma, if there is one
 abbrev pub BeginsWith : List ℕ → Pair → Option (List ℕ) → Type 0
 BeginsWith text pair rest = each pair_of (pieces_of false text) ≡ option_map (λ pairs. pair ∷ pairs) (each pair_of (pieces_after rest))

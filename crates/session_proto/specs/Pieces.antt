@@ -18,7 +18,7 @@ abbrev pub pieces_after : Option (List ℕ) → List (List ℕ)
 pieces_after None = []
 pieces_after (Some text) = pieces_of false text
 
--- a comma and what stands behind it, if it is there
-abbrev pub behind_comma : Option (List ℕ) → List ℕ
-behind_comma None = []
-behind_comma (Some text) = 44 ∷ text
+-- a comma and what is after it, if it is there
+abbrev pub after_comma : Option (List ℕ) → List ℕ
+after_comma None = []
+after_comma (Some text) = 44 ∷ text

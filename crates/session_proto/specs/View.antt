@@ -1,4 +1,4 @@
--- What the readers hold, as the model's words.
+-- What the readers hold, in the terms of the model.
 use Rattle.std.specs.Prelude.{codes}
 use Rattle.own_model.specs.SessionArgs.{Arguments}
 use Rattle.own_model.specs.SessionArgs as model

@@ -1,4 +1,4 @@
-//! The arguments of a session.
+//! The arguments with which a client opens or upgrades a session.
 ghost use Rattle.std.specs.Prelude.{◌≡◌, ◌≤◌, length, true, None, Some, IfOk, IfErr, OnErr};
 ghost use Rattle.std.specs.Option.{option_map, option_copied};
 ghost use Rattle.trade_base.specs.declared.refusal.Refusal.TheVariants.{BadArgs};
@@ -13,10 +13,10 @@ use crate::text::{is_blank, split_piece};
 use std::marker::Model;
 use trade_base::{Caps, Ram, Refusal, read_amount, read_number};
 
-/// The most bytes of a label.
+/// The maximum number of bytes of a label.
 const LONGEST_GIVEN: usize = 64;
 
-/// What a session is given, and the label that it is asked for with.
+/// The donation to a session, and the label with which a client requests the session.
 #[derive(Drop)]
 pub struct SessionArgs<'a> {
     ram: Ram,
@@ -33,7 +33,7 @@ impl<'a> Model for SessionArgs<'a> {
 }
 
 impl<'a> SessionArgs<'a> {
-    /// The arguments of a text, or `Refusal::BadArgs` where it isn't in the grammar.
+    /// Parses session arguments, or refuses with `BadArgs` if the text does not follow their grammar.
     pub fn read(text: &'a [u8]) -> Result<SessionArgs<'a>, Refusal>
         ensures value { IfOk result (λ args. arguments_of text.now ≡ Some args) }
         ensures refused { IfErr result (λ refusal. refusal ≡ BadArgs) }
@@ -45,28 +45,29 @@ impl<'a> SessionArgs<'a> {
         }
     }
 
-    /// How much RAM the session is given, in bytes.
+    /// Returns the RAM that the arguments donate, in bytes.
     pub fn ram(&self) -> Ram
         ensures { result.0 ≡ self.now.ram }
     {
         self.ram
     }
 
-    /// How many capabilities the session is given.
+    /// Returns the number of capabilities that the arguments donate.
     pub fn caps(&self) -> Caps
         ensures { result.0 ≡ self.now.caps }
     {
         self.caps
     }
 
-    /// The label, without its quotes.
+    /// Returns the label without its quotes, or the empty text if the arguments have none.
     pub fn label(&self) -> &'a [u8]
         ensures { result.now ≡ self.now.label }
     {
         self.label
     }
 
-    /// Returns the label that a text gives: none where the text isn't in the grammar.
+    /// Returns the label of the session arguments in a text, or the empty label if the text does not follow their
+    /// grammar.
     pub fn label_given(text: &'a [u8]) -> &'a [u8]
         ensures label { result.now ≡ (given text.now).label }
         ensures short { length result.now ≤ 64 }
@@ -78,7 +79,7 @@ impl<'a> SessionArgs<'a> {
     }
 }
 
-/// The arguments of a text, if it is in the grammar.
+/// Parses session arguments, or returns `None` if the text does not follow their grammar.
 fn read_arguments(text: &[u8]) -> Option<SessionArgs<'_>>
     ensures { result ≡ arguments_of text.now }
 {
@@ -113,7 +114,7 @@ fn read_arguments(text: &[u8]) -> Option<SessionArgs<'_>>
     Some(found.arguments())
 }
 
-/// What the pairs so far have told: for each key the value of its first pair.
+/// The values of the pairs parsed so far: for each key the value of its first pair.
 #[derive(Clone, Copy)]
 struct Pairs<'a> {
     ram: Option<Ram>,
@@ -122,7 +123,7 @@ struct Pairs<'a> {
 }
 
 impl<'a> Pairs<'a> {
-    /// With one pair more. It is `None` where that is the first with its key, and has no value for it.
+    /// Adds a pair, unless its key already has a value. Returns `None` if the value is invalid for its key.
     fn with(self, pair: Pair<'a>) -> Option<Pairs<'a>>
         ensures { option_map known result ≡ with_pair (known self.entry) (model_pair pair.entry) }
     {
@@ -138,7 +139,7 @@ impl<'a> Pairs<'a> {
         Some(self)
     }
 
-    /// The same of a pair that says which key it has.
+    /// Adds a pair whose key is known, as `with` does.
     #[inline]
     fn with_plain(self, pair: PlainPair<'a>) -> Option<Pairs<'a>>
         ensures { option_map known result ≡ with_pair (known self.entry) (plain_pair pair.entry) }
@@ -150,7 +151,7 @@ impl<'a> Pairs<'a> {
         }
     }
 
-    /// With the RAM of a value, where it isn't known yet.
+    /// Adds the RAM of a value, unless there is one already.
     #[inline]
     fn with_ram(self, value: Value<'_>) -> Option<Pairs<'a>>
         ensures { option_map known result
@@ -169,7 +170,7 @@ impl<'a> Pairs<'a> {
         })
     }
 
-    /// With the capabilities of a value, where they aren't known yet.
+    /// Adds the capabilities of a value, unless there are some already.
     #[inline]
     fn with_caps(self, value: Value<'_>) -> Option<Pairs<'a>>
         ensures { option_map known result
@@ -188,7 +189,7 @@ impl<'a> Pairs<'a> {
         })
     }
 
-    /// With the label of a value, where it isn't known yet.
+    /// Adds the label of a value, unless there is one already.
     #[inline]
     fn with_label(self, value: Value<'a>) -> Option<Pairs<'a>>
         ensures { option_map known result
@@ -207,7 +208,7 @@ impl<'a> Pairs<'a> {
         })
     }
 
-    /// The arguments, of which those that were not told are nothing.
+    /// Returns the arguments. A key without a pair has the value 0, or the empty label.
     fn arguments(self) -> SessionArgs<'a>
         ensures { result ≡ told (known self.entry) }
     {
@@ -219,7 +220,7 @@ impl<'a> Pairs<'a> {
     }
 }
 
-/// RAM is an amount, as it stands.
+/// Parses RAM: an amount without quotes, in bytes.
 fn read_ram(value: Value<'_>) -> Option<Ram>
     ensures { option_map (λ ram. ram.0) result ≡ ram_of (Some (model_value value.entry)) }
 {
@@ -232,7 +233,7 @@ fn read_ram(value: Value<'_>) -> Option<Ram>
     }
 }
 
-/// Capabilities are a number below 2^32, as it stands.
+/// Parses capabilities: a number below 2^32 without quotes.
 fn read_caps(value: Value<'_>) -> Option<Caps>
     ensures { option_map (λ caps. caps.0) result ≡ caps_of (Some (model_value value.entry)) }
 {
@@ -245,7 +246,7 @@ fn read_caps(value: Value<'_>) -> Option<Caps>
     }
 }
 
-/// A label is quoted, and has at most 64 bytes.
+/// Parses a label: a quoted text of at most 64 bytes.
 fn read_label(value: Value<'_>) -> Option<&[u8]>
     ensures { option_copied result ≡ label_of (Some (model_value value.entry)) }
 {

@@ -1,4 +1,4 @@
-//! The file service's requests of a session's buffer.
+//! The file service's requests for a session's buffer.
 ghost use Rattle.std.specs.Prelude.{◌≡◌, ℕ, List, IfSome};
 ghost use Rattle.std.specs.Option.{option_map};
 ghost use Rattle.own_model.specs.BufferService.{BufferRequest, move_of};
@@ -11,14 +11,14 @@ use crate::file::{FileRequest, file_word};
 use text_codec::split_first_word;
 use trade_base::read_number;
 
-/// Bytes of the buffer are written into a file.
+/// Parses the arguments of `PUT`, which writes bytes of the buffer to a file.
 pub(crate) fn read_put(arguments: &[u8]) -> Option<FileRequest<'_>>
     ensures request { option_map model_request result
         ≡ option_map OfBuffer (of_file (move_of Put) arguments.now) }
     ensures hex { IfSome result HasHex }
 {
     let Some(
-        Move {
+        BufferTransfer {
             file,
             offset,
             place,
@@ -36,14 +36,14 @@ pub(crate) fn read_put(arguments: &[u8]) -> Option<FileRequest<'_>>
     })
 }
 
-/// Bytes of a file are put into the buffer.
+/// Parses the arguments of `GET`, which copies bytes of a file into the buffer.
 pub(crate) fn read_get(arguments: &[u8]) -> Option<FileRequest<'_>>
     ensures request { option_map model_request result
         ≡ option_map OfBuffer (of_file (move_of Get) arguments.now) }
     ensures hex { IfSome result HasHex }
 {
     let Some(
-        Move {
+        BufferTransfer {
             file,
             offset,
             place,
@@ -61,16 +61,16 @@ pub(crate) fn read_get(arguments: &[u8]) -> Option<FileRequest<'_>>
     })
 }
 
-/// So many bytes between an offset of a file and a place in the buffer.
-struct Move<'a> {
+/// The arguments of a copy of `len` bytes between an offset of a file and a place in the buffer.
+struct BufferTransfer<'a> {
     file: &'a [u8],
     offset: u64,
     place: u64,
     len: u64,
 }
 
-/// A file word, an offset, a place and a length, parted by spaces.
-fn read_move(arguments: &[u8]) -> Option<Move<'_>>
+/// Parses a file name, an offset, a place and a length, separated by spaces.
+fn read_move(arguments: &[u8]) -> Option<BufferTransfer<'_>>
     ensures { (request : List ℕ → ℕ → ℕ → ℕ → BufferRequest) →
         option_map (request_of_move request) result ≡ of_file (move_of request) arguments.now }
 {
@@ -89,7 +89,7 @@ fn read_move(arguments: &[u8]) -> Option<Move<'_>>
     let (Some(place), Some(len)) = (read_number(place), read_number(len)) else {
         return None;
     };
-    Some(Move {
+    Some(BufferTransfer {
         file,
         offset,
         place,

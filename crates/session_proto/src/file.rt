@@ -1,4 +1,4 @@
-//! The file service's requests.
+//! The requests of the file service.
 ghost use Rattle.std.specs.Prelude.{◌≡◌, ◌==◌, not, IfSome, Some, None};
 ghost use Rattle.std.specs.Option.{option_copied, option_map};
 ghost use Rattle.std.specs.List.{list_all};
@@ -15,46 +15,46 @@ use crate::log::LONGEST_REQUEST;
 use text_codec::split_first_word;
 use trade_base::read_number;
 
-/// A request, of the files of a session or of its buffer. A file is named by one or more bytes without a space, and bytes are
-/// hexadecimal digits, two a byte.
+/// A request for the files or the buffer of a session. A file name has one or more bytes and no space. Bytes are
+/// hexadecimal digits, two for each byte.
 #[derive(Clone, Copy)]
 pub enum FileRequest<'a> {
-    /// A file is made.
+    /// Create a file with this name.
     Create(&'a [u8]),
-    /// Bytes are written at an offset of a file.
+    /// Write bytes to a file at an offset.
     Write {
         file: &'a [u8],
         offset: u64,
         hex: &'a [u8],
     },
-    /// So many bytes are read at an offset of a file.
+    /// Read `len` bytes of a file at an offset.
     Read {
         file: &'a [u8],
         offset: u64,
         len: u64,
     },
-    /// A file's size is told.
+    /// Return the size of a file.
     Size(&'a [u8]),
-    /// A file's bytes go.
+    /// Free the bytes of a file.
     Clear(&'a [u8]),
-    /// A file goes.
+    /// Delete a file and its node.
     Drop(&'a [u8]),
-    /// A file's name is told by its place.
+    /// Return the name of the file at an index.
     Name(u64),
-    /// Use and limit of the session's account are told.
+    /// Return use and limit of the session's account.
     Stat,
-    /// A buffer of so many bytes, in whole pages, is made for the session.
+    /// Create the session's buffer, of this many bytes, rounded up to whole pages.
     Buffer(u64),
-    /// The buffer is given back.
+    /// Release the session's buffer.
     Unbuffer,
-    /// So many bytes from a place in the buffer on are written at an offset of a file.
+    /// Write `len` bytes of the buffer from `place` on to a file at an offset.
     Put {
         file: &'a [u8],
         offset: u64,
         place: u64,
         len: u64,
     },
-    /// At most so many bytes at an offset of a file are put into the buffer, from a place on.
+    /// Copy at most `len` bytes of a file at an offset into the buffer from `place` on.
     Get {
         file: &'a [u8],
         offset: u64,
@@ -64,7 +64,7 @@ pub enum FileRequest<'a> {
 }
 
 impl<'a> FileRequest<'a> {
-    /// The request that a text is, or `None` where it is none.
+    /// Parses a request, or returns `None` if the text is longer than 8192 bytes or has another form.
     pub fn read(text: &'a [u8]) -> Option<FileRequest<'a>>
         ensures request { option_map model_request result ≡ session_request text.now }
         ensures hex { IfSome result HasHex }
@@ -83,7 +83,7 @@ impl<'a> FileRequest<'a> {
     }
 }
 
-/// The request of a form with what stands after its word and a space as its arguments.
+/// Parses the arguments of a request with this keyword: the text after the keyword and a space.
 fn request_with(form: FileForm, arguments: &[u8]) -> Option<FileRequest<'_>>
     ensures request { option_map model_request result ≡ made_of form (Some arguments.now) }
     ensures hex { IfSome result HasHex }
@@ -111,7 +111,7 @@ fn request_with(form: FileForm, arguments: &[u8]) -> Option<FileRequest<'_>>
     }
 }
 
-/// The request of a form of one file word.
+/// Returns the request of a form whose argument is one file name.
 fn word_request(form: FileForm, file: &[u8]) -> Option<FileRequest<'_>>
     ensures request { option_map model_request result ≡ made_of_word form file.now }
     ensures hex { IfSome result HasHex }
@@ -125,7 +125,7 @@ fn word_request(form: FileForm, file: &[u8]) -> Option<FileRequest<'_>>
     }
 }
 
-/// The request of a form whose word stands alone.
+/// Returns the request of a form without arguments.
 fn bare_request<'a>(form: FileForm) -> Option<FileRequest<'a>>
     ensures request { option_map model_request result ≡ made_of form None }
     ensures hex { IfSome result HasHex }
@@ -137,7 +137,7 @@ fn bare_request<'a>(form: FileForm) -> Option<FileRequest<'a>>
     }
 }
 
-/// A file word, if a text is one: one or more bytes without a space.
+/// Returns a file name if the text is one: one or more bytes without a space.
 pub(crate) fn file_word(text: &[u8]) -> Option<&[u8]>
     ensures { option_copied result ≡ file_word text.now }
 {
@@ -148,14 +148,14 @@ pub(crate) fn file_word(text: &[u8]) -> Option<&[u8]>
     }
 }
 
-/// Whether no byte of a text is a space.
+/// Returns whether no byte of a text is a space.
 fn has_no_space(text: &[u8]) -> bool
     ensures { result ≡ list_all (λ b. not (b == 32)) text.now }
 {
     text.iter().all(|byte| *byte != b' ')
 }
 
-/// A file word and an offset, and hexadecimal digits or nothing, parted by spaces.
+/// Parses a file name, an offset, and hexadecimal digits or nothing, separated by spaces.
 fn read_write(arguments: &[u8]) -> Option<FileRequest<'_>>
     ensures request { option_map model_request result
         ≡ option_map OfFiles (of_file write_of arguments.now) }
@@ -175,7 +175,7 @@ fn read_write(arguments: &[u8]) -> Option<FileRequest<'_>>
     Some(FileRequest::Write { file, offset, hex })
 }
 
-/// A file word, an offset and a length, parted by spaces.
+/// Parses a file name, an offset and a length, separated by spaces.
 fn read_read(arguments: &[u8]) -> Option<FileRequest<'_>>
     ensures request { option_map model_request result
         ≡ option_map OfFiles (of_file read_of arguments.now) }

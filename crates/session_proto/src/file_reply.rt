@@ -1,31 +1,31 @@
-//! The file service's replies.
+//! The replies of the file service.
 ghost use Rattle.std.specs.Prelude.{◌≡◌, ◌≤◌};
 ghost use Rattle.own_model.specs.FileText.{file_reply};
 ghost use Rattle.session_proto.specs.FileReply.{model_reply, room_for};
 
-use calls::{FileError, Quotas, Reply};
+use core_calls::{FileError, Quotas, Reply};
 
-/// A reply to a request.
+/// The reply of the file service to a request.
 #[derive(Clone, Copy)]
 pub enum FileReply<'a> {
-    /// It is done.
+    /// The request succeeded.
     Done,
-    /// A count of bytes.
+    /// The request succeeded with a number of bytes.
     Count(u64),
-    /// Bytes that were read.
+    /// The bytes that were read.
     Bytes(&'a [u8]),
-    /// A file's name.
+    /// The name of a file.
     Named(&'a [u8]),
     /// Use and limit of the session's account.
     Quotas(Quotas),
-    /// A buffer was made, whose selector is still to follow.
+    /// A buffer was created; its selector is appended later.
     Lent,
-    /// It is refused.
+    /// The request failed with this error.
     Refused(FileError),
 }
 
 impl<'a> FileReply<'a> {
-    /// Writes the reply, for which there is room, after the log lines.
+    /// Writes this reply after the log lines of `reply`, which has enough capacity.
     pub fn write(self, reply: &mut Reply)
         requires { room_for self ≤ 2100 }
         ensures { reply.new ≡ record reply.old { text = file_reply (model_reply self.entry) } }
@@ -36,7 +36,7 @@ impl<'a> FileReply<'a> {
             FileReply::Bytes(bytes) => reply.serve_bytes(bytes),
             FileReply::Named(name) => reply.serve_name(name),
             FileReply::Quotas(quotas) => reply.serve_quotas(quotas),
-            FileReply::Lent => reply.serve_lent(),
+            FileReply::Lent => reply.serve_buffer(),
             FileReply::Refused(error) => reply.serve_error(error),
         }
     }

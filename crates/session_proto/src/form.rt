@@ -1,40 +1,40 @@
-//! The forms of the file service's requests, by their words.
+//! The forms of the file service's requests, by their keywords.
 ghost use Rattle.std.specs.Prelude.{◌≡◌, find};
 ghost use Rattle.std.specs.Str.{bytes_eq};
 ghost use Rattle.text_codec.specs.Firsts.{with_first};
 ghost use Rattle.session_proto.specs.Forms.{form_named, forms, word_of};
 
-/// A form of requests.
+/// The form of a request, denoted by its keyword.
 #[derive(Clone, Copy)]
 pub(crate) enum FileForm {
-    /// A file is made.
+    /// Create a file.
     Create,
-    /// Bytes are written.
+    /// Write bytes to a file.
     Write,
-    /// Bytes are read.
+    /// Read bytes of a file.
     Read,
-    /// A size is told.
+    /// Return the size of a file.
     Size,
-    /// A file's bytes go.
+    /// Free the bytes of a file.
     Clear,
-    /// A file goes.
+    /// Delete a file.
     Drop,
-    /// A name is told.
+    /// Return the name of a file.
     Name,
-    /// Use and limit are told.
+    /// Return use and limit of the account.
     Stat,
-    /// A buffer is made.
+    /// Create the buffer.
     Buffer,
-    /// The buffer is given back.
+    /// Release the buffer.
     Unbuffer,
-    /// Bytes of the buffer are written.
+    /// Write bytes of the buffer to a file.
     Put,
-    /// Bytes are put into the buffer.
+    /// Copy bytes of a file into the buffer.
     Get,
 }
 
 impl FileForm {
-    /// Its word.
+    /// Returns the form's keyword.
     fn word(self) -> &'static [u8]
         ensures { result.now ≡ word_of self }
     {
@@ -54,7 +54,7 @@ impl FileForm {
         }
     }
 
-    /// The form of a word.
+    /// Returns the form with this keyword, or `None` if there is none.
     pub(crate) fn named(word: &[u8]) -> Option<FileForm>
         ensures { result ≡ form_named word.now }
     {
@@ -64,7 +64,7 @@ impl FileForm {
         }
     }
 
-    /// The forms whose words begin with a byte.
+    /// Returns the forms whose keywords begin with a byte.
     fn beginning_with(first: u8) -> &'static [FileForm]
         ensures { result.now ≡ with_first word_of first forms }
     {
@@ -84,7 +84,7 @@ impl FileForm {
     }
 }
 
-// The first of these with a word.
+// Returns the first of these forms with this keyword.
 fn form_among(word: &[u8], forms: &[FileForm]) -> Option<FileForm>
     ensures { result ≡ find (λ form. bytes_eq word.now (word_of form)) forms.now }
 {

@@ -1,4 +1,4 @@
-//! Hexadecimal digits that may be left out.
+//! Optional hexadecimal digits.
 ghost use Rattle.std.specs.Prelude.{◌≡◌, IfSome, IsSome};
 ghost use Rattle.std.specs.Option.{option_copied, option_map};
 ghost use Rattle.own_model.specs.Text.{bytes_of_hex, hex_bytes};
@@ -6,8 +6,8 @@ ghost use Rattle.own_model.specs.LogText.{hex_or_nothing};
 
 use text_codec::read_hex;
 
-/// The hexadecimal digits of a text, or none where there is no text. It is `None` where a text isn't the digits of one
-/// or more bytes.
+/// Returns the hexadecimal digits of a text, or no digits if there is no text. Returns `None` if the text is not the
+/// digits of one or more bytes.
 pub(crate) fn hex_or_nothing(text: Option<&[u8]>) -> Option<&[u8]>
     ensures bytes { option_map hex_bytes (option_copied result)
         ≡ hex_or_nothing (option_copied text.entry) }

@@ -1,4 +1,7 @@
-//! The texts of sessions: the arguments with which one is asked for, and the requests and replies of the services.
+//! The texts of sessions: session arguments, and the requests and replies of the services.
+//!
+//! `pd_core` parses the arguments, and the services parse requests and write replies. For example,
+//! `SessionArgs::read(b"ram_quota=8K, cap_quota=2")` returns arguments with 8192 bytes and 2 capabilities.
 #![tactic(auto)]
 
 mod args;
@@ -13,7 +16,7 @@ mod plain;
 mod text;
 
 pub use args::SessionArgs;
-pub use calls::FileError;
+pub use core_calls::FileError;
 pub use file::FileRequest;
 pub use file_reply::FileReply;
 pub use log::{LogReply, LogRequest};

@@ -15,14 +15,15 @@ pub(crate) struct Pair<'a> {
     pub(crate) value: Value<'a>,
 }
 
-/// A value: as it stands, or what stands between quotes.
+/// A value: the text itself, or the text between quotes.
 #[derive(Clone, Copy)]
 pub(crate) enum Value<'a> {
     Bare(&'a [u8]),
     Quoted(&'a [u8]),
 }
 
-/// The pair of a piece: a key, an equals sign and a value, with spaces before and after them.
+/// Parses a pair: a key, an equals sign and a value, with optional spaces before and after them. Returns `None` if the
+/// text has another form.
 pub(crate) fn read_pair(piece: &[u8]) -> Option<Pair<'_>>
     ensures { option_map model_pair result ≡ pair_of piece.now }
 {
@@ -36,7 +37,7 @@ pub(crate) fn read_pair(piece: &[u8]) -> Option<Pair<'_>>
     Some(Pair { key, value })
 }
 
-/// Whether a text is a letter or `_`, and then letters, digits and `_`.
+/// Returns whether a text is a letter or `_`, followed by letters, digits and `_`.
 fn is_key(text: &[u8]) -> bool
     ensures { result ≡ is_key text.now }
 {
@@ -58,7 +59,7 @@ fn has_key_bytes(text: &[u8]) -> bool
     text.iter().all(|byte| is_key_byte(*byte))
 }
 
-/// The value that a text is, if it is one.
+/// Parses a value, with or without quotes, or returns `None` if the text has another form.
 fn read_value(text: &[u8]) -> Option<Value<'_>>
     ensures { option_map model_value result ≡ value_of text.now }
 {
@@ -74,14 +75,14 @@ fn read_value(text: &[u8]) -> Option<Value<'_>>
     }
 }
 
-/// Whether each byte may stand between quotes.
+/// Returns whether each byte may be between quotes.
 fn has_quotable_bytes(text: &[u8]) -> bool
     ensures { result ≡ list_all is_quotable text.now }
 {
     text.iter().all(|byte| is_quotable(*byte))
 }
 
-/// Whether a text is one or more letters, digits, `_`, `-` and `.`.
+/// Returns whether a text is one or more letters, digits, `_`, `-` and `.`.
 fn is_bare(text: &[u8]) -> bool
     ensures { result ≡ is_bare text.now }
 {

@@ -1,28 +1,29 @@
-//! Pairs as they are mostly written: a key that is known, an equals sign and a value, with one space before them at most. Each is
-//! read in one pass. Any other text is read piece by piece.
+//! Pairs in their usual form: a known key, an equals sign and a value, with at most one space before them. Each is parsed
+//! in one pass. Any other text is parsed piece by piece.
 ghost use Rattle.std.specs.Prelude.{◌≡◌, ◌<◌, ◌≤◌, ◌++◌, ◌∷◌, length, take, position, not, true, IfSome};
 ghost use Rattle.std.specs.Option.{option_copied};
 ghost use Rattle.std.specs.List.{list_all};
 ghost use Rattle.own_model.specs.Text.{is_name_byte};
 ghost use Rattle.own_model.specs.SessionArgs.{is_bare, is_quotable};
 ghost use Rattle.session_proto.specs.Pairs.{BeginsWith};
-ghost use Rattle.session_proto.specs.Pieces.{behind_comma};
+ghost use Rattle.session_proto.specs.Pieces.{after_comma};
 ghost use Rattle.session_proto.specs.View.{plain_pair};
 
 use text_codec::{is_name_byte, is_quotable};
 
-/// A pair of a key that is known, by the text of its value.
+/// A pair of a known key and the text of its value.
 #[derive(Clone, Copy)]
 pub(crate) enum PlainPair<'a> {
-    /// Of `ram_quota`, as it stands.
+    /// The value of `ram_quota`, without quotes.
     Ram(&'a [u8]),
-    /// Of `cap_quota`, as it stands.
+    /// The value of `cap_quota`, without quotes.
     Caps(&'a [u8]),
-    /// Of `label`, what stands between the quotes.
+    /// The value of `label`, the text between the quotes.
     Label(&'a [u8]),
 }
 
-/// The first pair of a text, and the text behind its comma if there is one, where it is so written.
+/// Parses the first pair of a text if it has the usual form. Returns the pair, and the text after its comma if there is
+/// one.
 #[inline]
 pub(crate) fn read_plain(text: &[u8]) -> Option<(PlainPair<'_>, Option<&[u8]>)>
     ensures first { IfSome result (λ found.
@@ -36,7 +37,7 @@ pub(crate) fn read_plain(text: &[u8]) -> Option<(PlainPair<'_>, Option<&[u8]>)>
     }
 }
 
-/// The same without a space.
+/// Parses the first pair as `read_plain` does, without a leading space.
 #[inline]
 fn read_unspaced(text: &[u8]) -> Option<(PlainPair<'_>, Option<&[u8]>)>
     ensures first { IfSome result (λ found.
@@ -65,11 +66,12 @@ fn read_unspaced(text: &[u8]) -> Option<(PlainPair<'_>, Option<&[u8]>)>
     Some((PlainPair::Label(value), rest))
 }
 
-/// A value that stands as it is, up to the text's end or a comma, and what stands behind that comma.
+/// Splits a value without quotes from a text, at the text's end or a comma. Returns the value, and the text after the
+/// comma if there is one.
 #[inline]
 fn split_bare(text: &[u8]) -> Option<(&[u8], Option<&[u8]>)>
     ensures parts { IfSome result (λ parts.
-        text.now ≡ parts.0.now ++ behind_comma (option_copied parts.1)) }
+        text.now ≡ parts.0.now ++ after_comma (option_copied parts.1)) }
     ensures bare { IfSome result (λ parts. is_bare parts.0.now ≡ true) }
     ensures shorter { IfSome result (λ parts.
         IfSome parts.1 (λ rest. length rest.now < length text.now)) }
@@ -84,11 +86,12 @@ fn split_bare(text: &[u8]) -> Option<(&[u8], Option<&[u8]>)>
     Some((&text[..end], rest))
 }
 
-/// A value up to the quote behind it, where the text ends there or a comma follows, and what stands behind that comma.
+/// Splits a value from a text at its closing quote, if the text ends there or a comma follows. Returns the value, and the
+/// text after the comma if there is one.
 #[inline]
 fn split_quoted(text: &[u8]) -> Option<(&[u8], Option<&[u8]>)>
     ensures parts { IfSome result (λ parts.
-        text.now ≡ parts.0.now ++ 34 ∷ behind_comma (option_copied parts.1)) }
+        text.now ≡ parts.0.now ++ 34 ∷ after_comma (option_copied parts.1)) }
     ensures quotable { IfSome result (λ parts. list_all is_quotable parts.0.now ≡ true) }
     ensures shorter { IfSome result (λ parts.
         IfSome parts.1 (λ rest. length rest.now < length text.now)) }
@@ -103,10 +106,10 @@ fn split_quoted(text: &[u8]) -> Option<(&[u8], Option<&[u8]>)>
     Some((&text[..end], rest))
 }
 
-/// What stands behind a comma, or that there is none as the text is at its end.
+/// Returns the text after a leading comma, `Some(None)` for the empty text, or `None` for any other text.
 #[inline]
 fn split_comma(text: &[u8]) -> Option<Option<&[u8]>>
-    ensures comma { IfSome result (λ rest. text.now ≡ behind_comma (option_copied rest)) }
+    ensures comma { IfSome result (λ rest. text.now ≡ after_comma (option_copied rest)) }
     ensures shorter { IfSome result (λ found.
         IfSome found (λ rest. length rest.now < length text.now)) }
 {
@@ -117,7 +120,7 @@ fn split_comma(text: &[u8]) -> Option<Option<&[u8]>>
     }
 }
 
-/// How many bytes at the front may stand in a value without quotes.
+/// Returns the number of leading bytes that may be in a value without quotes.
 fn bare_len(text: &[u8]) -> usize
     ensures inside { result ≤ length text.now }
     ensures bare { list_all is_name_byte (take result text.now) ≡ true }
@@ -128,7 +131,7 @@ fn bare_len(text: &[u8]) -> usize
     }
 }
 
-/// Where the first byte is that may not stand in one.
+/// Returns the index of the first byte that may not be in a value without quotes.
 fn find_unnamed(text: &[u8]) -> Option<usize>
     ensures place { result ≡ position (λ b. not (is_name_byte b)) text.now }
     ensures inside { IfSome result (λ at. at < length text.now) }
@@ -136,7 +139,7 @@ fn find_unnamed(text: &[u8]) -> Option<usize>
     text.iter().position(|byte| !is_name_byte(*byte))
 }
 
-/// How many bytes at the front may stand between quotes.
+/// Returns the number of leading bytes that may be between quotes.
 fn quotable_len(text: &[u8]) -> usize
     ensures inside { result ≤ length text.now }
     ensures quotable { list_all is_quotable (take result text.now) ≡ true }
@@ -147,7 +150,7 @@ fn quotable_len(text: &[u8]) -> usize
     }
 }
 
-/// Where the first byte is that may not stand there.
+/// Returns the index of the first byte that may not be between quotes.
 fn find_unquotable(text: &[u8]) -> Option<usize>
     ensures place { result ≡ position (λ b. not (is_quotable b)) text.now }
     ensures inside { IfSome result (λ at. at < length text.now) }

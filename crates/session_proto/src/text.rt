@@ -1,4 +1,4 @@
-//! Pieces of a text.
+//! Splitting of a text into pieces.
 ghost use Rattle.std.specs.Prelude.{◌≡◌, ◌<◌, ◌≤◌, ◌∷◌, length, position, IfSome, reverse, false};
 ghost use Rattle.std.specs.Option.{option_copied};
 ghost use Rattle.std.specs.List.{before_first, after_first, list_all};
@@ -7,14 +7,14 @@ ghost use Rattle.session_proto.specs.Pieces.{is_cut, first_len, pieces_after};
 
 use text_codec::{find_byte, find_either};
 
-/// Whether a text is spaces alone, or nothing.
+/// Returns whether a text is empty or has only spaces.
 pub(crate) fn is_blank(text: &[u8]) -> bool
     ensures { result ≡ list_all is_space text.now }
 {
     text.iter().all(|byte| *byte == b' ')
 }
 
-/// A text without the spaces at its front and at its end.
+/// Returns a text without its leading and trailing spaces.
 pub(crate) fn trim(text: &[u8]) -> &[u8]
     ensures { result.now ≡ trimmed text.now }
 {
@@ -43,7 +43,7 @@ fn trim_end(mut text: &[u8]) -> &[u8]
     text
 }
 
-/// What stands before the first `=` of a text, and what stands after it.
+/// Splits a text at its first `=`: the text before it, and the text after it.
 pub(crate) fn split_at_equals(text: &[u8]) -> (&[u8], &[u8])
     ensures before { result.0.now ≡ before_first is_equals text.now }
     ensures after { result.1.now ≡ after_first is_equals text.now }
@@ -54,7 +54,8 @@ pub(crate) fn split_at_equals(text: &[u8]) -> (&[u8], &[u8])
     }
 }
 
-/// A text up to its first comma that doesn't stand within quotes, and what stands after that, if there is one.
+/// Splits a text at its first comma outside quotes. Returns the text before the comma, and the text after it if there is
+/// a comma.
 pub(crate) fn split_piece(text: &[u8]) -> (&[u8], Option<&[u8]>)
     ensures pieces { pieces_of false text.now
         ≡ result.0.now ∷ pieces_after (option_copied result.1) }
@@ -68,7 +69,7 @@ pub(crate) fn split_piece(text: &[u8]) -> (&[u8], Option<&[u8]>)
     }
 }
 
-/// Where the first comma that doesn't stand within quotes is, or the length of a text without one.
+/// Returns the index of the first comma outside quotes, or the length of the text if there is none.
 fn piece_len(text: &[u8]) -> usize
     ensures value { result ≡ first_len false text.now }
     ensures within { result ≤ length text.now }
@@ -79,7 +80,7 @@ fn piece_len(text: &[u8]) -> usize
         if text[place] == b',' {
             return place;
         }
-        // What stands between quotes is passed whole.
+        // The text between quotes is skipped as a whole.
         match find_quote(&text[place + 1..]) {
             Some(inner) => at = place + 1 + inner + 1,
             None => return text.len(),
@@ -88,7 +89,7 @@ fn piece_len(text: &[u8]) -> usize
     text.len()
 }
 
-/// Where the first comma or quote is.
+/// Returns the index of the first comma or quote.
 fn find_cut(text: &[u8]) -> Option<usize>
     ensures place { result ≡ position is_cut text.now }
     ensures inside { IfSome result (λ at. at < length text.now) }
@@ -96,7 +97,7 @@ fn find_cut(text: &[u8]) -> Option<usize>
     find_either(b',', b'"', text)
 }
 
-/// Where the first quote is.
+/// Returns the index of the first quote.
 fn find_quote(text: &[u8]) -> Option<usize>
     ensures place { result ≡ position is_quote text.now }
     ensures inside { IfSome result (λ at. at < length text.now) }

@@ -21,7 +21,7 @@ use Rattle.dataspace_core.proofs.PartLemmas.{part-fresh}
 use Rattle.dataspace_core.proofs.WindowLaws.{unshown_free}
 use Rattle.sliced_heap.specs.declared.heap.SlicedHeap.{SlicedHeap}
 use Rattle.sliced_heap.specs.Heap.{payer_of, blocks_at, MapsMemory, IsSound, CanEnter, Enters, TakesBlock}
-use Rattle.sliced_heap.specs.Laws.{HeapStays}
+use Rattle.sliced_heap.specs.Theorems.{HeapStays}
 use Rattle.sliced_heap.proofs.ShareLemmas.{shown_block}
 use Rattle.sliced_heap.proofs.HeapLaws.{map_stays_for_payer, heap_stays}
 

@@ -28,7 +28,7 @@ use Rattle.dataspace_core.proofs.PartLemmas.{space_at-some}
 use Rattle.sliced_heap.specs.declared.heap.SlicedHeap.{SlicedHeap}
 use Rattle.sliced_heap.specs.Sliced.{word_at, block_regions, payload_of}
 use Rattle.sliced_heap.specs.Heap.{payer_of, share_at, blocks_at, MapsMemory, IsSound, HoldsRange}
-use Rattle.sliced_heap.specs.Laws.{KeepsHeapWindow, Pokes, PayloadsArePoked, PayloadsAreRead, EmptyMapsHaveNoBlocks, MapsStay, MapsStayForPayers, HeapsStay, HeapsStayAmong, HeapsStayElsewhere, HeapsStayBeside, HeapStays, BlocksAreRegions, GapsAreBetweenBlocks}
+use Rattle.sliced_heap.specs.Theorems.{KeepsHeapWindow, Pokes, PayloadsArePoked, PayloadsAreRead, EmptyMapsHaveNoBlocks, MapsStay, MapsStayForPayers, HeapsStay, HeapsStayAmong, HeapsStayElsewhere, HeapsStayBeside, HeapStays, BlocksAreRegions, GapsAreBetweenBlocks}
 use Rattle.sliced_heap.proofs.LinkedLemmas.{still_linked, alike_linked, alike_payloads, payload_put}
 use Rattle.dataspace_core.proofs.PokedLaws.{poked_there, poked_other, poked_length}
 use Rattle.sliced_heap.proofs.HeaderLemmas.{poked_word}

@@ -1,4 +1,4 @@
--- A chain of blocks that is linked both ways. A link is the block's key and one more, or 0 where there is no block.
+-- A chain of blocks that is linked both ways. A link is the block's key and one more, or 0 if there is no block.
 use Rattle.std.specs.Prelude.{◌≡◌, ℕ, ◌+◌, ◌==◌, Bool, false, true, ◌||◌, ◌&&◌, not, List, [], ◌∷◌}
 
 -- the link to a block

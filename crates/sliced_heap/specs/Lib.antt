@@ -1,5 +1,5 @@
 pub mod Chain
 pub mod Sliced
 pub mod Heap
-pub mod Laws
+pub mod Theorems
 pub mod Window

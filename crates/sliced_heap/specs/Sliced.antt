@@ -12,7 +12,7 @@ use Rattle.dataspace_core.specs.Share.{Share}
 pub use Rattle.sliced_heap.specs.Window.{sliced_tag, is_sliced_tag, sliced_regions, block_regions}
 use Rattle.sliced_heap.specs.Chain.{link_to, is_listed, IsChain}
 
--- what a region's dataspace holds behind the header
+-- what a region's dataspace holds after the header
 abbrev pub payload_of : NatMap (List ℕ) → Region → Option (List ℕ)
 payload_of spaces region = option_map (drop header) (get spaces region.of)
 
@@ -38,7 +38,7 @@ previous_in part ds = word_at part 8 ds
 abbrev pub start_in : Part → ℕ → ℕ
 start_in part ds = word_at part 16 ds
 
--- a dataspace is whole pages, all of which stand as a block where its header says
+-- a dataspace is whole pages, all of which are attached as a block at the address in its header
 pub record Stands (share : Share) (ds : ℕ) : Type 0 where
   pub bytes : List ℕ
   pub pages : ℕ
@@ -72,7 +72,7 @@ abbrev pub LeadsToHeader : ℕ → Part → Type 0
 LeadsToHeader link part = (b : ℕ) → link ≡ link_to b → HasHeader part b
 
 -- headers have changed, of these blocks alone, and nothing else: neither the account, nor which dataspaces there are, nor
--- what they hold behind a header
+-- what they hold after a header
 pub record HeadersChange (blocks : List ℕ) (old new : Part) : Type 0 where
   pub account : new.account ≡ old.account
   pub payloads : (ds : ℕ) → option_map (drop header) (get new.spaces ds) ≡ option_map (drop header) (get old.spaces ds)
@@ -104,7 +104,7 @@ pub record LinkedAhead (link ahead : ℕ) (old new : Part) : Type 0 where
   pub nexts : (b : ℕ) → next_in new b ≡ cond (link_to b == link) ahead (next_in old b)
   pub previouses : (b : ℕ) → previous_in new b ≡ previous_in old b
 
--- a block is put before the first one, and stands where its header says
+-- a block is put before the first one, and its region is at the address in its header
 pub record PutFirst (first ds start : ℕ) (old new : Part) : Type 0 where
   pub starts : start_in new ds ≡ start
   pub leads : next_in new ds ≡ first

@@ -68,7 +68,7 @@ is_large_tag (Some tag) = tag == large_tag
 abbrev pub large_regions : Share → NatMap Region
 large_regions share = numbered is_large_tag share.heap share.tags
 
--- a region with the number kept with it, where that is a chunk's or a large block's
+-- a region with the number kept with it, if that is a chunk's or a large block's
 abbrev pub low_region : Option ℕ → Option Region → Option (Region × ℕ)
 low_region tag region = option_and_then (λ tag. if nat_le tag large_tag then option_map (λ region. (region, tag)) region else None) tag
 

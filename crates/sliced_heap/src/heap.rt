@@ -18,20 +18,20 @@ use dataspace_core::Memory;
 use region_map::RegionMap;
 use trade_base::{AccountId, DsId, PAGE, Refusal, SLICED_HEADER};
 
-/// The number that the region of a sliced block keeps.
+/// The number stored with the region of a sliced block.
 const SLICED: u64 = u64::MAX;
 
 /// A heap of one account, in which each block is a dataspace of its own.
 #[derive(Drop)]
 pub struct SlicedHeap {
     account: AccountId,
-    /// The link to the block that was taken last.
+    /// The link to the most recently allocated block.
     first: u64,
 }
 
 impl SlicedHeap {
-    /// A heap of no blocks, which takes them for the account. It works on each map of a memory that holds no block of
-    /// the account yet.
+    /// Creates an empty heap that charges the account. It is valid for each map of a memory that has no block of the
+    /// account yet.
     pub fn new(account: AccountId) -> SlicedHeap
         ensures payer { payer_of result ≡ account.0 }
         ensures sound { (store : Store) (regions : Regions) → IsOpenIn store account.0
@@ -41,18 +41,19 @@ impl SlicedHeap {
         SlicedHeap { account, first: 0 }
     }
 
-    /// The account for which the heap takes its blocks.
+    /// Returns the account that the heap charges for its blocks.
     pub fn account(&self) -> AccountId
         ensures { result.0 ≡ payer_of self.now }
     {
         self.account
     }
 
-    /// Takes a block for so many bytes, all zero, and tells the address of its payload. The account pays for the block's
-    /// bytes, its header of 32 among them, in whole pages, and one capability.
+    /// Allocates a zeroed block for `bytes` bytes and returns the address of its payload. The account is charged for the
+    /// block in whole pages, including its header of 32 bytes, and for one capability.
     ///
-    /// It is refused with `InvalidSize` where `bytes` is 0 or the block is past 64 bits in whole pages, else with `OutOfRam`
-    /// where less RAM of the account's limit is free, and else with `OutOfCaps` where no capability is. Nothing else refuses it.
+    /// Refuses with `InvalidSize` if `bytes` is 0 or the block exceeds 64 bits in whole pages. Then refuses with
+    /// `OutOfRam` if the account has less unused RAM, then with `OutOfCaps` if it has no unused capability. Nothing else
+    /// refuses it.
     pub fn alloc(
         &mut self,
         memory: &mut Memory,
@@ -77,8 +78,9 @@ impl SlicedHeap {
         Ok(self.enter(memory, map, ds, pages))
     }
 
-    /// Gives back the block whose payload starts at the address, and credits the account with all that it was charged for
-    /// it. `PageFault` where no payload of the account's blocks starts there.
+    /// Frees the block whose payload starts at the address, and credits the account with its charges.
+    ///
+    /// Refuses with `PageFault` if no payload of the account's blocks starts there.
     pub fn free(
         &mut self,
         memory: &mut Memory,
@@ -104,8 +106,9 @@ impl SlicedHeap {
         Ok(())
     }
 
-    /// The dataspace of the block whose payload holds `count` bytes from the address on, and the offset in it of the first
-    /// of them. `None` where they don't lie in one payload of the account's blocks, as where one of them is a header's.
+    /// Returns the dataspace of the block whose payload contains `count` bytes from the address on, and the offset of the
+    /// first byte in it. Returns `None` if the bytes do not lie in one payload of the account's blocks, for example if
+    /// one is in a header.
     pub fn block_of(
         &self,
         memory: &Memory,
@@ -130,7 +133,7 @@ impl SlicedHeap {
         Some((ds, offset))
     }
 
-    /// Gives back all blocks, and credits the account with all that it was charged for them. The heap is then as a new one.
+    /// Frees all blocks and credits the account with their charges. The heap is then as a new one.
     pub fn end(&mut self, memory: &mut Memory, map: &mut RegionMap)
         requires { IsSound self.old memory.old map.old }
         ensures given { GivesAll (payer_of self.old) memory.old memory.new map.old map.new }
@@ -144,7 +147,7 @@ impl SlicedHeap {
         }
     }
 
-    // The block whose pages hold an address, in its header or in its payload: where its region starts, and its dataspace.
+    // Returns the start address and the dataspace of the block that contains an address, in its header or its payload.
     fn block_at(&self, memory: &Memory, map: &RegionMap, address: u64) -> Option<(u64, DsId)>
         requires { IsSound self.now memory.now map.now }
         ensures some { IfSome result (λ block.
@@ -160,7 +163,7 @@ impl SlicedHeap {
         Some((start, ds))
     }
 
-    // The block whose payload starts at an address: where its region starts, and its dataspace.
+    // Returns the start address and the dataspace of the block whose payload starts at an address.
     fn block_from(&self, memory: &Memory, map: &RegionMap, address: u64) -> Option<(u64, DsId)>
         requires { IsSound self.now memory.now map.now }
         ensures some { IfSome result (λ block.
@@ -177,7 +180,7 @@ impl SlicedHeap {
         Some((start, ds))
     }
 
-    // Gives back the block whose region starts at an address.
+    // Frees the block whose region starts at an address.
     fn give_back(&mut self, memory: &mut Memory, map: &mut RegionMap, start: u64, ds: DsId)
         requires sound { IsSound self.old memory.old map.old }
         requires block { IsBlockAt (share_at (payer_of self.old) memory.old map.old) start ds.0 }
@@ -190,7 +193,8 @@ impl SlicedHeap {
         memory.free(ds);
     }
 
-    // Whether a heap region is a block of this heap: by who pays for its dataspace, and by the number kept with it.
+    // Tests whether a heap region is a block of this heap, by the payer of its dataspace and the number stored with the
+    // region.
     fn owns(&self, memory: &Memory, ds: DsId, tag: u64) -> bool
         requires { Exists memory.now ds.0 }
         ensures { result
@@ -199,7 +203,7 @@ impl SlicedHeap {
         tag == SLICED && memory.payer(ds) == self.account
     }
 
-    // Enters a dataspace as the first block, and tells the address of its payload.
+    // Attaches a dataspace as the first block, and returns the address of its payload.
     fn enter(&mut self, memory: &mut Memory, map: &mut RegionMap, ds: DsId, pages: u64) -> u64
         requires sound { IsSound self.old memory.old map.old }
         requires small { ds.0 + 1 < 2 ^ 64 }
@@ -214,7 +218,7 @@ impl SlicedHeap {
     }
 }
 
-// So many bytes and a header, or `None` where that is no bytes or past 64 bits.
+// Returns `bytes` plus the size of a header, or `None` if `bytes` is 0 or the sum exceeds 64 bits.
 fn with_header(bytes: u64) -> Option<u64>
     ensures some { IfSome result (λ size. (size ≡ header + bytes) × (0 < bytes)) }
     ensures none { IfNone result (sliced_refusal bytes (opened 0 0) ≡ Some InvalidSize) }

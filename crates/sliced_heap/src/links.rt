@@ -1,4 +1,4 @@
-//! How the blocks of a heap are linked.
+//! The doubly linked list of a heap's blocks.
 ghost use Rattle.std.specs.Prelude.{◌≡◌, ◌≢◌, ◌+◌, ◌<◌, ◌^◌, ◌==◌, true, cond, ℕ, List};
 ghost use Rattle.dataspace_core.specs.Store.{part, PartBecomes};
 ghost use Rattle.sliced_heap.specs.Chain.{link_to, is_listed};
@@ -9,7 +9,8 @@ use crate::header::{NEXT, PREVIOUS, START, linked, load, store};
 use dataspace_core::Memory;
 use trade_base::{AccountId, DsId};
 
-/// Puts a block, whose region starts at an address, before the one to which `first` leads. It tells the link to it.
+/// Inserts a block, whose region starts at `start`, before the block that `first` denotes. Returns the link to the
+/// inserted block.
 pub fn put_first(memory: &mut Memory, account: AccountId, first: u64, ds: DsId, start: u64) -> u64
     requires small { ds.0 + 1 < 2 ^ 64 }
     requires header { HasHeader (part account.0 memory.old) ds.0 }
@@ -31,7 +32,7 @@ pub fn put_first(memory: &mut Memory, account: AccountId, first: u64, ds: DsId, 
     link
 }
 
-/// Links the blocks before and after a block to each other. It tells the link to the first block that is left.
+/// Removes a block from the list: links its neighbours to each other. Returns the link to the first remaining block.
 pub fn take_out(memory: &mut Memory, account: AccountId, first: u64, ds: DsId) -> u64
     requires header { HasHeader (part account.0 memory.old) ds.0 }
     requires next { let p = part account.0 memory.old in LeadsToHeader (next_in p ds.0) p }
@@ -54,7 +55,7 @@ pub fn take_out(memory: &mut Memory, account: AccountId, first: u64, ds: DsId) -
     if previous == 0 { next } else { first }
 }
 
-// Links the block to which `link` leads, if there is one, back by `back`.
+// Sets the back link of the block that `link` denotes, if any, to `back`.
 fn link_back(memory: &mut Memory, account: AccountId, link: u64, back: u64)
     requires { LeadsToHeader link (part account.0 memory.old) }
     ensures changes { ChangesLinked account.0 link memory.old memory.new }
@@ -65,7 +66,7 @@ fn link_back(memory: &mut Memory, account: AccountId, link: u64, back: u64)
     }
 }
 
-// Links the block to which `link` leads, if there is one, to the block after it by `ahead`.
+// Sets the forward link of the block that `link` denotes, if any, to `ahead`.
 fn link_ahead(memory: &mut Memory, account: AccountId, link: u64, ahead: u64)
     requires { LeadsToHeader link (part account.0 memory.old) }
     ensures changes { ChangesLinked account.0 link memory.old memory.new }

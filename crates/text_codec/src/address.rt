@@ -1,13 +1,14 @@
-//! Addresses.
+//! Parsing of addresses.
 ghost use Rattle.std.specs.Prelude.{◌≡◌, ◌≤◌, length};
 ghost use Rattle.own_model.specs.Text.{address_of, hex_number_after};
 
 use crate::hex_text::hex_digit;
 
-/// The most hexadecimal digits of an address: those of 64 bits.
+/// The maximum number of hexadecimal digits of an address, that of 64 bits.
 const MOST_DIGITS: usize = 16;
 
-/// The address that `0x` and 1 to 16 hexadecimal digits of either case stand for, or `None` where a text is none.
+/// Returns the address that `0x` followed by 1 to 16 hexadecimal digits of either case denotes, or `None` if the text has
+/// another form.
 pub fn read_address(text: &[u8]) -> Option<u64>
     ensures { result ≡ address_of text.now }
 {
@@ -19,7 +20,7 @@ pub fn read_address(text: &[u8]) -> Option<u64>
     }
 }
 
-/// The number that at most 16 hexadecimal digits stand for, or `None` where another byte is among them.
+/// Returns the number that at most 16 hexadecimal digits denote, or `None` if another byte is among them.
 #[tactic(auto, using(crate::proofs::AddressLemmas::hex_digits))]
 fn read_digits(digits: &[u8]) -> Option<u64>
     requires { length digits.now ≤ 16 }

@@ -1,4 +1,4 @@
-//! Which bytes may stand in which kind of text.
+//! The bytes that may be in each kind of text.
 ghost use Rattle.std.specs.Prelude.{◌≡◌};
 ghost use Rattle.own_model.specs.Text.{is_name_byte};
 ghost use Rattle.own_model.specs.SessionArgs.{is_key_byte, is_quotable};
@@ -9,7 +9,7 @@ const KEY: u8 = 2;
 
 const QUOTED: u8 = 4;
 
-// For each byte a digit, whose low three bits are the flags above: one look-up a byte, in place of up to six comparisons.
+// For each byte a digit, whose low three bits are the flags above. One table lookup replaces up to six comparisons.
 static KINDS: [u8; 256] = *b"\
     00000000000000000000000000000000\
     44044444444445547777777777444444\
@@ -20,7 +20,7 @@ static KINDS: [u8; 256] = *b"\
     00000000000000000000000000000000\
     00000000000000000000000000000000";
 
-/// Whether a byte may stand in a name: it is a letter, a digit, `_`, `-` or `.`.
+/// Returns whether a byte may be in a name: a letter, a digit, `_`, `-` or `.`.
 #[inline]
 pub fn is_name_byte(byte: u8) -> bool
     ensures { result ≡ is_name_byte byte }
@@ -28,7 +28,7 @@ pub fn is_name_byte(byte: u8) -> bool
     KINDS[byte as usize] & NAME != 0
 }
 
-/// Whether a byte may stand in a key: it is a letter, a digit or `_`.
+/// Returns whether a byte may be in a key: a letter, a digit or `_`.
 #[inline]
 pub fn is_key_byte(byte: u8) -> bool
     ensures { result ≡ is_key_byte byte }
@@ -36,7 +36,7 @@ pub fn is_key_byte(byte: u8) -> bool
     KINDS[byte as usize] & KEY != 0
 }
 
-/// Whether a byte may stand between quotes: it is printable, and neither a quote nor a backslash.
+/// Returns whether a byte may be between quotes: printable, and neither a quote nor a backslash.
 #[inline]
 pub fn is_quotable(byte: u8) -> bool
     ensures { result ≡ is_quotable byte }

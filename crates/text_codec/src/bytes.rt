@@ -1,9 +1,9 @@
-//! Where a byte is in a text, and the rest of a text.
+//! Search for a byte in a text, and the rest of a text.
 ghost use Rattle.std.specs.Prelude.{◌≡◌, ◌==◌, ◌||◌, ◌<◌, length, drop, IfSome, position};
 
 use memchr::{memchr, memchr2};
 
-/// Where a byte stands first in a text.
+/// Returns the index of the first occurrence of a byte in a text, or `None` if there is none.
 #[inline]
 #[tactic(auto, using(crate::proofs::SearchLemmas::first_byte_is))]
 pub fn find_byte(byte: u8, text: &[u8]) -> Option<usize>
@@ -13,7 +13,7 @@ pub fn find_byte(byte: u8, text: &[u8]) -> Option<usize>
     memchr(byte, text)
 }
 
-/// Where one of two bytes stands first in a text.
+/// Returns the index of the first occurrence of either of two bytes in a text, or `None` if there is none.
 #[inline]
 #[tactic(auto, using(crate::proofs::SearchLemmas::first_byte_is))]
 pub fn find_either(one: u8, other: u8, text: &[u8]) -> Option<usize>
@@ -23,7 +23,7 @@ pub fn find_either(one: u8, other: u8, text: &[u8]) -> Option<usize>
     memchr2(one, other, text)
 }
 
-/// Returns a text without its first bytes, so many: nothing where it has no more.
+/// Returns a text without its first `count` bytes, or the empty text if it has no more bytes.
 pub fn skip_bytes(text: &[u8], count: usize) -> &[u8]
     ensures { result.now ≡ drop count text.now }
 {

@@ -1,20 +1,20 @@
-//! The digits of a number, written where they stand.
+//! The digits of a number, written in place.
 ghost use Rattle.std.specs.Prelude.{◌≡◌, ◌+◌, ◌≤◌, ◌++◌, length, take, drop, decimal, false};
 ghost use Rattle.std.specs.Fmt.{digits};
 
 use itoa::write_digits;
 
-/// The most hexadecimal digits of a number.
+/// The maximum number of hexadecimal digits of a 64-bit number.
 pub const MOST_HEX_DIGITS: usize = 16;
 
-/// Writes a number in decimal digits over a text from a place on, and tells where they end.
+/// Writes a number in decimal digits over a text from a place on, and returns the place after the last digit.
 #[inline]
 pub fn write_number(number: u64, text: &mut [u8], at: usize) -> usize
     requires { at + length (decimal number) ≤ length text.old }
     ensures end { result ≡ at + length (decimal number) }
     ensures written { take result text.new ≡ take at text.old ++ decimal number }
 {
-    // Most numbers that are told have one digit, or five: these need no division.
+    // Most printed numbers have one digit or five; these need no division.
     if number < 10 {
         text[at] = b'0' + number as u8;
         return at + 1;
@@ -24,7 +24,7 @@ pub fn write_number(number: u64, text: &mut [u8], at: usize) -> usize
     end
 }
 
-/// The number of digits. They are counted as they are written: four at a step.
+/// Returns the number of decimal digits of a number. Each step of the loop counts four digits.
 #[inline]
 fn digit_count(number: u64) -> usize
     ensures { result ≡ length (decimal number) }
@@ -49,8 +49,8 @@ fn digit_count(number: u64) -> usize
     }
 }
 
-/// Writes the hexadecimal digits of a number at the end of a text, and tells where they start. All digits of its eight bytes are
-/// written, and those in front that are zeros are passed by the number's bits.
+/// Writes the hexadecimal digits of a number at the end of a text, and returns the place of the first digit. It writes
+/// all 16 digits; the returned place skips the leading zeros, but not the last digit.
 pub fn write_hex(number: u64, text: &mut [u8; MOST_HEX_DIGITS]) -> usize
     ensures start { result ≤ MOST_HEX_DIGITS }
     ensures written { drop result text.new ≡ digits 16 false number }

@@ -1,10 +1,10 @@
-//! Bytes, and pairs of hexadecimal digits.
+//! Conversion between bytes and pairs of hexadecimal digits.
 ghost use Rattle.std.specs.Prelude.{◌≡◌, ◌+◌, ◌*◌, ◌/◌, ◌%◌, ◌<◌, ◌≤◌, ℕ, length, take, drop, Ok, IsOk, IsSome, [], ◌∷◌};
 ghost use Rattle.std.specs.Result.{ForOk};
 ghost use Rattle.hex.specs.Hex.{decode_of, encode_lower, hex_digit_value, pair_value};
 ghost use Rattle.text_codec.specs.Digits.{bits_value, bits_digit};
 
-/// Decodes a text of hexadecimal digits of either case, two a byte.
+/// Decodes a text of hexadecimal digits of either case into bytes, two digits for each byte.
 pub fn decode_hex(hex: &[u8], bytes: &mut [u8])
     requires hex { IsOk (decode_of hex.now) }
     requires len { length bytes.old ≡ length hex.now / 2 }
@@ -15,7 +15,7 @@ pub fn decode_hex(hex: &[u8], bytes: &mut [u8])
     }
 }
 
-/// Decodes a part of such a text: as many bytes as there is room for, from one on.
+/// Decodes a part of a text of hexadecimal digits: the bytes from index `start` on that fill `bytes`.
 pub fn decode_hex_from(hex: &[u8], start: usize, bytes: &mut [u8])
     requires hex { IsOk (decode_of hex.now) }
     requires range { start + length bytes.old ≤ length hex.now / 2 }
@@ -26,7 +26,7 @@ pub fn decode_hex_from(hex: &[u8], start: usize, bytes: &mut [u8])
     decode_hex(&hex[2 * start..2 * end], bytes);
 }
 
-/// Encodes bytes as hexadecimal digits of small letters, two a byte.
+/// Encodes bytes as hexadecimal digits in lower case, two digits for each byte.
 pub fn encode_hex(bytes: &[u8], hex: &mut [u8])
     requires { length hex.old ≡ 2 * length bytes.now }
     ensures { hex.new ≡ encode_lower bytes.now }
@@ -38,8 +38,8 @@ pub fn encode_hex(bytes: &[u8], hex: &mut [u8])
     }
 }
 
-/// The byte that two digits stand for. Both are worked on at once, in the halves of a word, and without a branch: so the
-/// loop over pairs is one over vectors.
+/// Returns the byte that two digits denote. It computes both digits at once, in the halves of a word and without a
+/// branch, so that the compiler vectorizes the loop over pairs.
 #[inline]
 fn byte_of_pair(high: u8, low: u8) -> u8
     requires high { IsSome (hex_digit_value high) }
@@ -49,7 +49,7 @@ fn byte_of_pair(high: u8, low: u8) -> u8
     packed(values(u16::from_le_bytes([high, low])))
 }
 
-/// The values of two digits, each in its half of the word.
+/// Returns the values of two digits, each in its half of the word.
 #[inline]
 fn values(digits: u16) -> u16
     ensures { result ≡ bits_value (digits / 256) * 256 + bits_value (digits % 256) }
@@ -58,7 +58,7 @@ fn values(digits: u16) -> u16
     (digits & 0x0f0f) + 9 * letters
 }
 
-/// The byte of two values below 16, of which the lower half of the word holds the first.
+/// Returns the byte of two values below 16. The lower half of the word has the first value.
 #[inline]
 fn packed(values: u16) -> u8
     requires high { values % 256 < 16 }
@@ -68,7 +68,7 @@ fn packed(values: u16) -> u8
     (values.wrapping_mul(0x1001) >> 8) as u8
 }
 
-/// The two digits of a byte.
+/// Returns the two hexadecimal digits of a byte.
 #[inline]
 fn pair_of_byte(byte: u8) -> [u8; 2]
     ensures { result ≡ bits_digit (byte / 16) ∷ bits_digit (byte % 16) ∷ [] }
@@ -76,7 +76,7 @@ fn pair_of_byte(byte: u8) -> [u8; 2]
     digits(spread(byte)).to_le_bytes()
 }
 
-/// The two halves of a byte, each in a half of the word, and the first in the lower one.
+/// Returns the two halves of a byte, each in one half of the word, with the first in the lower half.
 #[inline]
 fn spread(byte: u8) -> u16
     ensures { result ≡ byte % 16 * 256 + byte / 16 }
@@ -84,7 +84,7 @@ fn spread(byte: u8) -> u16
     ((u16::from(byte) & 15) << 8) + (u16::from(byte) >> 4)
 }
 
-/// The digits of two values below 16, each in its half of the word.
+/// Returns the digits of two values below 16, each in its half of the word.
 #[inline]
 fn digits(values: u16) -> u16
     requires high { values % 256 < 16 }

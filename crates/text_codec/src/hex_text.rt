@@ -7,8 +7,8 @@ ghost use Rattle.hex.specs.Hex.{decode_of, hex_digit_value, is_hex_digit};
 ghost use Rattle.own_model.specs.Text.{bytes_of_hex, hex_bytes};
 ghost use Rattle.own_model.specs.Call.{some_bytes_of_hex};
 
-/// A text as it stands, where it is the hexadecimal digits, of either case, of one or more bytes: an even number of
-/// them, and at least two. `None` where it isn't.
+/// Returns the text unchanged if it is the hexadecimal digits, of either case, of one or more bytes. The number of digits
+/// is even, and at least two. Returns `None` otherwise.
 #[tactic(auto, using(crate::proofs::HexLemmas::read_bytes))]
 pub fn read_hex(text: &[u8]) -> Option<&[u8]>
     ensures bytes { option_map hex_bytes (option_copied result) ≡ some_bytes_of_hex text.now }
@@ -21,7 +21,7 @@ pub fn read_hex(text: &[u8]) -> Option<&[u8]>
     }
 }
 
-/// Whether a text is the hexadecimal digits of bytes, or is empty.
+/// Returns whether a text is empty or has the hexadecimal digits of bytes.
 #[tactic(auto, using(crate::proofs::HexLemmas::even_digits))]
 fn is_hex(text: &[u8]) -> bool
     ensures { result ≡ is_ok (decode_of text.now) }
@@ -29,7 +29,8 @@ fn is_hex(text: &[u8]) -> bool
     text.len() % 2 == 0 && has_hex_digits(text)
 }
 
-/// Whether each byte is a hexadecimal digit. It doesn't stop at the first that is none, so many bytes are tested at once.
+/// Returns whether each byte is a hexadecimal digit. It does not stop at the first other byte, so that many bytes are
+/// tested at once.
 fn has_hex_digits(text: &[u8]) -> bool
     ensures { result ≡ list_all is_hex_digit text.now }
 {
@@ -40,8 +41,8 @@ fn has_hex_digits(text: &[u8]) -> bool
     most == 0
 }
 
-/// Nothing for a hexadecimal digit of either case, and more for any other byte: how far it is past the nearer of the last digit
-/// and the last letter. Without a branch, so that a loop over bytes is one over vectors.
+/// Returns 0 for a hexadecimal digit of either case. For any other byte it returns the distance past the nearer of the
+/// last digit and the last letter. It has no branch, so that the compiler vectorizes a loop over bytes.
 #[inline]
 fn excess(byte: u8) -> u8
     ensures { (result == 0) ≡ is_hex_digit byte }
@@ -51,7 +52,8 @@ fn excess(byte: u8) -> u8
     past_digits.min(past_letters)
 }
 
-// For each byte a sign: one whose low four bits are its value as a hexadecimal digit of either case, or `@` where it is none.
+// For each byte a character: its low four bits are the value of a hexadecimal digit of either case, and `@` denotes any
+// other byte.
 static VALUES: [u8; 256] = *b"\
     @@@@@@@@@@@@@@@@@@@@@@@@@@@@@@@@\
     @@@@@@@@@@@@@@@@0123456789@@@@@@\
@@ -62,8 +64,8 @@ static VALUES: [u8; 256] = *b"\
     @@@@@@@@@@@@@@@@@@@@@@@@@@@@@@@@\
     @@@@@@@@@@@@@@@@@@@@@@@@@@@@@@@@";
 
-/// The value of a hexadecimal digit of either case, or `None` where a byte isn't one: one look-up, in place of up to six
-/// comparisons.
+/// Returns the value of a hexadecimal digit of either case, or `None` for any other byte. One table lookup replaces up to
+/// six comparisons.
 #[inline]
 pub(crate) fn hex_digit(byte: u8) -> Option<u8>
     ensures { result ≡ hex_digit_value byte }

@@ -1,4 +1,7 @@
-//! Reading of texts: the place of a byte, words, names, addresses, and bytes in hexadecimal digits; and numbers, written.
+//! Parsing of bytes, arguments, names, addresses and hexadecimal digits, and printing of numbers.
+//!
+//! The parsers of calls, start lists and service requests call these functions. For example, `read_address(b"0x10")`
+//! returns `Some(16)`.
 #![tactic(auto)]
 
 mod address;

@@ -1,4 +1,4 @@
-//! Words, parted by single spaces, and names.
+//! Arguments separated by single spaces, and names.
 ghost use Rattle.std.specs.Prelude.{◌≡◌, ◌==◌, IfSome, is_some, length, position, not};
 ghost use Rattle.std.specs.Option.{option_copied};
 ghost use Rattle.std.specs.List.{list_all, slice_split};
@@ -8,13 +8,13 @@ ghost use Rattle.text_codec.specs.Names.{name_len};
 use crate::byte_kinds::is_name_byte;
 use crate::bytes::find_byte;
 
-/// The most bytes of a name, of a component or of a file.
+/// The maximum number of bytes of a name of a component or file.
 pub const LONGEST_NAME: usize = 32;
 
-/// The most names of a path.
+/// The maximum number of names in a path.
 pub const MOST_NAMES: usize = 4;
 
-/// A text up to its first space, and what stands after that space, if there is one.
+/// Splits a text at its first space. Returns the text before the space, and the text after it if there is a space.
 #[inline]
 #[tactic(auto, using(crate::proofs::WordLemmas::first_words))]
 pub fn split_first_word(text: &[u8]) -> (&[u8], Option<&[u8]>)
@@ -27,8 +27,8 @@ pub fn split_first_word(text: &[u8]) -> (&[u8], Option<&[u8]>)
     }
 }
 
-/// A text up to its first space, and what stands after that space, if there is one: where that word is a name. In one pass,
-/// since a name has no space.
+/// Splits a text at its first space if the text before the space is a name, and returns `None` otherwise. It needs one
+/// pass, because a name has no space.
 #[inline]
 pub fn split_name(text: &[u8]) -> Option<(&[u8], Option<&[u8]>)>
     ensures word { IfSome result (λ parts. parts.0.now ≡ (first_word text.now).word) }
@@ -46,7 +46,8 @@ pub fn split_name(text: &[u8]) -> Option<(&[u8], Option<&[u8]>)>
     }
 }
 
-/// The same where the first word is a path: 1 to 4 names, parted by `/`. A path of one name is read in one pass.
+/// Splits a text at its first space if the text before the space is a path: 1 to 4 names separated by `/`. Returns `None`
+/// otherwise. A path of one name needs one pass.
 #[inline]
 #[tactic(auto, using(crate::proofs::PathLemmas::paths))]
 pub fn split_path(text: &[u8]) -> Option<(&[u8], Option<&[u8]>)>
@@ -60,7 +61,7 @@ pub fn split_path(text: &[u8]) -> Option<(&[u8], Option<&[u8]>)>
     }
 }
 
-/// The same of any path.
+/// Splits a text as `split_path` does, for a path of any length.
 #[inline(never)]
 fn split_names(text: &[u8]) -> Option<(&[u8], Option<&[u8]>)>
     ensures word { IfSome result (λ parts. parts.0.now ≡ (first_word text.now).word) }
@@ -75,7 +76,7 @@ fn split_names(text: &[u8]) -> Option<(&[u8], Option<&[u8]>)>
     }
 }
 
-/// Whether a word is a path: 1 to 4 names, parted by `/`. They are looked at one after another.
+/// Returns whether a text is a path: 1 to 4 names separated by `/`. The names are tested in order.
 pub fn is_path(word: &[u8]) -> bool
     ensures { result ≡ is_path word.now }
 {
@@ -94,7 +95,8 @@ pub fn is_path(word: &[u8]) -> bool
     is_name(left)
 }
 
-/// How many bytes at the front may stand in a name. It stands alone, so that its loop has registers of its own.
+/// Returns the number of leading bytes that may be in a name. It is not inlined, so that its loop has registers of its
+/// own.
 #[inline(never)]
 fn name_len(text: &[u8]) -> usize
     ensures { result ≡ name_len text.now }
@@ -105,21 +107,21 @@ fn name_len(text: &[u8]) -> usize
     }
 }
 
-/// Where the first byte is that may not stand in a name.
+/// Returns the index of the first byte that may not be in a name.
 fn find_other(text: &[u8]) -> Option<usize>
     ensures { result ≡ position (λ b. not (is_name_byte b)) text.now }
 {
     text.iter().position(|byte| !is_name_byte(*byte))
 }
 
-/// Whether a word is a name: 1 to 32 letters, digits, `_`, `-` and `.`.
+/// Returns whether a text is a name: 1 to 32 letters, digits, `_`, `-` and `.`.
 pub fn is_name(word: &[u8]) -> bool
     ensures { result ≡ is_name word.now }
 {
     1 <= word.len() && word.len() <= LONGEST_NAME && has_name_bytes(word)
 }
 
-/// Whether each byte is a letter, a digit, `_`, `-` or `.`.
+/// Returns whether each byte of a text is a letter, a digit, `_`, `-` or `.`.
 pub fn has_name_bytes(text: &[u8]) -> bool
     ensures { result ≡ list_all is_name_byte text.now }
 {

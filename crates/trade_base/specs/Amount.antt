@@ -4,14 +4,14 @@ use Rattle.std.specs.Option.{option_and_then}
 use Rattle.std.specs.Str.{all_ascii_digits}
 use Rattle.std.specs.Str.Parse.{digits_value}
 
--- the number that one or more decimal digits stand for, if it is below 2^64
+-- the number that one or more decimal digits denote, if it is below 2^64
 abbrev pub number_of : List ℕ → Option ℕ
 number_of ds =
     if (nat_lt 0 (length ds) && all_ascii_digits ds) && nat_lt (digits_value 10 ds) (2 ^ 64)
     then Some (digits_value 10 ds)
     else None
 
--- how much a suffix stands for: `K` is 75, `M` is 77 and `G` is 71
+-- how much a suffix denotes: `K` is 75, `M` is 77 and `G` is 71
 abbrev pub unit_of : ℕ → Option ℕ
 unit_of b =
     if b == 75 then Some (2 ^ 10)
@@ -28,6 +28,6 @@ abbrev pub amount_in : Option ℕ → List ℕ → Option ℕ
 amount_in None text = number_of text
 amount_in (Some unit) text = option_and_then (times unit) (number_of (take (length text - 1) text))
 
--- the amount that a text stands for: a number, or a number and a suffix
+-- the amount that a text denotes: a number, or a number and a suffix
 abbrev pub amount_of : List ℕ → Option ℕ
 amount_of text = amount_in (unit_of (slice_index text (length text - 1))) text

@@ -9,7 +9,7 @@ use Rattle.trade_base.specs.declared.service.Service.TheVariants.{Log, Files}
 abbrev pub services : List Service
 services = Log ∷ Files ∷ []
 
--- the name by which clients ask for it
+-- the name by which clients request it
 abbrev pub service_name : Service → List ℕ
 service_name Log = codes "LOG"
 service_name Files = codes "File_system"

@@ -1,9 +1,9 @@
-//! Numbers and amounts of text.
+//! Numbers and amounts, parsed from text.
 ghost use Rattle.std.specs.Prelude.{◌≡◌};
 ghost use Rattle.trade_base.specs.Amount.{amount_of, number_of};
 
-/// The number that one or more decimal digits stand for, with any leading zeros, or `None` where another byte is
-/// among them or the number is past 64 bits.
+/// Returns the number that one or more decimal digits denote; leading zeros are accepted. Returns `None` if the text is
+/// empty, contains another byte, or denotes a number above 64 bits.
 #[tactic(auto, using(crate::proofs::NumberLemmas::stops_at_other, crate::proofs::NumberLemmas::stops_past, crate::proofs::NumberLemmas::goes_on, crate::proofs::NumberLemmas::number_at_end, crate::proofs::NumberLemmas::number_of_some, crate::proofs::NumberLemmas::number_of_none))]
 pub fn read_number(digits: &[u8]) -> Option<u64>
     ensures { result ≡ number_of digits.now }
@@ -24,8 +24,8 @@ pub fn read_number(digits: &[u8]) -> Option<u64>
     }
 }
 
-/// The amount that a text stands for: a number, or a number and one of the suffixes `K`, `M` and `G`, which stand for
-/// 1024, 1024² and 1024³. It is `None` where a text is neither, or the amount is past 64 bits.
+/// Returns the amount that a text denotes: a decimal number with an optional suffix. The suffixes `K`, `M` and `G`
+/// multiply by 1024, 1024² and 1024³. Returns `None` if the text has another form or the amount exceeds 64 bits.
 pub fn read_amount(text: &[u8]) -> Option<u64>
     ensures { result ≡ amount_of text.now }
 {

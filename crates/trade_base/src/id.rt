@@ -1,25 +1,25 @@
-//! Units, and the numbers under which the layers know their things.
+//! Units of quota, and the keys by which crates refer to accounts, dataspaces, sessions and capabilities.
 
 /// An amount of RAM, in bytes.
 #[derive(Clone, Copy, PartialEq, Eq, PartialOrd)]
 pub struct Ram(pub u64);
 
-/// An amount of capabilities.
+/// A number of capabilities.
 #[derive(Clone, Copy, PartialEq, Eq, PartialOrd)]
 pub struct Caps(pub u32);
 
-/// An account of RAM and capabilities: its key in the books.
+/// The key of an account of RAM and capabilities in the books.
 #[derive(Clone, Copy, PartialEq, Eq)]
 pub struct AccountId(pub usize);
 
-/// A dataspace: its key in the memory.
+/// The key of a dataspace in the memory.
 #[derive(Clone, Copy, PartialEq, Eq)]
 pub struct DsId(pub usize);
 
-/// A session: its key in its server's table.
+/// The key of a session in its server's table.
 #[derive(Clone, Copy, PartialEq, Eq)]
 pub struct SessionId(pub usize);
 
-/// What a component calls one of its capabilities: a positive number.
+/// The positive number by which a component names one of its capabilities.
 #[derive(Clone, Copy, PartialEq, Eq)]
 pub struct Selector(pub u32);

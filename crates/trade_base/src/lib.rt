@@ -1,4 +1,5 @@
-//! The words that every layer shares: units, the numbers of things, refusals, services, and page rounding.
+//! The vocabulary that every crate shares: units, keys, refusals, services, and page rounding. All other crates of the
+//! machine depend on it. For example, `page_round(1)` returns `Some(4096)`.
 #![tactic(auto)]
 
 mod amount;

@@ -1,43 +1,44 @@
-//! The refusals of the machine's calls, and want of memory at a boot.
+//! The refusals of the machine's calls, and a boot's failure for lack of host memory.
 ghost use Rattle.std.specs.Prelude.{◌≡◌};
 ghost use Rattle.trade_base.specs.Refusal.{refusal_name};
 
-/// Why a call of a component is refused. A refused call changes nothing.
+/// The reason why a component's call is refused. A refused call changes nothing.
 #[derive(Clone, Copy, Debug, PartialEq, Eq)]
 pub enum Refusal {
-    /// The line isn't a call.
+    /// The line is not a call.
     BadLine,
-    /// No component of the start list has this path: no entry has it, or an init does.
+    /// No script or server of the start list has this path: no entry has it, or the entry is an init.
     UnknownComponent,
     /// The component is a server.
     NotAScript,
     /// The component has exited.
     Gone,
-    /// The session arguments aren't in their grammar.
+    /// The session arguments do not follow their grammar.
     BadArgs,
-    /// A size that is 0, too long, or past 64 bits once rounded.
+    /// The size is 0, too long, or exceeds 64 bits after rounding.
     InvalidSize,
-    /// The selector isn't in use, or names another kind.
+    /// The selector is not in use, or names a capability of another kind.
     InvalidCap,
-    /// The account's RAM doesn't cover it, or the reserve's what is requested of it.
+    /// The account does not cover the requested RAM, or the reserve does not cover the requested transfer of RAM.
     OutOfRam,
-    /// The account's capabilities don't cover it, or the reserve's what is requested of it.
+    /// The account does not cover the requested capabilities, or the reserve does not cover the requested transfer of
+    /// capabilities.
     OutOfCaps,
-    /// The place is taken, unaligned or outside, or no gap fits.
+    /// The range overlaps a region, is unaligned or outside the window, or no gap fits.
     RegionConflict,
-    /// All user regions are attached.
+    /// The maximum number of user regions is attached.
     TooManyRegions,
-    /// Nothing of the caller is there.
+    /// No region, block or payload of the caller is at the address.
     PageFault,
-    /// The heap has all its chunks and needs another.
+    /// The heap has 64 chunks and needs another one.
     TooManyChunks,
-    /// No route leads to a provider.
+    /// No route leads from the client to a provider of the service.
     ServiceDenied,
-    /// A donation of too little RAM.
+    /// The donation has too little RAM.
     InsufficientRamQuota,
-    /// A donation of too few capabilities.
+    /// The donation has too few capabilities.
     InsufficientCapQuota,
-    /// The selector isn't in use, or names no session.
+    /// The selector is not in use, or does not name a session.
     InvalidSession,
 }
 
@@ -45,7 +46,7 @@ impl Refusal {
     ghost use Rattle.std.specs.Prelude.{◌≡◌};
     ghost use Rattle.trade_base.specs.Refusal.{refusal_name};
 
-    /// The name that a reply tells.
+    /// Returns the refusal's name as a reply shows it, for example `Out_of_ram`.
     pub fn name(self) -> &'static str
         ensures { result.now ≡ refusal_name self }
     {
@@ -71,6 +72,6 @@ impl Refusal {
     }
 }
 
-/// The host has no memory for what a boot needs.
+/// The error of a boot for which the host has too little memory.
 #[derive(Clone, Copy, Debug, PartialEq, Eq)]
 pub struct NoMemory;

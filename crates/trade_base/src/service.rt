@@ -1,21 +1,21 @@
-//! The services of servers: the one table of their names.
-/// What a server does for its clients.
+//! The services of servers: the only table of their names.
+/// The service that a server provides to its clients.
 #[derive(Clone, Copy, Debug, PartialEq, Eq)]
 pub enum Service {
-    /// It writes the lines of each session.
+    /// The service that writes the lines of each session.
     Log,
-    /// It keeps the files of each session.
+    /// The service that stores the files of each session.
     Files,
 }
 
-/// Every service, in the order in which what is said of each is told.
+/// All services, in the order in which output lists them.
 pub const SERVICES: [Service; 2] = [Service::Log, Service::Files];
 
 impl Service {
     ghost use Rattle.std.specs.Prelude.{◌≡◌};
     ghost use Rattle.trade_base.specs.Service.{binary_name, served_by_binary, service_name};
 
-    /// The name by which clients ask for it, and by which a start list says that it is provided.
+    /// Returns the name by which clients request the service and start lists declare it: `LOG` or `File_system`.
     pub fn name(self) -> &'static str
         ensures { result.now ≡ service_name self }
     {
@@ -25,7 +25,7 @@ impl Service {
         }
     }
 
-    /// The name of the binary that serves it, as start lists have it.
+    /// Returns the name of the binary that provides the service, as start lists have it: `log` or `files`.
     pub fn binary(self) -> &'static str
         ensures { result.now ≡ binary_name self }
     {
@@ -35,7 +35,7 @@ impl Service {
         }
     }
 
-    /// The service of a binary's name, if it is one's.
+    /// Returns the service that the binary of this name provides, or `None` if there is none.
     pub fn of_binary(name: &str) -> Option<Service>
         ensures { result ≡ served_by_binary name.now }
     {

@@ -33,7 +33,7 @@ impl fmt::Display for Counts {
     }
 }
 
-// A number of things of one kind.
+// Writes a number of things of one kind.
 fn show<W: fmt::Write>(f: &mut fmt::Formatter<W>, number: u64, kind: &str) -> fmt::Result {
     let plural = if number == 1 { "" } else { "s" };
     write!(f, "{number} {kind}{plural}")

@@ -1,24 +1,24 @@
-//! Diagnostics on their way to a device.
+//! The writer of diagnostics.
 ghost use Rattle.std.specs.Prelude.{◌≡◌, false, is_err};
 
 use crate::escape::put_text;
-use crate::place::Place;
+use crate::place::FilePlace;
 use itoa::Buffer;
-use scenario_lines::{DeviceFault, Gather, Sink};
+use run_lines::{DeviceFault, Sink, WriteBuffer};
 
-/// How much a diagnostic matters.
+/// The severity of a diagnostic.
 #[derive(Clone, Copy, PartialEq, Eq)]
 pub enum Severity {
-    /// Something has to be changed.
+    /// An error, which has to be changed.
     Error,
-    /// Something has probably another effect than its writer meant.
+    /// A warning: the effect is probably not the one that was intended.
     Warning,
-    /// Something can be improved.
+    /// A note, with an improvement.
     Note,
 }
 
 impl Severity {
-    /// Returns its name, as a diagnostic has it.
+    /// Returns the name of the severity, as a diagnostic has it.
     pub fn name(self) -> &'static str {
         match self {
             Severity::Error => "error",
@@ -30,7 +30,7 @@ impl Severity {
 
 /// The form of diagnostics.
 #[derive(Clone, Copy, PartialEq, Eq)]
-pub enum Form {
+pub enum DiagnosticForm {
     /// A line: `FILE:LINE:COLUMN: SEVERITY: MESSAGE`.
     Text,
     /// A line with an object of JSON, whose members are `severity`, `file`, `line`, `column` and `text`.
@@ -43,14 +43,14 @@ pub struct Subject<'a> {
     /// The path of the file; empty if the diagnostics are about no file.
     pub file: &'a [u8],
     /// The form.
-    pub form: Form,
+    pub form: DiagnosticForm,
 }
 
 /// Writes diagnostics of one subject. Each is begun, has its message in one or more pieces, and is ended.
 #[derive(Drop)]
 pub struct Diagnostics<'a> {
     subject: Subject<'a>,
-    gathered: Gather,
+    gathered: WriteBuffer,
 }
 
 impl<'a> Diagnostics<'a> {
@@ -58,27 +58,27 @@ impl<'a> Diagnostics<'a> {
     pub fn new(subject: Subject<'a>) -> Diagnostics<'a> {
         Diagnostics {
             subject,
-            gathered: Gather::new(),
+            gathered: WriteBuffer::new(),
         }
     }
 
-    /// Begins a diagnostic: writes all that comes before its message. An error is a write that failed.
+    /// Begins a diagnostic: writes all that precedes its message. The error is a failed write.
     pub fn begin<K: Sink>(
         &mut self,
         sink: &mut K,
-        place: Place,
+        place: FilePlace,
         severity: Severity,
     ) -> Result<(), DeviceFault>
         requires { K.has_failed sink.old ≡ false }
         ensures failing { K.has_failed sink.new ≡ is_err result }
     {
         match self.subject.form {
-            Form::Text => self.begin_line(sink, place, severity),
-            Form::Json => self.begin_document(sink, place, severity),
+            DiagnosticForm::Text => self.begin_line(sink, place, severity),
+            DiagnosticForm::Json => self.begin_document(sink, place, severity),
         }
     }
 
-    /// Writes a piece of the message. An error is a write that failed.
+    /// Writes a piece of the message, escaped. The error is a failed write.
     pub fn put<K: Sink>(&mut self, sink: &mut K, text: &[u8]) -> Result<(), DeviceFault>
         requires { K.has_failed sink.old ≡ false }
         ensures failing { K.has_failed sink.new ≡ is_err result }
@@ -86,14 +86,14 @@ impl<'a> Diagnostics<'a> {
         put_text(self.subject.form, text, &mut self.gathered, sink)
     }
 
-    /// Ends a diagnostic, and writes all of it out. An error is a write that failed.
+    /// Ends a diagnostic, and writes all of it out. The error is a failed write.
     pub fn end<K: Sink>(&mut self, sink: &mut K) -> Result<(), DeviceFault>
         requires { K.has_failed sink.old ≡ false }
         ensures failing { K.has_failed sink.new ≡ is_err result }
     {
         let end: &[u8] = match self.subject.form {
-            Form::Text => b"\n",
-            Form::Json => b"\"}\n",
+            DiagnosticForm::Text => b"\n",
+            DiagnosticForm::Json => b"\"}\n",
         };
         self.gathered.put(sink, end)?;
         self.gathered.flush(sink)
@@ -103,7 +103,7 @@ impl<'a> Diagnostics<'a> {
     fn begin_line<K: Sink>(
         &mut self,
         sink: &mut K,
-        place: Place,
+        place: FilePlace,
         severity: Severity,
     ) -> Result<(), DeviceFault>
         requires { K.has_failed sink.old ≡ false }
@@ -141,7 +141,7 @@ impl<'a> Diagnostics<'a> {
     fn begin_document<K: Sink>(
         &mut self,
         sink: &mut K,
-        place: Place,
+        place: FilePlace,
         severity: Severity,
     ) -> Result<(), DeviceFault>
         requires { K.has_failed sink.old ≡ false }

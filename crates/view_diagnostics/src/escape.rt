@@ -1,18 +1,18 @@
 //! Texts within a diagnostic: one line, without control characters.
 ghost use Rattle.std.specs.Prelude.{◌≡◌, false, is_err};
 
-use crate::diagnostics::Form;
-use scenario_lines::{DeviceFault, Gather, Sink};
+use crate::diagnostics::DiagnosticForm;
+use run_lines::{DeviceFault, Sink, WriteBuffer};
 
 /// The digits of a control character's number.
 const DIGITS: &[u8; 16] = b"0123456789abcdef";
 
-/// Gathers a text: U+FFFD for what is not UTF-8, escapes for control characters and for what some readers take as the end of a line,
-/// and in JSON for `"` and `\` too.
+/// Gathers a text on one line. Bytes that are not UTF-8 become U+FFFD. Control characters, and characters that some readers take
+/// as the end of a line, become escapes. In JSON `"` and `\` become escapes too.
 pub(crate) fn put_text<K: Sink>(
-    form: Form,
+    form: DiagnosticForm,
     text: &[u8],
-    gathered: &mut Gather,
+    gathered: &mut WriteBuffer,
     sink: &mut K,
 ) -> Result<(), DeviceFault>
     requires { K.has_failed sink.old ≡ false }
@@ -29,9 +29,9 @@ pub(crate) fn put_text<K: Sink>(
 
 // Gathers a text that is UTF-8.
 fn put_characters<K: Sink>(
-    form: Form,
+    form: DiagnosticForm,
     text: &str,
-    gathered: &mut Gather,
+    gathered: &mut WriteBuffer,
     sink: &mut K,
 ) -> Result<(), DeviceFault>
     requires { K.has_failed sink.old ≡ false }
@@ -45,9 +45,9 @@ fn put_characters<K: Sink>(
 
 // Gathers a character.
 fn put_character<K: Sink>(
-    form: Form,
+    form: DiagnosticForm,
     character: char,
-    gathered: &mut Gather,
+    gathered: &mut WriteBuffer,
     sink: &mut K,
 ) -> Result<(), DeviceFault>
     requires { K.has_failed sink.old ≡ false }
@@ -58,8 +58,8 @@ fn put_character<K: Sink>(
         '\t' => gathered.put(sink, b"\\t"),
         '\u{2028}' => gathered.put(sink, b"\\u2028"),
         '\u{2029}' => gathered.put(sink, b"\\u2029"),
-        '"' if form == Form::Json => gathered.put(sink, b"\\\""),
-        '\\' if form == Form::Json => gathered.put(sink, b"\\\\"),
+        '"' if form == DiagnosticForm::Json => gathered.put(sink, b"\\\""),
+        '\\' if form == DiagnosticForm::Json => gathered.put(sink, b"\\\\"),
         control if control.is_control() => put_escape(control, gathered, sink),
         other => {
             let mut room = [0; 4];
@@ -71,7 +71,7 @@ fn put_character<K: Sink>(
 // Gathers a control character as `\u` and four hexadecimal digits: the number of each is below 256.
 fn put_escape<K: Sink>(
     control: char,
-    gathered: &mut Gather,
+    gathered: &mut WriteBuffer,
     sink: &mut K,
 ) -> Result<(), DeviceFault>
     requires { K.has_failed sink.old ≡ false }

@@ -1,6 +1,6 @@
 //! Diagnostics: what is wrong at which place of which file, as a line for people and editors, or as a document of JSON.
 //!
-//! `workbench` writes the errors of a scenario's lines with it, `nethrywel` all other diagnostics. For example an error in line 3 of
+//! `run_scenario` writes the errors of a scenario's lines with it, `nethrywel` all other diagnostics. For example an error in line 3 of
 //! `x.scenario`:
 //!
 //! ```text
@@ -14,5 +14,5 @@ mod escape;
 mod place;
 
 pub use counts::Counts;
-pub use diagnostics::{Diagnostics, Form, Severity, Subject};
-pub use place::Place;
+pub use diagnostics::{DiagnosticForm, Diagnostics, Severity, Subject};
+pub use place::FilePlace;

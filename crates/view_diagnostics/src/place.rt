@@ -2,7 +2,7 @@
 
 /// A place in a text. Lines, and bytes in a line, count from 1.
 #[derive(Clone, Copy, PartialEq, Eq)]
-pub enum Place {
+pub enum FilePlace {
     /// The whole text.
     Whole,
     /// The line of a number.
@@ -11,20 +11,20 @@ pub enum Place {
     Byte(u64, u64),
 }
 
-impl Place {
+impl FilePlace {
     /// Returns the number of the line, if the place has one.
     pub fn line(self) -> Option<u64> {
         match self {
-            Place::Whole => None,
-            Place::Line(line) | Place::Byte(line, _) => Some(line),
+            FilePlace::Whole => None,
+            FilePlace::Line(line) | FilePlace::Byte(line, _) => Some(line),
         }
     }
 
     /// Returns the number of the byte in its line, if the place has one.
     pub fn column(self) -> Option<u64> {
         match self {
-            Place::Whole | Place::Line(_) => None,
-            Place::Byte(_, column) => Some(column),
+            FilePlace::Whole | FilePlace::Line(_) => None,
+            FilePlace::Byte(_, column) => Some(column),
         }
     }
 }

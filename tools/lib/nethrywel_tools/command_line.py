@@ -35,7 +35,8 @@ class Help(argparse.RawDescriptionHelpFormatter):
 
 
 def options(name, usage, about):
-    """Returns a parser of a tool's options. The help has the name by which the tool is called: nethrywel-NAME if it is installed."""
+    """Returns a parser of a tool's options. The help has the name by which the tool is called: nethrywel-NAME if it is
+    installed."""
     if os.path.basename(sys.argv[0]) == f"nethrywel-{name}":
         usage, about = (it.replace("tools/", "nethrywel-") for it in (usage, about))
     return argparse.ArgumentParser(prog=name, usage=usage, description=about, formatter_class=Help, allow_abbrev=False)
@@ -59,7 +60,8 @@ def run(name, work, at_interrupt=130):
 
 
 class Progress:
-    """A line on a terminal that says what a tool does now, and for how long it has run; nothing if standard error is no terminal."""
+    """A line on a terminal that says what a tool does now, and for how long it has run; nothing if standard error is no
+    terminal."""
 
     def __init__(self, name):
         self.name, self.text, self.began = name, "", time.monotonic()
@@ -81,7 +83,7 @@ class Progress:
         self.text = text
 
     def show(self):
-        """Prints the line anew, twice a second."""
+        """Prints the line again, twice a second."""
         while not self.ends.wait(0.5):
             line = f"{self.name}: {time.monotonic() - self.began:.0f} s, {self.text}"
             print(f"\r\033[K{line[: (os.get_terminal_size(2).columns or 80) - 1]}", end="", file=sys.stderr, flush=True)

@@ -25,7 +25,8 @@ def mode_of(path):
 
 
 def write_whole(path, data):
-    """Writes a file whole or not at all, with the mode that it had: a new file in its folder takes its name. A device is written to."""
+    """Writes a file whole or not at all, with the mode that it had: a new file in its folder takes its name. A device is
+    written to."""
     path = os.path.realpath(path)
     if os.path.exists(path) and not os.path.isfile(path):
         with open(path, "wb") as it:

@@ -36,7 +36,8 @@ class Call:
 
 @dataclass(frozen=True, slots=True)
 class Account:
-    """A line of `accounts`: an account or a session, or the reserve of the account before it, which has `ram` and `caps` alone."""
+    """A line of `accounts`: an account or a session, or the reserve of the account before it, which has `ram` and `caps`
+    alone."""
 
     kind: str
     name: str

@@ -1,5 +1,5 @@
-"""What a page shows of a start list, a policy and a scenario, from what nethrywel prints with --json and from transcripts. Values are
-put next to each other, and thinned where they are many; nothing is computed again."""
+"""What a page shows of a start list, a policy and a scenario, from what nethrywel prints with --json and from transcripts.
+Values are put next to each other, and thinned where they are many; nothing is computed again."""
 import json
 import re
 from collections import Counter
@@ -52,7 +52,8 @@ def policy_lines(text, status, breaches, rules):
     for number, line in enumerate(lines_in(text), 1):
         told = faults.get(number)
         kept = None if told or status == 2 or re.match(r"\s*(#|$)", line) else True
-        lines.append({"text": line, "told": told, "kept": kept, "rules": rules_named(told, told.split(" ")[0], rules) if told else []})
+        named = rules_named(told, told.split(" ")[0], rules) if told else []
+        lines.append({"text": line, "told": told, "kept": kept, "rules": named})
     return {"lines": lines, "fault": faults.get(0), "read": status != 2}
 
 
@@ -83,26 +84,24 @@ def accounts_of(documents):
 def budget_of(key, rows, given):
     """Returns one account's sufficient budgets, as values and as text, with what it was given."""
     name, session, line = key
-    said = "; ".join(
-        f"ram from {amount(it.ram_from)}{f' below {amount(it.ram_below)}' if it.ram_below is not None else ''}, caps from {it.caps_from}" for it in rows
-    )
-    told = [said or "no budget serves"]
+    below = ("" if it.ram_below is None else f" below {amount(it.ram_below)}" for it in rows)
+    said = "; ".join(f"ram from {amount(it.ram_from)}{less}, caps from {it.caps_from}" for it, less in zip(rows, below))
+    told, fits = [said or "no budget serves"], bool(given) and any(it.has(*given) for it in rows)
     if given and rows:
         more = given[0] - rows[0].ram_from, given[1] - rows[0].caps_from
         gap = f"{amount(abs(more[0]))} and {abs(more[1])}"
-        fits = any(it.has(*given) for it in rows)
         least = f"the least is {amount(rows[0].ram_from)} and {rows[0].caps_from}"
-        end = f"insufficient; {least}" if not fits else least if min(more) < 0 else f"{gap} could be saved" if any(more) else "the least"
-        told.append(f"given {amount(given[0])} and {given[1]}: {end}")
+        end = least if min(more) < 0 else f"{gap} could be saved" if any(more) else "the least"
+        told.append(f"given {amount(given[0])} and {given[1]}: {end if fits else f'insufficient; {least}'}")
     return {
-        "name": name, "session": session and str(session), "line": line, "rows": [[it.ram_from, it.ram_below, it.caps_from] for it in rows],
-        "given": given, "told": told, "short": not rows or bool(given) and not any(it.has(*given) for it in rows),
+        "name": name, "session": session and str(session), "line": line, "given": given, "told": told,
+        "rows": [[it.ram_from, it.ram_below, it.caps_from] for it in rows], "short": not rows or bool(given) and not fits,
     }
 
 
 class PageData:
-    """What is printed of texts, which are in a folder as list.json, policy and scenario; the first two may be none. `run` runs the
-    program with arguments there, and returns status, output and standard error."""
+    """What is printed of texts, which are in a folder as list.json, policy and scenario; the first two may be none. `run` runs
+    the program with arguments there, and returns status, output and standard error."""
 
     def __init__(self, run, list_text, policy_text, scenario_text):
         self.run, self.list, self.policy, self.scenario = run, list_text, policy_text, scenario_text
@@ -111,9 +110,9 @@ class PageData:
 
     def first(self):
         """Returns what is printed of the start list and, if it boots, of each line."""
-        data = {"list": self.list, "boots": True, "findings": [], "policy": None, "ways": [], "reach": None, "least": None, "alone": None}
-        data.update({"count": len(lines_in(self.scenario)), "lines": [], "complaints": [], "faults": [], "timelines": [], "accounts": []})
-        data["left"] = dict.fromkeys(LEFT, 0)
+        data = {"list": self.list, "boots": True, "count": len(lines_in(self.scenario)), "left": dict.fromkeys(LEFT, 0)}
+        data |= dict.fromkeys(("policy", "reach", "least", "alone"))
+        data |= {it: [] for it in ("findings", "ways", "lines", "complaints", "faults", "timelines", "accounts")}
         if self.list is None or self.of_list(data):
             self.of_scenario(data)
         return data
@@ -127,7 +126,8 @@ class PageData:
         for it in told:
             if it.file != "policy":
                 where = f"{it.line}:{it.column}: " if it.line else f"{it.part}: " if it.part and it.kind == "finding" else ""
-                data["findings"].append({"told": where + it.text, "range": range_of(it, self.list, found), "advice": it.kind == "advice"})
+                place = range_of(it, self.list, found)
+                data["findings"].append({"told": where + it.text, "range": place, "advice": it.kind == "advice"})
         # (a policy with a fault, or a breach of it, is no fault of the list)
         data["boots"] = status == 0 or bool(breaches)
         if self.policy and data["boots"]:
@@ -152,10 +152,12 @@ class PageData:
         data["left"]["complaints"] = len(complaints) - len(data["complaints"])
         timelines, data["left"]["timelines"], thinned = thin(Timelines(self.calls).all())
         data["left"]["points"] = thinned or any(len(it.refused) > TICKS for it in timelines)
-        data["timelines"] = [
-            {"name": it.name, "session": bool(it.part), "points": it.points, "refusals": len(it.refused), "refused": some(it.refused, TICKS)} for it in timelines
-        ]
-        accounts = accounts_of(values_in(Account, self.run(["accounts", "--json", *self.machine, "scenario"])[1], "account", "session", "reserve"))
+        data["timelines"] = [{
+            "name": it.name, "session": bool(it.part), "points": it.points, "refusals": len(it.refused),
+            "refused": some(it.refused, TICKS),
+        } for it in timelines]
+        listed = self.run(["accounts", "--json", *self.machine, "scenario"])[1]
+        accounts = accounts_of(values_in(Account, listed, "account", "session", "reserve"))
         donated = Counter()
         for it in accounts:
             if it["session"]:
@@ -164,7 +166,8 @@ class PageData:
         data["accounts"], data["left"]["accounts"] = accounts[:ACCOUNTS], max(len(accounts) - ACCOUNTS, 0)
 
     def of_lines(self, data, complaints):
-        """Fills in the lines that are shown, each with its number, its text, who called, the reply and the log lines that it finished."""
+        """Fills in the lines that are shown, each with its number, its text, who called, the reply and the log lines that it
+        finished."""
         texts, transcript = lines_in(self.scenario), self.run(["run", *self.machine, "scenario"])[1]
         self.outputs = list(outputs_in(self.calls, transcript))
         told = {it.line: (it.component, it.reply, output[:-1]) for it, output in self.outputs}
@@ -173,7 +176,8 @@ class PageData:
             return
         count, refused = len(texts), list(dict.fromkeys(it.line for it in self.calls if it.is_refused))
         kept = {*range(1, min(ENDS, count) + 1), *range(max(count - ENDS, 0) + 1, count + 1)}
-        kept.update(sorted({it[0] for it in complaints if it[0] <= count})[:WRONG], some(refused, REFUSED), some(range(1, count + 1), EVENLY))
+        wrong = sorted({it[0] for it in complaints if it[0] <= count})
+        kept.update(wrong[:WRONG], some(refused, REFUSED), some(range(1, count + 1), EVENLY))
         for i in sorted(kept):
             reply = [(name, clipped(text), list(map(clipped, logs[:8]))) for name, text, logs in [told[i]]] if i in told else [()]
             data["lines"].append([i, clipped(texts[i - 1]), *reply[0]])
@@ -195,7 +199,10 @@ class PageData:
             refused = some(sorted({it.line for it, _ in whole if it.is_refused}), TICKS)
             said = f"{len(lines)} lines of {name}: {f'{len(differ)} differ' if differ else 'the same alone as in the whole run'}"
             ticks = sorted({*some(lines, TICKS), *refused})
-            scripts.append({"name": name, "told": said, "lines": ticks, "thinned": len(ticks) < len(lines), "refused": refused, "differ": list(differ.items())})
+            scripts.append({
+                "name": name, "told": said, "lines": ticks, "thinned": len(ticks) < len(lines), "refused": refused,
+                "differ": list(differ.items()),
+            })
         return {"scripts": scripts, "thinned": any(it["thinned"] for it in scripts), "why": ""}
 
     def least(self):
@@ -222,8 +229,9 @@ class PageData:
                 found.append((key, [it]))
         # (an account for which no budget suffices has no interval)
         known = Counter(key for key, _ in found)
-        missing = [*(openings - known), *((name, None, None) for name in given if isinstance(name, str) and (name, None, None) not in known)]
-        accounts = [budget_of(key, rows, given.get(key if key[1] else key[0])) for key, rows in [*found, *((key, []) for key in missing)]]
+        own = ((name, None, None) for name in given if isinstance(name, str))
+        found += [(key, []) for key in (*(openings - known), *(it for it in own if it not in known))]
+        accounts = [budget_of(key, rows, given.get(key if key[1] else key[0])) for key, rows in found]
         sessions = {id(it) for it in some([it for it in accounts if it["session"]], TIMELINES)}
         shown = [it for it in accounts if not it["session"] or id(it) in sessions]
         text = lines_in(self.run(["least", *arguments])[1])

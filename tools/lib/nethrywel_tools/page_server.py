@@ -1,4 +1,5 @@
-"""Serves a page on 127.0.0.1 by waitress. A request that isn't of the page itself is refused by its header, before its body is read."""
+"""Serves a page on 127.0.0.1 by waitress. A request that isn't of the page itself is refused by its header, before its body is
+read."""
 import hmac
 import json
 import logging
@@ -19,11 +20,8 @@ HEADER_BYTES, HEADER_SECONDS, IDLE_SECONDS = 16 << 10, 5, 60
 # Connections in all, and those of which no request had the token yet.
 CONNECTIONS, STRANGERS, THREADS = 200, 50, 8
 HEADERS = [
-    ("Cache-Control", "no-store"),
-    ("X-Content-Type-Options", "nosniff"),
-    ("X-Frame-Options", "DENY"),
-    ("Referrer-Policy", "no-referrer"),
-    ("Cross-Origin-Resource-Policy", "same-origin"),
+    ("Cache-Control", "no-store"), ("X-Content-Type-Options", "nosniff"), ("X-Frame-Options", "DENY"),
+    ("Referrer-Policy", "no-referrer"), ("Cross-Origin-Resource-Policy", "same-origin"),
 ]
 
 
@@ -79,18 +77,9 @@ class Server(TcpWSGIServer):
         self.token, self.largest = token, largest
         logging.getLogger("waitress").setLevel(logging.ERROR)
         super().__init__(
-            app,
-            host="127.0.0.1",
-            port=0,
-            ident="desk",
-            threads=THREADS,
-            connection_limit=CONNECTIONS,
-            channel_timeout=IDLE_SECONDS,
-            cleanup_interval=1,
-            max_request_header_size=HEADER_BYTES,
-            max_request_body_size=largest + 1,
-            asyncore_use_poll=True,
-            log_socket_errors=False,
+            app, host="127.0.0.1", port=0, ident="desk", threads=THREADS, connection_limit=CONNECTIONS, cleanup_interval=1,
+            channel_timeout=IDLE_SECONDS, max_request_header_size=HEADER_BYTES, max_request_body_size=largest + 1,
+            asyncore_use_poll=True, log_socket_errors=False,
         )
         self.hosts = {f"{it}:{self.effective_port}" for it in ("127.0.0.1", "localhost")}
 

@@ -60,17 +60,19 @@ class Files:
         self.paths = {name: os.path.realpath(path) for name, path in paths.items() if path}
 
     def read(self):
-        """Returns the texts of the files, and the sums of those that can be saved; one that isn't UTF-8 would be another afterwards."""
+        """Returns the texts of the files, and the sums of those that can be saved; one that isn't UTF-8 would be another
+        afterwards."""
         found = {name: bytes_of(path) or b"" for name, path in self.paths.items()}
         texts = {name: data.decode(errors="replace") for name, data in found.items()}
         return texts, {name: sum_of(data) for name, data in found.items() if texts[name].encode() == data}
 
     def save(self, texts, sums):
-        """Saves each file whose sum is given, or none of them, and returns their sums. A file that has another sum and another text
-        than the new one was changed by somebody else."""
+        """Saves each file whose sum is given, or none of them, and returns their sums. A file that has another sum and another
+        text than the new one was changed by somebody else."""
         with locked({os.path.dirname(self.paths[name]) for name in sums}):
             now = {name: bytes_of(self.paths[name]) for name in sums}
-            new = {name: with_ends_of((now[name] or b"").decode(errors="replace"), texts[name]).encode(errors="replace") for name in sums}
+            old = {name: (data or b"").decode(errors="replace") for name, data in now.items()}
+            new = {name: with_ends_of(old[name], texts[name]).encode(errors="replace") for name in sums}
             other = [name for name in sums if now[name] != new[name]]
             changed = [self.paths[name] for name in other if sum_or_none(now[name]) != sums[name]]
             if changed:

@@ -46,8 +46,8 @@ def places(text):
 
 
 def range_of(diagnostic, text, found):
-    """Returns where a diagnostic is: at its line and column, or at its part, start[1] "sub": config: start[0]: quantum, and of that
-    the member that its message names in backquotes."""
+    """Returns where a diagnostic is: at its line and column, or at its part, start[1] "sub": config: start[0]: quantum, and of
+    that the member that its message names in backquotes."""
     if diagnostic.line:
         before = sum(len(it) + 1 for it in text.split("\n")[: diagnostic.line - 1])
         at = min(before + max(diagnostic.column - 1, 0), max(len(text) - 1, 0))

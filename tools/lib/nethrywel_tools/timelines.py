@@ -10,8 +10,8 @@ SCALES = {"": 1, "K": 1 << 10, "M": 1 << 20, "G": 1 << 30}
 
 @dataclass
 class Timeline:
-    """An account: `part` is empty for a component's own, `reserve`, or a session's selector. A point has a line, RAM in use and its
-    limit, capabilities and theirs, all after that line; they are None if the account is closed."""
+    """An account: `part` is empty for a component's own, `reserve`, or a session's selector. A point has a line, RAM in use and
+    its limit, capabilities and theirs, all after that line; they are None if the account is closed."""
 
     component: str
     part: str
@@ -45,8 +45,8 @@ def donation_in(call):
 
 
 class Timelines:
-    """The timelines of all accounts, as far as calls were added. A session begins with its donation, of which it uses a page and two
-    capabilities for itself; a reserve begins when a call prints it."""
+    """The timelines of all accounts, as far as calls were added. A session begins with its donation, of which it uses a page
+    and two capabilities for itself; a reserve begins when a call prints it."""
 
     def __init__(self, calls):
         self.found, self.limits = {}, {}
@@ -95,7 +95,8 @@ class Timelines:
     def all(self):
         """Returns all timelines: after each component's own its reserve and its sessions."""
         order = {it: i for i, it in enumerate(dict.fromkeys(it[0] for it in self.found))}
-        return sorted(self.found.values(), key=lambda it: (order[it.component], it.part != "", int(it.part) if it.part.isdigit() else 0))
+        number = {it: int(it) if it.isdigit() else 0 for _, it in self.found}
+        return sorted(self.found.values(), key=lambda it: (order[it.component], it.part != "", number[it.part]))
 
 
 def some(items, most):
@@ -104,20 +105,22 @@ def some(items, most):
 
 
 def thinned(points, most):
-    """Returns of each stretch of a long step curve the first point, the last, the least and the greatest; and whether it was long."""
+    """Returns of each stretch of a long step curve the first point, the last, the least and the greatest; and whether it was
+    long."""
     if len(points) <= most:
         return points, False
     step, kept = -(-len(points) // max(most // 6, 1)), []
     for i in range(0, len(points), step):
         part = points[i : i + step]
-        chosen = [part[0], part[-1], *(pick(part, key=lambda it, n=n: -1 if it[n] is None else it[n]) for pick in (min, max) for n in (1, 3))]
+        keys = [lambda it, n=n: -1 if it[n] is None else it[n] for n in (1, 3)]
+        chosen = [part[0], part[-1], *(pick(part, key=key) for pick in (min, max) for key in keys)]
         kept += sorted({it[0]: it for it in chosen}.values(), key=lambda it: it[0])
     return kept, True
 
 
 def thin(timelines):
-    """Returns the timelines that are shown, each with few points; how many are left out, and whether some are thinned. Components' own
-    are all shown."""
+    """Returns the timelines that are shown, each with few points; how many are left out, and whether some are thinned.
+    Components' own are all shown."""
     room = max(TIMELINES - sum(not it.part for it in timelines), 0)
     parts = {id(it) for it in [it for it in timelines if it.part][:room]}
     shown, long = [it for it in timelines if not it.part or id(it) in parts], False

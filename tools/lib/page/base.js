@@ -1,10 +1,10 @@
 "use strict";
-// Draws what the program tells of a start list and a scenario. All that comes from files is put in as text, never as a page's own.
-// Here is what all parts of the page stand on; each part adds itself to Page.parts.
+// Draws what the program prints of a start list and a scenario. All text of files is put in as text, never as elements of the page.
+// This file has what all parts of the page use; each part adds itself to Page.parts.
 const Page = (() => {
   const SVG = "http://www.w3.org/2000/svg";
   const page = document.getElementById("page");
-  // What is drawn, at which line the cursor stands, and which folds are open.
+  // What is drawn, at which line the cursor is, and which folds are open.
   const state = { data: null, at: null, told: new Map(), called: [], open: new Set() };
   // What a desk does in the place of this page's own listing and lines.
   const hooks = { mark: null, select: null, route: null };
@@ -53,7 +53,7 @@ const Page = (() => {
     take(data);
     page.replaceChildren(patterns(), ...parts.flatMap((it) => it()));
   };
-  // redraw ID: a part whose data came later is drawn anew.
+  // redraw ID: a part whose data came later is drawn again.
   const redraw = (id) => {
     const old = document.getElementById(id);
     for (const it of parts) if (it.id === id) old.replaceWith(...it());

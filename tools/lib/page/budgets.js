@@ -77,7 +77,7 @@
   const words = (needs) => el("div", { class: "words serves" }, needs.rows.length ? "✓ serves: " : "✗ ", needs.told[0],
     ...needs.told.slice(1).map((it) => el("div", {}, it)));
 
-  // The rows: each account of the list with what it needs, the sessions that were closed before it, and those that are open behind it.
+  // The rows: each account of the list with what it needs, the sessions that were closed before it, and those that are open after it.
   const rows = () => {
     const needs = state.data.least ? state.data.least.accounts.slice() : [];
     const open = new Map(state.data.accounts.map((it) => [`${it.name}/${it.session || ""}`, it]));

@@ -1,6 +1,6 @@
 "use strict";
-// The desk: a start list, a policy and a scenario in editors. An edit has the server run the program anew, and what it tells is drawn:
-// first the replies, and behind them which budgets serve, what each is told alone, and what changed since A.
+// The desk: a start list, a policy and a scenario in editors. An edit has the server run the program again, and its output is drawn:
+// first the replies, and then which budgets suffice, each component alone, and what changed since A.
 (() => {
   const { state, el, hooks, note } = Page;
   const token = new URLSearchParams(location.search).get("token");
@@ -65,7 +65,7 @@
     said.className = bad ? "bad" : "";
   };
 
-  // --- what stands in the editors: marks, and what is told under lines
+  // --- what is in the editors: marks, and texts under lines
 
   const shown = new Map([[list, []], [policy, []], [scenario, []]]);
   const clear = (one) => {
@@ -225,7 +225,7 @@
     document.body.dataset.round = String(++round);
   };
   const whole = () => { document.body.dataset.whole = String(round); };
-  // What is told behind the replies: each in turn, as long as no later edit came.
+  // What is shown after the replies: each part in turn, as long as no later edit came.
   const rest = async (began) => {
     const mine = edit;
     await compare();

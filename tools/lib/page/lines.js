@@ -1,5 +1,5 @@
 "use strict";
-// What happens line by line: timelines, each script alone, and the scenario with its replies; one cursor stands in all.
+// What happens line by line: timelines, each script alone, and the scenario with its replies; one cursor for all.
 (() => {
   const { state, hooks, page, el, svg, note, amount, refuses, fold } = Page;
   const FEW = 500;

@@ -1,13 +1,13 @@
 //! Each worked row run whole, and once for each script by that script's lines alone: both print the same replies to the script.
 
-use crate::engine::rows::{PLAIN, Row, all_rows};
+use crate::engine::rows::{PLAIN, WorkedRow, all_rows};
+use cli_engine::{Task, run_bytes};
 use init_core::{Binary, StartList};
-use scenario::{Task, run_bytes};
 use std::alloc::{AllocError, Global};
 use std::process::Abort;
 use std::test::Fail;
 
-// Whether a line of a transcript is a reply to a component.
+// Returns whether a line of a transcript is a reply to a component.
 fn is_reply_to(line: &[u8], path: &[u8]) -> bool {
     match line.strip_prefix(path) {
         Some(rest) => rest.starts_with(b": "),
@@ -15,7 +15,7 @@ fn is_reply_to(line: &[u8], path: &[u8]) -> bool {
     }
 }
 
-// A component's part of a transcript: its replies, each after the log lines that its call finished.
+// Returns a component's part of a transcript: its replies, each after the log lines that its call finished.
 fn part_of(alloc: Global, transcript: &[u8], path: &[u8]) -> Result<Vec<u8>, AllocError> {
     let mut part = Vec::new(alloc);
     let mut log_lines = Vec::new(alloc);
@@ -33,14 +33,14 @@ fn part_of(alloc: Global, transcript: &[u8], path: &[u8]) -> Result<Vec<u8>, All
     Ok(part)
 }
 
-// The transcript of a row's lines, or of one component's lines alone.
-fn transcript_of(alloc: Global, row: &Row<'_>, task: Task<'_>) -> Result<Vec<u8>, Fail> {
+// Returns the transcript of a row's lines, or of one component's lines alone.
+fn transcript_of(alloc: Global, row: &WorkedRow<'_>, task: Task<'_>) -> Result<Vec<u8>, Fail> {
     let ended = run_bytes(alloc, row.list.as_bytes(), task, row.scenario);
     Ok(ended.ok().ok_or("a row that isn't run to its end")?)
 }
 
-// Each script of a row's start list is answered alone as in the run of all lines.
-fn check_row<R: Abort + AllocGlobal>(rt: &R, row: &Row<'_>) -> Result<(), Fail> {
+// Checks that each script of a row's start list has the same replies alone as in the whole run.
+fn check_row<R: Abort + AllocGlobal>(rt: &R, row: &WorkedRow<'_>) -> Result<(), Fail> {
     let list = StartList::read(rt.alloc(), row.list.as_bytes())?;
     let whole = transcript_of(rt.alloc(), row, PLAIN)?;
     for entry in list.entries() {
@@ -57,8 +57,8 @@ fn check_row<R: Abort + AllocGlobal>(rt: &R, row: &Row<'_>) -> Result<(), Fail> 
     Ok(())
 }
 
-// The same of each row of a table.
-fn check_rows<R: Abort + AllocGlobal>(rt: &R, rows: &[Row<'_>]) -> Result<(), Fail> {
+// Checks each row of a table.
+fn check_rows<R: Abort + AllocGlobal>(rt: &R, rows: &[WorkedRow<'_>]) -> Result<(), Fail> {
     for row in rows {
         check_row(rt, row)?;
     }

@@ -1,14 +1,14 @@
 //! The bytes of CONFIG, from sources and files of all kinds.
-use crate::devices::Reader;
+use crate::devices::TestReader;
 use crate::engine::tries::one_is_as_usual;
-use scenario::{ConfigFault, Input, LONGEST_CONFIG_READ, Source, read_config, read_config_at};
+use cli_engine::{ConfigFault, Input, LONGEST_CONFIG_READ, Source, read_config, read_config_at};
 use std::alloc::{AllocError, Global};
 use std::io::ErrorKind;
 use std::process::Abort;
 use std::rt::Files;
 use std::test::Fail;
 
-// So many bytes, of which neighbours differ.
+// Returns this number of bytes, of which neighbours differ.
 fn bytes_of(alloc: Global, length: usize) -> Result<Vec<u8>, AllocError> {
     let mut bytes = Vec::new(alloc);
     for i in 0..length {
@@ -17,7 +17,7 @@ fn bytes_of(alloc: Global, length: usize) -> Result<Vec<u8>, AllocError> {
     Ok(bytes)
 }
 
-/// So many bytes, and how many a read gives at most.
+/// Numbers of bytes, and the most bytes that a read returns.
 const LENGTHS: &[(usize, usize)] = &[
     (0, 70_000),
     (1, 70_000),
@@ -36,10 +36,10 @@ const LENGTHS: &[(usize, usize)] = &[
     (20_000, 4097),
 ];
 
-// Whether bytes are read whole up to the bound, and no more of them.
+// Returns whether bytes are read whole up to the bound, and no more of them.
 fn is_front_read(alloc: Global, bytes: &[u8], size: usize) -> bool {
     let expected = bytes.len().min(LONGEST_CONFIG_READ);
-    let mut source = Input::new(Reader::new(bytes, size));
+    let mut source = Input::new(TestReader::new(bytes, size));
     let read = read_config(alloc, &mut source);
     let failed = source.failed();
     let left = source.into_inner().bytes.len();
@@ -54,7 +54,7 @@ fn is_front_read(alloc: Global, bytes: &[u8], size: usize) -> bool {
     }
 }
 
-// So many of these bytes are, for each length of a table.
+// Checks the first bytes of each length of a table.
 fn check_lengths<R: Abort + AllocGlobal>(rt: &R, bytes: &[u8], lengths: &[(usize, usize)]) {
     for (length, size) in lengths {
         let front = &bytes[..bytes.len().min(*length)];
@@ -72,7 +72,7 @@ fn all_bytes_are_read_up_to_the_bound(rt: HostRuntime) -> Result<(), Fail> {
     Ok(())
 }
 
-/// Which read fails, and how.
+/// The number of the read that fails, and the kind of its error.
 const FAILING: &[(usize, ErrorKind)] = &[
     (1, ErrorKind::Interrupted),
     (2, ErrorKind::Interrupted),
@@ -81,12 +81,12 @@ const FAILING: &[(usize, ErrorKind)] = &[
     (1, ErrorKind::Other),
 ];
 
-// Whether a read of these bytes, a thousand at a time, fails and is the last one.
+// Returns whether a read of these bytes, a thousand at a time, fails and is the last one.
 fn is_last_read(alloc: Global, bytes: &[u8], failing: usize, kind: ErrorKind) -> bool {
-    let mut source = Input::new(Reader {
+    let mut source = Input::new(TestReader {
         failing,
         kind,
-        ..Reader::new(bytes, 1000)
+        ..TestReader::new(bytes, 1000)
     });
     let is_unreadable = matches!(
         read_config(alloc, &mut source),
@@ -95,7 +95,7 @@ fn is_last_read(alloc: Global, bytes: &[u8], failing: usize, kind: ErrorKind) ->
     is_unreadable && source.failed() && source.into_inner().reads == failing
 }
 
-// The same of each read of a table.
+// Checks each read of a table.
 fn check_failing<R: Abort + AllocGlobal>(rt: &R, bytes: &[u8], failing: &[(usize, ErrorKind)]) {
     for (failing, kind) in failing {
         assert!(rt;
@@ -112,7 +112,7 @@ fn a_read_that_fails_is_not_tried_again(rt: HostRuntime) -> Result<(), Fail> {
     Ok(())
 }
 
-/// Paths, and how many bytes are read there.
+/// Paths, and the number of bytes that each has.
 const PATHS: &[(&str, Result<usize, ConfigFault>)] = &[
     ("", Err(ConfigFault::Unreadable)),
     ("no/such/file", Err(ConfigFault::Unreadable)),
@@ -124,7 +124,7 @@ const PATHS: &[(&str, Result<usize, ConfigFault>)] = &[
     ("/dev/zero", Ok(LONGEST_CONFIG_READ)),
 ];
 
-// How many bytes are read of a path.
+// Returns the number of bytes that are read from a path.
 fn length_at<R: Files + AllocGlobal>(rt: &R, path: &str) -> Result<usize, ConfigFault> {
     match read_config_at(rt, path) {
         Ok(text) => Ok(text.len()),
@@ -132,7 +132,7 @@ fn length_at<R: Files + AllocGlobal>(rt: &R, path: &str) -> Result<usize, Config
     }
 }
 
-// So many bytes are read of each path of a table.
+// Checks the number of bytes that are read from each path of a table.
 fn check_paths<R: Abort + Files + AllocGlobal>(
     rt: &R,
     paths: &[(&str, Result<usize, ConfigFault>)],
@@ -147,9 +147,9 @@ fn files_are_opened_by_their_paths(rt: HostRuntime) {
     check_paths(&rt, PATHS);
 }
 
-// Whether bytes are read whole.
+// Returns whether bytes are read whole.
 fn is_read(alloc: Global, bytes: &[u8]) -> Option<bool> {
-    let mut source = Input::new(Reader::new(bytes, 70_000));
+    let mut source = Input::new(TestReader::new(bytes, 70_000));
     match read_config(alloc, &mut source) {
         Ok(text) => Some(text.as_slice() == bytes),
         Err(ConfigFault::NoMemory) => None,

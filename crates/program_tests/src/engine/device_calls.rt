@@ -1,16 +1,16 @@
 //! How often a device is called: once a call of an `Input` or an `Output`, also after a failure.
-use scenario::{DeviceFault, Input, Output, Sink, Source};
+use cli_engine::{DeviceFault, Input, Output, Sink, Source};
 use std::io;
 use std::io::{Read, Write};
 
-// Counts its calls, and answers the first of them with an error of this kind.
+// A device that counts its calls, and answers the first call with an error of this kind.
 #[derive(Drop)]
-struct CallsCounted {
+struct CallCounter {
     calls: u64,
     fault: io::ErrorKind,
 }
 
-impl CallsCounted {
+impl CallCounter {
     fn count(&mut self) -> io::Result<()> {
         self.calls = self.calls.saturating_add(1);
         if self.calls == 1 {
@@ -20,14 +20,14 @@ impl CallsCounted {
     }
 }
 
-impl Read for CallsCounted {
+impl Read for CallCounter {
     fn read(&mut self, buf: &mut [u8]) -> io::Result<usize> {
         self.count()?;
         Ok(buf.len())
     }
 }
 
-impl Write for CallsCounted {
+impl Write for CallCounter {
     fn write(&mut self, buf: &[u8]) -> io::Result<usize> {
         self.count()?;
         Ok(buf.len())
@@ -38,16 +38,16 @@ impl Write for CallsCounted {
     }
 }
 
-// Whether a read that fails is one call of the device.
+// Returns whether a read that fails is one call of the device.
 fn reads_once(fault: io::ErrorKind) -> bool {
-    let mut input = Input::new(CallsCounted { calls: 0, fault });
+    let mut input = Input::new(CallCounter { calls: 0, fault });
     let failed = input.read(&mut [0; 4]) == Err(DeviceFault) && input.failed();
     input.into_inner().calls == 1 && failed
 }
 
-// The same of a write.
+// Returns whether a write that fails is one call of the device.
 fn writes_once(fault: io::ErrorKind) -> bool {
-    let mut output = Output::new(CallsCounted { calls: 0, fault });
+    let mut output = Output::new(CallCounter { calls: 0, fault });
     let failed = output.write(b"text") == Err(DeviceFault) && output.failed();
     output.into_inner().calls == 1 && failed
 }
@@ -60,13 +60,13 @@ fn a_device_is_called_once_a_call(rt: HostRuntime) {
     }
 }
 
-// Takes a byte a call.
+// A device that accepts one byte in each call.
 #[derive(Drop)]
-struct TakesOne {
+struct OneByteWriter {
     calls: u64,
 }
 
-impl Write for TakesOne {
+impl Write for OneByteWriter {
     fn write(&mut self, buf: &[u8]) -> io::Result<usize> {
         self.calls = self.calls.saturating_add(1);
         Ok(buf.len().min(1))
@@ -77,9 +77,9 @@ impl Write for TakesOne {
     }
 }
 
-// Whether a short write is told as one, at once.
+// Returns whether a short write is reported at once as a short write.
 fn is_handed_on() -> bool {
-    let mut output = Output::new(TakesOne { calls: 0 });
+    let mut output = Output::new(OneByteWriter { calls: 0 });
     let first = output.write(b"text") == Ok(1) && !output.failed();
     let second = first && output.write(b"ext") == Ok(1);
     output.into_inner().calls == 2 && second

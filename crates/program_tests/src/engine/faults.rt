@@ -1,15 +1,15 @@
-//! Runs over readers and writers that fail, or take and give little at a time.
+//! Runs over readers and writers that fail, or accept and return few bytes at a time.
 ghost use Rattle.std.specs.Prelude.{◌≡◌};
 ghost use Rattle.own_model.specs.Listed.{start_list_of};
 ghost use Rattle.own_model.specs.StartList.{entries_of};
 
-use crate::devices::{Reader, Writer};
+use crate::devices::{TestReader, TestWriter};
 use crate::engine::rows::sessions::{DONATION, DONATION_ANSWERED};
 use crate::engine::rows::{PLAIN, repeated};
 use crate::engine::tasks::fault_of;
+use cli_engine::{Input, Output, RunFault, RunSummary, Sink, Source, TaskFailure, run, run_only};
 use init_core::{MACHINE_A, StartList, boot};
 use pd_core::{Core, Reply, Router};
-use scenario::{Failure, Input, Output, RunFault, Sink, Source, Summary, run, run_only};
 use std::alloc::Global;
 use std::io::ErrorKind;
 use std::process::Abort;
@@ -21,19 +21,19 @@ const BOTH: &[u8] = b"alice quota\ncarol quota\n";
 
 const BOTH_ANSWERED: &[u8] = b"alice: ram 0/65536 caps 0/16\ncarol: Unknown_component\n";
 
-/// How a run ended, what its devices were, and what alice's account is then.
+/// The end of a run, its devices, and alice's account after it.
 #[derive(Drop)]
-struct Outcome<'a> {
-    ended: Result<Summary, RunFault>,
+struct FaultOutcome<'a> {
+    ended: Result<RunSummary, RunFault>,
     read_failed: bool,
     write_failed: bool,
-    reader: Reader<'a>,
-    writer: Writer,
+    reader: TestReader<'a>,
+    writer: TestWriter,
     left: Vec<u8>,
 }
 
 // Runs a case on the built-in machine.
-fn outcome_of<'a>(alloc: Global, case: &Case<'a>) -> Result<Outcome<'a>, Failure> {
+fn outcome_of<'a>(alloc: Global, case: &EngineCase<'a>) -> Result<FaultOutcome<'a>, TaskFailure> {
     let list = StartList::read(alloc, MACHINE_A.as_bytes())?;
     let mut core = boot(alloc, &list)?;
     outcome_on(alloc, &mut core, &list, case)
@@ -44,25 +44,25 @@ fn outcome_on<'a, R: Router + Drop>(
     alloc: Global,
     core: &mut Core<R>,
     list: &StartList,
-    case: &Case<'a>,
-) -> Result<Outcome<'a>, Failure>
+    case: &EngineCase<'a>,
+) -> Result<FaultOutcome<'a>, TaskFailure>
     requires { core.old.entries ≡ entries_of (start_list_of list.now) }
 {
     let mut reply = Reply::boot(alloc)?;
-    let mut source = Input::new(Reader {
+    let mut source = Input::new(TestReader {
         failing: case.failing,
         kind: case.kind.unwrap_or(ErrorKind::UnexpectedEof),
-        ..Reader::new(case.scenario, case.given)
+        ..TestReader::new(case.scenario, case.given)
     });
-    let mut sink = Output::new(Writer {
+    let mut sink = Output::new(TestWriter {
         size: case.taken,
         room: case.room,
         kind: case.kind,
-        ..Writer::new(alloc)
+        ..TestWriter::new(alloc)
     });
     let ended = run_some(core, list, &mut reply, case, &mut source, &mut sink);
     let left = left_of(alloc, core, list, &mut reply);
-    Ok(Outcome {
+    Ok(FaultOutcome {
         ended,
         read_failed: source.failed(),
         write_failed: sink.failed(),
@@ -77,10 +77,10 @@ fn run_some<R: Router + Drop, S: Source, K: Sink>(
     core: &mut Core<R>,
     list: &StartList,
     reply: &mut Reply,
-    case: &Case<'_>,
+    case: &EngineCase<'_>,
     reader: &mut S,
     writer: &mut K,
-) -> Result<Summary, RunFault>
+) -> Result<RunSummary, RunFault>
     requires { core.old.entries ≡ entries_of (start_list_of list.now) }
     ensures { core.new.entries ≡ core.old.entries }
 {
@@ -90,7 +90,7 @@ fn run_some<R: Router + Drop, S: Source, K: Sink>(
     }
 }
 
-// What alice is told of her account.
+// Returns the reply about alice's account.
 fn left_of<R: Router + Drop>(
     alloc: Global,
     core: &mut Core<R>,
@@ -99,16 +99,16 @@ fn left_of<R: Router + Drop>(
 ) -> Vec<u8>
     requires { core.old.entries ≡ entries_of (start_list_of list.now) }
 {
-    let mut quota = Input::new(Reader::new(b"alice quota\n", 100));
-    let mut told = Output::new(Writer::new(alloc));
+    let mut quota = Input::new(TestReader::new(b"alice quota\n", 100));
+    let mut told = Output::new(TestWriter::new(alloc));
     let _ = run(core, list, reply, &mut quota, &mut told, 1);
     told.into_inner().bytes
 }
 
-/// A run whose reader gives so many bytes at a time and fails at one read, and whose writer takes so many at a time and
-/// fails after some.
+/// A run over devices that transfer `given` and `taken` bytes at a time. One read of the reader fails, and the writer fails after
+/// `room` bytes.
 #[derive(Clone, Copy)]
-struct Case<'a> {
+struct EngineCase<'a> {
     shows: &'static str,
     only: Option<&'static [u8]>,
     scenario: &'a [u8],
@@ -118,7 +118,7 @@ struct Case<'a> {
     room: usize,
     kind: Option<ErrorKind>,
     max_lines: u64,
-    ended: Result<Summary, RunFault>,
+    ended: Result<RunSummary, RunFault>,
     written: &'a [u8],
     reads: usize,
     writes: usize,
@@ -126,7 +126,7 @@ struct Case<'a> {
 }
 
 /// Both lines at once, over devices that don't fail.
-const CALM: Case<'static> = Case {
+const CALM: EngineCase<'static> = EngineCase {
     shows: "two lines at once",
     only: None,
     scenario: BOTH,
@@ -136,29 +136,29 @@ const CALM: Case<'static> = Case {
     room: usize::MAX,
     kind: None,
     max_lines: 10,
-    ended: Ok(Summary { lines: 2 }),
+    ended: Ok(RunSummary { lines: 2 }),
     written: BOTH_ANSWERED,
     reads: 2,
     writes: 1,
     caps: b'0',
 };
 
-const CASES: &[Case<'static>] = &[
+const CASES: &[EngineCase<'static>] = &[
     CALM,
-    Case {
+    EngineCase {
         shows: "each line comes alone: answers are written before the next read",
         given: 12,
         reads: 3,
         writes: 2,
         ..CALM
     },
-    Case {
+    EngineCase {
         shows: "short writes are resumed",
         taken: 2,
         writes: 27,
         ..CALM
     },
-    Case {
+    EngineCase {
         shows: "failing_reader_keeps_what_was_answered",
         scenario: b"alice quota\nalice al",
         failing: 2,
@@ -166,7 +166,7 @@ const CASES: &[Case<'static>] = &[
         written: QUOTA,
         ..CALM
     },
-    Case {
+    EngineCase {
         shows: "failing_reader_keeps_what_was_answered, interrupted",
         scenario: b"alice quota\nalice al",
         failing: 2,
@@ -175,7 +175,7 @@ const CASES: &[Case<'static>] = &[
         written: QUOTA,
         ..CALM
     },
-    Case {
+    EngineCase {
         shows: "one_line_too_many",
         scenario: b"alice quota\nbob quota\n",
         max_lines: 1,
@@ -184,20 +184,20 @@ const CASES: &[Case<'static>] = &[
         reads: 1,
         ..CALM
     },
-    Case {
+    EngineCase {
         shows: "one_line_too_many, as many as allowed",
         scenario: b"alice quota\n",
         max_lines: 1,
-        ended: Ok(Summary { lines: 1 }),
+        ended: Ok(RunSummary { lines: 1 }),
         written: QUOTA,
         ..CALM
     },
-    Case {
+    EngineCase {
         shows: "two lines of two",
         max_lines: 2,
         ..CALM
     },
-    Case {
+    EngineCase {
         shows: "lines that are skipped count",
         only: Some(b"alice"),
         scenario: b"alice quota\nbob quota\n\nbob quota\n",
@@ -207,7 +207,7 @@ const CASES: &[Case<'static>] = &[
         reads: 1,
         ..CALM
     },
-    Case {
+    EngineCase {
         shows: "a writer that fails",
         room: 0,
         kind: Some(ErrorKind::Other),
@@ -216,7 +216,7 @@ const CASES: &[Case<'static>] = &[
         reads: 1,
         ..CALM
     },
-    Case {
+    EngineCase {
         shows: "a writer that is interrupted",
         room: 0,
         kind: Some(ErrorKind::Interrupted),
@@ -225,7 +225,7 @@ const CASES: &[Case<'static>] = &[
         reads: 1,
         ..CALM
     },
-    Case {
+    EngineCase {
         shows: "writer_that_takes_nothing",
         scenario: b"alice quota\n",
         room: 5,
@@ -235,7 +235,7 @@ const CASES: &[Case<'static>] = &[
         writes: 2,
         ..CALM
     },
-    Case {
+    EngineCase {
         shows: "a writer that takes nothing at first",
         room: 0,
         ended: Err(RunFault::WriteFault),
@@ -243,7 +243,7 @@ const CASES: &[Case<'static>] = &[
         reads: 1,
         ..CALM
     },
-    Case {
+    EngineCase {
         shows: "a writer that takes one answer",
         room: 29,
         ended: Err(RunFault::WriteFault),
@@ -252,7 +252,7 @@ const CASES: &[Case<'static>] = &[
         writes: 2,
         ..CALM
     },
-    Case {
+    EngineCase {
         shows: "a writer that takes a byte of the next",
         room: 30,
         ended: Err(RunFault::WriteFault),
@@ -261,7 +261,7 @@ const CASES: &[Case<'static>] = &[
         writes: 2,
         ..CALM
     },
-    Case {
+    EngineCase {
         shows: "a failed write before a line too many",
         room: 0,
         max_lines: 1,
@@ -270,7 +270,7 @@ const CASES: &[Case<'static>] = &[
         reads: 1,
         ..CALM
     },
-    Case {
+    EngineCase {
         shows: "the same after some bytes",
         room: 5,
         max_lines: 1,
@@ -280,7 +280,7 @@ const CASES: &[Case<'static>] = &[
         writes: 2,
         ..CALM
     },
-    Case {
+    EngineCase {
         shows: "the first read fails and isn't tried again",
         scenario: b"alice capalloc\nalice capalloc\n",
         given: 16,
@@ -291,7 +291,7 @@ const CASES: &[Case<'static>] = &[
         writes: 0,
         ..CALM
     },
-    Case {
+    EngineCase {
         shows: "the second read fails and isn't tried again",
         scenario: b"alice capalloc\nalice capalloc\n",
         given: 16,
@@ -301,7 +301,7 @@ const CASES: &[Case<'static>] = &[
         caps: b'1',
         ..CALM
     },
-    Case {
+    EngineCase {
         shows: "the read at the end fails and isn't tried again",
         scenario: b"alice capalloc\nalice capalloc\n",
         given: 16,
@@ -313,7 +313,7 @@ const CASES: &[Case<'static>] = &[
         caps: b'2',
         ..CALM
     },
-    Case {
+    EngineCase {
         shows: "a write that fails before the read that would",
         scenario: b"alice quota\nalice al",
         failing: 2,
@@ -324,7 +324,7 @@ const CASES: &[Case<'static>] = &[
         writes: 2,
         ..CALM
     },
-    Case {
+    EngineCase {
         shows: "one name's lines over a reader that fails",
         only: Some(b"carol"),
         failing: 2,
@@ -334,8 +334,8 @@ const CASES: &[Case<'static>] = &[
     },
 ];
 
-// Whether a run ended so.
-fn is_so(ran: &Outcome<'_>, case: &Case<'_>) -> bool {
+// Returns whether a run ended as its case states.
+fn is_so(ran: &FaultOutcome<'_>, case: &EngineCase<'_>) -> bool {
     has_written(ran, case)
         && ran.read_failed == (ran.ended == Err(RunFault::ReadFault))
         && ran.write_failed == (ran.ended == Err(RunFault::WriteFault))
@@ -346,29 +346,29 @@ fn is_so(ran: &Outcome<'_>, case: &Case<'_>) -> bool {
             .ends_with(&[b' ', case.caps, b'/', b'1', b'6', b'\n'])
 }
 
-// Whether a run ended so, and this was written by then.
-fn has_written(ran: &Outcome<'_>, case: &Case<'_>) -> bool {
+// Returns whether a run ended as its case states, and wrote this until then.
+fn has_written(ran: &FaultOutcome<'_>, case: &EngineCase<'_>) -> bool {
     ran.ended == case.ended && ran.writer.bytes.as_slice() == case.written
 }
 
-// Whether a run ends so.
-fn ends_so(alloc: Global, case: &Case<'_>) -> bool {
+// Returns whether the run of a case ends as the case states.
+fn ends_so(alloc: Global, case: &EngineCase<'_>) -> bool {
     match outcome_of(alloc, case) {
         Ok(ran) => is_so(&ran, case),
         Err(_) => false,
     }
 }
 
-// Whether a run ends so, with this written, however often its devices were used.
-fn writes_so(alloc: Global, case: &Case<'_>) -> bool {
+// Returns whether the run of a case ends as the case states and writes this, however often its devices are used.
+fn writes_so(alloc: Global, case: &EngineCase<'_>) -> bool {
     match outcome_of(alloc, case) {
         Ok(ran) => has_written(&ran, case),
         Err(_) => false,
     }
 }
 
-// Each run of a table.
-fn check_all<R: Abort + AllocGlobal>(rt: &R, cases: &[Case<'_>]) {
+// Checks each run of a table.
+fn check_all<R: Abort + AllocGlobal>(rt: &R, cases: &[EngineCase<'_>]) {
     for case in cases {
         assert!(rt; ends_so(rt.alloc(), case), "{}", case.shows);
     }
@@ -379,9 +379,9 @@ fn devices_that_fail(rt: HostRuntime) {
     check_all(&rt, CASES);
 }
 
-// Whether this is written where each byte comes alone and this read fails.
+// Returns whether this is written if each byte is read alone and this read fails.
 fn is_left_by_read(alloc: Global, failing: usize, written: &[u8]) -> bool {
-    let case = Case {
+    let case = EngineCase {
         scenario: DONATION,
         given: 1,
         failing,
@@ -393,7 +393,7 @@ fn is_left_by_read(alloc: Global, failing: usize, written: &[u8]) -> bool {
     writes_so(alloc, &case)
 }
 
-// What was answered is what stands before the read that fails.
+// The replies are those of the lines before the read that fails.
 #[test]
 fn each_read_fails_in_turn(rt: HostRuntime) {
     let mut answers = DONATION_ANSWERED.split_inclusive(|byte| *byte == b'\n');
@@ -411,9 +411,9 @@ fn each_read_fails_in_turn(rt: HostRuntime) {
     assert!(rt; answered == DONATION_ANSWERED.len());
 }
 
-// Whether this is written where so many bytes come at once, and the write behind it fails.
+// Returns whether this is written if this number of bytes is read at once, and the next write fails.
 fn is_left_by_write(alloc: Global, given: usize, written: &[u8]) -> bool {
-    let case = Case {
+    let case = EngineCase {
         scenario: DONATION,
         given,
         taken: 10,
@@ -425,7 +425,7 @@ fn is_left_by_write(alloc: Global, given: usize, written: &[u8]) -> bool {
     writes_so(alloc, &case)
 }
 
-// A write fails behind each byte: a front of the answers is written.
+// A write fails after each byte: the first bytes of the replies are written.
 #[test]
 fn each_write_fails_in_turn(rt: HostRuntime) {
     for room in 0..DONATION_ANSWERED.len() {
@@ -436,8 +436,8 @@ fn each_write_fails_in_turn(rt: HostRuntime) {
     }
 }
 
-// Whether a hundred bytes were written in three writes, and not a fourth was tried, and no line was answered after that.
-fn is_cut(ran: &Outcome<'_>) -> bool {
+// Returns whether a hundred bytes were written in three writes, no fourth was tried, and no line was answered after that.
+fn is_cut(ran: &FaultOutcome<'_>) -> bool {
     ran.ended == Err(RunFault::WriteFault)
         && ran.writer.writes == 3
         && ran.writer.bytes.len() == 100
@@ -448,9 +448,9 @@ fn is_cut(ran: &Outcome<'_>) -> bool {
         && ran.left.as_slice() == b"alice: ram 0/65536 caps 1/16\n".as_slice()
 }
 
-// Whether a scenario ends so over a writer that takes a hundred bytes, in two writes.
+// Returns whether a scenario ends so over a writer that accepts a hundred bytes, in two writes.
 fn is_cut_short(alloc: Global, scenario: &[u8]) -> bool {
-    let case = Case {
+    let case = EngineCase {
         scenario,
         given: 100_000,
         taken: 70,
@@ -478,32 +478,32 @@ fn writer_fails_while_more_is_gathered(rt: HostRuntime) -> Result<(), Fail> {
     Ok(())
 }
 
-// Whether a source that fails ends two runs, and neither writes.
-fn ends_unread(alloc: Global, source: &mut Input<Reader<'_>>) -> bool {
-    let mut sink = Output::new(Writer::new(alloc));
+// Returns whether a source that fails ends two runs, and neither writes.
+fn ends_unread(alloc: Global, source: &mut Input<TestReader<'_>>) -> bool {
+    let mut sink = Output::new(TestWriter::new(alloc));
     let first = fault_of(alloc, PLAIN, source, &mut sink);
     let second = fault_of(alloc, PLAIN, source, &mut sink);
     first == Some(RunFault::ReadFault) && second == first && sink.into_inner().bytes.is_empty()
 }
 
-// Whether a sink that fails ends a run, and the next one, whose source had failed too: the sink is told first.
-fn ends_unwritten(alloc: Global, source: &mut Input<Reader<'_>>) -> bool {
-    let mut quota = Input::new(Reader::new(b"alice quota\n", 100));
-    let mut sink = Output::new(Writer {
+// Returns whether a sink that fails ends a run, and the next run, whose source had failed too: the sink's fault comes first.
+fn ends_unwritten(alloc: Global, source: &mut Input<TestReader<'_>>) -> bool {
+    let mut quota = Input::new(TestReader::new(b"alice quota\n", 100));
+    let mut sink = Output::new(TestWriter {
         room: 0,
-        ..Writer::new(alloc)
+        ..TestWriter::new(alloc)
     });
     let first = fault_of(alloc, PLAIN, &mut quota, &mut sink);
     let second = fault_of(alloc, PLAIN, source, &mut sink);
     first == Some(RunFault::WriteFault) && second == first && sink.into_inner().writes == 1
 }
 
-// With a device that had failed before, neither is touched.
+// If a device had failed before the run, neither device is used.
 #[test]
 fn failed_devices_are_not_tried(rt: HostRuntime) {
-    let mut source = Input::new(Reader {
+    let mut source = Input::new(TestReader {
         failing: 1,
-        ..Reader::new(b"alice quota\n", 100)
+        ..TestReader::new(b"alice quota\n", 100)
     });
     assert!(rt; ends_unread(rt.alloc(), &mut source) && ends_unwritten(rt.alloc(), &mut source));
     assert!(rt; source.into_inner().reads == 1);

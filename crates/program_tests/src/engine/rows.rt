@@ -5,65 +5,65 @@ mod many;
 mod memory;
 pub mod sessions;
 
-use crate::devices::{Reader, Writer};
+use crate::devices::{TestReader, TestWriter};
+use cli_engine::{Input, Output, Task, boot_and_run, exit_status, run_bytes};
 use init_core::MACHINE_A;
-use scenario::{Input, Output, Task, boot_and_run, exit_status, run_bytes};
 use std::alloc::{AllocError, Global};
 use std::process::Abort;
 use std::test::Fail;
 
-/// The answers alone.
+/// A run that prints the replies only.
 pub const PLAIN: Task<'static> = Task::Run {
     accounts: false,
     only: None,
 };
 
-/// The answers, and the account list behind them.
+/// A run that prints the replies, and the account list after them.
 pub const LISTED: Task<'static> = Task::Run {
     accounts: true,
     only: None,
 };
 
-/// What is told to alice.
+/// A run that prints the replies to alice only.
 pub const ALICE_ALONE: Task<'static> = Task::Run {
     accounts: false,
     only: Some(b"alice"),
 };
 
-/// A worked row.
+/// A worked row: a scenario on the machine of a start list, with its transcript.
 #[derive(Clone, Copy)]
-pub struct Row<'a> {
-    /// What it shows.
+pub struct WorkedRow<'a> {
+    /// What the row shows.
     pub shows: &'static str,
     /// The start list.
     pub list: &'static str,
-    /// What is asked of its machine.
+    /// The task on the list's machine.
     pub task: Task<'static>,
-    /// The lines.
+    /// The lines of the scenario.
     pub scenario: &'a [u8],
-    /// What is written.
+    /// The transcript that is expected.
     pub transcript: &'a [u8],
 }
 
-// Whether a row is answered so where its scenario comes in pieces of this size.
-fn is_answered(alloc: Global, row: &Row<'_>, size: usize) -> bool {
-    let mut source = Input::new(Reader::new(row.scenario, size));
-    let mut sink = Output::new(Writer::new(alloc));
+// Returns whether a row has its transcript if its scenario is read in pieces of this size.
+fn is_answered(alloc: Global, row: &WorkedRow<'_>, size: usize) -> bool {
+    let mut source = Input::new(TestReader::new(row.scenario, size));
+    let mut sink = Output::new(TestWriter::new(alloc));
     let ended = boot_and_run(alloc, row.list.as_bytes(), row.task, &mut source, &mut sink);
     let writer = sink.into_inner();
     exit_status(&ended) == 0 && writer.bytes.as_slice() == row.transcript
 }
 
-// Whether a row is answered so from bytes to bytes.
-fn is_written(alloc: Global, row: &Row<'_>) -> bool {
+// Returns whether a row has its transcript in a run from bytes to bytes.
+fn is_written(alloc: Global, row: &WorkedRow<'_>) -> bool {
     match run_bytes(alloc, row.list.as_bytes(), row.task, row.scenario) {
         Ok(written) => written.as_slice() == row.transcript,
         Err(_) => false,
     }
 }
 
-// Each row of a table is answered so however its scenario comes, and from bytes to bytes.
-fn check_all<R: Abort + AllocGlobal>(rt: &R, rows: &[Row<'_>]) {
+// Checks the transcript of each row of a table, with pieces of three sizes and from bytes to bytes.
+fn check_all<R: Abort + AllocGlobal>(rt: &R, rows: &[WorkedRow<'_>]) {
     for row in rows {
         let is_so = is_answered(rt.alloc(), row, 1)
             && is_answered(rt.alloc(), row, 7)
@@ -74,7 +74,7 @@ fn check_all<R: Abort + AllocGlobal>(rt: &R, rows: &[Row<'_>]) {
 }
 
 /// Returns all worked rows, a table for each area.
-pub fn all_rows() -> [&'static [Row<'static>]; 4] {
+pub fn all_rows() -> [&'static [WorkedRow<'static>]; 4] {
     [
         memory::rows(),
         sessions::rows(),
@@ -90,7 +90,7 @@ fn worked_rows(rt: HostRuntime) {
     }
 }
 
-/// A text with so many equal pieces in its middle.
+/// Returns a text with this number of equal pieces in its middle. The error is out of memory.
 pub fn repeated(
     alloc: Global,
     front: &[u8],
@@ -106,12 +106,12 @@ pub fn repeated(
     Ok(text)
 }
 
-// Rows of a line of 8193 bytes between others, and of one of 8192.
+// Checks rows of a line of 8193 bytes between others, and of a line of 8192.
 fn check_lines<R: Abort + AllocGlobal>(rt: &R, overflowing: &[u8], longest: &[u8]) {
     check_all(
         rt,
         &[
-            Row {
+            WorkedRow {
                 shows: "lines_end_and_overflow",
                 list: MACHINE_A,
                 task: PLAIN,
@@ -122,7 +122,7 @@ fn check_lines<R: Abort + AllocGlobal>(rt: &R, overflowing: &[u8], longest: &[u8
 bob: ram 0/65536 caps 0/16
 ",
             },
-            Row {
+            WorkedRow {
                 shows: "lines_end_and_overflow, of 8192 bytes",
                 list: MACHINE_A,
                 task: PLAIN,

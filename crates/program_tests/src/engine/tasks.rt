@@ -1,12 +1,12 @@
-//! What is asked of a machine: how it ends, as text and as status, and what it reads and writes for it.
-use crate::devices::{Reader, Writer};
+//! Tasks of a machine: the end of each as text and as status, and what it reads and writes.
+use crate::devices::{TestReader, TestWriter};
 use crate::engine::rows::{LISTED, PLAIN, repeated};
 use crate::engine::tries::one_is_as_usual;
-use init_core::{BootFault, Field, MACHINE_A};
-use scenario::{
-    ConfigFault, Failure, Input, Output, RunFault, Summary, Task, boot_and_run, exit_status,
+use cli_engine::{
+    ConfigFault, Input, Output, RunFault, RunSummary, Task, TaskFailure, boot_and_run, exit_status,
     run_bytes,
 };
+use init_core::{BootFault, ConfigField, MACHINE_A};
 use std::alloc::Global;
 use std::fmt::Display;
 use std::io::ErrorKind;
@@ -22,9 +22,9 @@ pub const RICH: &str = r#"{"machine":{"pages":64,"caps":64},
   {"name":"alice","binary":"script","quantum":"300K","caps":16},
   {"name":"bob","binary":"script","quantum":"64K","caps":16}]}"#;
 
-/// A task over a writer that takes so many bytes, one at a time, and then fails.
+/// A task over a writer that accepts this number of bytes, one at a time, and then fails.
 #[derive(Clone, Copy)]
-struct Case {
+struct EngineCase {
     shows: &'static str,
     list: &'static str,
     task: Task<'static>,
@@ -38,7 +38,7 @@ struct Case {
 }
 
 /// A check of a machine that boots.
-const CHECK: Case = Case {
+const CHECK: EngineCase = EngineCase {
     shows: "a check tells ok and reads nothing",
     list: MACHINE_A,
     task: Task::Check,
@@ -52,7 +52,7 @@ const CHECK: Case = Case {
 };
 
 /// A list that isn't covered.
-const UNCOVERED: Case = Case {
+const UNCOVERED: EngineCase = EngineCase {
     shows: "boot_refuses_what_is_not_covered",
     list: RICH,
     told: "boot: Quota_exceeded alice",
@@ -63,7 +63,7 @@ const UNCOVERED: Case = Case {
 };
 
 /// A writer that fails at once.
-const UNWRITABLE: Case = Case {
+const UNWRITABLE: EngineCase = EngineCase {
     shows: "a write of ok that fails is tried once",
     room: 0,
     kind: Some(ErrorKind::Other),
@@ -74,37 +74,37 @@ const UNWRITABLE: Case = Case {
     ..CHECK
 };
 
-const CASES: &[Case] = &[
+const CASES: &[EngineCase] = &[
     CHECK,
     UNCOVERED,
-    Case {
+    EngineCase {
         task: PLAIN,
         ..UNCOVERED
     },
-    Case {
+    EngineCase {
         task: LISTED,
         ..UNCOVERED
     },
     UNWRITABLE,
-    Case {
+    EngineCase {
         shows: "a check over a writer that takes nothing",
         kind: None,
         ..UNWRITABLE
     },
-    Case {
+    EngineCase {
         shows: "a check over a writer that takes two bytes",
         room: 2,
         written: b"ok",
         writes: 3,
         ..UNWRITABLE
     },
-    Case {
+    EngineCase {
         shows: "a reply that can't be written is tried once",
         task: PLAIN,
         reads: 1,
         ..UNWRITABLE
     },
-    Case {
+    EngineCase {
         shows: "an answer before the account list that can't be written is tried once",
         task: LISTED,
         reads: 1,
@@ -112,7 +112,7 @@ const CASES: &[Case] = &[
     },
 ];
 
-// Whether a value is shown so.
+// Returns whether a value is displayed as this text.
 fn is_shown<D: Display>(alloc: Global, value: &D, text: &str) -> bool {
     match format!(in alloc; "{value}") {
         Ok(shown) => shown.as_str() == text,
@@ -120,22 +120,22 @@ fn is_shown<D: Display>(alloc: Global, value: &D, text: &str) -> bool {
     }
 }
 
-// Whether a task ends so.
-fn ends_so(alloc: Global, case: &Case) -> bool {
-    let mut source = Input::new(Reader::new(b"alice quota\n", 100));
-    let mut sink = Output::new(Writer {
+// Returns whether a task ends as its case states.
+fn ends_so(alloc: Global, case: &EngineCase) -> bool {
+    let mut source = Input::new(TestReader::new(b"alice quota\n", 100));
+    let mut sink = Output::new(TestWriter {
         size: 1,
         room: case.room,
         kind: case.kind,
-        ..Writer::new(alloc)
+        ..TestWriter::new(alloc)
     });
     let text = case.list.as_bytes();
     let ended = boot_and_run(alloc, text, case.task, &mut source, &mut sink);
     is_told(alloc, &ended, case) && is_done(&source.into_inner(), &sink.into_inner(), case)
 }
 
-// Whether a task's end is told so, with this status.
-fn is_told(alloc: Global, ended: &Result<Summary, Failure>, case: &Case) -> bool {
+// Returns whether the end of a task has the text and the status of its case.
+fn is_told(alloc: Global, ended: &Result<RunSummary, TaskFailure>, case: &EngineCase) -> bool {
     let is_told = match ended {
         Ok(_) => case.told.is_empty(),
         Err(failure) => is_shown(alloc, failure, case.told),
@@ -143,15 +143,15 @@ fn is_told(alloc: Global, ended: &Result<Summary, Failure>, case: &Case) -> bool
     is_told && exit_status(ended) == case.status
 }
 
-// Whether the devices were used so.
-fn is_done(reader: &Reader<'_>, writer: &Writer, case: &Case) -> bool {
+// Returns whether the devices were used as the case states.
+fn is_done(reader: &TestReader<'_>, writer: &TestWriter, case: &EngineCase) -> bool {
     writer.bytes.as_slice() == case.written
         && writer.writes == case.writes
         && reader.reads == case.reads
 }
 
-// Each task of a table.
-fn check_all<R: Abort + AllocGlobal>(rt: &R, cases: &[Case]) {
+// Checks each task of a table.
+fn check_all<R: Abort + AllocGlobal>(rt: &R, cases: &[EngineCase]) {
     for case in cases {
         assert!(rt; ends_so(rt.alloc(), case), "{}", case.shows);
     }
@@ -162,25 +162,25 @@ fn tasks_over_writers_that_fail(rt: HostRuntime) {
     check_all(&rt, CASES);
 }
 
-/// The fault of the run that a task on the built-in machine ends with, if it does.
+/// Returns the fault of the run of a task on the built-in machine, if there is one.
 pub fn fault_of(
     alloc: Global,
     task: Task<'_>,
-    source: &mut Input<Reader<'_>>,
-    sink: &mut Output<Writer>,
+    source: &mut Input<TestReader<'_>>,
+    sink: &mut Output<TestWriter>,
 ) -> Option<RunFault> {
     match boot_and_run(alloc, MACHINE_A.as_bytes(), task, source, sink) {
-        Err(Failure::Run(fault)) => Some(fault),
+        Err(TaskFailure::Run(fault)) => Some(fault),
         _ => None,
     }
 }
 
-// Whether a sink that has failed isn't written to for the next task.
+// Returns whether a sink that has failed isn't written to for the next task.
 fn is_tried_once(alloc: Global, task: Task<'_>, scenario: &[u8]) -> bool {
-    let mut source = Input::new(Reader::new(scenario, 100_000));
-    let mut sink = Output::new(Writer {
+    let mut source = Input::new(TestReader::new(scenario, 100_000));
+    let mut sink = Output::new(TestWriter {
         room: 0,
-        ..Writer::new(alloc)
+        ..TestWriter::new(alloc)
     });
     let first = fault_of(alloc, task, &mut source, &mut sink);
     let second = fault_of(alloc, Task::Check, &mut source, &mut sink);
@@ -196,7 +196,7 @@ fn writer_that_failed_is_not_tried_again(rt: HostRuntime) -> Result<(), Fail> {
     Ok(())
 }
 
-// Whether a scenario on the built-in machine stops with this told, and gives back what was answered by then.
+// Returns whether a scenario on the built-in machine stops with this text, and returns what was answered until then.
 fn is_stopped(alloc: Global, scenario: &[u8], told: &str, written: &[u8]) -> bool {
     match run_bytes(alloc, MACHINE_A.as_bytes(), PLAIN, scenario) {
         Ok(_) => false,
@@ -215,10 +215,10 @@ fn bytes_stop_at_an_endless_line(rt: HostRuntime) -> Result<(), Fail> {
     Ok(())
 }
 
-// Each failure and each fault is told so.
+// Checks the text of each failure and each fault.
 fn are_told<R: Abort + AllocGlobal>(
     rt: &R,
-    failures: &[(Failure, &str)],
+    failures: &[(TaskFailure, &str)],
     faults: &[(ConfigFault, &str)],
 ) {
     for (failure, text) in failures {
@@ -229,7 +229,7 @@ fn are_told<R: Abort + AllocGlobal>(
     }
 }
 
-/// Why CONFIG isn't read, and the texts of that.
+/// The reasons for which CONFIG isn't read, and their texts.
 const CONFIG_FAULTS: &[(ConfigFault, &str)] = &[
     (ConfigFault::Unreadable, "Unreadable_config"),
     (ConfigFault::NoMemory, "No_memory"),
@@ -240,12 +240,15 @@ fn failures_have_texts(rt: HostRuntime) {
     are_told(
         &rt,
         &[
-            (Failure::Run(RunFault::ReadFault), "run: Read_fault"),
-            (Failure::Run(RunFault::WriteFault), "run: Write_fault"),
-            (Failure::Run(RunFault::TooManyLines), "run: Too_many_lines"),
-            (Failure::Boot(BootFault::NoMemory), "boot: No_memory"),
+            (TaskFailure::Run(RunFault::ReadFault), "run: Read_fault"),
+            (TaskFailure::Run(RunFault::WriteFault), "run: Write_fault"),
             (
-                Failure::Boot(BootFault::BadConfig(Field::Pages)),
+                TaskFailure::Run(RunFault::TooManyLines),
+                "run: Too_many_lines",
+            ),
+            (TaskFailure::Boot(BootFault::NoMemory), "boot: No_memory"),
+            (
+                TaskFailure::Boot(BootFault::BadConfig(ConfigField::Pages)),
                 "boot: Bad_config pages",
             ),
         ],
@@ -253,14 +256,14 @@ fn failures_have_texts(rt: HostRuntime) {
     );
 }
 
-// Whether a run is answered. One that wants memory is told so, or has no room for the transcript.
+// Returns whether a run is answered. A run that is out of memory reports that, or has no transcript.
 fn is_listed(alloc: Global) -> Option<bool> {
     match run_bytes(alloc, MACHINE_A.as_bytes(), LISTED, b"alice alloc 1\n") {
         Ok(written) => Some(written.starts_with(b"alice: cap 1\naccount init ")),
         Err(stopped) => {
             let is_wanted = matches!(
                 stopped.failure,
-                Failure::Boot(BootFault::NoMemory) | Failure::Run(RunFault::WriteFault)
+                TaskFailure::Boot(BootFault::NoMemory) | TaskFailure::Run(RunFault::WriteFault)
             );
             if is_wanted && stopped.written.is_empty() {
                 None

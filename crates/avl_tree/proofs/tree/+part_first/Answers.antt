@@ -13,9 +13,9 @@ returns-then-links-eq0-clause-first g t c =
 pub returns-then-links-eq0-clause-made : goal.returns-then-links-eq0-clause-made
 returns-then-links-eq0-clause-made g t c =
     let q = c.requires in
-    rw (c.limb_of.ensures.view, c.links-links.ensures.view)
+    rw (c.subtree_of.ensures.view, c.links-links.ensures.view)
     (part-here_made _ _ c.args.root c.links-links.result q.3 c.links-links.ensures.links _ c.if-links-eq0.true
-    (λ r held at. c.limb_of.ensures.is r (rw c.links-links.ensures.view held) at))
+    (λ r held at. c.subtree_of.ensures.is r (rw c.links-links.ensures.view held) at))
 
 -- the left tree has it
 pub part_first-parted-requires : goal.part_first-parted-requires
@@ -69,7 +69,7 @@ returns-clause-keeps g t c =
     then _ _ _ _ c.links-links.ensures.keeps (then _ _ _ _ c.part_first-parted.ensures.keeps c.with_left-rest.ensures.keeps)
 
 pub returns-then-links-eq0-clause-keeps : goal.returns-then-links-eq0-clause-keeps
-returns-then-links-eq0-clause-keeps g t c = g.met.N.Nodes.keeps_then _ _ _ _ c.links-links.ensures.keeps c.limb_of.ensures.keeps
+returns-then-links-eq0-clause-keeps g t c = g.met.N.Nodes.keeps_then _ _ _ _ c.links-links.ensures.keeps c.subtree_of.ensures.keeps
 
 pub links-links-requires : goal.links-links-requires
 links-links-requires g t c = let q = c.requires in root_node _ q.0 _ q.2 q.1.at q.3

@@ -6,7 +6,7 @@ use Rattle.own_model.specs.World.{IsBalancedFor}
 use Rattle.own_model.proofs.StartLemmas.{start_balanced_for}
 use Rattle.pd_core.specs.Fresh.{started_world}
 use Rattle.pd_core.specs.SessionCalls.{Agrees}
-use Rattle.init_core.specs.Rows.{Row, leads_in, places_in}
+use Rattle.init_core.specs.Rows.{RouteRow, server_by_rows, places_in}
 use Rattle.pd_core.specs.Core.{Places}
 use Rattle.init_core.proofs.RowLemmas.{places_listed}
 use Rattle.init_core.proofs.BootedLemmas.{nothing_yet, boots, booted, agrees, all_fresh}
@@ -32,12 +32,12 @@ from_parts-requires-clause-fresh c =
 pub from_parts-requires-clause-leads : goal.from_parts-requires-clause-leads
 from_parts-requires-clause-leads c =
     let all : c.loop-place.place ≡ length c.args.list.now.entries = omega (arith, c.loop-place.auto.place-end, c.loop-place-test.false, c.count-place-end.ensures.value) in
-    subst (λ (rows : List Row). Agrees (places_in rows) (leads_in rows) c.loop-place.memory c.loop-place.components.items) (sym c.in_ok-routes.ensures) (agrees c.loop-place.invariant all)
+    subst (λ (rows : List RouteRow). Agrees (places_in rows) (server_by_rows rows) c.loop-place.memory c.loop-place.components.items) (sym c.in_ok-routes.ensures) (agrees c.loop-place.invariant all)
 
 pub returns-clause-started : goal.returns-clause-started
 returns-clause-started c =
     let all : c.loop-place.place ≡ length c.args.list.now.entries = omega (arith, c.loop-place.auto.place-end, c.loop-place-test.false, c.count-place-end.ensures.value) in
-    c.from_parts.ensures.started ∙ ap (λ (rows : List Row). started_world (places_in rows) c.loop-place.memory c.loop-place.components.items) c.in_ok-routes.ensures
+    c.from_parts.ensures.started ∙ ap (λ (rows : List RouteRow). started_world (places_in rows) c.loop-place.memory c.loop-place.components.items) c.in_ok-routes.ensures
     ∙ ap (λ (places : Places). started_world places c.loop-place.memory c.loop-place.components.items) (places_listed c.args.list.now) ∙ booted c.loop-place.invariant all
 
 pub returns-clause-covered : goal.returns-clause-covered

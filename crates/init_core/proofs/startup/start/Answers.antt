@@ -6,8 +6,8 @@ use Rattle.own_model.specs.Amounts.{Amounts}
 use Rattle.own_model.specs.Listed.{ListedEntry, reserve_by}
 use Rattle.pd_core.specs.declared.component.Component.{Component}
 use Rattle.init_core.specs.Boot.{HasStarted}
-use Rattle.start_lists.specs.declared.fault.BootFault.{BootFault}
-use Rattle.start_lists.specs.declared.fault.BootFault.TheVariants.{NoMemory}
+use Rattle.list_parser.specs.declared.fault.BootFault.{BootFault}
+use Rattle.list_parser.specs.declared.fault.BootFault.TheVariants.{NoMemory}
 use Rattle.init_core.proofs.InitLemmas.{init_open}
 use Rattle.init_core.proofs.BootLemmas.{init_next, init_still_open, uncovered_account, uncovered_reserve, alone_started, script_started}
 use Rattle.init_core.proofs.startup.start.Goals as goal

@@ -1,6 +1,6 @@
 use Rattle.std.proofs.Common.{◌≡◌, drop}
 use Rattle.std.specs.List.{find}
-use Rattle.near_words.specs.Near.{is_away}
+use Rattle.text_near_words.specs.Near.{is_away}
 use Rattle.list_findings.specs.Near.{names_in}
 use Rattle.list_findings.proofs.near.name_away.Given as goal
 

@@ -4,9 +4,9 @@ use Rattle.std.proofs.lemmas.Grind.{common_steps}
 use Rattle.own_model.specs.Call.{is_exit}
 use Rattle.trade_base.specs.declared.refusal.Refusal.{Refusal}
 use Rattle.own_model.specs.Reply.{reply_text}
-use Rattle.pd_core.specs.declared.answer.Granted.{Granted}
+use Rattle.pd_core.specs.declared.call_value.CallValue.{CallValue}
 use Rattle.pd_core.specs.Answer.{reply_of, told_alone}
-use Rattle.calls.specs.Call.{model_call}
+use Rattle.core_calls.specs.Call.{model_call}
 use Rattle.pd_core.specs.Core.{roles_of, sessions_in}
 use Rattle.pd_core.proofs.CorePlainLemmas.{plain_goes}
 use Rattle.pd_core.proofs.CoreHeldLemmas.{names_open, reserve_apart}
@@ -49,7 +49,7 @@ returns-in-CallSession g c = goes_as (ap model_call c.in-CallSession.is) refl (c
 pub returns : goal.returns
 returns g c =
     let places = g.R.Router.places c.args.routes.now in
-    let told : (answered : Result Granted Refusal) → c.match-call.outcome ≡ answered → c.tell.new.reply ≡ told_alone (reply_text (reply_of answered))
+    let told : (answered : Result CallValue Refusal) → c.match-call.outcome ≡ answered → c.tell.new.reply ≡ told_alone (reply_text (reply_of answered))
     = λ answered is. c.tell.ensures ∙ ap (λ o. told_alone (reply_text (reply_of o))) is in
     elim c.match-call.branch [
       | in-Open w ↦ rw (w.memory-is, w.components-is) (goes_as (ap model_call w.in-Open.is) (told _ w.outcome-is) w.open-outcome.ensures)

@@ -5,7 +5,7 @@ use Rattle.trade_base.specs.declared.refusal.Refusal.TheVariants.{BadArgs, NotAS
 use Rattle.own_model.specs.Reply.{reply_text}
 use Rattle.pd_core.specs.Answer.{told_alone, reply_of}
 use Rattle.pd_core.specs.SessionCalls.{Goes}
-use Rattle.pd_core.specs.Way.{call_by}
+use Rattle.pd_core.specs.ReserveDirection.{call_by}
 use Rattle.std.specs.Option.{option_or}
 use Rattle.pd_core.specs.Exit.{refusal_of}
 use Rattle.pd_core.specs.declared.component.Component.{Component}

@@ -1,6 +1,6 @@
 //! Routes, exits, reserves and inits.
 
-use super::{LISTED, PLAIN, Row};
+use super::{LISTED, PLAIN, WorkedRow};
 use init_core::MACHINE_A;
 
 /// The built-in machine with a second file server.
@@ -13,7 +13,7 @@ pub const TWO_FILE_SERVERS: &str = r#"{"machine":{"pages":64,"caps":64},
   {"name":"bob","binary":"script","quantum":"64K","caps":16},
   {"name":"files2","binary":"files","quantum":"16K","caps":8,"provides":["File_system"]}]}"#;
 
-/// The same, with a route of alice's that leads to the second server first.
+/// The same machine, with a route of alice's whose first rule takes the second server.
 pub const SECOND_FIRST: &str = r#"{"machine":{"pages":64,"caps":64},
  "default-route":[{"any-service":true,"any-child":true}],
  "start":[
@@ -24,7 +24,7 @@ pub const SECOND_FIRST: &str = r#"{"machine":{"pages":64,"caps":64},
   {"name":"bob","binary":"script","quantum":"64K","caps":16},
   {"name":"files2","binary":"files","quantum":"16K","caps":8,"provides":["File_system"]}]}"#;
 
-/// And one that leads there last.
+/// The same machine, with a route of alice's whose last rule takes the second server.
 pub const SECOND_LAST: &str = r#"{"machine":{"pages":64,"caps":64},
  "default-route":[{"any-service":true,"any-child":true}],
  "start":[
@@ -44,7 +44,7 @@ pub const RESERVED: &str = r#"{"machine":{"pages":64,"caps":64},
   {"name":"alice","binary":"script","quantum":"64K","caps":16,"reserve":"8K","reserve-caps":2},
   {"name":"bob","binary":"script","quantum":"64K","caps":16}]}"#;
 
-/// An init beside a log server, with two scripts of its own, of which one may log.
+/// An init next to a log server, with two scripts of its own, of which one may log.
 pub const NESTED: &str = r#"{"machine":{"pages":64,"caps":64},"start":[
   {"name":"log","quantum":"16K","caps":8,"provides":["LOG"]},
   {"name":"sub","binary":"init","quantum":"128K","caps":32,
@@ -53,29 +53,29 @@ pub const NESTED: &str = r#"{"machine":{"pages":64,"caps":64},"start":[
     {"name":"carol","binary":"script","quantum":"64K","caps":16},
     {"name":"dave","binary":"script","quantum":"32K","caps":8}]}}]}"#;
 
-const ROWS: &[Row<'static>] = &[
-    Row {
+const ROWS: &[WorkedRow<'static>] = &[
+    WorkedRow {
         shows: "routes_decide_between_providers",
         list: TWO_FILE_SERVERS,
         task: PLAIN,
         scenario: b"alice open File_system ram_quota=4K, cap_quota=2\n",
         transcript: b"alice: Service_denied\n",
     },
-    Row {
+    WorkedRow {
         shows: "routes_decide_between_providers, by an own route",
         list: SECOND_FIRST,
         task: PLAIN,
         scenario: b"alice open File_system ram_quota=4K, cap_quota=2\n",
         transcript: b"alice: cap 1\n",
     },
-    Row {
+    WorkedRow {
         shows: "routes_decide_between_providers, by the first rule",
         list: SECOND_LAST,
         task: PLAIN,
         scenario: b"alice open File_system ram_quota=4K, cap_quota=2\n",
         transcript: b"alice: Service_denied\n",
     },
-    Row {
+    WorkedRow {
         shows: "exit_returns_everything",
         list: MACHINE_A,
         task: LISTED,
@@ -102,7 +102,7 @@ account bob ram 0/65536 caps 0/16
 total ram 262144 caps 64
 ",
     },
-    Row {
+    WorkedRow {
         shows: "reserve_requests_and_yields",
         list: RESERVED,
         task: LISTED,
@@ -148,7 +148,7 @@ account bob ram 0/65536 caps 0/16
 total ram 262144 caps 64
 ",
     },
-    Row {
+    WorkedRow {
         shows: "init_within_init",
         list: NESTED,
         task: LISTED,
@@ -177,7 +177,7 @@ total ram 262144 caps 64
     },
 ];
 
-/// The rows.
-pub fn rows() -> &'static [Row<'static>] {
+/// Returns the rows of routes, exits, reserves and inits.
+pub fn rows() -> &'static [WorkedRow<'static>] {
     ROWS
 }

@@ -1,6 +1,6 @@
 //! Regions and sessions up to their bounds: rows of many lines.
 
-use super::{PLAIN, Row};
+use super::{PLAIN, WorkedRow};
 use init_core::MACHINE_A;
 
 /// A log server, and a client with the capabilities of forty sessions.
@@ -9,8 +9,8 @@ const FORTY: &str = r#"{"machine":{"pages":128,"caps":128},
  "start":[{"name":"log","quantum":"16K","caps":8,"provides":["LOG"]},
           {"name":"alice","binary":"script","quantum":"400K","caps":80}]}"#;
 
-const ROWS: &[Row<'static>] = &[
-    Row {
+const ROWS: &[WorkedRow<'static>] = &[
+    WorkedRow {
         shows: "region_limit_comes_first",
         list: MACHINE_A,
         task: PLAIN,
@@ -281,7 +281,7 @@ alice: Too_many_regions
 alice: Invalid_cap
 ",
     },
-    Row {
+    WorkedRow {
         shows: "forty_sessions_on_one_server",
         list: FORTY,
         task: PLAIN,
@@ -374,7 +374,7 @@ alice: ram 0/245760 caps 0/0
     },
 ];
 
-/// The rows.
-pub fn rows() -> &'static [Row<'static>] {
+/// Returns the rows of many lines: regions and sessions up to their bounds.
+pub fn rows() -> &'static [WorkedRow<'static>] {
     ROWS
 }

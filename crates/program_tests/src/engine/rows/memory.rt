@@ -1,28 +1,28 @@
 //! Budgets, dataspaces, regions and both heaps.
 
-use super::{PLAIN, Row};
+use super::{PLAIN, WorkedRow};
 use init_core::MACHINE_A;
 
-/// One script with more than the built-in machine gives one.
+/// A machine of one script, with more than the built-in machine gives one script.
 pub const MACHINE_B: &str = r#"{"machine":{"pages":64,"caps":64},
  "start":[{"name":"alice","binary":"script","quantum":"160K","caps":40}]}"#;
 
-const ROWS: &[Row<'static>] = &[
-    Row {
+const ROWS: &[WorkedRow<'static>] = &[
+    WorkedRow {
         shows: "empty_budget_is_told",
         list: MACHINE_A,
         task: PLAIN,
         scenario: b"alice quota\n",
         transcript: b"alice: ram 0/65536 caps 0/16\n",
     },
-    Row {
+    WorkedRow {
         shows: "empty_budget_is_told, of nothing",
         list: MACHINE_A,
         task: PLAIN,
         scenario: b"",
         transcript: b"",
     },
-    Row {
+    WorkedRow {
         shows: "sizes_round_up_to_pages",
         list: MACHINE_A,
         task: PLAIN,
@@ -37,7 +37,7 @@ alice: cap 2
 alice: ram 12288/65536 caps 2/16
 ",
     },
-    Row {
+    WorkedRow {
         shows: "ram_is_exact_at_the_limit",
         list: MACHINE_A,
         task: PLAIN,
@@ -52,7 +52,7 @@ alice: ok
 alice: ram 0/65536 caps 0/16
 ",
     },
-    Row {
+    WorkedRow {
         shows: "ram_is_refused_before_capabilities",
         list: MACHINE_A,
         task: PLAIN,
@@ -101,7 +101,7 @@ alice: ok
 alice: Invalid_cap
 ",
     },
-    Row {
+    WorkedRow {
         shows: "freed_page_is_zero_for_the_next_owner",
         list: MACHINE_A,
         task: PLAIN,
@@ -124,7 +124,7 @@ bob: at 0x10000000
 bob: data 0000000000000000
 ",
     },
-    Row {
+    WorkedRow {
         shows: "sliced_blocks_take_whole_pages",
         list: MACHINE_A,
         task: PLAIN,
@@ -147,7 +147,7 @@ alice: ram 8192/65536 caps 1/16
 alice: Page_fault
 ",
     },
-    Row {
+    WorkedRow {
         shows: "heap_reuses_the_best_hole",
         list: MACHINE_A,
         task: PLAIN,
@@ -170,7 +170,7 @@ alice: Page_fault
 alice: ram 16384/65536 caps 1/16
 ",
     },
-    Row {
+    WorkedRow {
         shows: "free_detaches_every_region",
         list: MACHINE_A,
         task: PLAIN,
@@ -197,7 +197,7 @@ alice: Page_fault
 alice: Page_fault
 ",
     },
-    Row {
+    WorkedRow {
         shows: "large_blocks_stand_alone",
         list: MACHINE_A,
         task: PLAIN,
@@ -220,7 +220,7 @@ alice: ok
 alice: ram 0/65536 caps 0/16
 ",
     },
-    Row {
+    WorkedRow {
         shows: "large_blocks_stand_alone, on a larger account",
         list: MACHINE_B,
         task: PLAIN,
@@ -237,7 +237,7 @@ alice: ok
 alice: ram 69632/163840 caps 1/40
 ",
     },
-    Row {
+    WorkedRow {
         shows: "growth_takes_the_larger_chunk_first",
         list: MACHINE_A,
         task: PLAIN,
@@ -254,7 +254,7 @@ alice: at 0x100001010
 alice: ram 65536/65536 caps 3/16
 ",
     },
-    Row {
+    WorkedRow {
         shows: "growth_falls_back_to_what_is_left",
         list: MACHINE_A,
         task: PLAIN,
@@ -275,7 +275,7 @@ alice: ram 65536/65536 caps 3/16
 alice: Out_of_ram
 ",
     },
-    Row {
+    WorkedRow {
         shows: "small_remainder_stays_a_hole_of_its_own",
         list: MACHINE_A,
         task: PLAIN,
@@ -296,7 +296,7 @@ alice: Page_fault
 alice: Page_fault
 ",
     },
-    Row {
+    WorkedRow {
         shows: "regions_and_their_edges",
         list: MACHINE_A,
         task: PLAIN,
@@ -329,7 +329,7 @@ alice: Page_fault
 alice: ok
 ",
     },
-    Row {
+    WorkedRow {
         shows: "lines_and_names_refused",
         list: MACHINE_A,
         task: PLAIN,
@@ -352,7 +352,7 @@ alice: Out_of_ram
 alice: Service_denied
 ",
     },
-    Row {
+    WorkedRow {
         shows: "hostile_numbers_and_poked_headers",
         list: MACHINE_A,
         task: PLAIN,
@@ -397,7 +397,7 @@ alice: data 0000000000000000
     },
 ];
 
-/// The rows.
-pub fn rows() -> &'static [Row<'static>] {
+/// Returns the rows of budgets, dataspaces, regions and both heaps.
+pub fn rows() -> &'static [WorkedRow<'static>] {
     ROWS
 }

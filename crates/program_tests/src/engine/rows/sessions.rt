@@ -1,6 +1,6 @@
 //! Sessions, the log, files and buffers.
 
-use super::{ALICE_ALONE, PLAIN, Row};
+use super::{ALICE_ALONE, PLAIN, WorkedRow};
 use init_core::MACHINE_A;
 
 /// A session whose donation is too small at first.
@@ -14,7 +14,7 @@ alice call 1 STAT
 alice quota
 ";
 
-/// What it is answered.
+/// The transcript of these lines.
 pub const DONATION_ANSWERED: &[u8] = b"alice: cap 1
 alice: ERR OUT_OF_RAM
 alice: ok
@@ -25,7 +25,7 @@ alice: OK ram 8192/8192 caps 3/3
 alice: ram 0/57344 caps 0/13
 ";
 
-/// The same with a neighbour that asks for more than it has.
+/// The same lines with a neighbour that requests more than it has.
 const BESIDE: &[u8] = b"bob open File_system ram_quota=12K, cap_quota=3
 alice open File_system ram_quota=4K, cap_quota=2
 bob call 1 CREATE x
@@ -44,15 +44,15 @@ bob call 1 WRITE x 0 00
 alice quota
 ";
 
-const ROWS: &[Row<'static>] = &[
-    Row {
+const ROWS: &[WorkedRow<'static>] = &[
+    WorkedRow {
         shows: "donation_pays_for_the_file_service",
         list: MACHINE_A,
         task: PLAIN,
         scenario: DONATION,
         transcript: DONATION_ANSWERED,
     },
-    Row {
+    WorkedRow {
         shows: "donations_that_are_too_small",
         list: MACHINE_A,
         task: PLAIN,
@@ -79,7 +79,7 @@ alice: Insufficient_ram_quota
 alice: ram 0/65536 caps 0/16
 ",
     },
-    Row {
+    WorkedRow {
         shows: "neighbour_cannot_reach_the_transcript",
         list: MACHINE_A,
         task: PLAIN,
@@ -102,7 +102,7 @@ bob: ERR OUT_OF_CAPS
 alice: ram 0/57344 caps 0/13
 ",
     },
-    Row {
+    WorkedRow {
         shows: "close_returns_the_donation",
         list: MACHINE_A,
         task: PLAIN,
@@ -129,7 +129,7 @@ alice: ok
 alice: ram 0/65536 caps 0/16
 ",
     },
-    Row {
+    WorkedRow {
         shows: "amounts_past_64_bits",
         list: MACHINE_A,
         task: PLAIN,
@@ -142,7 +142,7 @@ alice: Bad_args
 alice: Out_of_ram
 ",
     },
-    Row {
+    WorkedRow {
         shows: "closed_session_is_no_session",
         list: MACHINE_A,
         task: PLAIN,
@@ -163,7 +163,7 @@ alice: Invalid_session
 alice: Invalid_session
 ",
     },
-    Row {
+    WorkedRow {
         shows: "log_lines_are_cut_and_labelled",
         list: MACHINE_A,
         task: PLAIN,
@@ -192,7 +192,7 @@ bob: OK 1
 bob: ok
 ",
     },
-    Row {
+    WorkedRow {
         shows: "file_requests_one_by_one",
         list: MACHINE_A,
         task: PLAIN,
@@ -249,7 +249,7 @@ alice: ERR NOT_FOUND
 alice: ERR BAD_REQUEST
 ",
     },
-    Row {
+    WorkedRow {
         shows: "growing_write_needs_both_blocks",
         list: MACHINE_A,
         task: PLAIN,
@@ -268,14 +268,14 @@ alice: OK 1
 alice: OK ram 24576/24576 caps 4/4
 ",
     },
-    Row {
+    WorkedRow {
         shows: "one_component_alone",
         list: MACHINE_A,
         task: ALICE_ALONE,
         scenario: BESIDE,
         transcript: DONATION_ANSWERED,
     },
-    Row {
+    WorkedRow {
         shows: "buffer_shared_with_its_session",
         list: MACHINE_A,
         task: PLAIN,
@@ -334,7 +334,7 @@ alice: ram 0/65536 caps 0/16
     },
 ];
 
-/// The rows.
-pub fn rows() -> &'static [Row<'static>] {
+/// Returns the rows of sessions, the log, files and buffers.
+pub fn rows() -> &'static [WorkedRow<'static>] {
     ROWS
 }

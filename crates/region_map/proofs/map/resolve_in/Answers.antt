@@ -1,7 +1,7 @@
 -- What holds the range starts at its address or before.
 use Rattle.std.proofs.Common.{sym}
 use Rattle.own_model.proofs.RegionLemmas.{region_at_facts}
-use Rattle.region_map.specs.Rows.{region_of}
+use Rattle.region_map.specs.RegionRows.{region_of}
 use Rattle.region_map.proofs.map.resolve_in.Goals as goal
 
 pub overflow_sub-result : goal.overflow_sub-result

@@ -1,7 +1,7 @@
 -- From row to row the gap is here, or behind the row.
 use Rattle.std.proofs.Common.{◌+◌, drop, sym, ap, ◌∙◌, arith}
 use Rattle.region_map.specs.Places.{row_at, rows_of}
-use Rattle.region_map.specs.Rows.{gap_from}
+use Rattle.region_map.specs.RegionRows.{gap_from}
 use Rattle.region_map.proofs.GapLemmas.{gap_in_front, gap_behind, gap_at_end, no_gap_at_end}
 use Rattle.region_map.proofs.PlaceLemmas.{rows-next, rows-end}
 use Rattle.region_map.proofs.search.gap_from.Goals as goal

@@ -2,9 +2,9 @@
 use Rattle.std.proofs.lemmas.Bool.Decides.{nat_tests}
 use Rattle.std.proofs.Common.{arith, ◌≡◌, ◌∷◌, ◌++◌, [], false, sym, ◌∙◌, subst, true≢false}
 use Rattle.own_model.specs.OwnStep.{own_run}
-use Rattle.calls.specs.Call.{model_call}
-use Rattle.budget_laws.specs.Need.{budgeted}
-use Rattle.budget_meter.specs.Metered.{HasHeard}
+use Rattle.core_calls.specs.Call.{model_call}
+use Rattle.budget_theorems.specs.Need.{budgeted}
+use Rattle.budget_meter.specs.Metered.{HasObserved}
 use Rattle.budget_meter.proofs.HeardLemmas.{heard, unheard}
 use Rattle.budget_meter.proofs.account.AccountMeter.hear.Goals.{else-self-via-then-self+else-not-self, else-self-via-else-self}
 use Rattle.budget_meter.proofs.account.AccountMeter.hear.Goals as goal
@@ -13,7 +13,7 @@ pub returns-then-not-self : goal.returns-then-not-self
 returns-then-not-self c = λ entry calls budget s before told.
     let taken = c.take.new.self in
     let on : c.args.self.now.is_gone ≡ false = grind (arith, nat_tests, c.if-not-self.true) in
-    subst (λ b. HasHeard entry (calls ++ model_call c.args.call ∷ []) budget s (record taken { account = c.args.after; is_gone = b })) (sym c.is_exit-self.ensures)
+    subst (λ b. HasObserved entry (calls ++ model_call c.args.call ∷ []) budget s (record taken { account = c.args.after; is_gone = b })) (sym c.is_exit-self.ensures)
     (heard entry calls (model_call c.args.call) budget s c.args.self.now taken c.args.reply.text.now c.args.after before c.if-self.true on told
     (c.take.ensures.shown entry (own_run entry calls (budgeted budget s))) (c.take.ensures.pages entry (own_run entry calls (budgeted budget s)))
     c.take.ensures.start c.take.ensures.script)

@@ -2,7 +2,7 @@
 use Rattle.std.proofs.Common.{sym, ◌∙◌, subst}
 use Rattle.own_model.specs.OwnState.{bytes_of_buffer}
 use Rattle.own_model.specs.Session.{Session, served}
-use Rattle.budget_meter.specs.Reached.Sent.{Asks}
+use Rattle.budget_meter.specs.SessionRuns.Sent.{Asks}
 use Rattle.budget_meter.specs.Sessions.{IsServedBy}
 use Rattle.budget_meter.proofs.SessionLemmas.{one_less, ended, want_told}
 use Rattle.budget_meter.proofs.session.SessionMeter.follow.Goals as goal

@@ -5,11 +5,11 @@ use Rattle.std.specs.Option.{option_map}
 use Rattle.own_model.specs.OwnState.{bytes_of_buffer}
 use Rattle.own_model.specs.Session.{served}
 use Rattle.session_proto.specs.File.{model_request}
-use Rattle.budget_laws.specs.Request.{donating}
-use Rattle.budget_laws.specs.RequestLaws.{session_run}
+use Rattle.budget_theorems.specs.Request.{donating}
+use Rattle.budget_theorems.specs.RequestTheorems.{session_run}
 use Rattle.budget_meter.specs.Needs.{shown_in}
 use Rattle.budget_meter.specs.Sizes.{Keeps}
-use Rattle.budget_meter.specs.Told.{files_in}
+use Rattle.budget_meter.specs.RequestTests.{files_in}
 use Rattle.budget_meter.specs.declared.session.SessionMeter.{SessionMeter}
 use Rattle.budget_meter.proofs.SessionLemmas.{heard}
 use Rattle.budget_meter.proofs.ShownLemmas.{together_nothing}

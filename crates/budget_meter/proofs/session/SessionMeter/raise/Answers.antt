@@ -1,6 +1,6 @@
 -- What was donated moves the account alone.
 use Rattle.std.proofs.Common.{rules, ◌<◌, ◌^◌, refl, sym, ap, ◌∙◌}
-use Rattle.budget_meter.specs.Reached.Sent.{Raises}
+use Rattle.budget_meter.specs.SessionRuns.Sent.{Raises}
 use Rattle.budget_meter.specs.declared.session.SessionMeter.{SessionMeter}
 use Rattle.own_model.specs.Session.{Session, upgraded}
 use Rattle.budget_meter.proofs.SessionLemmas.{raised, unraised, one_less}

@@ -6,8 +6,8 @@ use Rattle.trade_base.specs.Word.{word_bytes}
 use Rattle.heap_core.specs.Words.{are_bytes}
 use Rattle.file_service.specs.Calls.{payload_in}
 use Rattle.file_service.specs.Files.{files_of}
-use Rattle.file_service.specs.Furnished.{Stock}
-use Rattle.file_service.specs.Rooms.{stock_of}
+use Rattle.file_service.specs.SoundHeaps.{Stock}
+use Rattle.file_service.specs.SessionHeaps.{stock_of}
 use Rattle.file_service.specs.Index.{CanEnter, Enters}
 use Rattle.file_service.specs.Node.{FileNode, bytes_of, rank_of}
 use Rattle.file_service.specs.declared.session.FileSession.{FileSession}

@@ -12,8 +12,8 @@ use Rattle.own_model.specs.OwnHeap.{chunk_with, offset_of}
 use Rattle.own_model.proofs.NatMapLemmas.{some_of, none_of}
 use Rattle.file_service.specs.Calls.{TakesNode}
 use Rattle.file_service.specs.Index.{previous_at}
-use Rattle.file_service.specs.Furnished.{Stock}
-use Rattle.file_service.specs.Rooms.{stock_of}
+use Rattle.file_service.specs.SoundHeaps.{Stock}
+use Rattle.file_service.specs.SessionHeaps.{stock_of}
 use Rattle.file_service.specs.Node.{value_of, rank_of}
 use Rattle.sliced_heap.specs.Chain.{is_listed}
 use Rattle.file_service.specs.Session.{files_in, Finds, served_in, done_reply}

@@ -1,7 +1,7 @@
 -- As many files are before as places were passed, and the links lead on along the others.
 use Rattle.std.proofs.Common.{◌≡◌, ℕ, ◌+◌, List, ◌++◌, length}
 use Rattle.file_service.specs.Files.{link_in, StandAt}
-use Rattle.file_service.specs.Rooms.{stock_of}
+use Rattle.file_service.specs.SessionHeaps.{stock_of}
 use Rattle.file_service.specs.Links.{last_of, Leads}
 use Rattle.file_service.proofs.session.FileSession.file_at.Given as goal
 

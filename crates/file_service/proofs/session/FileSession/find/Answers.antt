@@ -1,8 +1,8 @@
 -- The tree leads to the one node that can have the name.
 use Rattle.std.proofs.Common.{◌≡◌, ◌≢◌, ◌<◌, sym, subst, arith}
 use Rattle.file_service.specs.Calls.{HasBytes}
-use Rattle.file_service.specs.Furnished.{Stock}
-use Rattle.file_service.specs.Rooms.{stock_of}
+use Rattle.file_service.specs.SoundHeaps.{Stock}
+use Rattle.file_service.specs.SessionHeaps.{stock_of}
 use Rattle.file_service.specs.Files.{node_at}
 use Rattle.file_service.specs.Node.{FileNode, value_of}
 use Rattle.file_service.proofs.SeekLemmas.{eq_name, ne_name, none_long, none_found, none_other, found_listed, found_is}

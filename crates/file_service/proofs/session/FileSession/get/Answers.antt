@@ -11,14 +11,14 @@ use Rattle.own_model.specs.FileService.{File, told, file_named}
 use Rattle.own_model.specs.FileText.FileError.{Gap}
 use Rattle.own_model.specs.FileText.FileReply.{Count, Refused}
 use Rattle.dataspace_core.specs.Store.{space_at}
-use Rattle.server_frame.specs.Lent.{bytes_lent}
+use Rattle.server_frame.specs.SessionBuffer.{bytes_lent}
 use Rattle.server_frame.specs.Session.{holding_of}
 use Rattle.session_proto.specs.FileReply.{model_error}
 use Rattle.file_service.specs.Calls.{payload_in}
 use Rattle.file_service.specs.Files.{file_at}
-use Rattle.file_service.specs.Furnished.{Stock}
-use Rattle.file_service.specs.Rooms.{stock_of, StayFurnished}
-use Rattle.file_service.specs.Lent.{HasBuffer, buffer_key}
+use Rattle.file_service.specs.SoundHeaps.{Stock}
+use Rattle.file_service.specs.SessionHeaps.{stock_of, StaySoundHeaps}
+use Rattle.file_service.specs.SessionBuffer.{HasBuffer, buffer_key}
 use Rattle.file_service.specs.Node.{value_of}
 use Rattle.file_service.specs.Session.{files_in, session_served, counted_reply, Answers, Finds, IsReady}
 use Rattle.file_service.proofs.FrontLemmas.{front_part}
@@ -175,4 +175,4 @@ pub fill_buffer-requires-clause-furnished : goal.fill_buffer-requires-clause-fur
 fill_buffer-requires-clause-furnished c = furnished_after c.find.ensures.memory c.requires.ready.furnished
 
 pub returns-then-part-gt0-clause-stays : goal.returns-then-part-gt0-clause-stays
-returns-then-part-gt0-clause-stays c = subst (λ m. StayFurnished c.args.self.now.rooms c.args.self.now.rooms m c.fill_buffer.new.memory c.args.map.now c.args.map.now) c.find.ensures.memory c.fill_buffer.ensures.stays
+returns-then-part-gt0-clause-stays c = subst (λ m. StaySoundHeaps c.args.self.now.rooms c.args.self.now.rooms m c.fill_buffer.new.memory c.args.map.now c.args.map.now) c.find.ensures.memory c.fill_buffer.ensures.stays

@@ -6,8 +6,8 @@ use Rattle.own_model.specs.FileService.{error_of}
 use Rattle.own_model.specs.FileText.FileReply.{Refused}
 use Rattle.session_proto.specs.FileReply.{model_error}
 use Rattle.server_frame.specs.Session.{holding_of}
-use Rattle.file_service.specs.Lent.{TakesBuffer}
-use Rattle.file_service.specs.Rooms.{stock_of}
+use Rattle.file_service.specs.SessionBuffer.{TakesBuffer}
+use Rattle.file_service.specs.SessionHeaps.{stock_of}
 use Rattle.file_service.specs.Session.{lent_reply}
 use Rattle.file_service.proofs.BufferRequestLemmas.{make_refused, make_done}
 use Rattle.file_service.proofs.ResultLemmas.{err_case, err_and}

@@ -12,11 +12,11 @@ use Rattle.own_model.specs.FileText.FileReply.{Refused}
 use Rattle.own_model.specs.FileText.FileRequest.{Write}
 use Rattle.own_model.specs.Sliced.{sliced_size}
 use Rattle.session_proto.specs.FileReply.{model_error}
-use Rattle.calls.specs.declared.file_error.FileError.TheVariants.{OutOfRam}
+use Rattle.core_calls.specs.declared.file_error.FileError.TheVariants.{OutOfRam}
 use Rattle.file_service.specs.Calls.{content_taken, content_written, HasBytes}
 use Rattle.file_service.specs.Index.{IsIndexed, previous_at}
-use Rattle.file_service.specs.Furnished.{Stock}
-use Rattle.file_service.specs.Rooms.{stock_of}
+use Rattle.file_service.specs.SoundHeaps.{Stock}
+use Rattle.file_service.specs.SessionHeaps.{stock_of}
 use Rattle.file_service.specs.Node.{value_of}
 use Rattle.file_service.specs.Session.{IsFound, files_in, served_in, counted_reply}
 use Rattle.file_service.specs.Source.{bytes_from, HasSource}

@@ -3,8 +3,8 @@ use Rattle.std.proofs.Common.{◌≡◌, ◌∙◌, ap, arith}
 use Rattle.trade_base.specs.Word.{word_bytes}
 use Rattle.own_model.specs.OwnState.{with_part}
 use Rattle.file_service.specs.Calls.{payload_in, node_stored}
-use Rattle.file_service.specs.Furnished.{Stock}
-use Rattle.file_service.specs.Rooms.{stock_of}
+use Rattle.file_service.specs.SoundHeaps.{Stock}
+use Rattle.file_service.specs.SessionHeaps.{stock_of}
 use Rattle.file_service.proofs.AppendLemmas.{stored_links}
 use Rattle.file_service.proofs.LinkBackLemmas.{word_is}
 use Rattle.file_service.proofs.NextLemmas.{node_next, there_next, place_next}

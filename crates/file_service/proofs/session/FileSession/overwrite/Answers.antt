@@ -1,7 +1,7 @@
 -- The file is written over where it gets no longer.
 use Rattle.std.proofs.Common.{length, arith}
-use Rattle.file_service.specs.Furnished.{Stock}
-use Rattle.file_service.specs.Rooms.{stock_of}
+use Rattle.file_service.specs.SoundHeaps.{Stock}
+use Rattle.file_service.specs.SessionHeaps.{stock_of}
 use Rattle.file_service.specs.Node.{value_of}
 use Rattle.file_service.specs.Source.{bytes_from}
 use Rattle.file_service.proofs.SearchLemmas.{found_has}

@@ -10,13 +10,13 @@ use Rattle.own_model.specs.FileService.{File, written, file_named}
 use Rattle.own_model.specs.FileText.FileError.{Gap}
 use Rattle.own_model.specs.FileText.FileReply.{Refused}
 use Rattle.dataspace_core.specs.Store.{space_at}
-use Rattle.server_frame.specs.Lent.{bytes_lent}
+use Rattle.server_frame.specs.SessionBuffer.{bytes_lent}
 use Rattle.server_frame.specs.Session.{holding_of}
 use Rattle.session_proto.specs.FileReply.{model_error}
 use Rattle.file_service.specs.Files.{file_at}
-use Rattle.file_service.specs.Furnished.{Stock}
-use Rattle.file_service.specs.Rooms.{stock_of}
-use Rattle.file_service.specs.Lent.{HasBuffer, buffer_key}
+use Rattle.file_service.specs.SoundHeaps.{Stock}
+use Rattle.file_service.specs.SessionHeaps.{stock_of}
+use Rattle.file_service.specs.SessionBuffer.{HasBuffer, buffer_key}
 use Rattle.file_service.specs.Node.{value_of}
 use Rattle.file_service.specs.Session.{files_in, session_served, counted_reply, Answers, Finds, IsReady}
 use Rattle.file_service.proofs.SearchLemmas.{found_named, found_long}

@@ -10,8 +10,8 @@ use Rattle.own_model.specs.OwnState.{with_part}
 use Rattle.file_service.specs.Calls.{payload_in}
 use Rattle.file_service.specs.Files.{node_at, files_of}
 use Rattle.file_service.specs.Index.{AreFiles, previous_at}
-use Rattle.file_service.specs.Furnished.{Stock}
-use Rattle.file_service.specs.Rooms.{stock_of}
+use Rattle.file_service.specs.SoundHeaps.{Stock}
+use Rattle.file_service.specs.SessionHeaps.{stock_of}
 use Rattle.file_service.specs.Node.{FileNode, value_of}
 use Rattle.file_service.proofs.NewContentLemmas.{two_words}
 use Rattle.file_service.proofs.ReplaceLemmas.{kept_alone, files_alone, kept_left, files_left, credited_is}

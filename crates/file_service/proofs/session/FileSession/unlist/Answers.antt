@@ -1,7 +1,7 @@
 -- The node leaves the tree, and the one behind it is linked back to the one before it.
 use Rattle.std.proofs.Common.{subst}
-use Rattle.file_service.specs.Furnished.{Stock}
-use Rattle.file_service.specs.Rooms.{stock_of}
+use Rattle.file_service.specs.SoundHeaps.{Stock}
+use Rattle.file_service.specs.SessionHeaps.{stock_of}
 use Rattle.file_service.specs.Index.{Leaves}
 use Rattle.file_service.specs.NameLaws.{tails_then}
 use Rattle.file_service.specs.Node.{value_of, rank_of}

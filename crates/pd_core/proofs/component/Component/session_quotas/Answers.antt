@@ -3,7 +3,7 @@ use Rattle.std.proofs.Common.{ap, sym, subst, is_some, ◌∙◌}
 use Rattle.std.specs.FinMap.{get}
 use Rattle.own_model.proofs.NatMapLemmas.{some_of}
 use Rattle.dataspace_core.specs.Store.{IsOpenIn, account_in}
-use Rattle.services.proofs.HostLaws.{has_session, row_paid}
+use Rattle.server_kinds.proofs.HostLaws.{has_session, row_paid}
 use Rattle.pd_core.specs.Component.{rows_in, IsSoundRole}
 use Rattle.pd_core.proofs.ServerLemmas.{server_of_row}
 use Rattle.pd_core.proofs.component.Component.session_quotas.Goals as goal

@@ -7,7 +7,7 @@ use Rattle.std.specs.List.{flat_map}
 use Rattle.own_model.specs.Reply.{reply_text, log_text}
 use Rattle.own_model.specs.World.{IsBalanced, IsBalancedFor, outcome_at, with_state}
 use Rattle.own_model.proofs.StepBalanceLemmas.{step_balanced, step_balanced_for}
-use Rattle.calls.specs.Call.{model_call}
+use Rattle.core_calls.specs.Call.{model_call}
 use Rattle.pd_core.specs.Core.{IsCore, world_of}
 use Rattle.pd_core.specs.SessionCalls.{Agrees}
 use Rattle.pd_core.specs.declared.component.Component.{Component}

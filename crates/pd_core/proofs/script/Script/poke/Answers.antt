@@ -3,7 +3,7 @@ use Rattle.std.proofs.Common.{ap, ◌/◌, length, subst, sym, arith, refl, inl}
 use Rattle.own_model.specs.Call.Call.{Poke}
 use Rattle.dataspace_core.specs.Store.{Exists, space_at}
 use Rattle.pd_core.specs.Bytes.{PutsBytes}
-use Rattle.calls.specs.Call.{bytes_in}
+use Rattle.core_calls.specs.Call.{bytes_in}
 use Rattle.pd_core.proofs.BytesLemmas.{few, few_bytes, poke_refused}
 use Rattle.pd_core.proofs.BytesPlaceLemmas.{found_there, found_fits, poke_finishes}
 use Rattle.pd_core.proofs.HexLemmas.{half_is, bytes_small}

@@ -7,14 +7,14 @@ use Rattle.own_model.specs.OwnStep.{script_step, Outcome}
 use Rattle.own_model.specs.Reply.{reply_text}
 use Rattle.own_model.specs.Reply.Reply.{Quotas}
 use Rattle.dataspace_core.specs.Store.{Store, part, account_in}
-use Rattle.calls.specs.Told.{Told as Written}
-use Rattle.pd_core.specs.declared.answer.Granted.{Granted}
-use Rattle.pd_core.specs.declared.answer.Granted.TheVariants.{Quotas as QuotasAnswered}
-use Rattle.calls.specs.declared.quotas.Quotas.{Quotas as QuotasTold}
+use Rattle.core_calls.specs.ReplyText.{Told as Written}
+use Rattle.pd_core.specs.declared.call_value.CallValue.{CallValue}
+use Rattle.pd_core.specs.declared.call_value.CallValue.TheVariants.{Quotas as QuotasAnswered}
+use Rattle.core_calls.specs.declared.quotas.Quotas.{Quotas as QuotasTold}
 use Rattle.pd_core.specs.declared.script.Script.{Script}
 use Rattle.pd_core.specs.Answer.{told, told_of, told_alone, reply_of, quotas_account}
-use Rattle.calls.specs.Call.{model_call}
-use Rattle.pd_core.specs.Does.{Does, DoesBeside, DoesTold}
+use Rattle.core_calls.specs.Call.{model_call}
+use Rattle.pd_core.specs.Does.{Does, DoesBeside, DoesWithText}
 use Rattle.pd_core.specs.Own.{own_of, own_at}
 use Rattle.pd_core.specs.Sound.{SparesOthers, Keeps}
 use Rattle.pd_core.proofs.ScriptLemmas.{leaves_others}
@@ -23,11 +23,11 @@ use Rattle.pd_core.proofs.script.Script.step.Goals as goal
 
 -- an outcome that is told as the call's
 record Tells (made : Call) (said : Written) (old : Store) (before : Script) (new : Store) (after : Script) : Type 0 where
-  outcome : DoesTold made said old before new after
+  outcome : DoesWithText made said old before new after
   keeps : Keeps old before new after
   others : SparesOthers before.account.0 before.caps.caps old new
 
-tells : {made call : Call} {said : Written} {given answered : Result Granted Refusal} {old : Store} {before : Script} {new : Store} {after : Script} →
+tells : {made call : Call} {said : Written} {given answered : Result CallValue Refusal} {old : Store} {before : Script} {new : Store} {after : Script} →
     made ≡ call → said ≡ told_alone (reply_text (reply_of given)) → given ≡ answered → DoesBeside (SparesOthers before.account.0 before.caps.caps old new) call (reply_of answered) old before new after → Tells made said old before new after
 tells {made} {call} {said} {given} {answered} {old} {before} {new} {after} is said_is given_is does = record {
   outcome = λ sessions ready.

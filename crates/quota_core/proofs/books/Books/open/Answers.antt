@@ -3,7 +3,7 @@ use Rattle.std.proofs.Common.{◌≡◌, ◌-◌, ap, sym, subst, ◌∙◌, ari
 use Rattle.std.specs.FinMap.{get, insert}
 use Rattle.own_model.proofs.NatMapLemmas.{IsSome-insert}
 use Rattle.quota_core.specs.Books.{Books, AreSound, HasNoChild, ram_limits, caps_limits}
-use Rattle.quota_core.specs.Kept.{books_of}
+use Rattle.quota_core.specs.SlabBooks.{books_of}
 use Rattle.quota_core.proofs.BooksLemmas.{free_key, entry_inserted}
 use Rattle.quota_core.proofs.BooksLaws.{free_before, sound_entered, leaf_entered, opened_in_two, opened_ram, opened_caps}
 use Rattle.quota_core.proofs.books.Books.open.Goals as goal

@@ -1,5 +1,0 @@
-use Rattle.avl_alloc.proofs.LayoutLemmas.{sound_sized}
-use Rattle.avl_alloc.proofs.laws.chunks_have_sizes.Goals as goal
-
-pub returns : goal.returns
-returns c = sound_sized

@@ -1,5 +1,0 @@
-use Rattle.avl_alloc.proofs.LayoutLemmas.{sound_kept}
-use Rattle.avl_alloc.proofs.laws.heap_stays.Goals as goal
-
-pub returns : goal.returns
-returns c = sound_kept

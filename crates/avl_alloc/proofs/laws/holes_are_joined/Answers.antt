@@ -1,5 +1,0 @@
-use Rattle.avl_alloc.proofs.LayoutLemmas.{sound_blocks}
-use Rattle.avl_alloc.proofs.laws.holes_are_joined.Goals as goal
-
-pub returns : goal.returns
-returns c = sound_blocks

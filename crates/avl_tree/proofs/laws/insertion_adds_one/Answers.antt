@@ -1,5 +1,0 @@
-use Rattle.avl_tree.proofs.TreeLemmas.{tally-inserted}
-use Rattle.avl_tree.proofs.laws.insertion_adds_one.Goals as goal
-
-pub returns : goal.returns
-returns c weight a s t = tally-inserted weight a s t

@@ -1,6 +1,0 @@
--- Answers in a cell.
-use Rattle.budget_laws.proofs.RunLemmas.{same_in_cell}
-use Rattle.budget_laws.proofs.accounts.same_answers_in_a_cell.Goals as goal
-
-pub returns : goal.returns
-returns c = same_in_cell

@@ -1,9 +1,0 @@
--- Want of a session, within a cell and below it.
-use Rattle.budget_laws.proofs.SessionRunLemmas.{session_within, session_below}
-use Rattle.budget_laws.proofs.sessions.session_want_by_cells.Goals as goal
-
-pub returns-clause-within : goal.returns-clause-within
-returns-clause-within c = session_within
-
-pub returns-clause-below : goal.returns-clause-below
-returns-clause-below c = session_below

@@ -1,9 +1,0 @@
-pub mod Test
-pub mod Need
-pub mod Want
-pub mod Laws
-pub mod Request
-pub mod RequestLaws
-pub mod Opened
-pub mod Rows
-pub mod Stretches

@@ -1,0 +1,15 @@
+-- The run, and what it leaves to come.
+use Rattle.budget_least.proofs.RowLemmas.{last_run, next_run}
+use Rattle.budget_least.proofs.budget_intervals.BudgetIntervals.take_run.Goals as goal
+
+pub returns-then-choice-eq0-clause-follows : goal.returns-then-choice-eq0-clause-follows
+returns-then-choice-eq0-clause-follows g c = λ each want runs within rows.
+    let is = c.in_ok-trial.ensures.run each want runs in
+    last_run each want (g.T.BudgetTrials.caps c.args.trials.now) c.args.ram c.args.top c.args.self.now.rows.items c.take.new.self.rows.items c.in_ok-trial.trial is within
+    (c.in_ok-take.ensures _ _ _ is within rows) c.if-choice-eq0.true
+
+pub returns-clause-follows : goal.returns-clause-follows
+returns-clause-follows g c = λ each want runs within rows.
+    let is = c.in_ok-trial.ensures.run each want runs in
+    next_run each want (g.T.BudgetTrials.caps c.args.trials.now) c.args.ram c.args.top c.args.self.now.rows.items c.take.new.self.rows.items c.in_ok-trial.trial is within
+    (c.in_ok-take.ensures _ _ _ is within rows) c.if-choice-eq0.false

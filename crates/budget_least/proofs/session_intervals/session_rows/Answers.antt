@@ -1,0 +1,13 @@
+-- By the stretches of runs that end with their first want.
+use Rattle.std.proofs.Common.{refl, ◌∙◌}
+use Rattle.budget_meter.proofs.ReachedLemmas.{runs_exact}
+use Rattle.budget_meter.specs.SessionRuns.{opened_needs, opened_in_want}
+use Rattle.budget_least.specs.OpenedSessions.{sent_at}
+use Rattle.budget_least.proofs.session_intervals.session_rows.Goals as goal
+
+pub returns : goal.returns
+returns g c = λ session ready opens donation few up.
+    let sent = sent_at c.args.reached.steps.now c.args.reached.opened.now.steps.items in
+    c.in_ok-found.ensures (opened_needs sent session) (opened_in_want sent session)
+    (record { ready = ready; session = session; opens = opens; needs = refl; want = refl }) donation up
+    ∙ runs_exact sent session c.args.most.caps c.args.most.ram donation few up

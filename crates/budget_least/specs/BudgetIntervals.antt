@@ -1,0 +1,44 @@
+-- The budgets that intervals cover, and the runs from which they are made.
+use Rattle.std.specs.Prelude.{◌≡◌, ◌≤◌, ℕ, suc, ◌&&◌, ◌||◌, Bool, true, List, nat_le, nat_lt, is_some, Option, Some, None, IfSome}
+use Rattle.std.specs.List.{AllByRecursion, list_any}
+use Rattle.own_model.specs.Amounts.{Amounts}
+use Rattle.budget_theorems.specs.Need.{Need, IsBelow}
+use Rattle.budget_theorems.specs.Intervals.{is_covered, stretches}
+use Rattle.budget_meter.specs.Needs.{shown_by, shown_in}
+use Rattle.budget_least.specs.declared.budget_intervals.BudgetInterval.{BudgetInterval}
+use Rattle.budget_least.specs.declared.trial.BudgetTrial.{BudgetTrial}
+
+-- a number is below another, if there is one
+abbrev pub is_below : ℕ → Option ℕ → Bool
+is_below n None = true
+is_below n (Some end) = nat_lt n end
+
+-- an interval covers a budget
+abbrev pub covers : BudgetInterval → Amounts → Bool
+covers row budget = nat_le row.ram_from budget.ram && is_below budget.ram row.ram_below && nat_le row.caps_from budget.caps
+
+-- some interval does: the budget is sufficient
+abbrev pub serves : List BudgetInterval → Amounts → Bool
+serves rows budget = list_any (λ row. covers row budget) rows
+
+-- each interval begins below its end
+abbrev pub AreRows : List BudgetInterval → Type 0
+AreRows rows = AllByRecursion (λ row. IsBelow row.ram_from row.ram_below) rows
+
+-- a run from a budget has these needs, and is short of quota or not
+pub record IsRun (needs : List Need) (wanting : Bool) (budget : Amounts) (trial : BudgetTrial) : Type 0 where
+  pub shown : shown_in trial.meter ≡ shown_by budget needs
+  pub want : is_some trial.refused ≡ wanting
+
+-- the budgets that intervals cover together with at most this number of runs from this RAM on; without a next run, those that
+-- they cover
+abbrev pub covered_with : (Amounts → List Need) → (Amounts → Bool) → ℕ → List BudgetInterval → ℕ → Option ℕ → Amounts → Bool
+covered_with each want caps rows runs None budget = serves rows budget
+covered_with each want caps rows runs (Some ram) budget = serves rows budget || is_covered (stretches each want caps runs ram) budget
+
+-- the run from this RAM was accepted: intervals and the following runs cover as much as before
+pub record Follows (each : Amounts → List Need) (want : Amounts → Bool) (caps ram top : ℕ) (old new : List BudgetInterval) (next : Option ℕ) : Type 0 where
+  pub rows : AreRows new
+  pub within : IfSome next (λ n. n ≤ top)
+  pub covers : (budget : Amounts) → budget.ram ≤ top → (runs : ℕ) →
+      covered_with each want caps new runs next budget ≡ covered_with each want caps old (suc runs) (Some ram) budget

@@ -1,0 +1,6 @@
+pub mod Steps
+pub mod Run
+pub mod BudgetIntervals
+pub mod Alike
+pub mod Own
+pub mod OpenedSessions

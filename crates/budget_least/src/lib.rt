@@ -1,0 +1,31 @@
+//! The budgets that the accounts of a scenario need: every budget under which none of an account's calls is short of quota.
+//!
+//! `cli_budgets` and `cli_lists` call it. For example `BudgetReport::of(alloc, question, start)?.accounts()` has the intervals of
+//! sufficient budgets of each account.
+#![tactic(auto)]
+
+mod account_budgets;
+mod alike;
+mod binding_run;
+mod budget_intervals;
+mod documents;
+mod donation;
+mod draft;
+mod lines_by_component;
+mod opened_sessions;
+mod own_run;
+mod own_trials;
+mod report;
+mod report_text;
+mod script_search;
+mod session_intervals;
+mod session_trial;
+mod trial;
+
+pub use account_budgets::{AccountBudgets, GivenBudget, SessionKey};
+pub use budget_intervals::{BudgetGap, BudgetInterval, Likeness};
+pub use budget_meter::Budget;
+pub use lines_by_component::{MisreadLine, MisreadMessage, MisreadReason};
+pub use report::{BudgetQuery, BudgetReport};
+pub use report_text::BudgetCsv;
+pub use trial::{RefusedLine, Shortage, SkippedLine};

@@ -1,0 +1,207 @@
+//! The text of a report.
+
+use crate::account_budgets::{AccountBudgets, GivenBudget};
+use crate::budget_intervals::{BudgetInterval, Likeness};
+use crate::report::BudgetReport;
+use crate::trial::{RefusedLine, SkippedLine};
+use budget_meter::{Budget, Bytes};
+use std::fmt;
+
+impl fmt::Display for BudgetReport {
+    fn fmt<W: fmt::Write>(&self, f: &mut fmt::Formatter<W>) -> fmt::Result {
+        for account in self.accounts() {
+            self.show_name(f, account)?;
+            if let Some(session) = account.session() {
+                let (selector, line) = (session.selector, session.line);
+                write!(f, " session {selector} (line {line})")?;
+            }
+            f.write_str(": ")?;
+            show_rows(f, account.rows())?;
+            f.write_str("\n")?;
+            show_beside(f, account)?;
+        }
+        Ok(())
+    }
+}
+
+impl BudgetReport {
+    // Writes the path of an account's component.
+    fn show_name<W: fmt::Write>(
+        &self,
+        f: &mut fmt::Formatter<W>,
+        account: &AccountBudgets,
+    ) -> fmt::Result {
+        match self.list.entries().get(account.component()) {
+            Some(entry) => write!(f, "{}", entry.to_path()),
+            None => Ok(()),
+        }
+    }
+}
+
+// Writes the intervals, from the lowest RAM on.
+fn show_rows<W: fmt::Write>(f: &mut fmt::Formatter<W>, rows: &[BudgetInterval]) -> fmt::Result {
+    if rows.is_empty() {
+        return f.write_str("no budget serves");
+    }
+    let mut is_first = true;
+    for row in rows {
+        if !is_first {
+            f.write_str("; ")?;
+        }
+        is_first = false;
+        show_row(f, row)?;
+    }
+    Ok(())
+}
+
+// Writes an interval.
+fn show_row<W: fmt::Write>(f: &mut fmt::Formatter<W>, row: &BudgetInterval) -> fmt::Result {
+    let from = Bytes(row.ram_from);
+    write!(f, "ram from {from}")?;
+    if let Some(end) = row.ram_below {
+        let below = Bytes(end);
+        write!(f, " below {below}")?;
+    }
+    let caps = row.caps_from;
+    write!(f, ", caps from {caps}")?;
+    match row.likeness {
+        Likeness::Same => Ok(()),
+        Likeness::Mixed => f.write_str(", in part other replies"),
+        Likeness::Other => f.write_str(", other replies"),
+    }
+}
+
+// Writes the lines after the intervals.
+fn show_beside<W: fmt::Write>(f: &mut fmt::Formatter<W>, account: &AccountBudgets) -> fmt::Result {
+    if account.rows().is_empty() {
+        if let Some(refused) = account.found.refused {
+            f.write_str("  with the most of a machine: ")?;
+            show_refused(f, refused)?;
+            f.write_str("\n")?;
+        }
+    }
+    for hole in account.holes() {
+        let (from, below) = (Bytes(hole.ram_from), Bytes(hole.ram_below));
+        write!(f, "  {from} below {below}: ")?;
+        if let Some(refused) = hole.refused {
+            show_refused(f, refused)?;
+        }
+        f.write_str("\n")?;
+    }
+    show_given(f, account.given(), account.least())?;
+    let reserve = account.reserve;
+    if reserve.ram != 0 || reserve.caps != 0 {
+        let (ram, caps) = (Bytes(reserve.ram), reserve.caps);
+        write!(f, "  beside a reserve of {ram} and {caps}\n")?;
+    }
+    for line in account.left_out() {
+        show_left_out(f, *line, account.least())?;
+    }
+    Ok(())
+}
+
+// Writes a line that is short of quota.
+fn show_refused<W: fmt::Write>(f: &mut fmt::Formatter<W>, refused: RefusedLine) -> fmt::Result {
+    let (line, reply) = (refused.line, refused.shortage.reply());
+    write!(f, "line {line} is refused, {reply}")
+}
+
+// Writes the given budget and its distance from the minimum.
+fn show_given<W: fmt::Write>(
+    f: &mut fmt::Formatter<W>,
+    given: GivenBudget,
+    least: Option<Budget>,
+) -> fmt::Result {
+    let (ram, caps) = (Bytes(given.budget.ram), given.budget.caps);
+    write!(f, "  given {ram} and {caps}: ")?;
+    if let Some(refused) = given.refused {
+        show_refused(f, refused)?;
+        f.write_str("; ")?;
+    }
+    match least {
+        Some(least) => show_distance(f, given.budget, least)?,
+        None => f.write_str("no budget serves")?,
+    }
+    f.write_str("\n")
+}
+
+// Writes the distance of a budget from the minimum.
+fn show_distance<W: fmt::Write>(
+    f: &mut fmt::Formatter<W>,
+    given: Budget,
+    least: Budget,
+) -> fmt::Result {
+    if given == least {
+        return f.write_str("the least");
+    }
+    if given.ram >= least.ram && given.caps >= least.caps {
+        let (ram, caps) = (Bytes(given.ram - least.ram), given.caps - least.caps);
+        return write!(f, "{ram} and {caps} could be saved");
+    }
+    let ram = Bytes(least.ram.saturating_sub(given.ram));
+    let caps = least.caps.saturating_sub(given.caps);
+    write!(f, "{ram} and {caps} less than the least")
+}
+
+// Writes a line that is left out.
+fn show_left_out<W: fmt::Write>(
+    f: &mut fmt::Formatter<W>,
+    left_out: SkippedLine,
+    least: Option<Budget>,
+) -> fmt::Result {
+    let (line, need) = (left_out.line, left_out.need);
+    let (ram, caps) = (Bytes(need.ram), need.caps);
+    let least = least.unwrap_or(Budget { ram: 0, caps: 0 });
+    write!(f, "  line {line} ")?;
+    match (need.ram > least.ram, need.caps > least.caps) {
+        (true, true) => write!(
+            f,
+            "is refused as long as ram is below {ram} or caps below {caps}\n"
+        ),
+        (true, false) => write!(f, "is refused as long as ram is below {ram}\n"),
+        (false, true) => write!(f, "is refused as long as caps are below {caps}\n"),
+        (false, false) => f.write_str("is not refused for want with the least\n"),
+    }
+}
+
+/// A report as comma-separated values: a line of names, and a line for each interval.
+#[derive(Drop)]
+pub struct BudgetCsv {
+    pub(crate) report: BudgetReport,
+}
+
+impl fmt::Display for BudgetCsv {
+    fn fmt<W: fmt::Write>(&self, f: &mut fmt::Formatter<W>) -> fmt::Result {
+        f.write_str("component,session,line,ram_from,ram_below,caps_from\n")?;
+        for account in self.report.accounts() {
+            for row in account.rows() {
+                self.show_row(f, account, row)?;
+            }
+        }
+        Ok(())
+    }
+}
+
+impl BudgetCsv {
+    // Writes an interval of an account.
+    fn show_row<W: fmt::Write>(
+        &self,
+        f: &mut fmt::Formatter<W>,
+        account: &AccountBudgets,
+        row: &BudgetInterval,
+    ) -> fmt::Result {
+        self.report.show_name(f, account)?;
+        match account.session() {
+            Some(session) => {
+                let (selector, line) = (session.selector, session.line);
+                write!(f, ",{selector},{line},")?;
+            }
+            None => f.write_str(",,,")?,
+        }
+        let (from, caps) = (row.ram_from, row.caps_from);
+        match row.ram_below {
+            Some(below) => write!(f, "{from},{below},{caps}\n"),
+            None => write!(f, "{from},,{caps}\n"),
+        }
+    }
+}

@@ -1,0 +1,7 @@
+-- By the outcome, of which the text is the rendering.
+use Rattle.std.proofs.Common.{◌∙◌}
+use Rattle.budget_meter.proofs.OutcomeLemmas.{reads}
+use Rattle.budget_meter.proofs.outcomes.is_unknown_session.Goals as goal
+
+pub returns : goal.returns
+returns c = c.is_unnamed.ensures ∙ (reads c.args.reply.outcome c.args.reply.text.now c.args.reply.rendered).5

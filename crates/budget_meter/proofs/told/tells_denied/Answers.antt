@@ -1,7 +1,0 @@
--- By the outcome, of which the text is the rendering.
-use Rattle.std.proofs.Common.{◌∙◌}
-use Rattle.budget_meter.proofs.OutcomeLemmas.{reads}
-use Rattle.budget_meter.proofs.told.tells_denied.Goals as goal
-
-pub returns : goal.returns
-returns c = c.is_denied.ensures ∙ (reads c.args.reply.outcome c.args.reply.text.now c.args.reply.rendered).4

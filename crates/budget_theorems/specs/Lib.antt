@@ -1,0 +1,9 @@
+pub mod Test
+pub mod Need
+pub mod Shortfall
+pub mod Theorems
+pub mod Request
+pub mod RequestTheorems
+pub mod Opened
+pub mod Rows
+pub mod Intervals

@@ -1,6 +1,0 @@
-pub mod Call
-pub mod FileError
-pub mod Outcome
-pub mod Quotas
-pub mod Told
-pub mod Written

@@ -1,0 +1,138 @@
+//! The check of a start list against a policy: each line of the policy that the list breaks, with its place.
+ghost use Rattle.std.specs.Prelude.{◌≡◌};
+ghost use Rattle.cli_base.specs.PolicyVerdict.{verdict_status};
+
+use crate::files::read_list;
+use crate::reports::Spot;
+use crate::status::REFUSED;
+use init_core::StartList;
+use list_policy::{Breach, BreachText, Policy, PolicyFault, exit_status};
+use std::alloc::{AllocError, Global};
+use std::str;
+
+/// The most bytes of a policy.
+const LONGEST_POLICY: usize = 65_536;
+
+/// A diagnostic of a policy's line: the number of the line, and the message.
+#[derive(Drop)]
+pub struct PolicyDiagnostic {
+    /// The number of the line, from 1 on.
+    pub line: usize,
+    /// The message of the diagnostic.
+    pub text: String,
+}
+
+/// The result of a check of a start list against a policy.
+#[derive(Drop)]
+pub enum PolicyVerdict {
+    /// The lines that the list breaks, in their order: none if the list keeps the policy.
+    Held(Vec<PolicyDiagnostic>),
+    /// The faults of the policy's lines.
+    Faulty(Vec<PolicyDiagnostic>),
+    /// The reason for which the policy isn't read.
+    ReadFailure(String),
+}
+
+impl PolicyVerdict {
+    /// Returns the exit status of a check: 0 if no line of the policy is broken, and 3 if one is. A policy that has a fault or
+    /// isn't read has the status 2.
+    pub fn exit_status(&self) -> u8
+        ensures { result ≡ verdict_status self.now }
+    {
+        match self {
+            PolicyVerdict::Held(broken) => exit_status(0, broken.len()),
+            PolicyVerdict::Faulty(faults) => exit_status(faults.len(), 0),
+            PolicyVerdict::ReadFailure(_) => REFUSED,
+        }
+    }
+}
+
+impl PolicyDiagnostic {
+    /// Returns the place of the line in the policy's file.
+    pub fn spot<'a>(&self, path: &'a str) -> Spot<'a> {
+        Spot::line(path, self.line as u64)
+    }
+}
+
+/// Checks a start list against the policy of a path. Returns an error if the host is out of memory.
+pub fn check_policy(
+    rt: &HostRuntime,
+    list: &StartList,
+    path: &str,
+) -> Result<PolicyVerdict, AllocError> {
+    let alloc = rt.alloc();
+    match read_list(rt, path) {
+        Ok(bytes) => standing_by(alloc, list, path, &bytes),
+        Err(why) => {
+            let why = why.about(path);
+            Ok(PolicyVerdict::ReadFailure(format!(in alloc; "{why}")?))
+        }
+    }
+}
+
+// Checks a start list against the bytes of a policy, which must be UTF-8 and at most 65536.
+fn standing_by(
+    alloc: Global,
+    list: &StartList,
+    path: &str,
+    bytes: &[u8],
+) -> Result<PolicyVerdict, AllocError> {
+    if LONGEST_POLICY < bytes.len() {
+        return Ok(PolicyVerdict::ReadFailure(format!(in alloc;
+            "{path} has more than {LONGEST_POLICY} bytes"
+        )?));
+    }
+    match str::from_utf8(bytes) {
+        Ok(text) => standing_to(alloc, list, text),
+        Err(_) => Ok(PolicyVerdict::ReadFailure(format!(in alloc; "{path} is not UTF-8")?)),
+    }
+}
+
+// Checks a start list against the text of a policy.
+fn standing_to(alloc: Global, list: &StartList, text: &str) -> Result<PolicyVerdict, AllocError> {
+    let policy = Policy::read(alloc, list, text.as_bytes())?;
+    if policy.faults().is_empty() {
+        held(alloc, list, &policy)
+    } else {
+        faulty(alloc, policy.faults())
+    }
+}
+
+// Returns the faults of a policy's lines.
+fn faulty(alloc: Global, faults: &[PolicyFault<'_>]) -> Result<PolicyVerdict, AllocError> {
+    let mut notes = Vec::new(alloc);
+    for fault in faults {
+        let flaw = &fault.flaw;
+        notes.push(PolicyDiagnostic {
+            line: fault.line,
+            text: format!(in alloc; "{flaw}")?,
+        })?;
+    }
+    Ok(PolicyVerdict::Faulty(notes))
+}
+
+// Returns the lines of a policy that a start list breaks.
+fn held(alloc: Global, list: &StartList, policy: &Policy) -> Result<PolicyVerdict, AllocError> {
+    let mut broken = Vec::new(alloc);
+    for line in policy.lines() {
+        let breaches = line.breaches(alloc, list)?;
+        for breach in breaches.as_slice() {
+            broken.push(broken_by(alloc, list, line.number, breach)?)?;
+        }
+    }
+    Ok(PolicyVerdict::Held(broken))
+}
+
+// Returns the diagnostic of a breach of a line.
+fn broken_by(
+    alloc: Global,
+    list: &StartList,
+    line: usize,
+    breach: &Breach,
+) -> Result<PolicyDiagnostic, AllocError> {
+    let told = BreachText::of(alloc, list, breach)?;
+    Ok(PolicyDiagnostic {
+        line,
+        text: format!(in alloc; "{told}")?,
+    })
+}

@@ -1,0 +1,29 @@
+-- How the program ends.
+use Rattle.std.specs.Prelude.{ℕ, Bool, List, Option, None, Result, Ok, Err}
+use Rattle.clap.specs.Words.{kind_of}
+use Rattle.clap.specs.declared.error.kind.ErrorKind.{ErrorKind}
+use Rattle.clap.specs.declared.error.kind.ErrorKind.TheVariants.{DisplayHelp, DisplayVersion}
+use Rattle.cli_engine.specs.Program.{FailsFor, IsDone, status_of}
+use Rattle.cli_engine.specs.declared.program.TaskFailure.{TaskFailure}
+use Rattle.cli_engine.specs.declared.program.Task.{Task}
+use Rattle.run_engine.specs.declared.engine.RunSummary.{RunSummary}
+use Rattle.cli_engine.specs.declared.host.ProgramEnd.{ProgramEnd}
+use Rattle.cli_engine.specs.declared.host.ProgramEnd.TheVariants.{Refused, NoConfig, Ended}
+
+-- the status if the arguments of the command line result in no task
+abbrev pub arguments_status : ErrorKind → ℕ
+arguments_status DisplayHelp = 0
+arguments_status DisplayVersion = 0
+arguments_status kind = 2
+
+-- the exit status of the program
+abbrev pub program_status : ProgramEnd → ℕ
+program_status (Refused error) = arguments_status (kind_of error)
+program_status (NoConfig fault) = 2
+program_status (Ended ended) = status_of ended
+
+-- the result of a task on the machine of a text, by the bytes that a reader gave; what was written is not stated
+abbrev pub HasResult : Result RunSummary TaskFailure → Task → List ℕ → ℕ → Option (List ℕ) → Type 0
+HasResult (Ok summary) asked text max_lines input = IsDone asked text input summary.lines None None
+HasResult (Err failure) asked text max_lines input =
+    (rest : Option (List ℕ)) × ((failed : Bool) × FailsFor failure asked text max_lines input rest failed None None)

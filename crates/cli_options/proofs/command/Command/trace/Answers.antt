@@ -1,0 +1,13 @@
+-- What is read of a trace, by its rows.
+use Rattle.std.proofs.Common.{◌∙◌, codes, refl}
+use Rattle.clap.specs.Words.{found_of}
+use Rattle.clap.proofs.WalkLemmas.{first_value-rows}
+use Rattle.cli_options.proofs.command.Command.trace.Goals as goal
+
+pub returns : goal.returns
+returns c = (
+  refl,
+  c.get_str.ensures ∙ first_value-rows (found_of c.args.found.now) (codes "machine"),
+  c.is_set.ensures,
+  c.path.ensures,
+)

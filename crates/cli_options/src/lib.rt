@@ -1,0 +1,17 @@
+//! The command line of `nethrywel`: its commands with their arguments and options, and its help.
+//!
+//! `nethrywel` calls it: `CommandLine::read(alloc, arguments)` returns the command with its options, or the error that `clap`
+//! reports.
+#![tactic(auto)]
+
+mod command;
+mod command_table;
+mod commands;
+mod help;
+
+pub use command::{
+    AloneOptions, CheckOptions, Color, Command, CommandLine, DiffOptions, LeastOptions,
+    ReachOptions, RecordOptions, ReportOptions, RouteOptions, RunOptions, TestOptions, TreeOptions,
+};
+pub use commands::{alone_usage_error, color_value_error, missing_command_error, words_given};
+pub use help::CALLS;

@@ -1,0 +1,202 @@
+//! A scenario's run on a machine, over files and the standard streams.
+ghost use Rattle.std.specs.Prelude.{◌≡◌, ◌==◌, if◌then◌else◌};
+
+use crate::accounts::accounts_document;
+use crate::run_end::RunEnd;
+use crate::trace::trace_rows;
+use crate::view::{RunView, view};
+use cli_base::{
+    Machine, Origin, OutputStream, REFUSED, ReadFailure, STANDARD_INPUT, Settings, Spot,
+    read_whole, report_boot_fault, report_error, unfolded, writer,
+};
+use cli_engine::Input;
+use cli_options::ReportOptions;
+use init_core::StartList;
+use line_names::RoundMark;
+use run_scenario::{ScenarioInput, near_component};
+use std::{fs, io};
+use view_colors::Lines;
+use view_diagnostics::DiagnosticForm;
+
+/// The exit status if no component has the name that is asked for.
+const NOBODY: u8 = 3;
+
+/// A scenario, and what is printed of its run.
+#[derive(Clone, Copy)]
+pub(crate) struct RunRequest<'a> {
+    /// The path of the scenario.
+    pub(crate) scenario: &'a str,
+    /// The settings of the command line.
+    pub(crate) settings: Settings<'a>,
+    /// What is printed of the run.
+    pub(crate) viewing: RunView<'a>,
+    /// The component that the command line names, if it names one.
+    pub(crate) name: Option<&'a str>,
+    /// How many errors were printed before the run.
+    pub(crate) errors: u64,
+}
+
+impl<'a> RunRequest<'a> {
+    /// Returns a run that isn't restricted to one component.
+    pub(crate) fn whole(
+        asked: &ReportOptions<'a>,
+        settings: Settings<'a>,
+        viewing: RunView<'a>,
+    ) -> RunRequest<'a> {
+        RunRequest {
+            scenario: asked.scenario,
+            settings,
+            viewing,
+            name: None,
+            errors: 0,
+        }
+    }
+}
+
+/// Runs a scenario on the machine of a start list, or on the built-in machine. Returns the exit status.
+pub(crate) fn play(rt: &HostRuntime, machine: Option<&str>, scene: RunRequest<'_>) -> u8 {
+    match Machine::read(rt, machine, scene.settings) {
+        Ok(machine) => play_named(rt, &machine, scene),
+        Err(status) => status,
+    }
+}
+
+// Runs a scenario on a machine. Before the run prints an error if no component has the name that is asked for.
+fn play_named(rt: &HostRuntime, machine: &Machine<'_>, scene: RunRequest<'_>) -> u8 {
+    let is_known = match scene.name {
+        Some(name) => is_listed(rt, scene.settings.form, machine.list(), name),
+        None => true,
+    };
+    if is_known {
+        return play_on(rt, machine, scene);
+    }
+    nobody_status(play_on(rt, machine, RunRequest { errors: 1, ..scene }))
+}
+
+// Returns the exit status of a run in which no component has the name that is asked for: 3, unless a fault comes first.
+fn nobody_status(status: u8) -> u8
+    ensures { result ≡ (if status == 0 then 3 else status) }
+{
+    if status == 0 { NOBODY } else { status }
+}
+
+// Runs a scenario of a path on a machine.
+fn play_on(rt: &HostRuntime, machine: &Machine<'_>, scene: RunRequest<'_>) -> u8 {
+    if scene.scenario == STANDARD_INPUT {
+        return play_from(rt, machine, scene, Origin::Typed(rt.reader()), &[]);
+    }
+    if let Some(whole) = read_whole(rt, scene.scenario) {
+        return play_whole(rt, machine, scene, &whole);
+    }
+    match fs::open(rt, scene.scenario) {
+        Ok(file) => play_from(rt, machine, scene, Origin::File(file), &[]),
+        Err(error) => {
+            let unread = ReadFailure::Closed(error);
+            report_error(
+                rt,
+                scene.settings.form,
+                Spot::nowhere(),
+                &unread.about(scene.scenario),
+            );
+            REFUSED
+        }
+    }
+}
+
+// Runs a scenario of a text, with its rounds unfolded.
+fn play_whole(rt: &HostRuntime, machine: &Machine<'_>, scene: RunRequest<'_>, text: &[u8]) -> u8 {
+    match unfolded(rt, scene.scenario, text, scene.settings) {
+        Ok(lines) => {
+            let origin = Origin::Held(lines.bytes());
+            play_from(rt, machine, scene, origin, lines.marks())
+        }
+        Err(status) => status,
+    }
+}
+
+// Runs the lines of a source with these round marks, and prints the fault that stops the run, if one does.
+fn play_from(
+    rt: &HostRuntime,
+    machine: &Machine<'_>,
+    scene: RunRequest<'_>,
+    origin: Origin<'_>,
+    marks: &[RoundMark],
+) -> u8 {
+    let start = match scene.settings.start_or_status(rt, marks) {
+        Ok(start) => start,
+        Err(status) => return status,
+    };
+    let play = ScenarioInput {
+        machine: machine.text(),
+        scenario: scene.settings.subject(scene.scenario),
+        start,
+    };
+    let played = played(rt, play, scene.viewing, origin);
+    if let Err(fault) = &played.ended {
+        report_boot_fault(rt, scene.settings.form, machine, fault);
+    }
+    let form = scene.settings.form;
+    match scene.viewing {
+        RunView::Alone(_) => played.tell_fault(rt, form, scene.scenario),
+        _ => played.tell(rt, form, scene.scenario, scene.errors),
+    }
+}
+
+// Runs the lines of a source over the standard streams.
+fn played(
+    rt: &HostRuntime,
+    play: ScenarioInput<'_>,
+    viewing: RunView<'_>,
+    origin: Origin<'_>,
+) -> RunEnd {
+    let coloring = viewing.coloring();
+    let mut reader = Input::new(origin);
+    let stderr = OutputStream::Complained(rt.stderr());
+    let mut complaints = writer(rt, stderr, Lines::Complaints, coloring.err);
+    let place = match viewing {
+        RunView::Accounts { json: true } => {
+            return accounts_document(rt, play, &mut reader, &mut complaints);
+        }
+        RunView::Trace { json: true } => OutputStream::Documents(trace_rows(rt)),
+        _ => OutputStream::Printed(io::writer(rt)),
+    };
+    let mut replies = writer(rt, place, Lines::Replies, coloring.out);
+    let ended = view(
+        rt,
+        play,
+        viewing,
+        &mut reader,
+        &mut replies,
+        &mut complaints,
+    );
+    RunEnd {
+        ended,
+        unread: replies.sink().is_unread(),
+    }
+}
+
+// Returns whether a component of a list has a name. Otherwise prints that none has it, and the name that may be meant.
+fn is_listed(rt: &HostRuntime, form: DiagnosticForm, list: &StartList, name: &str) -> bool {
+    if list.find(name.as_bytes()).is_some() {
+        return true;
+    }
+    let near = match near_component(list, name.as_bytes()) {
+        Some(near) => str::from_utf8(near).ok(),
+        None => None,
+    };
+    match near {
+        Some(near) => report_error(
+            rt,
+            form,
+            Spot::nowhere(),
+            &format_args!("unknown component `{name}`; did you mean `{near}`?"),
+        ),
+        None => report_error(
+            rt,
+            form,
+            Spot::nowhere(),
+            &format_args!("unknown component `{name}`"),
+        ),
+    }
+    false
+}

@@ -1,0 +1,70 @@
+//! The coverage of the scenarios that are run as tests.
+use cli_base::Machine;
+use run_exchanges::Exchange;
+use std::alloc::AllocError;
+use std::io;
+use std::io::Write;
+use view_coverage::{CoverageReport, cover};
+
+/// The name of the machine of scenarios without a start list.
+const BUILT_IN: &str = "built-in machine";
+
+/// The coverage of all scenarios, and the form in which it is printed.
+#[derive(Drop)]
+pub(crate) struct CoveragePrinter {
+    // None if coverage isn't asked for.
+    report: Option<CoverageReport>,
+    json: bool,
+}
+
+impl CoveragePrinter {
+    /// Returns the coverage of no scenario yet. If `coverage` isn't set, none is added later.
+    pub(crate) fn new(rt: &HostRuntime, coverage: bool, json: bool) -> CoveragePrinter {
+        let report = if coverage {
+            Some(CoverageReport::new(rt.alloc()))
+        } else {
+            None
+        };
+        CoveragePrinter { report, json }
+    }
+
+    /// Returns whether the command line asks for coverage, as text or as a document.
+    pub(crate) fn are_wanted(&self) -> bool {
+        self.report.is_some()
+    }
+
+    /// Returns whether the coverage is printed as a document in place of all lines.
+    pub(crate) fn is_document(&self) -> bool {
+        self.json && self.report.is_some()
+    }
+
+    /// Adds the coverage of a scenario on a machine, by its calls with their replies. A scenario whose machine doesn't boot has
+    /// no coverage: it fails as a test. The error is out of memory.
+    pub(crate) fn add(
+        &mut self,
+        rt: &HostRuntime,
+        machine: &Machine<'_>,
+        scenario: &str,
+        exchanges: &[Exchange],
+    ) -> Result<(), AllocError> {
+        let Some(report) = &mut self.report else {
+            return Ok(());
+        };
+        let coverage = cover(rt.alloc(), machine.list(), exchanges)?;
+        let name = machine.path().unwrap_or(BUILT_IN);
+        report.add(machine.list(), name, scenario, coverage)
+    }
+
+    /// Prints the coverage as lines of comments, or as a document. Returns the error of a write that fails.
+    pub(crate) fn tell(&self, rt: &HostRuntime) -> io::Result<()> {
+        let alloc = rt.alloc();
+        let Some(report) = &self.report else {
+            return Ok(());
+        };
+        if self.json {
+            return io::writer(rt).write_all(report.document(alloc)?.as_slice());
+        }
+        let text = format!(in alloc; "{report}")?;
+        io::writer(rt).write_all(text.as_bytes())
+    }
+}

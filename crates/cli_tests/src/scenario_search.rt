@@ -1,0 +1,148 @@
+//! The scenarios of paths: a file itself, and all scenarios of a folder and the folders below it.
+use cli_base::{REFUSED, ReadFailure, Spot, no_memory, report_error};
+use std::alloc::{AllocError, AllocFailed};
+use std::fs::DirEntry;
+use std::io::ErrorKind;
+use std::{fs, io};
+use view_diagnostics::DiagnosticForm;
+use view_test_report::is_scenario;
+
+/// The most folders that are searched for one path.
+const MOST_FOLDERS: usize = 100_000;
+
+/// The reason for which the scenarios of paths aren't found.
+#[derive(Clone, Copy)]
+pub(crate) enum SearchFailure<'a> {
+    /// The file or folder of this path can't be read.
+    Unreadable(&'a str, io::Error),
+    /// Neither this folder nor a folder below it has a scenario.
+    Nothing(&'a str),
+    /// The host is out of memory.
+    NoMemory,
+}
+
+impl<'a> From<AllocError> for SearchFailure<'a> {
+    fn from(_want: AllocError) -> SearchFailure<'a> {
+        SearchFailure::NoMemory
+    }
+}
+
+impl<'a, T: Drop> From<AllocFailed<T>> for SearchFailure<'a> {
+    fn from(_want: AllocFailed<T>) -> SearchFailure<'a> {
+        SearchFailure::NoMemory
+    }
+}
+
+impl SearchFailure<'_> {
+    /// Prints the reason, and returns the exit status: 2, or 1 if the host is out of memory.
+    pub(crate) fn tell(self, rt: &HostRuntime, form: DiagnosticForm) -> u8 {
+        match self {
+            SearchFailure::Unreadable(path, error) => {
+                let unread = ReadFailure::Closed(error);
+                report_error(rt, form, Spot::nowhere(), &unread.about(path));
+                REFUSED
+            }
+            SearchFailure::Nothing(path) => {
+                let message = "no file in this folder ends with .scenario";
+                report_error(rt, form, Spot::file(path), &message);
+                REFUSED
+            }
+            SearchFailure::NoMemory => no_memory(rt),
+        }
+    }
+}
+
+/// Returns the scenarios of paths in their order, those of a folder sorted by bytes. Errors: a path can't be read, a folder has
+/// no scenario, the host is out of memory.
+pub(crate) fn scenarios_at<'a>(
+    rt: &HostRuntime,
+    paths: &[&'a str],
+) -> Result<Vec<String>, SearchFailure<'a>> {
+    let mut all = Vec::new(rt.alloc());
+    for path in paths {
+        add_scenarios(rt, path, &mut all)?;
+    }
+    Ok(all)
+}
+
+// Adds the scenarios of a path.
+fn add_scenarios<'a>(
+    rt: &HostRuntime,
+    path: &'a str,
+    all: &mut Vec<String>,
+) -> Result<(), SearchFailure<'a>> {
+    let mut found = at(rt, path)?;
+    found.sort()?;
+    for scenario in found {
+        all.push(scenario)?;
+    }
+    Ok(())
+}
+
+// Returns the scenarios of a path.
+fn at<'a>(rt: &HostRuntime, path: &'a str) -> Result<Vec<String>, SearchFailure<'a>> {
+    match fs::metadata(rt, path) {
+        Ok(of) if of.is_dir() => in_folder(rt, path),
+        Ok(_) => Ok(vec![in rt.alloc(); String::from_str(rt.alloc(), path)?]?),
+        Err(error) => Err(SearchFailure::Unreadable(path, error)),
+    }
+}
+
+// Returns the scenarios of a folder, at least one.
+fn in_folder<'a>(rt: &HostRuntime, path: &'a str) -> Result<Vec<String>, SearchFailure<'a>> {
+    match below(rt, path) {
+        Ok(found) if found.is_empty() => Err(SearchFailure::Nothing(path)),
+        Ok(found) => Ok(found),
+        Err(error) => Err(SearchFailure::Unreadable(path, error)),
+    }
+}
+
+// Returns the scenarios of a folder and of the folders below it.
+fn below(rt: &HostRuntime, folder: &str) -> io::Result<Vec<String>> {
+    let alloc = rt.alloc();
+    let mut found = Vec::new(alloc);
+    let mut folders = vec![in alloc; String::from_str(alloc, folder)?]?;
+    for _ in 0..MOST_FOLDERS {
+        let Some(folder) = folders.pop() else {
+            break;
+        };
+        look_through(rt, folder.as_str(), &mut folders, &mut found)?;
+    }
+    if folders.is_empty() {
+        Ok(found)
+    } else {
+        Err(io::Error::from(ErrorKind::Other))
+    }
+}
+
+// Adds the folders and the scenarios in a folder, except those whose names begin with a point.
+fn look_through(
+    rt: &HostRuntime,
+    folder: &str,
+    folders: &mut Vec<String>,
+    found: &mut Vec<String>,
+) -> io::Result<()> {
+    for entry in fs::read_dir(rt, folder)? {
+        look_at(rt, &entry?, folders, found)?;
+    }
+    Ok(())
+}
+
+// Adds an entry of a folder if it is a folder or a scenario.
+fn look_at(
+    rt: &HostRuntime,
+    entry: &DirEntry<HostRuntime>,
+    folders: &mut Vec<String>,
+    found: &mut Vec<String>,
+) -> io::Result<()> {
+    if entry.file_name().starts_with('.') {
+        return Ok(());
+    }
+    let path = String::from_str(rt.alloc(), entry.path().as_str())?;
+    if entry.file_type()?.is_dir() {
+        folders.push(path)?;
+    } else if is_scenario(path.as_str()) {
+        found.push(path)?;
+    }
+    Ok(())
+}

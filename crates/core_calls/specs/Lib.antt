@@ -1,0 +1,6 @@
+pub mod Call
+pub mod FileError
+pub mod Outcome
+pub mod Quotas
+pub mod ReplyText
+pub mod Written

@@ -1,8 +1,0 @@
--- The answers that are left give the same as all.
-use Rattle.std.proofs.Common.{◌≡◌, drop, map}
-use Rattle.coverage.specs.Covered.{answer_of, rows_after}
-use Rattle.coverage.proofs.covering.note_all.Given as goal
-
-abbrev pub invariant-loop-exchange : goal.invariant-loop-exchange
-invariant-loop-exchange l =
-    rows_after l.list (map answer_of (drop l.exchange-index l.exchanges)) l.rows ≡ rows_after l.list (map answer_of l.exchanges) l.initial.rows

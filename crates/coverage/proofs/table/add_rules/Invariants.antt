@@ -1,7 +1,0 @@
--- The rules so far are there.
-use Rattle.std.proofs.Common.{◌≡◌, ◌++◌}
-use Rattle.coverage.specs.Covered.{route_rows}
-use Rattle.coverage.proofs.table.add_rules.Given as goal
-
-abbrev pub invariant-loop-place : goal.invariant-loop-place
-invariant-loop-place l = l.rows.items ≡ l.initial.rows.items ++ route_rows l.route l.place

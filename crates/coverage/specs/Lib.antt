@@ -1,6 +1,0 @@
-pub mod Forms
-pub mod Requests
-pub mod Rules
-pub mod Covered
-pub mod Reported
-pub mod Laws

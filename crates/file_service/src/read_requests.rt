@@ -1,0 +1,96 @@
+//! The requests that read files.
+ghost use Rattle.std.specs.Prelude.{◌≡◌, ◌≤◌, length, IfOk, slice_get};
+ghost use Rattle.std.specs.Option.{option_map};
+ghost use Rattle.own_model.specs.FileService.{File};
+ghost use Rattle.own_model.specs.FileText.FileRequest.{Read, Size};
+ghost use Rattle.file_service.specs.SessionHeaps.{stock_of, AreSoundHeaps};
+ghost use Rattle.file_service.specs.Session.{files_in, HasFiles, counted_reply, bytes_reply, IsTold};
+
+use crate::node::{NEXT, Node};
+use crate::session::FileSession;
+use dataspace_core::Memory;
+use region_map::RegionMap;
+use session_proto::FileError;
+
+/// The most bytes that one request reads.
+const MOST_READ: u64 = 1024;
+
+impl FileSession {
+    /// Returns the size of a file in bytes. Refuses with `NotFound` if there is no such file.
+    pub(crate) fn size(
+        &self,
+        memory: &mut Memory,
+        map: &RegionMap,
+        name: &[u8],
+    ) -> Result<u64, FileError>
+        requires furnished { AreSoundHeaps self.now.rooms memory.old map.now }
+        requires files { HasFiles self.now (stock_of self.now.rooms memory.old map.now) }
+        ensures told { IsTold (Size name.now) (counted_reply result) self.now
+            (stock_of self.now.rooms memory.old map.now) }
+        ensures memory { memory.new ≡ memory.old }
+    {
+        let found = self.find(memory, map, name).ok_or(FileError::NotFound)?;
+        Ok(found.node.size)
+    }
+
+    /// Reads at most `len` bytes of a file from an offset on to the front of a buffer, and returns their number.
+    ///
+    /// Refuses with `NotFound` if there is no such file. Then refuses with `Gap` if the offset is above its size, then
+    /// `TooLong` if `len` is above 1024.
+    pub(crate) fn read(
+        &self,
+        memory: &mut Memory,
+        map: &RegionMap,
+        name: &[u8],
+        offset: u64,
+        len: u64,
+        buffer: &mut [u8],
+    ) -> Result<usize, FileError>
+        requires room { len ≤ MOST_READ → len ≤ length buffer.old }
+        requires furnished { AreSoundHeaps self.now.rooms memory.old map.now }
+        requires files { HasFiles self.now (stock_of self.now.rooms memory.old map.now) }
+        ensures told { IsTold (Read name.now offset len) (bytes_reply buffer.new result) self.now
+            (stock_of self.now.rooms memory.old map.now) }
+        ensures count { IfOk result (λ count. count ≤ length buffer.new) }
+        ensures same_length { length buffer.new ≡ length buffer.old }
+        ensures memory { memory.new ≡ memory.old }
+    {
+        let found = self.find(memory, map, name).ok_or(FileError::NotFound)?;
+        let size = found.node.size;
+        if offset > size {
+            return Err(FileError::Gap);
+        }
+        if len > MOST_READ {
+            return Err(FileError::TooLong);
+        }
+        let count = len.min(size - offset) as usize;
+        if count > 0 {
+            let content = found.node.content;
+            let part = &mut buffer[..count];
+            self.rooms.read_content(memory, map, content, offset, part);
+        }
+        Ok(count)
+    }
+
+    /// Returns the node of the file at a place in the order of creation, or `None`. The memory is unchanged.
+    pub(crate) fn file_at(&self, memory: &mut Memory, map: &RegionMap, place: u64) -> Option<Node>
+        requires furnished { AreSoundHeaps self.now.rooms memory.old map.now }
+        requires files { HasFiles self.now (stock_of self.now.rooms memory.old map.now) }
+        ensures name { option_map (λ node. node.name.items) result
+            ≡ option_map (λ (file : File). file.name)
+            (slice_get
+            (files_in self.now (stock_of self.now.rooms memory.old map.now)).files place) }
+        ensures memory { memory.new ≡ memory.old }
+    {
+        let mut left = place;
+        let mut address = self.first;
+        while address != 0 {
+            if left == 0 {
+                return Some(self.rooms.load_node(memory, map, address));
+            }
+            left -= 1;
+            address = self.rooms.load_word(memory, map, address, NEXT);
+        }
+        None
+    }
+}

@@ -1,0 +1,14 @@
+pub mod Words
+pub mod Quotes
+pub mod QuotedBytes
+pub mod LineText
+pub mod CallParts
+pub mod Views
+pub mod Expected
+pub mod Expectations
+pub mod Forms
+pub mod CallFault
+pub mod Friendly
+pub mod Says
+pub mod Theorems
+pub mod Handed

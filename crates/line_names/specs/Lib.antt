@@ -1,0 +1,14 @@
+pub mod Names
+pub mod NameTable
+pub mod Bindings
+pub mod Sums
+pub mod Filling
+pub mod Learning
+pub mod Directives
+pub mod Views
+pub mod Theorems
+pub mod DirectiveFault
+pub mod RoundMarks
+pub mod Tokens
+pub mod Lists
+pub mod ListViews

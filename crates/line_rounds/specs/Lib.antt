@@ -1,0 +1,4 @@
+pub mod Theorems
+pub mod Structure
+pub mod Unfolding
+pub mod Views

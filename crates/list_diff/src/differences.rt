@@ -1,0 +1,140 @@
+//! Differences as people read them.
+use crate::entry_changes::EntryChange;
+use crate::reach_changes::ReachChange;
+use list_parser::{ListEntry, StartList};
+use list_reach::WitnessedSet;
+use std::fmt;
+
+/// The differences between two start lists, printed one per line.
+#[derive(Clone, Copy)]
+pub struct ListDifferences<'a> {
+    /// The start list before.
+    pub before: &'a StartList,
+    /// The start list after.
+    pub after: &'a StartList,
+    /// The changes of the entries.
+    pub changes: &'a [EntryChange],
+    /// The labels that are routed to a server on one list alone.
+    pub leads: &'a [ReachChange<'a>],
+}
+
+impl ListDifferences<'_> {
+    /// Returns whether there is no difference between the two lists.
+    pub fn is_empty(&self) -> bool {
+        self.has_same_machine() && self.changes.is_empty() && self.leads.is_empty()
+    }
+
+    /// Returns whether both lists have the same pages and capabilities.
+    pub(crate) fn has_same_machine(&self) -> bool {
+        self.before.pages() == self.after.pages() && self.before.caps() == self.after.caps()
+    }
+}
+
+/// Writes a line for each difference: `-` before what was removed, `+` before what was added, and `~` before what changed.
+impl fmt::Display for ListDifferences<'_> {
+    fn fmt<W: fmt::Write>(&self, f: &mut fmt::Formatter<W>) -> fmt::Result {
+        if !self.has_same_machine() {
+            let (now, was) = (self.after, self.before);
+            write!(f, "~ machine: {} pages, {} caps", now.pages(), now.caps())?;
+            writeln!(f, " (was: {} pages, {} caps)", was.pages(), was.caps())?;
+        }
+        for change in self.changes {
+            self.show_change(f, *change)?;
+        }
+        for lead in self.leads {
+            show_lead(f, lead)?;
+        }
+        Ok(())
+    }
+}
+
+impl ListDifferences<'_> {
+    // The change of an entry.
+    fn show_change<W: fmt::Write>(
+        &self,
+        f: &mut fmt::Formatter<W>,
+        change: EntryChange,
+    ) -> fmt::Result {
+        let (before, after) = (self.before.entries(), self.after.entries());
+        match change {
+            EntryChange::Gone(number) => show_entry(f, "- ", before.get(number))?,
+            EntryChange::Came(number) => show_entry(f, "+ ", after.get(number))?,
+            EntryChange::Changed(was, now) => {
+                show_entry(f, "~ ", after.get(now))?;
+                f.write_str(" (was: ")?;
+                if let Some(entry) = before.get(was) {
+                    show_means(f, entry)?;
+                }
+                f.write_str(")")?;
+            }
+        }
+        writeln!(f)
+    }
+}
+
+// An entry with its budget, after a mark.
+fn show_entry<W: fmt::Write>(
+    f: &mut fmt::Formatter<W>,
+    sign: &str,
+    entry: Option<&ListEntry>,
+) -> fmt::Result {
+    match entry {
+        Some(entry) => {
+            write!(f, "{sign}{}: ", entry.to_path())?;
+            show_means(f, entry)
+        }
+        None => Ok(()),
+    }
+}
+
+// The binary of an entry, its budget, its reserve, and whether it provides its service.
+fn show_means<W: fmt::Write>(f: &mut fmt::Formatter<W>, entry: &ListEntry) -> fmt::Result {
+    let binary = entry.binary();
+    write!(
+        f,
+        "{}, {} bytes, {} caps",
+        binary.as_str(),
+        entry.ram(),
+        entry.caps()
+    )?;
+    if let Some(reserve) = entry.reserve() {
+        write!(
+            f,
+            ", reserve {} bytes, {} caps",
+            reserve.ram.0, reserve.caps.0
+        )?;
+    }
+    match binary.service() {
+        Some(service) if entry.provides() => write!(f, ", provides {}", service.name()),
+        Some(_) => f.write_str(", provides nothing"),
+        None => Ok(()),
+    }
+}
+
+// The labels that are routed to a server on one list alone.
+fn show_lead<W: fmt::Write>(f: &mut fmt::Formatter<W>, lead: &ReachChange<'_>) -> fmt::Result {
+    let (client, server) = (lead.client.to_path(), lead.server.to_path());
+    write!(f, "~ {client} {} {server}:", lead.service)?;
+    show_labels(f, " gained", &lead.gained)?;
+    let is_both = lead.gained.witness.is_some() && lead.lost.witness.is_some();
+    show_labels(f, if is_both { ", lost" } else { " lost" }, &lead.lost)?;
+    f.write_str("\n")
+}
+
+// Labels after a word, with one of the shortest unless there is one label; nothing if there is none.
+fn show_labels<W: fmt::Write>(
+    f: &mut fmt::Formatter<W>,
+    word: &str,
+    found: &WitnessedSet,
+) -> fmt::Result {
+    let Some(witness) = &found.witness else {
+        return Ok(());
+    };
+    f.write_str(word)?;
+    write!(f, " {}", found.labels)?;
+    if found.labels.is_one() {
+        Ok(())
+    } else {
+        write!(f, " (as \"{witness}\")")
+    }
+}

@@ -1,0 +1,105 @@
+//! Needs that aren't covered any more.
+use std::alloc::{AllocError, Global};
+use std::fmt;
+use view_json::{JsonField, Listing};
+
+/// An amount of quota: RAM in bytes, and a number of capabilities.
+#[derive(Clone, Copy)]
+pub struct QuotaAmounts {
+    /// The RAM in bytes.
+    pub ram: u64,
+    /// The number of capabilities.
+    pub caps: u64,
+}
+
+/// The need of a component: its budget, and the budget that its calls in a scenario need.
+#[derive(Clone, Copy)]
+pub struct ComponentNeed<'a> {
+    /// The path of the component.
+    pub name: &'a [u8],
+    /// The budget of the component.
+    pub has: QuotaAmounts,
+    /// The minimum budget under which none of its calls is short of quota, if there is one.
+    pub needs: Option<QuotaAmounts>,
+    /// Whether no call is short of quota under the budget that the component has.
+    pub is_covered: bool,
+}
+
+/// A component whose needs were covered and aren't any more.
+#[derive(Clone, Copy)]
+pub struct NeedChange<'a> {
+    /// What the component has and needs after a change.
+    pub now: ComponentNeed<'a>,
+    /// The budget that the component had before.
+    pub had: QuotaAmounts,
+}
+
+/// Returns the components whose needs were covered before and aren't after, in the order of those after. Fails if the host is out
+/// of memory.
+pub fn lacks<'a>(
+    alloc: Global,
+    before: &[ComponentNeed<'a>],
+    after: &[ComponentNeed<'a>],
+) -> Result<Vec<NeedChange<'a>>, AllocError> {
+    let mut found = Vec::new(alloc);
+    for now in after {
+        if let (false, Some(was)) = (now.is_covered, need_of(before, now.name)) {
+            if was.is_covered {
+                found.push(NeedChange {
+                    now: *now,
+                    had: was.has,
+                })?;
+            }
+        }
+    }
+    Ok(found)
+}
+
+// The need of the component of a path.
+fn need_of<'a>(needs: &[ComponentNeed<'a>], name: &[u8]) -> Option<ComponentNeed<'a>> {
+    for need in needs {
+        if need.name == name {
+            return Some(*need);
+        }
+    }
+    None
+}
+
+impl NeedChange<'_> {
+    /// Adds a JSON document of the kind `need` with the component's need and its budgets. Fails if the host is out of memory.
+    pub fn list(&self, listing: &mut Listing) -> Result<(), AllocError> {
+        let (now, had) = (self.now, self.had);
+        let (ram, caps) = match now.needs {
+            Some(needs) => (JsonField::Number(needs.ram), JsonField::Number(needs.caps)),
+            None => (JsonField::Nothing, JsonField::Nothing),
+        };
+        listing.add(&[
+            ("kind", JsonField::Word("need")),
+            ("change", JsonField::Word("~")),
+            ("name", JsonField::Text(now.name)),
+            ("needs_ram", ram),
+            ("needs_caps", caps),
+            ("ram", JsonField::Number(now.has.ram)),
+            ("caps", JsonField::Number(now.has.caps)),
+            ("was_ram", JsonField::Number(had.ram)),
+            ("was_caps", JsonField::Number(had.caps)),
+        ])
+    }
+}
+
+/// Writes a line with the component's need, and its budgets after and before.
+impl fmt::Display for NeedChange<'_> {
+    fn fmt<W: fmt::Write>(&self, f: &mut fmt::Formatter<W>) -> fmt::Result {
+        f.write_str("~ ")?;
+        for byte in self.now.name {
+            write!(f, "{}", char::from(*byte))?;
+        }
+        match self.now.needs {
+            Some(needs) => write!(f, ": needs {} bytes, {} caps", needs.ram, needs.caps)?,
+            None => f.write_str(": no budget serves")?,
+        }
+        let (has, had) = (self.now.has, self.had);
+        write!(f, "; has {} bytes, {} caps", has.ram, has.caps)?;
+        writeln!(f, " (was: {} bytes, {} caps)", had.ram, had.caps)
+    }
+}

@@ -1,0 +1,93 @@
+//! Why a start list isn't read, or doesn't boot, and the place of the fault.
+ghost use Rattle.std.specs.Prelude.{◌≡◌};
+ghost use Rattle.list_parser.specs.declared.fault.BootFault.TheVariants.{NoMemory};
+
+use crate::value_flaw::ValueFlaw;
+use arrayvec::ArrayString;
+use list_parser::BootFault;
+use list_parts::{EntryShortfall, show_within};
+use serde_json::Error;
+use std::alloc::AllocError;
+use std::fmt;
+use std::fmt::Write;
+
+/// The maximum number of bytes of the JSON parser's message: its reason, the line and the column.
+const MOST_TOLD: usize = 80;
+
+/// The reason why a text is no JSON, as its parser reports it.
+#[derive(Clone, Copy)]
+pub struct JsonReason {
+    told: ArrayString<MOST_TOLD>,
+}
+
+impl JsonReason {
+    /// Returns the reason of an error of the JSON parser.
+    pub fn of(error: &Error) -> JsonReason {
+        let mut told = ArrayString::new();
+        let _ = write!(told, "{error}");
+        JsonReason { told }
+    }
+}
+
+/// Writes the reason alone, without the line and the column, which are printed before it.
+impl fmt::Display for JsonReason {
+    fn fmt<W: fmt::Write>(&self, f: &mut fmt::Formatter<W>) -> fmt::Result {
+        let told = self.told.as_str();
+        match told.split_once(" at line ") {
+            Some((reason, _)) => f.write_str(reason),
+            None => f.write_str(told),
+        }
+    }
+}
+
+/// The place of a fault.
+#[derive(Drop)]
+pub enum FaultPlace {
+    /// In the JSON text: the line and the column, from 1 on, as the parser reports them, and its reason.
+    Text(usize, usize, JsonReason),
+    /// In a part of the list.
+    List(ValueFlaw),
+    /// At the entry that isn't covered.
+    Budget(EntryShortfall),
+    /// In the whole text, which has so many bytes.
+    Size(usize),
+    /// Nowhere: the host is out of memory.
+    Nowhere,
+}
+
+/// A fault of a start list: the engine's own fault, and its place.
+#[derive(Drop)]
+pub struct ListFault {
+    /// The fault.
+    pub fault: BootFault,
+    /// The place of the fault.
+    pub place: FaultPlace,
+}
+
+impl From<AllocError> for ListFault {
+    ghost from_gives = { λ _ fault. fault.fault ≡ NoMemory };
+
+    fn from(_want: AllocError) -> ListFault {
+        ListFault {
+            fault: BootFault::NoMemory,
+            place: FaultPlace::Nowhere,
+        }
+    }
+}
+
+impl fmt::Display for ListFault {
+    fn fmt<W: fmt::Write>(&self, f: &mut fmt::Formatter<W>) -> fmt::Result {
+        write!(f, "{}", self.fault)?;
+        match &self.place {
+            FaultPlace::Text(line, column, reason) => {
+                write!(f, ": line {line}, column {column}: {reason}")
+            }
+            FaultPlace::List(flaw) => show_within(f, ": ", flaw, ""),
+            FaultPlace::Budget(lack) => show_within(f, ": ", lack, ""),
+            FaultPlace::Size(size) => {
+                show_within(f, ": expected at most 65536 bytes, found ", size, "")
+            }
+            FaultPlace::Nowhere => Ok(()),
+        }
+    }
+}

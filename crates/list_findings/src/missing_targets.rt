@@ -1,0 +1,168 @@
+//! Rules that route to no child: the child isn't there, or doesn't provide the service that it is asked for.
+ghost use Rattle.std.specs.Prelude.{◌≡◌, ◌++◌, IfOk, OnOk, None};
+ghost use Rattle.trade_base.specs.Service.{service_name};
+ghost use Rattle.list_parser.specs.View.{model_target};
+ghost use Rattle.list_findings.specs.Findings.{has_name, misled, no_child, stray_findings, strays, strays_if_provided, target_findings};
+ghost use Rattle.list_parts.specs.Steps.{part_of};
+
+use crate::finding::{Finding, Remark};
+use crate::findings::tell;
+use crate::near::near_name;
+use crate::rule_targets::is_provided;
+use crate::unreachable_rules::decides_some;
+use list_parser::{ListEntry, Name, Rule, StartList, Target};
+use list_parts::PartId;
+use list_routes::target_child;
+use std::alloc::{AllocError, Global};
+use trade_base::{SERVICES, Service};
+
+/// Adds the finding that the child of a rule of an init's list isn't there. If it is there, adds the findings for which services
+/// the rule routes to no child. The rule is after the earlier rules. Fails if the host is out of memory.
+pub(crate) fn add_target_finding(
+    found: &mut Vec<Finding>,
+    alloc: Global,
+    list: &StartList,
+    init: usize,
+    about: PartId,
+    earlier: &[Rule],
+    rule: &Rule,
+) -> Result<(), AllocError>
+    ensures { OnOk result (found.new.items ≡ found.old.items
+        ++ target_findings list.now.entries init (part_of list.now.entries about) earlier.now
+        rule.now (no_child list.now.entries init rule.now.target)) }
+{
+    match no_child(alloc, list, init, rule.target())? {
+        Some(remark) => tell(found, alloc, list, about, Some(remark)),
+        None => tell_strays(found, alloc, list, init, about, earlier, rule),
+    }
+}
+
+// Whether no entry of an init's list has the name of a target's child.
+fn no_child(
+    alloc: Global,
+    list: &StartList,
+    init: usize,
+    target: &Target,
+) -> Result<Option<Remark>, AllocError>
+    ensures { IfOk result
+        (λ remark. remark ≡ no_child list.now.entries init (model_target target.now)) }
+{
+    match target {
+        Target::Child(name) => if has_name(list.entries(), init, name.as_bytes()) {
+            Ok(None)
+        } else {
+            let near = near_name(alloc, list.entries(), init, name.as_str())?;
+            Ok(Some(Remark::NoChild(name.copy(), near)))
+        },
+        Target::AnyChild | Target::Parent => Ok(None),
+    }
+}
+
+// Whether some entry of an init's list has a name.
+fn has_name(entries: &[ListEntry], init: usize, name: &[u8]) -> bool
+    ensures { result ≡ has_name entries.now init name.now }
+{
+    entries
+        .iter()
+        .any(|entry| entry.home() == init && entry.name() == name)
+}
+
+// Adds the findings for which services a rule routes to no child.
+fn tell_strays(
+    found: &mut Vec<Finding>,
+    alloc: Global,
+    list: &StartList,
+    init: usize,
+    about: PartId,
+    earlier: &[Rule],
+    rule: &Rule,
+) -> Result<(), AllocError>
+    ensures { OnOk result (found.new.items
+        ≡ found.old.items ++ stray_findings list.now.entries init
+        (part_of list.now.entries about) earlier.now rule.now rule.now.service) }
+{
+    match rule.service() {
+        Some(service) => {
+            let remark = strays(list, init, earlier, rule, service);
+            tell(found, alloc, list, about, remark)
+        }
+        None => tell_all_strays(found, alloc, list, init, about, earlier, rule),
+    }
+}
+
+// Adds the findings for which of all services a rule of any service routes to no child.
+fn tell_all_strays(
+    found: &mut Vec<Finding>,
+    alloc: Global,
+    list: &StartList,
+    init: usize,
+    about: PartId,
+    earlier: &[Rule],
+    rule: &Rule,
+) -> Result<(), AllocError>
+    ensures { OnOk result (found.new.items
+        ≡ found.old.items ++ stray_findings list.now.entries init
+        (part_of list.now.entries about) earlier.now rule.now None) }
+{
+    let services = SERVICES.as_slice();
+    for place in 0..services.len() {
+        let remark = strays_if_provided(list, init, earlier, rule, services[place]);
+        tell(found, alloc, list, about, remark)?;
+    }
+    Ok(())
+}
+
+// The remark that a rule of any service routes to no child for a service that some entry of its list provides.
+#[tactic(auto, using(crate::proofs::ServiceNames::service_is_named))]
+fn strays_if_provided(
+    list: &StartList,
+    init: usize,
+    earlier: &[Rule],
+    rule: &Rule,
+    service: Service,
+) -> Option<Remark>
+    ensures { result
+        ≡ strays_if_provided list.now.entries init earlier.now rule.now (service_name service) }
+{
+    match Name::read(service.name()) {
+        Some(name) if is_provided(list, init, name.as_bytes()) => {
+            strays(list, init, earlier, rule, &name)
+        }
+        _ => None,
+    }
+}
+
+// The remark that a rule decides some requests for a service, and routes them to no child.
+fn strays(
+    list: &StartList,
+    init: usize,
+    earlier: &[Rule],
+    rule: &Rule,
+    service: &Name,
+) -> Option<Remark>
+    ensures { result ≡ strays list.now.entries init earlier.now rule.now service.now }
+{
+    let asked = service.as_bytes();
+    if decides_some(earlier, rule, asked)
+        && target_child(list, init, rule.target(), asked).is_none()
+    {
+        misled(list, init, rule.target(), service)
+    } else {
+        None
+    }
+}
+
+// Why a target routes a service to no child, unless it routes outward.
+fn misled(list: &StartList, init: usize, target: &Target, service: &Name) -> Option<Remark>
+    ensures { result ≡ misled list.now.entries init (model_target target.now) service.now }
+{
+    match target {
+        Target::Child(child) => Some(Remark::NotProvided(child.copy(), service.copy())),
+        Target::AnyChild => if is_provided(list, init, service.as_bytes()) {
+            Some(Remark::SeveralProviders(service.copy()))
+        } else {
+            Some(Remark::NoProvider(service.copy()))
+        },
+        Target::Parent => None,
+    }
+}

@@ -1,0 +1,32 @@
+//! The targets of rules, and the components whose requests are decided.
+ghost use Rattle.std.specs.Prelude.{◌≡◌, take};
+ghost use Rattle.list_parser.specs.View.{model_binary};
+ghost use Rattle.list_findings.specs.RuleTargets.{is_provided, is_script};
+
+use list_parser::{Binary, Rule, StartList};
+
+/// Returns whether some entry of an init's list provides a service.
+pub(crate) fn is_provided(list: &StartList, init: usize, service: &[u8]) -> bool
+    ensures { result ≡ is_provided list.now.entries init service.now }
+{
+    list.entries()
+        .iter()
+        .any(|entry| entry.offers(init, service))
+}
+
+/// Returns the rules of a list before a place.
+pub(crate) fn before(rules: &[Rule], place: usize) -> &[Rule]
+    ensures { result.now ≡ take place rules.now }
+{
+    &rules[..place.min(rules.len())]
+}
+
+/// Returns whether a binary is that of a script.
+pub(crate) fn is_script(binary: Binary) -> bool
+    ensures { result ≡ is_script (model_binary binary) }
+{
+    match binary {
+        Binary::Script => true,
+        Binary::Server(_) | Binary::Init => false,
+    }
+}

@@ -1,0 +1,173 @@
+//! The members of a start list's objects that nothing reads.
+ghost use Rattle.std.specs.Prelude.{◌≡◌, ◌++◌, [], OnOk, Some};
+ghost use Rattle.std.specs.Option.{option_and_then, option_map};
+ghost use Rattle.serde_json.specs.Find.{as_object};
+ghost use Rattle.serde_json.specs.View.{members_view, view};
+ghost use Rattle.list_findings.specs.Findings.{told};
+ghost use Rattle.list_findings.specs.Unread.{unread_in, unread_in_config, unread_in_entry, unread_in_rules, unread_of};
+ghost use Rattle.list_faults.specs.Values.{seen};
+
+use crate::finding::{Finding, Remark};
+use crate::members::ObjectKind;
+use list_faults::{EntryValue, elements, find_entries, member, runs};
+use list_parts::{EntrySteps, ListPart, RuleOwner, rule_at};
+use serde_json::{Map, Value};
+use std::alloc::{AllocError, Global};
+
+/// Adds a finding for each member that nothing reads of the value of a start list, in the order of the list's parts. Fails if the
+/// host is out of memory.
+pub fn tell_unread(found: &mut Vec<Finding>, alloc: Global, list: &Value) -> Result<(), AllocError>
+    ensures { OnOk result (found.new.items ≡ found.old.items ++ unread_of (view list.now)) }
+{
+    tell_members(found, alloc, ObjectKind::List, &ListPart::List, Some(list))?;
+    let machine = list.get("machine");
+    tell_members(
+        found,
+        alloc,
+        ObjectKind::Machine,
+        &ListPart::Machine,
+        machine,
+    )?;
+    let rules = list.get("default-route");
+    tell_rules(
+        found,
+        alloc,
+        RuleOwner::Default,
+        &EntrySteps::none(alloc),
+        rules,
+    )?;
+    let entries = find_entries(alloc, list)?;
+    for (number, entry) in entries.iter().enumerate() {
+        tell_entry(found, alloc, number, entry)?;
+    }
+    Ok(())
+}
+
+// Adds the findings of an entry, of its own route, and of what it starts if it is an init.
+fn tell_entry(
+    found: &mut Vec<Finding>,
+    alloc: Global,
+    number: usize,
+    entry: &EntryValue<'_>,
+) -> Result<(), AllocError>
+    ensures { OnOk result
+        (found.new.items ≡ found.old.items ++ unread_in_entry (number, seen entry.now)) }
+{
+    let is_init = runs(entry.value, "init");
+    let table = if is_init {
+        ObjectKind::Init
+    } else {
+        ObjectKind::Entry
+    };
+    tell_own(found, alloc, number, entry, table)?;
+    let rules = entry.value.get("route");
+    tell_rules(found, alloc, RuleOwner::Entry(number), &entry.steps, rules)?;
+    if is_init {
+        tell_config(
+            found,
+            alloc,
+            number,
+            &entry.steps,
+            entry.value.get("config"),
+        )
+    } else {
+        Ok(())
+    }
+}
+
+// Adds the findings of an entry itself.
+fn tell_own(
+    found: &mut Vec<Finding>,
+    alloc: Global,
+    number: usize,
+    entry: &EntryValue<'_>,
+    table: ObjectKind,
+) -> Result<(), AllocError>
+    ensures { OnOk result (found.new.items ≡ found.old.items
+        ++ unread_in table (ListPart.Entry number entry.now.steps) (Some (view entry.now.value.now))) }
+{
+    let part = ListPart::Entry(number, entry.steps.copy(alloc)?);
+    tell_members(found, alloc, table, &part, Some(entry.value))
+}
+
+// Adds the findings of what an init starts, except those of its entries.
+fn tell_config(
+    found: &mut Vec<Finding>,
+    alloc: Global,
+    number: usize,
+    steps: &EntrySteps,
+    config: Option<&Value>,
+) -> Result<(), AllocError>
+    ensures { OnOk result (found.new.items ≡ found.old.items
+        ++ unread_in_config number steps.now (option_map (λ value. view value.now) config.entry)) }
+{
+    let part = ListPart::Config(number, steps.copy(alloc)?);
+    tell_members(found, alloc, ObjectKind::Config, &part, config)?;
+    let rules = member(config, "default-route");
+    tell_rules(found, alloc, RuleOwner::Inner(number), steps, rules)
+}
+
+// Adds the findings of an owner's rules, with the steps to the owner's entry.
+fn tell_rules(
+    found: &mut Vec<Finding>,
+    alloc: Global,
+    owner: RuleOwner,
+    steps: &EntrySteps,
+    rules: Option<&Value>,
+) -> Result<(), AllocError>
+    ensures { OnOk result (found.new.items ≡ found.old.items
+        ++ unread_in_rules owner steps.now (option_map (λ value. view value.now) rules.entry)) }
+{
+    for (place, rule) in elements(rules).iter().enumerate() {
+        let part = rule_at(alloc, owner, steps, place)?;
+        tell_members(found, alloc, ObjectKind::Rule, &part, Some(rule))?;
+    }
+    Ok(())
+}
+
+// Adds the findings of the members of an object that nothing reads.
+fn tell_members(
+    found: &mut Vec<Finding>,
+    alloc: Global,
+    table: ObjectKind,
+    part: &ListPart,
+    value: Option<&Value>,
+) -> Result<(), AllocError>
+    ensures { OnOk result (found.new.items ≡ found.old.items
+        ++ unread_in table part.now (option_map (λ value. view value.now) value.entry)) }
+{
+    let Some(members) = object_of(value) else {
+        return Ok(());
+    };
+    for key in members.keys() {
+        let remark = table.unread(alloc, key.as_str())?;
+        tell(found, alloc, part, remark)?;
+    }
+    Ok(())
+}
+
+// The object that a value is, if it is one.
+fn object_of(value: Option<&Value>) -> Option<&Map<String, Value>>
+    ensures { option_map (λ members. members_view members.now.entries) result
+        ≡ option_and_then as_object (option_map (λ value. view value.now) value.entry) }
+{
+    value?.as_object()
+}
+
+// Adds a remark on a part, if there is one.
+fn tell(
+    found: &mut Vec<Finding>,
+    alloc: Global,
+    part: &ListPart,
+    remark: Option<Remark>,
+) -> Result<(), AllocError>
+    ensures { OnOk result (found.new.items ≡ found.old.items ++ told part.now remark) }
+{
+    if let Some(remark) = remark {
+        found.push(Finding {
+            part: part.copy(alloc)?,
+            remark,
+        })?;
+    }
+    Ok(())
+}

@@ -1,0 +1,13 @@
+pub mod PathIndex
+pub mod Members
+pub mod Rules
+pub mod Labels
+pub mod Entries
+pub mod Depth
+pub mod StartText
+pub mod View
+pub mod Range
+pub mod Quota
+pub mod FaultPlace
+pub mod HeadParts
+pub mod ListLaws

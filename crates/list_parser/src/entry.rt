@@ -1,0 +1,284 @@
+//! Entries of a start list, and the binaries that they run.
+ghost use Rattle.std.specs.Prelude.{◌≡◌, ◌≤◌, length, Ok};
+ghost use Rattle.std.specs.Option.{option_map};
+ghost use Rattle.std.specs.Result.{result_map_both};
+ghost use Rattle.own_model.specs.Listed.{offers, reserve_of, serves, service_of};
+ghost use Rattle.list_parser.specs.Depth.{is_init};
+ghost use Rattle.list_parser.specs.Entries.{binary_of, no_binary};
+ghost use Rattle.list_parser.specs.Labels.{route_name};
+ghost use Rattle.list_parser.specs.Members.{name_in};
+ghost use Rattle.list_parser.specs.View.{model_binary};
+ghost use Rattle.core_calls.specs.Quotas.{reserve_amounts};
+ghost use Rattle.list_parser.specs.declared.fault.BootFault.TheVariants.{QuotaExceeded};
+
+use crate::fault::{BootFault, ConfigField};
+use crate::name::{Label, Name, Path};
+use crate::rule::Rule;
+use core_calls::Reserve;
+use std::marker::Model;
+use trade_base::{Caps, Ram, Service};
+
+/// The binary that a component runs.
+#[derive(Clone, Copy, PartialEq, Eq)]
+pub enum Binary {
+    /// A script, which makes the calls of a scenario.
+    Script,
+    /// A server, which provides a service.
+    Server(Service),
+    /// An init, which starts entries of its own.
+    Init,
+}
+
+impl Binary {
+    /// Parses the name of a binary. Refuses with `UnknownBinary` if no binary has it.
+    pub(crate) fn read(text: &str) -> Result<Binary, BootFault>
+        ensures { result_map_both model_binary (λ fault. fault) result ≡ binary_of text.now }
+    {
+        let bytes = text.as_bytes();
+        if bytes == b"script".as_slice() {
+            Ok(Binary::Script)
+        } else if bytes == b"init".as_slice() {
+            Ok(Binary::Init)
+        } else {
+            match Service::of_binary(text) {
+                Some(service) => Ok(Binary::Server(service)),
+                None => Err(no_binary(text)),
+            }
+        }
+    }
+
+    /// Returns the service that the binary can provide, if it can provide one.
+    pub fn service(self) -> Option<Service>
+        ensures { result ≡ service_of (model_binary self) }
+    {
+        match self {
+            Binary::Script | Binary::Init => None,
+            Binary::Server(service) => Some(service),
+        }
+    }
+
+    /// Returns the name of the binary, as a start list has it.
+    #[tactic(auto, using(crate::proofs::EntryLemmas::binary_read_back))]
+    pub fn as_str(self) -> &'static str
+        ensures { binary_of result.now ≡ Ok (model_binary self) }
+    {
+        match self {
+            Binary::Script => "script",
+            Binary::Server(service) => service.binary(),
+            Binary::Init => "init",
+        }
+    }
+
+    /// Returns whether the binary provides a service, given by its name.
+    pub(crate) fn serves(self, asked: &[u8]) -> bool
+        ensures { result ≡ serves (model_binary self) asked.now }
+    {
+        match self {
+            Binary::Script | Binary::Init => false,
+            Binary::Server(service) => asked == service.name().as_bytes(),
+        }
+    }
+}
+
+/// A component of the machine, as the start list describes it: its name, its path and its label, the number of its init, and
+/// its budget. It states whether the component provides the service of its binary, and has its own route and its reserve, if
+/// they are given. An init also has the default route of its list.
+#[derive(Drop)]
+pub struct ListEntry {
+    pub(crate) name: Name,
+    pub(crate) path: Path,
+    pub(crate) label: Label,
+    pub(crate) home: usize,
+    pub(crate) binary: Binary,
+    pub(crate) ram: u64,
+    pub(crate) caps: u32,
+    pub(crate) provides: bool,
+    pub(crate) route: Option<Vec<Rule>>,
+    pub(crate) reserve: Option<Reserve>,
+    pub(crate) inner_route: Vec<Rule>,
+}
+
+impl Model for ListEntry {
+    ghost use Rattle.std.specs.Option.{option_map};
+    ghost use Rattle.own_model.specs.Listed.{ListedEntry};
+
+    ghost Value = { ListedEntry };
+
+    ghost use Rattle.list_parser.specs.View.{model_binary};
+    ghost use Rattle.core_calls.specs.Quotas.{reserve_amounts};
+
+    ghost view = { λ entry. record {
+      name = entry.name;
+      path = entry.path;
+      label = entry.label;
+      home = entry.home;
+      binary = model_binary entry.binary;
+      ram = entry.ram;
+      caps = entry.caps;
+      provides = entry.provides;
+      route = option_map (λ rules. rules.items) entry.route;
+      reserve = option_map reserve_amounts entry.reserve;
+      inner_route = entry.inner_route.items;
+    } };
+}
+
+impl ListEntry {
+    /// Returns the component's name in its list, without the inits above.
+    pub fn name(&self) -> &[u8]
+        ensures name { result.now ≡ self.now.name }
+        ensures short { length result.now ≤ 32 }
+    {
+        self.name.as_bytes()
+    }
+
+    /// Copies the component's name into a value of its own.
+    pub fn to_name(&self) -> Name
+        ensures { result ≡ self.now.name }
+    {
+        self.name.copy()
+    }
+
+    /// Returns the path by which lines call the component: the names of the inits above it and its own, separated by `/`.
+    pub fn path(&self) -> &[u8]
+        ensures path { result.now ≡ self.now.path }
+        ensures short { length result.now ≤ 131 }
+    {
+        self.path.as_bytes()
+    }
+
+    /// Copies the component's path into a value of its own.
+    pub fn to_path(&self) -> Path
+        ensures { result ≡ self.now.path }
+    {
+        self.path.copy()
+    }
+
+    /// Returns the label under which the component opens sessions: the names of its path, separated by ` -> `.
+    pub fn label(&self) -> &[u8]
+        ensures label { result.now ≡ self.now.label }
+        ensures short { length result.now ≤ 140 }
+    {
+        self.label.as_bytes()
+    }
+
+    /// Copies the component's label into a value of its own.
+    pub(crate) fn to_label(&self) -> Label
+        ensures { result ≡ self.now.label }
+    {
+        self.label.copy()
+    }
+
+    /// Returns the number of the component's init: 0 for the machine's init, and otherwise the place of the init's entry
+    /// plus 1.
+    pub fn home(&self) -> usize
+        ensures { result ≡ self.now.home }
+    {
+        self.home
+    }
+
+    /// Returns the fault of a boot in which the rest of its init's account does not cover the entry.
+    pub fn quota_exceeded(&self) -> BootFault
+        ensures { result ≡ QuotaExceeded self.now.path }
+    {
+        BootFault::QuotaExceeded(self.path.copy())
+    }
+
+    /// Returns the binary that the component runs: script, server or init.
+    pub fn binary(&self) -> Binary
+        ensures { model_binary result ≡ self.now.binary }
+    {
+        self.binary
+    }
+
+    /// Returns whether the component starts entries of its own.
+    pub fn is_init(&self) -> bool
+        ensures { result ≡ is_init self.now }
+    {
+        self.binary == Binary::Init
+    }
+
+    /// Returns the RAM of the component's budget in bytes.
+    pub fn ram(&self) -> u64
+        ensures { result ≡ self.now.ram }
+    {
+        self.ram
+    }
+
+    /// Returns the number of capabilities of the component's budget.
+    pub fn caps(&self) -> u32
+        ensures { result ≡ self.now.caps }
+    {
+        self.caps
+    }
+
+    /// Returns the component's own route, if it has one.
+    pub fn route(&self) -> Option<&[Rule]>
+        ensures { option_map (λ rules. rules.now) result ≡ self.now.route }
+    {
+        match &self.route {
+            Some(rules) => Some(rules.as_slice()),
+            None => None,
+        }
+    }
+
+    /// Returns the name of the member that has the rules for the component.
+    pub fn route_name(&self) -> &'static str
+        ensures { result.now ≡ route_name self.now }
+    {
+        match &self.route {
+            Some(_) => "route",
+            None => "default-route",
+        }
+    }
+
+    /// Returns the default route of the list that the component starts, which is empty unless it is an init.
+    pub fn inner_route(&self) -> &[Rule]
+        ensures { result.now ≡ self.now.inner_route }
+    {
+        self.inner_route.as_slice()
+    }
+
+    /// Returns the reserve that the list gives the component, if it has one of the two members.
+    pub fn reserve(&self) -> Option<Reserve>
+        ensures { option_map reserve_amounts result ≡ self.now.reserve }
+    {
+        self.reserve
+    }
+
+    /// Returns the reserve with which the component starts: what the list gives a script, and otherwise nothing.
+    pub fn reserve_at_start(&self) -> Reserve
+        ensures { reserve_amounts result ≡ reserve_of self.now }
+    {
+        match (self.binary, self.reserve) {
+            (Binary::Script, Some(reserve)) => reserve,
+            _ => Reserve {
+                ram: Ram(0),
+                caps: Caps(0),
+            },
+        }
+    }
+
+    /// Returns whether the component provides the service of its binary.
+    pub fn provides(&self) -> bool
+        ensures { result ≡ self.now.provides }
+    {
+        self.provides
+    }
+
+    /// Returns whether the component is in the list of an init, given by its number, and provides a service.
+    pub fn offers(&self, init: usize, service: &[u8]) -> bool
+        ensures { result ≡ offers init service.now self.now }
+    {
+        self.home == init && (self.provides && self.binary.serves(service))
+    }
+}
+
+/// Returns the fault of a text that names no binary.
+fn no_binary(text: &str) -> BootFault
+    ensures { result ≡ no_binary (name_in text.now) }
+{
+    match Name::read(text) {
+        Some(name) => BootFault::UnknownBinary(name),
+        None => BootFault::BadConfig(ConfigField::Binary),
+    }
+}

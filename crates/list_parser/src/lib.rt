@@ -1,0 +1,28 @@
+//! Start lists: parses a JSON text into a machine and its components. `init_core` boots the list and resolves its rules.
+//! Example: `StartList::read(alloc, text)?.count()` is the number of components.
+#![tactic(auto)]
+
+mod entry;
+mod entry_head;
+mod fault;
+mod label_test;
+mod laws;
+mod list;
+mod list_config;
+mod list_place;
+mod list_reader;
+mod machine_a;
+mod member;
+mod name;
+mod path_index;
+mod reserve;
+mod rule;
+
+pub use entry::{Binary, ListEntry};
+pub use fault::{BootFault, ConfigField};
+pub use label_test::LabelTest;
+pub use laws::{inits_give_their_own, lists_are_listed, quota_faults_are_of_lacks};
+pub use list::{DEEPEST, LONGEST_TEXT, StartList, entry_at_fault};
+pub use machine_a::{MACHINE_A, machine_a_is_read};
+pub use name::{Name, Path};
+pub use rule::{Rule, Target};

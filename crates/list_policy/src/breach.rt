@@ -1,0 +1,201 @@
+//! The breaches of a line of a policy by a start list.
+ghost use Rattle.std.specs.Prelude.{◌≡◌, ◌<◌, ◌++◌, ℕ, List, length, MatchOption, IfOk, OnOk};
+ghost use Rattle.std.specs.Option.{option_to_list};
+ghost use Rattle.own_model.specs.Listed.{Listed};
+ghost use Rattle.list_reach.specs.Reach.{NoneRouted};
+ghost use Rattle.list_reach.specs.ClientReach.{DescribesReach};
+ghost use Rattle.list_policy.specs.Demand.{AreBreaches, FindsAt, FindsFor, IsBroken, IsKept, IsRoutedThere, leads_there, service_at};
+ghost use Rattle.list_policy.specs.Reading.{line_at};
+
+use crate::demand::{Demand, PolicyLine, concerns};
+use list_parser::{Binary, StartList};
+use list_reach::{ClientLabel, ClientReach, Reach, SessionRequests};
+use list_routes::route;
+use std::alloc::{AllocError, Global};
+
+/// A breach of a line: a client and a server whose reach isn't as the line demands. Its label is routed to the server and mustn't
+/// be, or isn't and must be. It has no label if no label at all is routed there.
+#[derive(Drop)]
+pub struct Breach {
+    /// The number of the client.
+    pub client: usize,
+    /// The number of the server.
+    pub server: usize,
+    /// The label by which the line is broken, if there is one.
+    pub label: Option<ClientLabel>,
+}
+
+impl PolicyLine {
+    /// Returns the breaches of the line by a start list, client by client and server by server. Fails if the host is out of
+    /// memory.
+    #[tactic(auto, using(crate::proofs::BreachLemmas::client_more))]
+    pub fn breaches(&self, alloc: Global, list: &StartList) -> Result<Vec<Breach>, AllocError>
+        ensures { IfOk result (λ found. AreBreaches list.now (line_at self.now) found.items) }
+    {
+        let mut found = Vec::new(alloc);
+        for client in 0..list.entries().len() {
+            let mut more = client_breaches(alloc, list, self, client)?;
+            found.append(&mut more)?;
+        }
+        Ok(found)
+    }
+}
+
+// The breaches of a line by a client, server by server.
+#[tactic(auto, using(crate::proofs::BreachLemmas::pair_more))]
+fn client_breaches(
+    alloc: Global,
+    list: &StartList,
+    line: &PolicyLine,
+    client: usize,
+) -> Result<Vec<Breach>, AllocError>
+    requires client { client < length list.now.entries }
+    ensures { IfOk result (λ found. FindsFor list.now (line_at line.now) client found.items) }
+{
+    let mut found = Vec::new(alloc);
+    for server in 0..list.entries().len() {
+        let breach = breach_if(alloc, list, line, client, server)?;
+        add_if(&mut found, breach)?;
+    }
+    Ok(found)
+}
+
+// Adds a breach, if there is one.
+fn add_if(found: &mut Vec<Breach>, breach: Option<Breach>) -> Result<(), AllocError>
+    ensures { OnOk result (found.new.items ≡ found.old.items ++ option_to_list breach) }
+{
+    if let Some(breach) = breach {
+        found.push(breach)?;
+    }
+    Ok(())
+}
+
+// The breach of a line by a client's requests to a server, if the line is about these and they break it.
+fn breach_if(
+    alloc: Global,
+    list: &StartList,
+    line: &PolicyLine,
+    client: usize,
+    server: usize,
+) -> Result<Option<Breach>, AllocError>
+    requires client { client < length list.now.entries }
+    ensures { IfOk result (FindsAt list.now (line_at line.now) client server) }
+{
+    if !concerns(list, line, client, server) {
+        return Ok(None);
+    }
+    match label_against(alloc, list, &line.demand, client, server)? {
+        Some(label) => Ok(Some(Breach {
+            client,
+            server,
+            label,
+        })),
+        None => Ok(None),
+    }
+}
+
+// The label by which a client's requests to a server break a demand, or that they break it by none; none if they keep it.
+fn label_against(
+    alloc: Global,
+    list: &StartList,
+    demand: &Demand,
+    client: usize,
+    server: usize,
+) -> Result<Option<Option<ClientLabel>>, AllocError>
+    requires client { client < length list.now.entries }
+    ensures { IfOk result (λ found. MatchOption found
+        (IsKept list.now demand.now client (service_at list.now server) server)
+        (IsBroken list.now demand.now client (service_at list.now server) server)) }
+{
+    match demand {
+        Demand::Deny | Demand::Only => match label_there(alloc, list, client, server)? {
+            Some(label) => Ok(Some(Some(label))),
+            None => Ok(None),
+        },
+        Demand::DenyWith(label) => {
+            if leads_there(list, client, server, label) {
+                return Ok(Some(Some(label.copy())));
+            }
+            Ok(None)
+        }
+        Demand::Allow => match label_there(alloc, list, client, server)? {
+            Some(_) => Ok(None),
+            None => Ok(Some(None)),
+        },
+        Demand::AllowWith(label) => {
+            if leads_there(list, client, server, label) {
+                return Ok(None);
+            }
+            Ok(Some(Some(label.copy())))
+        }
+    }
+}
+
+/// Returns whether a client's request with a label for the server's service is routed to the server.
+pub(crate) fn leads_there(
+    list: &StartList,
+    client: usize,
+    server: usize,
+    label: &ClientLabel,
+) -> bool
+    requires client { client < length list.now.entries }
+    ensures { result ≡ leads_there list.now client (service_at list.now server) label.now server }
+{
+    match route(
+        list,
+        client,
+        service_at(list, server).as_bytes(),
+        label.as_bytes(),
+    ) {
+        Some(child) => child == server,
+        None => false,
+    }
+}
+
+// A label that is routed from a client to a server, if there is one.
+fn label_there(
+    alloc: Global,
+    list: &StartList,
+    client: usize,
+    server: usize,
+) -> Result<Option<ClientLabel>, AllocError>
+    requires client { client < length list.now.entries }
+    ensures { IfOk result (λ found. MatchOption found
+        (NoneRouted list.now client (service_at list.now server) server)
+        (IsRoutedThere list.now client (service_at list.now server) server)) }
+{
+    let wishes = SessionRequests {
+        list,
+        client,
+        service: service_at(list, server).as_bytes(),
+    };
+    let ways = ClientReach::of(alloc, wishes)?;
+    Ok(label_of(ways.reach(server)))
+}
+
+// A label that is routed there, if there is one.
+fn label_of(reach: Reach) -> Option<ClientLabel>
+    ensures { (list : Listed) (client : ℕ) (service : List ℕ) (server : ℕ)
+        → DescribesReach list client service server reach
+        → MatchOption result (NoneRouted list client service server)
+        (IsRoutedThere list client service server) }
+{
+    match reach {
+        Reach::Always => ClientLabel::read(&[]),
+        Reach::By(label) => Some(label),
+        Reach::Never => None,
+    }
+}
+
+/// Returns the name of the service of a server, by the server's number, or an empty text for another component.
+pub(crate) fn service_at(list: &StartList, server: usize) -> &'static str
+    ensures { result.now ≡ service_at list.now server }
+{
+    match list.entries().get(server) {
+        Some(entry) => match entry.binary() {
+            Binary::Server(service) => service.name(),
+            Binary::Script | Binary::Init => "",
+        },
+        None => "",
+    }
+}

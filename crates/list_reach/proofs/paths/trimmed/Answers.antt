@@ -1,0 +1,7 @@
+-- By what std says of `trim_ascii`.
+use Rattle.std.proofs.Common.{refl}
+use Rattle.std.proofs.lemmas.Str.Ascii.{trim_ascii_is}
+use Rattle.list_reach.proofs.paths.trimmed.Goals as goal
+
+pub returns : goal.returns
+returns c = trim_ascii_is c.args.text.now c.trim_ascii.result.now _ refl c.trim_ascii.ensures.value

@@ -1,0 +1,12 @@
+-- One cell more.
+use Rattle.std.proofs.Common.{subst, sym}
+use Rattle.std.specs.Prelude.{All}
+use Rattle.list_reach.specs.Table.{IsTrue}
+use Rattle.list_reach.proofs.TableLemmas.{cells_more}
+use Rattle.list_reach.proofs.reach_table.add_cell.Goals as goal
+
+pub returns : goal.returns
+returns c =
+    subst (λ cells. All (IsTrue c.args.list.now) cells) (sym c.in_ok-push.ensures.items)
+    (cells_more c.args.list.now c.args.cells.now.items _ c.requires.cells
+    (c.reach-reach.ensures c.args.list.now c.args.client c.args.service.now c.requires.ways))

@@ -1,0 +1,130 @@
+//! To which servers a client's requests for a service are routed, for every label that the client can give.
+ghost use Rattle.std.specs.Prelude.{◌≡◌, ◌<◌, ◌+◌, ℕ, List, length, slice_index_or, IfOk, IfSome};
+ghost use Rattle.std.specs.List.{list_all};
+ghost use Rattle.own_model.specs.Listed.{Listed};
+ghost use Rattle.list_reach.specs.ClientReach.{AreRoutes, IsBest, DescribesReach, is_shorter, leads};
+
+use crate::keyed_labels::KeyedLabel;
+use crate::label::ClientLabel;
+use crate::representatives::standing;
+use crate::session_requests::SessionRequests;
+use std::alloc::{AllocError, Global};
+use std::marker::Model;
+
+/// The reach from a client to a server: whether requests for a service are routed there.
+#[derive(Drop)]
+pub enum Reach {
+    /// Every label is routed to the server.
+    Always,
+    /// This label is routed to the server, and no shorter one. Some other labels aren't.
+    By(ClientLabel),
+    /// No label is routed to the server.
+    Never,
+}
+
+/// The reach of a client's requests for a service: labels that represent all labels that the client can give, with their servers.
+#[derive(Drop)]
+pub struct ClientReach {
+    kept: Vec<KeyedLabel>,
+}
+
+impl Model for ClientReach {
+    ghost use Rattle.std.specs.Prelude.{List};
+    ghost use Rattle.list_reach.specs.Closure.{KeptLabel};
+
+    ghost Value = { List KeptLabel };
+
+    ghost view = { λ ways. ways.kept.items };
+}
+
+impl ClientReach {
+    /// Computes the reach of a client's requests for a service. Fails if the host is out of memory.
+    pub fn of(alloc: Global, wishes: SessionRequests<'_>) -> Result<ClientReach, AllocError>
+        requires client { wishes.client < length wishes.list.now.entries }
+        ensures { IfOk result (λ ways.
+            AreRoutes wishes.entry.list.now wishes.entry.client wishes.entry.service.now ways) }
+    {
+        Ok(ClientReach {
+            kept: standing(alloc, wishes)?,
+        })
+    }
+
+    /// Returns with which labels the requests are routed to the component of a number.
+    pub fn reach(&self, server: usize) -> Reach
+        ensures { (list : Listed) (client : ℕ) (service : List ℕ) → AreRoutes list client service
+            self.now → DescribesReach list client service server result }
+    {
+        let kept = self.kept.as_slice();
+        match shortest(kept, server) {
+            None => Reach::Never,
+            Some(_) if all_lead(kept, server) => Reach::Always,
+            Some(place) => {
+                let one = &kept[place];
+                Reach::By(one.label.copy())
+            }
+        }
+    }
+}
+
+// The place of a shortest label that is routed to a server, if one is.
+fn shortest(kept: &[KeyedLabel], server: usize) -> Option<usize>
+    ensures { IsBest kept.now server (length kept.now) result }
+{
+    let mut best = None;
+    for (place, one) in kept.iter().enumerate() {
+        best = better(kept, server, best, place, one);
+    }
+    best
+}
+
+// The shorter one of the best so far and the next label, if the next is routed to a server.
+#[tactic(auto, using(crate::proofs::WaysLemmas::best_stays))]
+fn better(
+    kept: &[KeyedLabel],
+    server: usize,
+    best: Option<usize>,
+    place: usize,
+    one: &KeyedLabel,
+) -> Option<usize>
+    requires place { place < length kept.now }
+    requires here { one.now ≡ slice_index_or kept.now place one.now }
+    requires best { IsBest kept.now server place best }
+    ensures { IsBest kept.now server (place + 1) result }
+{
+    if leads(one, server) && is_shorter(kept, one, best) {
+        Some(place)
+    } else {
+        best
+    }
+}
+
+// Whether a label is routed to a server.
+fn leads(one: &KeyedLabel, server: usize) -> bool
+    ensures { result ≡ leads server one.now }
+{
+    match one.child {
+        Some(child) => child == server,
+        None => false,
+    }
+}
+
+// Whether a label is shorter than the one at a place, or there is none.
+fn is_shorter(kept: &[KeyedLabel], one: &KeyedLabel, best: Option<usize>) -> bool
+    requires within { IfSome best (λ place. place < length kept.now) }
+    ensures { result ≡ is_shorter kept.now one.now best }
+{
+    match best {
+        Some(place) => {
+            let other = &kept[place];
+            one.label.as_bytes().len() < other.label.as_bytes().len()
+        }
+        None => true,
+    }
+}
+
+// Whether all labels are routed to a server.
+fn all_lead(kept: &[KeyedLabel], server: usize) -> bool
+    ensures { result ≡ list_all (leads server) kept.now }
+{
+    kept.iter().all(|one| leads(one, server))
+}

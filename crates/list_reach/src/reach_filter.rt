@@ -1,0 +1,92 @@
+//! The scripts and servers that a command selects.
+ghost use Rattle.std.specs.Prelude.{◌≡◌};
+ghost use Rattle.list_reach.specs.Paths.{is_chosen, names, same_number};
+
+use crate::component_numbers::{ComponentKind, Unnamed, add_paths};
+use list_parser::StartList;
+use std::alloc::Global;
+
+/// A filter: scripts and servers of a start list by their numbers, or all of them if none are named.
+#[derive(Drop)]
+pub struct ReachFilter {
+    from: Vec<usize>,
+    to: Vec<usize>,
+}
+
+impl ReachFilter {
+    /// Returns the filter that selects all scripts and all servers.
+    pub fn all(alloc: Global) -> ReachFilter {
+        ReachFilter {
+            from: Vec::new(alloc),
+            to: Vec::new(alloc),
+        }
+    }
+
+    /// Returns the filter that selects the scripts and the servers that paths denote. Errors in order: the first path of scripts,
+    /// then the first path of servers that denotes none; out of memory.
+    pub fn read<'a>(
+        alloc: Global,
+        list: &StartList,
+        from: &[&'a str],
+        to: &[&'a str],
+    ) -> Result<ReachFilter, Unnamed<'a>> {
+        Ok(ReachFilter {
+            from: all_named(alloc, list, from, ComponentKind::Script)?,
+            to: all_named(alloc, list, to, ComponentKind::Server)?,
+        })
+    }
+
+    /// Returns whether the filter names some scripts or some servers.
+    pub fn is_narrow(&self) -> bool {
+        !self.from.is_empty() || !self.to.is_empty()
+    }
+
+    /// Returns whether the filter selects the script of a number.
+    pub(crate) fn has_script(&self, number: usize) -> bool
+        ensures { result ≡ is_chosen self.now.from.items number }
+    {
+        is_chosen(self.from.as_slice(), number)
+    }
+
+    /// Returns whether the filter selects the server of a number.
+    pub(crate) fn has_server(&self, number: usize) -> bool
+        ensures { result ≡ is_chosen self.now.to.items number }
+    {
+        is_chosen(self.to.as_slice(), number)
+    }
+}
+
+// The numbers of all that some texts name.
+fn all_named<'a>(
+    alloc: Global,
+    list: &StartList,
+    texts: &[&'a str],
+    sought: ComponentKind,
+) -> Result<Vec<usize>, Unnamed<'a>> {
+    let mut found = Vec::new(alloc);
+    for paths in texts {
+        add_paths(alloc, list, &mut found, paths.as_bytes(), sought)?;
+    }
+    Ok(found)
+}
+
+// Whether a number is one of these, or there are none.
+fn is_chosen(numbers: &[usize], number: usize) -> bool
+    ensures { result ≡ is_chosen numbers.now number }
+{
+    numbers.is_empty() || names(numbers, number)
+}
+
+// Whether a number is one of these.
+fn names(numbers: &[usize], number: usize) -> bool
+    ensures { result ≡ names numbers.now number }
+{
+    numbers.iter().any(|other| same_number(number, *other))
+}
+
+// Whether both are one number.
+fn same_number(one: usize, other: usize) -> bool
+    ensures { result ≡ same_number one other }
+{
+    one == other
+}

@@ -1,0 +1,417 @@
+//! Which scripts reach which servers, as a table.
+ghost use Rattle.std.specs.Prelude.{◌≡◌, ◌<◌, length, All, IfOk, OnOk};
+ghost use Rattle.list_reach.specs.Table.{IsTrue};
+ghost use Rattle.list_reach.specs.ClientReach.{AreRoutes};
+
+use crate::client_reach::{ClientReach, Reach};
+use crate::comparison::RouteComparison;
+use crate::label::ClientLabel;
+use crate::pattern::LabelSet;
+use crate::reach_filter::ReachFilter;
+use crate::session_requests::SessionRequests;
+use crate::texts::PathText;
+use list_parser::{Binary, StartList};
+use std::alloc::{AllocError, Global};
+use std::fmt;
+use trade_base::SERVICES;
+
+/// The maximum number of bytes of a set of labels in a row of a table; a longer set is below the table.
+const LONGEST_SHOWN: usize = 40;
+
+/// The reach from a script to a server: which labels of the script's requests for a service are routed to the server.
+#[derive(Drop)]
+pub struct ReachCell {
+    /// The number of the script.
+    pub client: usize,
+    /// The service.
+    pub service: &'static str,
+    /// The number of a server that provides the service.
+    pub server: usize,
+    /// Whether all labels, some labels or no label is routed to the server.
+    pub reach: Reach,
+    /// The set of the labels that are routed to the server.
+    pub labels: LabelSet,
+    // The labels in words, and their text in a row of a table.
+    words: String,
+    shown: String,
+}
+
+impl ReachCell {
+    /// Returns one of the shortest labels that are routed to the server, or none if no label is.
+    pub fn witness(&self) -> Option<&[u8]> {
+        match &self.reach {
+            Reach::Always => Some(&[]),
+            Reach::By(label) => Some(label.as_bytes()),
+            Reach::Never => None,
+        }
+    }
+}
+
+/// A table of reach: a cell for each script and each server, script by script, the log servers before the file servers.
+#[derive(Drop)]
+pub struct ReachTable<'a> {
+    list: &'a StartList,
+    cells: Vec<ReachCell>,
+    // The sets of labels that are below the table.
+    sets: Vec<NamedLabelSet>,
+}
+
+// A set of labels that is too long for a row, with the name that the row has for it.
+#[derive(Drop)]
+struct NamedLabelSet {
+    name: String,
+    text: String,
+}
+
+// The reach of a client's requests for a service to all servers.
+#[derive(Drop)]
+struct ServiceReach {
+    alloc: Global,
+    ways: ClientReach,
+    sets: RouteComparison,
+}
+
+impl<'a> ReachTable<'a> {
+    /// Returns the table of all scripts and servers of a start list. Fails if the host is out of memory.
+    pub fn of(alloc: Global, list: &'a StartList) -> Result<ReachTable<'a>, AllocError>
+        ensures list { IfOk result (λ table. table.list.now ≡ list.now) }
+        ensures cells { IfOk result (λ table. All (IsTrue list.now) table.cells.items) }
+    {
+        ReachTable::narrowed(alloc, list, &ReachFilter::all(alloc))
+    }
+
+    /// Returns the table of the scripts and servers of a start list that a filter selects. Fails if the host is out of memory.
+    pub fn narrowed(
+        alloc: Global,
+        list: &'a StartList,
+        chosen: &ReachFilter,
+    ) -> Result<ReachTable<'a>, AllocError>
+        ensures list { IfOk result (λ table. table.list.now ≡ list.now) }
+        ensures cells { IfOk result (λ table. All (IsTrue list.now) table.cells.items) }
+    {
+        let mut cells = Vec::new(alloc);
+        for client in 0..list.entries().len() {
+            if chosen.has_script(client) {
+                add_client(alloc, &mut cells, list, chosen, client)?;
+            }
+        }
+        let sets = long_sets(alloc, cells.as_slice())?;
+        Ok(ReachTable { list, cells, sets })
+    }
+
+    /// Returns the cells, script by script, and for each script server by server.
+    pub fn cells(&self) -> &[ReachCell]
+        ensures { result.now ≡ self.now.cells.items }
+    {
+        self.cells.as_slice()
+    }
+
+    /// Converts the table into comma-separated values, one line for each cell.
+    pub fn into_csv(self) -> ReachCsv<'a> {
+        ReachCsv { table: self }
+    }
+}
+
+// The cells of a component, if it is a script.
+fn add_client(
+    alloc: Global,
+    cells: &mut Vec<ReachCell>,
+    list: &StartList,
+    chosen: &ReachFilter,
+    client: usize,
+) -> Result<(), AllocError>
+    requires client { client < length list.now.entries }
+    requires cells { All (IsTrue list.now) cells.old.items }
+    ensures { OnOk result (All (IsTrue list.now) cells.new.items) }
+{
+    if list.entries()[client].binary() != Binary::Script {
+        return Ok(());
+    }
+    for place in 0..SERVICES.len() {
+        add_service(alloc, cells, list, chosen, client, SERVICES[place].name())?;
+    }
+    Ok(())
+}
+
+// The cells of a client for one service.
+fn add_service(
+    alloc: Global,
+    cells: &mut Vec<ReachCell>,
+    list: &StartList,
+    chosen: &ReachFilter,
+    client: usize,
+    service: &'static str,
+) -> Result<(), AllocError>
+    requires client { client < length list.now.entries }
+    requires cells { All (IsTrue list.now) cells.old.items }
+    ensures { OnOk result (All (IsTrue list.now) cells.new.items) }
+{
+    let wishes = SessionRequests {
+        list,
+        client,
+        service: service.as_bytes(),
+    };
+    let found = ServiceReach {
+        alloc,
+        ways: ClientReach::of(alloc, wishes)?,
+        sets: RouteComparison::of(alloc, None, Some(wishes))?,
+    };
+    add_cells(cells, list, chosen, client, service, &found)
+}
+
+// The cells of a client for one service, by the reach of its requests.
+fn add_cells(
+    cells: &mut Vec<ReachCell>,
+    list: &StartList,
+    chosen: &ReachFilter,
+    client: usize,
+    service: &'static str,
+    found: &ServiceReach,
+) -> Result<(), AllocError>
+    requires ways { AreRoutes list.now client service.now found.now.ways }
+    requires cells { All (IsTrue list.now) cells.old.items }
+    ensures { OnOk result (All (IsTrue list.now) cells.new.items) }
+{
+    for server in 0..list.entries().len() {
+        add_cell(cells, list, chosen, client, service, found, server)?;
+    }
+    Ok(())
+}
+
+// The cell of a client and a server, if the server is selected and provides the service.
+fn add_cell(
+    cells: &mut Vec<ReachCell>,
+    list: &StartList,
+    chosen: &ReachFilter,
+    client: usize,
+    service: &'static str,
+    found: &ServiceReach,
+    server: usize,
+) -> Result<(), AllocError>
+    requires server { server < length list.now.entries }
+    requires ways { AreRoutes list.now client service.now found.now.ways }
+    requires cells { All (IsTrue list.now) cells.old.items }
+    ensures { OnOk result (All (IsTrue list.now) cells.new.items) }
+{
+    let entry = &list.entries()[server];
+    if !chosen.has_server(server) || !entry.offers(entry.home(), service.as_bytes()) {
+        return Ok(());
+    }
+    let alloc = found.alloc;
+    let reach = found.ways.reach(server);
+    let labels = found.sets.gained(alloc, None, Some(server))?.labels;
+    let words = labels.to_string(alloc)?;
+    let shown = shown_of(alloc, &reach, &labels, words.as_str())?;
+    cells.push(ReachCell {
+        client,
+        service,
+        server,
+        reach,
+        labels,
+        words,
+        shown,
+    })?;
+    Ok(())
+}
+
+// The text in a row for a set of labels: the set, and one of the shortest labels if the set isn't one label.
+fn shown_of(
+    alloc: Global,
+    reach: &Reach,
+    labels: &LabelSet,
+    words: &str,
+) -> Result<String, AllocError> {
+    match reach {
+        Reach::Always => format!(in alloc; "always"),
+        Reach::By(_) if labels.is_one() => format!(in alloc; "{words}"),
+        Reach::By(label) => format!(in alloc; "{words} (as \"{label}\")"),
+        Reach::Never => format!(in alloc; "-"),
+    }
+}
+
+// The sets of labels that are too long for a row, each once.
+fn long_sets(alloc: Global, cells: &[ReachCell]) -> Result<Vec<NamedLabelSet>, AllocError> {
+    let mut sets = Vec::new(alloc);
+    for cell in cells {
+        let shown = cell.shown.as_str();
+        if shown.len() > LONGEST_SHOWN && set_of(sets.as_slice(), shown).is_none() {
+            let number = sets.len().saturating_add(1);
+            sets.push(NamedLabelSet {
+                name: format!(in alloc; "set {number}")?,
+                text: format!(in alloc; "{shown}")?,
+            })?;
+        }
+    }
+    Ok(sets)
+}
+
+// The one of these sets that a row would show, if there is one.
+fn set_of<'a>(sets: &'a [NamedLabelSet], shown: &str) -> Option<&'a NamedLabelSet> {
+    for set in sets {
+        if set.text.as_str() == shown {
+            return Some(set);
+        }
+    }
+    None
+}
+
+/// Writes a row for each script and a column for each server, and below them the sets that are too long for a row.
+impl fmt::Display for ReachTable<'_> {
+    fn fmt<W: fmt::Write>(&self, f: &mut fmt::Formatter<W>) -> fmt::Result {
+        let Some(first) = self.cells.as_slice().first() else {
+            return f.write_str("no script, or no server\n");
+        };
+        let mut gap = self.margin();
+        for cell in self.cells.as_slice() {
+            if cell.client == first.client {
+                let server = PathText::of(self.list, cell.server);
+                write!(f, "{:gap$}  {server}", "")?;
+                gap = self
+                    .width(cell.server)
+                    .saturating_sub(self.path_length(cell.server));
+            }
+        }
+        self.show_rows(f)
+    }
+}
+
+impl ReachTable<'_> {
+    // The rows, each after the end of the line before.
+    fn show_rows<W: fmt::Write>(&self, f: &mut fmt::Formatter<W>) -> fmt::Result {
+        let mut before = None;
+        for cell in self.cells.as_slice() {
+            self.show_cell(f, before, cell)?;
+            before = Some(cell);
+        }
+        f.write_str("\n")?;
+        self.show_sets(f)
+    }
+
+    // An empty line and the sets that rows have as numbers, if there are any.
+    fn show_sets<W: fmt::Write>(&self, f: &mut fmt::Formatter<W>) -> fmt::Result {
+        for set in self.sets.as_slice() {
+            write!(f, "\n{}: {}", set.name, set.text)?;
+        }
+        f.write_str(if self.sets.is_empty() { "" } else { "\n" })
+    }
+
+    // A cell after the cell before it, or after the path at the start of its row.
+    fn show_cell<W: fmt::Write>(
+        &self,
+        f: &mut fmt::Formatter<W>,
+        before: Option<&ReachCell>,
+        cell: &ReachCell,
+    ) -> fmt::Result {
+        let gap = match before {
+            Some(before) if before.client == cell.client => {
+                let width = self.width(before.server);
+                width.saturating_sub((&*self).shown(&*before).len())
+            }
+            _ => {
+                write!(f, "\n{}", PathText::of(self.list, cell.client))?;
+                self.margin().saturating_sub(self.path_length(cell.client))
+            }
+        };
+        f.write_repeated(" ", gap)?;
+        f.write_str("  ")?;
+        f.write_str((&*self).shown(&*cell))
+    }
+
+    // The text in a row for a cell.
+    fn shown<'b>(&'b self, cell: &'b ReachCell) -> &'b str {
+        match set_of(self.sets.as_slice(), cell.shown.as_str()) {
+            Some(set) => set.name.as_str(),
+            None => cell.shown.as_str(),
+        }
+    }
+
+    // The length of a component's path in bytes.
+    fn path_length(&self, number: usize) -> usize {
+        match self.list.entries().get(number) {
+            Some(entry) => entry.path().len(),
+            None => 0,
+        }
+    }
+
+    // The length of the longest path of a script.
+    fn margin(&self) -> usize {
+        let mut most = 0;
+        for cell in self.cells.as_slice() {
+            most = self.path_length(cell.client).max(most);
+        }
+        most
+    }
+
+    // The length of the longest text of a server's column.
+    fn width(&self, server: usize) -> usize {
+        let mut most = self.path_length(server);
+        for cell in self.cells.as_slice() {
+            if cell.server == server {
+                most = (&*self).shown(&*cell).len().max(most);
+            }
+        }
+        most
+    }
+}
+
+/// A table as comma-separated values: a line of column names, and a line for each cell.
+#[derive(Drop)]
+pub struct ReachCsv<'a> {
+    table: ReachTable<'a>,
+}
+
+impl fmt::Display for ReachCsv<'_> {
+    fn fmt<W: fmt::Write>(&self, f: &mut fmt::Formatter<W>) -> fmt::Result {
+        f.write_str("from,service,to,reach,label,labels,witness\n")?;
+        for cell in self.table.cells() {
+            show_line(f, self.table.list, cell)?;
+        }
+        Ok(())
+    }
+}
+
+// A cell.
+fn show_line<W: fmt::Write>(
+    f: &mut fmt::Formatter<W>,
+    list: &StartList,
+    cell: &ReachCell,
+) -> fmt::Result {
+    let client = PathText::of(list, cell.client);
+    let server = PathText::of(list, cell.server);
+    write!(f, "{client},{},{server},", cell.service)?;
+    match &cell.reach {
+        Reach::Always => f.write_str("always,,all,\n"),
+        Reach::By(label) => show_some(f, label, cell.words.as_str()),
+        Reach::Never => f.write_str("none,,none,\n"),
+    }
+}
+
+// A label twice, with a set of labels between.
+fn show_some<W: fmt::Write>(
+    f: &mut fmt::Formatter<W>,
+    label: &ClientLabel,
+    words: &str,
+) -> fmt::Result {
+    f.write_str("some,")?;
+    show_label(f, label)?;
+    f.write_str(",\"")?;
+    for byte in words.as_bytes() {
+        if *byte == b'"' {
+            f.write_str("\"\"")?;
+        } else {
+            f.write_char(char::from(*byte))?;
+        }
+    }
+    f.write_str("\",")?;
+    show_label(f, label)?;
+    f.write_str("\n")
+}
+
+// A label, in quotes if it has a comma. It has neither a quote nor the end of a line.
+fn show_label<W: fmt::Write>(f: &mut fmt::Formatter<W>, label: &ClientLabel) -> fmt::Result {
+    if label.as_bytes().contains(&b',') {
+        write!(f, "\"{label}\"")
+    } else {
+        write!(f, "{label}")
+    }
+}

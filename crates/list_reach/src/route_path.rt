@@ -1,0 +1,305 @@
+//! The route path of one session request: which rules decide it, list by list outward, and the server to which they route it.
+ghost use Rattle.std.specs.Prelude.{◌≡◌, ◌+◌, ◌*◌, ◌<◌, ◌≤◌, ◌++◌, length, position, IfOk, OnOk};
+ghost use Rattle.own_model.specs.Listed.{asks_for};
+ghost use Rattle.list_reach.specs.RouteSteps.{route_steps_of, route_steps_within, leads_out};
+ghost use Rattle.list_reach.specs.Reach.{leads_to};
+
+use crate::key::MOST_LISTS;
+use crate::label::{LONGEST_GIVEN, LONGEST_SEEN, label_with};
+use crate::texts::{ByteText, EntryRuleText, PathText};
+use arrayvec::ArrayVec;
+use list_parser::{Binary, ListEntry, Rule, StartList, Target};
+use list_routes::route;
+use session_proto::SessionArgs;
+use std::alloc::{AllocError, Global};
+use std::fmt;
+use std::marker::Model;
+
+/// A step of a route path: the label as one list sees it, and the rule of the list that decides the request.
+#[derive(Drop)]
+pub struct RouteStep {
+    seen: ArrayVec<u8, LONGEST_SEEN>,
+    rule: Option<usize>,
+}
+
+impl Model for RouteStep {
+    ghost use Rattle.list_reach.specs.RouteSteps.{RouteStepAt};
+
+    ghost Value = { RouteStepAt };
+
+    ghost view = { λ hop. record {
+      seen = hop.seen.items;
+      rule = hop.rule;
+    } };
+}
+
+impl RouteStep {
+    ghost use Rattle.std.specs.Prelude.{◌≡◌};
+
+    /// Returns the place of the rule that decides, from 0 on, or none if no rule matches.
+    pub fn rule(&self) -> Option<usize>
+        ensures { result ≡ self.now.rule }
+    {
+        self.rule
+    }
+}
+
+/// The route path of a session request: its steps from the client's own list outward, and the component to which it is routed.
+#[derive(Drop)]
+pub struct RoutePath<'a> {
+    list: &'a StartList,
+    client: usize,
+    hops: Vec<RouteStep>,
+    child: Option<usize>,
+}
+
+impl<'a> RoutePath<'a> {
+    /// Returns the route path of a client's request for a service with a label of at most 64 bytes. Fails if the host is out of
+    /// memory.
+    #[tactic(auto, unfolding(crate::specs::Reach::leads_to))]
+    pub fn of(
+        alloc: Global,
+        list: &'a StartList,
+        client: usize,
+        service: &[u8],
+        label: &[u8],
+    ) -> Result<RoutePath<'a>, AllocError>
+        requires client { client < length list.now.entries }
+        requires label { length label.now ≤ 64 }
+        ensures child { IfOk result (λ course. course.child
+            ≡ leads_to list.now client service.now label.now) }
+        ensures hops { IfOk result (λ course. course.hops.items
+            ≡ route_steps_of list.now client service.now label.now) }
+    {
+        Ok(RoutePath {
+            list,
+            client,
+            hops: hops(alloc, list, client, service, label)?,
+            child: route(list, client, service, label),
+        })
+    }
+
+    /// Returns the route path of a script's request, by the script's path, for a service with these session arguments. Without
+    /// arguments the label is empty. Errors in order: no script has the path; the arguments aren't in the grammar; out of memory.
+    pub fn read(
+        alloc: Global,
+        list: &'a StartList,
+        client: &[u8],
+        service: &[u8],
+        args: &[u8],
+    ) -> Result<RoutePath<'a>, RoutePathFault> {
+        let Some(client) = list.find(client) else {
+            return Err(RoutePathFault::Nobody);
+        };
+        if list.entries()[client].binary() != Binary::Script {
+            return Err(RoutePathFault::Nobody);
+        }
+        let label = label_in(args)?;
+        match RoutePath::of(alloc, list, client, service, label) {
+            Ok(course) => Ok(course),
+            Err(_) => Err(RoutePathFault::NoMemory),
+        }
+    }
+
+    /// Returns the start list by which the request is routed.
+    pub fn list(&self) -> &StartList
+        ensures { result.now ≡ self.now.list.now }
+    {
+        self.list
+    }
+
+    /// Returns the number of the client among the entries of all lists.
+    pub fn client(&self) -> usize
+        ensures { result ≡ self.now.client }
+    {
+        self.client
+    }
+
+    /// Returns the steps, one for each list that is asked, from the client's own list outward.
+    pub fn hops(&self) -> &[RouteStep]
+        ensures { result.now ≡ self.now.hops.items }
+    {
+        self.hops.as_slice()
+    }
+
+    /// Returns the number of the component to which the request is routed, or none if it is denied.
+    pub fn child(&self) -> Option<usize>
+        ensures { result ≡ self.now.child }
+    {
+        self.child
+    }
+}
+
+/// Why a request has no route path.
+#[derive(Clone, Copy)]
+pub enum RoutePathFault {
+    /// No script has this path.
+    Nobody,
+    /// The session arguments aren't in the grammar.
+    BadArgs,
+    /// The host is out of memory.
+    NoMemory,
+}
+
+// The label of a session's arguments, or the empty label if there are no arguments.
+fn label_in(args: &[u8]) -> Result<&[u8], RoutePathFault>
+    ensures { IfOk result (λ label. length label.now ≤ 64) }
+{
+    if args.is_empty() {
+        return Ok(args);
+    }
+    match SessionArgs::read(args) {
+        Ok(found) if found.label().len() <= LONGEST_GIVEN => Ok(found.label()),
+        _ => Err(RoutePathFault::BadArgs),
+    }
+}
+
+// What each list decides.
+#[tactic(auto, unfolding(crate::specs::RouteSteps::route_steps_of))]
+fn hops(
+    alloc: Global,
+    list: &StartList,
+    client: usize,
+    service: &[u8],
+    label: &[u8],
+) -> Result<Vec<RouteStep>, AllocError>
+    requires label { length label.now ≤ 64 }
+    ensures { IfOk result (λ hops. hops.items
+        ≡ route_steps_of list.now client service.now label.now) }
+{
+    let mut hops = Vec::new(alloc);
+    if let Some(entry) = list.entries().get(client) {
+        add_hops(&mut hops, list, MOST_LISTS, entry, service, label)?;
+    }
+    Ok(hops)
+}
+
+// The decisions of the rules for an entry and, if these route outward, of the rules for the inits above it.
+fn add_hops(
+    hops: &mut Vec<RouteStep>,
+    list: &StartList,
+    lists: usize,
+    entry: &ListEntry,
+    service: &[u8],
+    seen: &[u8],
+) -> Result<(), AllocError>
+    requires seen { length seen.now + lists * 36 ≤ 208 }
+    ensures { OnOk result (hops.new.items
+        ≡ hops.old.items ++ route_steps_within lists list.now entry.now service.now seen.now) }
+{
+    if lists == 0 {
+        return Ok(());
+    }
+    let rules = list.rules_of(entry);
+    let rule = first_match(rules, service, seen);
+    hops.push(RouteStep {
+        seen: copied(seen),
+        rule,
+    })?;
+    if !leads_out(rules, rule) {
+        return Ok(());
+    }
+    match list.init_entry(entry.home()) {
+        Some(init) => {
+            let outer = label_with(entry.name(), seen);
+            add_hops(hops, list, lists - 1, init, service, outer.as_slice())
+        }
+        None => Ok(()),
+    }
+}
+
+// The place of the first rule that matches.
+fn first_match(rules: &[Rule], service: &[u8], seen: &[u8]) -> Option<usize>
+    ensures { result ≡ position (λ rule. asks_for rule service.now seen.now) rules.now }
+{
+    rules.iter().position(|rule| rule.matches(service, seen))
+}
+
+// Whether the rule at a place routes outward.
+fn leads_out(rules: &[Rule], place: Option<usize>) -> bool
+    ensures { result ≡ leads_out rules.now place }
+{
+    let Some(place) = place else {
+        return false;
+    };
+    match rules.get(place) {
+        Some(rule) => rule.target().is_parent(),
+        None => false,
+    }
+}
+
+// A copy of the bytes of a label.
+fn copied(seen: &[u8]) -> ArrayVec<u8, LONGEST_SEEN>
+    requires { length seen.now ≤ 208 }
+    ensures { result.items ≡ seen.now }
+{
+    let mut text = ArrayVec::<u8, LONGEST_SEEN>::new();
+    let _ = text.try_extend_from_slice(seen);
+    text
+}
+
+/// Writes a line for each list, and then the component to which the request is routed, or the rule by which it is denied.
+impl fmt::Display for RoutePath<'_> {
+    fn fmt<W: fmt::Write>(&self, f: &mut fmt::Formatter<W>) -> fmt::Result {
+        let list = self.list;
+        let mut asks = list.entries().get(self.client);
+        let mut last = None;
+        for hop in self.hops.as_slice() {
+            if let Some(entry) = asks {
+                show_hop(f, list, entry, hop)?;
+                last = Some(EntryRuleText::of(entry, hop.rule));
+                asks = list.init_entry(entry.home());
+            }
+        }
+        self.show_end(f, last)
+    }
+}
+
+impl RoutePath<'_> {
+    // The component to which the request is routed, or the rule by which it is denied.
+    fn show_end<W: fmt::Write>(
+        &self,
+        f: &mut fmt::Formatter<W>,
+        last: Option<EntryRuleText<'_>>,
+    ) -> fmt::Result {
+        match (self.child, last) {
+            (Some(child), _) => writeln!(f, "leads to {}", PathText::of(self.list, child)),
+            (None, Some(last)) => writeln!(f, "denied by {last}"),
+            (None, None) => f.write_str("denied by \n"),
+        }
+    }
+}
+
+// What a list decides, by the label as it sees it.
+fn show_hop<W: fmt::Write>(
+    f: &mut fmt::Formatter<W>,
+    list: &StartList,
+    entry: &ListEntry,
+    hop: &RouteStep,
+) -> fmt::Result {
+    let rule = EntryRuleText::of(entry, hop.rule);
+    let seen = ByteText::of(hop.seen.as_slice());
+    write!(f, "{rule}, where the label is \"{seen}\"")?;
+    show_target(f, target_at(list.rules_of(entry), hop.rule))
+}
+
+// The target of the rule at a place, if there is one.
+fn target_at(rules: &[Rule], place: Option<usize>) -> Option<&Target> {
+    match place {
+        Some(place) => match rules.get(place) {
+            Some(rule) => Some(rule.target()),
+            None => None,
+        },
+        None => None,
+    }
+}
+
+// The target of a rule, and the end of the line.
+fn show_target<W: fmt::Write>(f: &mut fmt::Formatter<W>, target: Option<&Target>) -> fmt::Result {
+    match target {
+        Some(Target::Child(name)) => writeln!(f, ": child {name}"),
+        Some(Target::AnyChild) => f.write_str(": any-child\n"),
+        Some(Target::Parent) => f.write_str(": parent\n"),
+        None => f.write_str("\n"),
+    }
+}

@@ -1,0 +1,92 @@
+//! Pieces of lines: components by their paths, rules by their places, and bytes as characters.
+use list_parser::{ListEntry, StartList};
+use std::fmt::{self, Display};
+
+/// The path of a component of a start list, by the component's number.
+#[derive(Clone, Copy)]
+pub(crate) struct PathText<'a> {
+    list: &'a StartList,
+    number: usize,
+}
+
+impl<'a> PathText<'a> {
+    /// Returns the text of the path of the component of a number.
+    pub(crate) fn of(list: &'a StartList, number: usize) -> PathText<'a> {
+        PathText { list, number }
+    }
+}
+
+impl fmt::Display for PathText<'_> {
+    fn fmt<W: fmt::Write>(&self, f: &mut fmt::Formatter<W>) -> fmt::Result {
+        match self.list.entries().get(self.number) {
+            Some(entry) => entry.to_path().fmt(f),
+            None => Ok(()),
+        }
+    }
+}
+
+/// The text of a rule for an entry by its place, or `no rule`.
+#[derive(Clone, Copy)]
+pub(crate) struct RuleText<'a> {
+    entry: &'a ListEntry,
+    place: Option<usize>,
+}
+
+impl<'a> RuleText<'a> {
+    /// Returns the text of the rule for an entry at a place.
+    pub(crate) fn of(entry: &'a ListEntry, place: Option<usize>) -> RuleText<'a> {
+        RuleText { entry, place }
+    }
+}
+
+impl fmt::Display for RuleText<'_> {
+    fn fmt<W: fmt::Write>(&self, f: &mut fmt::Formatter<W>) -> fmt::Result {
+        match self.place {
+            Some(place) => write!(f, "{}[{place}]", self.entry.route_name()),
+            None => f.write_str("no rule"),
+        }
+    }
+}
+
+/// The text of a rule with the path of the entry that it is for.
+#[derive(Clone, Copy)]
+pub(crate) struct EntryRuleText<'a> {
+    rule: RuleText<'a>,
+}
+
+impl<'a> EntryRuleText<'a> {
+    /// Returns the text of the rule for an entry at a place.
+    pub(crate) fn of(entry: &'a ListEntry, place: Option<usize>) -> EntryRuleText<'a> {
+        EntryRuleText {
+            rule: RuleText::of(entry, place),
+        }
+    }
+}
+
+impl fmt::Display for EntryRuleText<'_> {
+    fn fmt<W: fmt::Write>(&self, f: &mut fmt::Formatter<W>) -> fmt::Result {
+        write!(f, "{} for {}", self.rule, self.rule.entry.to_path())
+    }
+}
+
+/// Bytes as text, each a character that can be printed.
+#[derive(Clone, Copy)]
+pub(crate) struct ByteText<'a> {
+    bytes: &'a [u8],
+}
+
+impl<'a> ByteText<'a> {
+    /// Returns the bytes of a text as characters.
+    pub(crate) fn of(bytes: &'a [u8]) -> ByteText<'a> {
+        ByteText { bytes }
+    }
+}
+
+impl fmt::Display for ByteText<'_> {
+    fn fmt<W: fmt::Write>(&self, f: &mut fmt::Formatter<W>) -> fmt::Result {
+        for byte in self.bytes {
+            f.write_char(char::from(*byte))?;
+        }
+        Ok(())
+    }
+}

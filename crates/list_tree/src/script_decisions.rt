@@ -1,0 +1,234 @@
+//! Which rules decide a script's session requests for a service, list by list outward.
+ghost use Rattle.std.specs.Prelude.{◌<◌, length};
+
+use list_parser::{Binary, ListEntry, Rule, StartList};
+use list_parts::QuotedText;
+use list_reach::{ClientLabel, RouteDecision, RouteDecisions, SessionRequests};
+use std::alloc::{AllocError, Global};
+use std::fmt;
+use trade_base::SERVICES;
+
+/// The decisions on the requests of a script for a service.
+#[derive(Drop)]
+pub(crate) struct ScriptDecisions<'a> {
+    list: &'a StartList,
+    /// The number of the script.
+    pub client: usize,
+    /// The script.
+    pub entry: &'a ListEntry,
+    service: &'static str,
+    trails: RouteDecisions,
+}
+
+/// Decides the requests of each script for each service, script by script. Fails if the host is out of memory.
+pub(crate) fn all_decisions(
+    alloc: Global,
+    list: &StartList,
+) -> Result<Vec<ScriptDecisions<'_>>, AllocError> {
+    let mut found = Vec::new(alloc);
+    for client in 0..list.entries().len() {
+        add_client(alloc, &mut found, list, client)?;
+    }
+    Ok(found)
+}
+
+// The same for a component, if it is a script.
+fn add_client<'a>(
+    alloc: Global,
+    found: &mut Vec<ScriptDecisions<'a>>,
+    list: &'a StartList,
+    client: usize,
+) -> Result<(), AllocError>
+    requires { client < length list.now.entries }
+{
+    let entry = &list.entries()[client];
+    if entry.binary() != Binary::Script {
+        return Ok(());
+    }
+    for place in 0..SERVICES.len() {
+        let service = SERVICES[place].name();
+        let wishes = SessionRequests {
+            list,
+            client,
+            service: service.as_bytes(),
+        };
+        let trails = RouteDecisions::of(alloc, wishes)?;
+        found.push(ScriptDecisions {
+            list,
+            client,
+            entry,
+            service,
+            trails,
+        })?;
+    }
+    Ok(())
+}
+
+impl ScriptDecisions<'_> {
+    /// Returns the route decisions, each once, with the shorter labels first.
+    pub(crate) fn trails(&self) -> &[RouteDecision] {
+        self.trails.as_slice()
+    }
+
+    /// Returns a route decision together with its client and its service.
+    pub(crate) fn decision<'a>(&'a self, trail: &'a RouteDecision) -> ScriptDecision<'a> {
+        let label = if self.trails().len() == 1 {
+            None
+        } else {
+            Some(trail.label())
+        };
+        ScriptDecision {
+            list: self.list,
+            client: self.entry,
+            service: self.service,
+            trail,
+            label,
+        }
+    }
+
+    /// Returns whether some requests of the script for the service are denied.
+    pub(crate) fn denies(&self) -> bool {
+        self.trails().iter().any(|trail| trail.child().is_none())
+    }
+}
+
+/// The requests of a client for a service that the same rules decide.
+#[derive(Clone, Copy)]
+pub(crate) struct ScriptDecision<'a> {
+    /// The start list.
+    pub list: &'a StartList,
+    /// The client.
+    pub client: &'a ListEntry,
+    /// The service.
+    pub service: &'static str,
+    /// The rules: one of the client's own list, and then one for each init outward.
+    pub trail: &'a RouteDecision,
+    /// A label of one of these requests, if others are decided otherwise.
+    pub label: Option<&'a ClientLabel>,
+}
+
+impl<'a> ScriptDecision<'a> {
+    /// Returns the server to which the requests are routed, or none if they are denied.
+    pub(crate) fn server(&self) -> Option<&'a ListEntry> {
+        self.list.entries().get(self.trail.child()?)
+    }
+
+    /// Returns the rules as text, for a line or for a label of a graph.
+    pub(crate) fn rules(&self, in_graph: bool) -> RulesText<'a> {
+        RulesText {
+            decision: *self,
+            in_graph,
+        }
+    }
+
+    // The init that asks after a rule for an entry that routes outward, if it isn't the machine's.
+    fn outward(&self, entry: &ListEntry, place: usize) -> Option<&'a ListEntry> {
+        match self.list.rules_of(entry).get(place) {
+            Some(rule) if rule.target().is_parent() => self.list.init_entry(entry.home()),
+            _ => None,
+        }
+    }
+}
+
+/// The rules of a decision as text, list by list, with their conditions on the label.
+#[derive(Clone, Copy)]
+pub(crate) struct RulesText<'a> {
+    decision: ScriptDecision<'a>,
+    /// Whether they are lines of a label of a graph.
+    in_graph: bool,
+}
+
+impl fmt::Display for RulesText<'_> {
+    fn fmt<W: fmt::Write>(&self, f: &mut fmt::Formatter<W>) -> fmt::Result {
+        let decision = &self.decision;
+        let mut asks = Some(decision.client);
+        for (lists, place) in decision.trail.rules().iter().enumerate() {
+            if let Some(entry) = asks {
+                self.show_rule(f, entry, lists, *place)?;
+                asks = decision.outward(entry, *place);
+            }
+        }
+        match asks {
+            Some(entry) => self.show_none(f, entry),
+            None => Ok(()),
+        }
+    }
+}
+
+impl RulesText<'_> {
+    // A rule for an entry, which is an init after so many lists, if they are some.
+    fn show_rule<W: fmt::Write>(
+        &self,
+        f: &mut fmt::Formatter<W>,
+        entry: &ListEntry,
+        lists: usize,
+        place: usize,
+    ) -> fmt::Result {
+        let before = match (self.in_graph, lists) {
+            (true, _) => "\\n",
+            (false, 0) => "",
+            (false, _) => ", then by ",
+        };
+        write!(f, "{before}{}[{place}]", entry.route_name())?;
+        show_whose(f, entry, lists)?;
+        match self.decision.list.rules_of(entry).get(place) {
+            Some(rule) => show_conditions(f, rule, self.in_graph),
+            None => Ok(()),
+        }
+    }
+
+    // The text that no rule for an entry decides.
+    fn show_none<W: fmt::Write>(
+        &self,
+        f: &mut fmt::Formatter<W>,
+        entry: &ListEntry,
+    ) -> fmt::Result {
+        let lists = self.decision.trail.rules().len();
+        f.write_str(match (self.in_graph, lists) {
+            (true, 0) => "",
+            (true, _) => "\\nno rule",
+            (false, 0) => "no rule",
+            (false, _) => ", then by no rule",
+        })?;
+        show_whose(f, entry, lists)
+    }
+}
+
+// The entry for which rules decide, if they aren't of the client's own list.
+fn show_whose<W: fmt::Write>(
+    f: &mut fmt::Formatter<W>,
+    entry: &ListEntry,
+    lists: usize,
+) -> fmt::Result {
+    if lists > 0 {
+        write!(f, " for {}", entry.to_path())
+    } else {
+        Ok(())
+    }
+}
+
+// A rule's conditions on the label, in a label of a graph on lines of their own.
+fn show_conditions<W: fmt::Write>(
+    f: &mut fmt::Formatter<W>,
+    rule: &Rule,
+    in_graph: bool,
+) -> fmt::Result {
+    show_asked(f, in_graph, " is ", rule.label())?;
+    show_asked(f, in_graph, " begins with ", rule.label_prefix())?;
+    show_asked(f, in_graph, " ends with ", rule.label_suffix())
+}
+
+// One of the conditions, if it is asked.
+fn show_asked<W: fmt::Write>(
+    f: &mut fmt::Formatter<W>,
+    in_graph: bool,
+    how: &str,
+    asked: Option<&str>,
+) -> fmt::Result {
+    let Some(text) = asked else {
+        return Ok(());
+    };
+    let text = QuotedText { text, in_graph };
+    let before = if in_graph { "\\n" } else { ", where the " };
+    write!(f, "{before}label{how}{text}")
+}

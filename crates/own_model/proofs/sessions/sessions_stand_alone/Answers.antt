@@ -1,6 +1,0 @@
--- What each call changes is under another selector, or under its own.
-use Rattle.own_model.proofs.SessionAloneLemmas.{stand_alone}
-use Rattle.own_model.proofs.sessions.sessions_stand_alone.Goals as goal
-
-pub returns : goal.returns
-returns c = stand_alone

@@ -1,5 +1,0 @@
-use Rattle.reach.specs.Trails.{AreSeen}
-use Rattle.reach.proofs.deciding.Trails.of.Given as goal
-
-abbrev pub invariant-loop-size : goal.invariant-loop-size
-invariant-loop-size l = AreSeen l.wishes.list.now l.wishes.client l.wishes.service.now l.kept.items l.size 0 l.trails.items

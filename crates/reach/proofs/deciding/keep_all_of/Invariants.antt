@@ -1,5 +1,0 @@
-use Rattle.reach.specs.Trails.{AreSeen}
-use Rattle.reach.proofs.deciding.keep_all_of.Given as goal
-
-abbrev pub invariant-loop-place : goal.invariant-loop-place
-invariant-loop-place l = AreSeen l.wishes.list.now l.wishes.client l.wishes.service.now l.kept l.size l.place l.trails.items

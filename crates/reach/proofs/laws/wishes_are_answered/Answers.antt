@@ -1,6 +1,0 @@
--- By where they lead.
-use Rattle.reach.proofs.WishLemmas.{wishes_denied, wishes_opened}
-use Rattle.reach.proofs.laws.wishes_are_answered.Goals as goal
-
-pub returns : goal.returns
-returns c = record { denied = wishes_denied; opened = wishes_opened }

@@ -1,7 +1,0 @@
-use Rattle.std.proofs.Common.{◌≡◌, Ok, drop, map}
-use Rattle.reach.specs.Paths.{joined, numbers_of, numbers_of_paths}
-use Rattle.reach.proofs.named.numbers.Given as goal
-
-abbrev pub invariant-loop-place : goal.invariant-loop-place
-invariant-loop-place l =
-    numbers_of l.list l.sought l.paths ≡ joined (Ok l.found.items) (numbers_of_paths l.list l.sought (map (λ piece. piece.now) (drop l.place l.pieces.items)))

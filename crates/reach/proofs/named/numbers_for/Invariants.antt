@@ -1,6 +1,0 @@
-use Rattle.std.proofs.Common.{◌≡◌}
-use Rattle.reach.specs.Paths.{denotes_at, numbers_below}
-use Rattle.reach.proofs.named.numbers_for.Given as goal
-
-abbrev pub invariant-loop-number : goal.invariant-loop-number
-invariant-loop-number l = l.found.items ≡ numbers_below (denotes_at l.list l.sought l.path) l.number

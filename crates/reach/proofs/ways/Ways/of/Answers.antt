@@ -1,6 +1,0 @@
--- Labels that stand for all show all ways.
-use Rattle.reach.proofs.WaysLemmas.{ways_of}
-use Rattle.reach.proofs.ways.Ways.of.Goals as goal
-
-pub returns : goal.returns
-returns c = ways_of c.args.wishes.list.now c.args.wishes.client c.args.wishes.service.now c.in_ok-standing.field-0.items c.in_ok-standing.ensures

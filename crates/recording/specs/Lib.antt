@@ -1,6 +1,0 @@
-pub mod Played
-pub mod Recorded
-pub mod Notes
-pub mod Marked
-pub mod Views
-pub mod Pieces

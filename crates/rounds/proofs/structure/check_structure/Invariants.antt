@@ -1,8 +1,0 @@
--- The lines that are left are still to be tested.
-use Rattle.std.proofs.Common.{◌≡◌, ◌+◌, [], drop}
-use Rattle.rounds.specs.Structure.{opens_from}
-use Rattle.rounds.specs.Views.{texts}
-use Rattle.rounds.proofs.structure.check_structure.Given as goal
-
-abbrev pub invariant-loop-i : goal.invariant-loop-i
-invariant-loop-i l = opens_from (l.i + 1) l.opens.items (texts (drop l.i l.lines)) ≡ opens_from 1 [] (texts l.lines)

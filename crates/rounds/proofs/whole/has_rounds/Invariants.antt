@@ -1,8 +1,0 @@
--- Whether rounds stand among the lines is told by those that are left.
-use Rattle.std.proofs.Common.{◌≡◌, drop}
-use Rattle.rounds.specs.Unfolding.{has_rounds}
-use Rattle.rounds.specs.Views.{texts}
-use Rattle.rounds.proofs.whole.has_rounds.Given as goal
-
-abbrev pub invariant-loop-line : goal.invariant-loop-line
-invariant-loop-line l = has_rounds (texts (drop l.line-index l.lines)) ≡ has_rounds (texts l.lines)

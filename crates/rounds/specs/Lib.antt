@@ -1,4 +1,0 @@
-pub mod Laws
-pub mod Structure
-pub mod Unfolding
-pub mod Views

@@ -1,4 +1,0 @@
-use Rattle.routes.proofs.routing.+route_within.Given as goal
-
-abbrev pub decreases-route_within : goal.decreases-route_within
-decreases-route_within l = l.lists

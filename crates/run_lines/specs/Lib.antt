@@ -1,0 +1,12 @@
+pub mod Accounts
+pub mod Device
+pub mod RunOutput
+pub mod Lines
+pub mod Reach
+pub mod Next
+pub mod Causes
+pub mod Answered
+pub mod Answer
+pub mod Faults
+pub mod LineRuns
+pub mod Machine

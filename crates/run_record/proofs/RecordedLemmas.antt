@@ -1,0 +1,190 @@
+-- What is recorded of a scenario that is played line by line.
+use Rattle.std.proofs.Common.{◌≡◌, ℕ, ◌<◌, ◌≤◌, nat_le, nat_lt, cond, not, ◌&&◌, Bool, true, false, is_some, List, [], ◌∷◌, length, Option, Some, None, Result, Ok, Err, IfOk, OnOk, arith, ap, refl, subst, sym, ◌∙◌}
+use Rattle.std.specs.List.{flat_map}
+use Rattle.std.proofs.lemmas.Bool.Decides.{nat_tests}
+use Rattle.line_steps.specs.RunPosition.{RunPosition, arrived, passed}
+use Rattle.own_model.specs.Listed.{Listed, start_list_of}
+use Rattle.own_model.specs.Reply.{log_text}
+use Rattle.own_model.specs.StartList.{Boots}
+use Rattle.own_model.specs.Transcript.{heard as heard_call, longest_line}
+use Rattle.own_model.specs.World.{World, start_world}
+use Rattle.list_parser.specs.StartText.{list_in}
+use Rattle.list_parser.specs.declared.fault.BootFault.{BootFault}
+use Rattle.line_friendly.specs.Friendly.{FriendlyLine, said_of}
+use Rattle.line_friendly.specs.declared.fault.FriendlyFault.{FriendlyFault}
+use Rattle.run_lines.specs.Answer.{finished_lines}
+use Rattle.run_lines.proofs.MachineLemmas.{fault_of_list, fault_of_text}
+use Rattle.line_names.specs.Directives.{Directive, directive_of}
+use Rattle.line_names.specs.Filling.{FilledLine, filled}
+use Rattle.line_names.specs.NameTable.{NameTable}
+use Rattle.line_names.specs.declared.fault.NameFault.{NameFault}
+use Rattle.run_record.specs.Marked.{StepsTo, all_marked, marks_after, unmarked}
+use Rattle.run_record.specs.RecordedCalls.{RecordedLine, RecordedCall, RecordingState, deed_by, deed_filled, deed_of, deed_said, events, first_recording, hearing_of, line_passed, events_in, reply_in, rounds_passed, recording_after, recording_behind}
+use Rattle.run_record.specs.RecordedCalls.RecordedLine.{Passes, Follows, Awaits, Calls}
+use Rattle.run_record.specs.RecordedCalls.Meeting.{Hears}
+use Rattle.run_record.specs.Recorded.{IsRecorded, LineMark, pieces_of, recorded, without_last, written_lines}
+use Rattle.run_record.specs.Views.{recorded_call_view, recording_in}
+use Rattle.run_record.specs.declared.recorded_call.RecordedCall.{RecordedCall as Heard}
+use Rattle.run_record.specs.declared.recording.Recording.{Recording}
+use Rattle.run_record.proofs.MarkLemmas.{marked_on, marks_in_all}
+
+-- no line changes who is there
+entries_by : (stage : RecordingState) (deed : RecordedLine) → (recording_after (line_passed stage) deed).world.entries ≡ stage.world.entries
+entries_by stage Passes = refl
+entries_by stage (Follows directive) = refl
+entries_by stage Awaits = refl
+entries_by stage (Calls filled call reply) = refl
+
+pub entries_behind : (stage : RecordingState) (line : List ℕ) → (recording_behind stage line).world.entries ≡ stage.world.entries
+entries_behind stage line = entries_by stage (deed_of stage.stand.known line)
+
+-- ---- the turn of a line
+
+is_short : (n : ℕ) → n ≤ longest_line → nat_le n longest_line ≡ true
+is_short n short = grind (arith, nat_tests)
+
+is_long : (n : ℕ) → longest_line < n → nat_le n longest_line ≡ false
+is_long n long = grind (arith, nat_tests)
+
+-- what a line is
+pub deed_long : (known : NameTable) (line : List ℕ) → longest_line < length line → deed_of known line ≡ Passes
+deed_long known line long = ap (λ b. cond b (deed_filled (filled known line)) Passes) (is_long (length line) long)
+
+deed_short : (known : NameTable) (line : List ℕ) (made : Result FilledLine NameFault) → length line ≤ longest_line → made ≡ filled known line →
+    deed_of known line ≡ deed_filled made
+deed_short known line made short is =
+    ap (λ b. cond b (deed_filled (filled known line)) Passes) (is_short (length line) short) ∙ ap deed_filled (sym is)
+
+pub deed_unnamed : (known : NameTable) (line : List ℕ) (fault : NameFault) → length line ≤ longest_line → Err fault ≡ filled known line →
+    deed_of known line ≡ Passes
+deed_unnamed known line fault short is = deed_short known line (Err fault) short is
+
+pub deed_follows : (known : NameTable) (line : List ℕ) (made : FilledLine) (directive : Directive) → length line ≤ longest_line →
+    Ok made ≡ filled known line → Some directive ≡ directive_of made.line → deed_of known line ≡ Follows directive
+deed_follows known line made directive short is says = deed_short known line (Ok made) short is ∙ ap (deed_by made) (sym says)
+
+pub deed_says : (known : NameTable) (line : List ℕ) (made : FilledLine) → length line ≤ longest_line →
+    Ok made ≡ filled known line → None ≡ directive_of made.line → deed_of known line ≡ deed_said made (said_of made.line)
+deed_says known line made short is says = deed_short known line (Ok made) short is ∙ ap (deed_by made) (sym says)
+
+pub said_deed : (made : FilledLine) (line : List ℕ) (said : Result FriendlyLine FriendlyFault) → said ≡ said_of line → deed_said made (said_of line) ≡ deed_said made said
+said_deed made line said is = ap (deed_said made) (sym is)
+
+-- a turn by what its line is
+pub turns_by : (all : Bool) (number : ℕ) (deed shown : RecordedLine) (old new : RecordingState) (before after : List LineMark) →
+    deed ≡ shown → StepsTo all number shown old new before after → StepsTo all number deed old new before after
+turns_by all number deed shown old new before after is turns = subst (λ d. StepsTo all number d old new before after) (sym is) turns
+
+pub turned_by : {E : Type 0} (r : Result Unit E) (all : Bool) (number : ℕ) (deed shown : RecordedLine) (old new : RecordingState) (before after : List LineMark) →
+    deed ≡ shown → OnOk r (StepsTo all number shown old new before after) → OnOk r (StepsTo all number deed old new before after)
+turned_by (Ok done) all number deed shown old new before after is turns = turns_by all number deed shown old new before after is turns
+turned_by (Err fault) all number deed shown old new before after is none = tt
+
+-- where nothing is met
+pub turns_over : (all : Bool) (number : ℕ) (deed : RecordedLine) (old new : RecordingState) (before after : List LineMark) →
+    deed ≡ Passes → new ≡ old → after ≡ before → StepsTo all number deed old new before after
+turns_over all number deed old new before after is stays same =
+    turns_by all number deed Passes old new before after is (record { stage = stays; marks = same })
+
+pub turned_over : {E : Type 0} (r : Result Unit E) (all : Bool) (number : ℕ) (deed : RecordedLine) (old new : RecordingState) (before after : List LineMark) →
+    deed ≡ Passes → new ≡ old → after ≡ before → OnOk r (StepsTo all number deed old new before after)
+turned_over (Ok done) all number deed old new before after is stays same = turns_over all number deed old new before after is stays same
+turned_over (Err fault) all number deed old new before after is stays same = tt
+
+-- a call as it was heard
+pub heard_is : (all : Bool) (stage : RecordingState) (made : FilledLine) (call : List ℕ) (expected : Option (List ℕ)) (heard : Heard) (reply lines : List ℕ) →
+    heard.known.now ≡ stage.stand.known → heard.binds ≡ nat_lt 0 (length made.holes) → heard.expects ≡ is_some expected → heard.call.now ≡ call →
+    heard.reply.now ≡ reply → heard.lines.now ≡ cond (stage.awaits && not all) [] lines → reply ≡ reply_in stage.world call →
+    lines ≡ flat_map log_text (finished_lines stage.world (heard_call stage.world.entries call)) →
+    recorded_call_view heard ≡ hearing_of all stage made call expected
+heard_is all stage made call expected heard reply lines known binds expects call_is reply_is lines_is answered finished =
+    rw (known, binds, expects, call_is, reply_is, lines_is, answered, finished) refl
+
+pub called : {all : Bool} {number : ℕ} {stage next : RecordingState} {made : FilledLine} {call : List ℕ} {expected : Option (List ℕ)} {before after : List LineMark}
+    (h : RecordedCall) → h ≡ hearing_of all stage made call expected → next ≡ recording_after stage (Calls made call expected) →
+    after ≡ marks_after 1 (record { number = number; meeting = Hears h }) before →
+    StepsTo all number (Calls made call expected) stage next before after
+called {number = number} {before = before} h is next_is after_is = record {
+  stage = next_is;
+  marks = after_is ∙ ap (λ x. marks_after 1 (record { number = number; meeting = Hears x }) before) is;
+}
+
+-- ---- a line is passed, and then played
+
+pub same_stage : (world : World) {old new : RunPosition} {awaits now_awaits : Bool} → new ≡ old → now_awaits ≡ awaits →
+    recording_in new now_awaits world ≡ recording_in old awaits world
+same_stage world stands same = λ i. record { stand = stands i; world = world; awaits = same i }
+
+pub passed_in : (old new : RunPosition) (awaits : Bool) (world : World) → new ≡ passed old → recording_in new awaits world ≡ line_passed (recording_in old awaits world)
+passed_in old new awaits world is = ap (λ s. recording_in s awaits world) is
+
+met_passed : (all : Bool) (number : ℕ) (stage : RecordingState) (deed : RecordedLine) → events_in all number (line_passed stage) deed ≡ events_in all number stage deed
+met_passed all number stage Passes = refl
+met_passed all number stage (Follows directive) = refl
+met_passed all number stage Awaits = refl
+met_passed all number stage (Calls filled call reply) = refl
+
+on_ok : {E : Type 0} (r : Result Unit E) {P : Type 0} → P → OnOk r P
+on_ok (Ok done) p = p
+on_ok (Err fault) p = tt
+
+pub played_stage : {E : Type 0} (r : Result Unit E) (all : Bool) (number : ℕ) (line : List ℕ) (old stage mid : RecordingState) (before after : List LineMark)
+    (next : RunPosition) → stage ≡ line_passed old → StepsTo all number (deed_of stage.stand.known line) stage mid before after → OnOk r (next ≡ arrived mid.stand) →
+    OnOk r (recording_in next mid.awaits mid.world ≡ recording_behind old line)
+played_stage (Ok done) all number line old stage mid before after next is turned arrives =
+    ap (λ s. recording_in s mid.awaits mid.world) arrives
+    ∙ ap rounds_passed (turned.stage ∙ ap (λ (s : RecordingState). recording_after s (deed_of s.stand.known line)) is)
+played_stage (Err fault) all number line old stage mid before after next is turned arrives = tt
+
+pub played_marks : {E : Type 0} (r : Result Unit E) (all : Bool) (line : List ℕ) (old stage mid : RecordingState) (before after : List LineMark)
+    (number : ℕ) → stage ≡ line_passed old → number ≡ old.stand.number →
+    StepsTo all number (deed_of stage.stand.known line) stage mid before after →
+    OnOk r (after ≡ all_marked (events_in all old.stand.number old (deed_of old.stand.known line)) before)
+played_marks r all line old stage mid before after number is numbered turned =
+    on_ok r
+    (turned.marks
+    ∙ ap (λ (s : RecordingState). all_marked (events_in all number s (deed_of s.stand.known line)) before) is
+    ∙ ap (λ es. all_marked es before) (met_passed all number old (deed_of old.stand.known line))
+    ∙ ap (λ n. all_marked (events_in all n old (deed_of old.stand.known line)) before) numbered)
+
+-- a line more is played
+pub one_more : (whole marks now : List LineMark) (all all' : Bool) (stage next : RecordingState) (text line : List ℕ) (behind : List (List ℕ)) →
+    whole ≡ all_marked (events all stage (pieces_of text)) marks → pieces_of text ≡ line ∷ behind →
+    now ≡ all_marked (events_in all stage.stand.number stage (deed_of stage.stand.known line)) marks → all' ≡ all → next ≡ recording_behind stage line →
+    whole ≡ all_marked (events all' next behind) now
+one_more whole marks now all all' stage next text line behind so pieces now_is all_is next_is =
+    rw (now_is, all_is, next_is)
+    (so ∙ ap (λ ps. all_marked (events all stage ps) marks) pieces
+    ∙ marked_on (events_in all stage.stand.number stage (deed_of stage.stand.known line)) (events all (recording_behind stage line) behind) marks)
+
+-- a play begins
+pub first_in : (stand : RunPosition) (awaits : Bool) (world : World) (start : RunPosition) → stand ≡ start → awaits ≡ false → recording_in stand awaits world ≡ first_recording world start
+first_in stand awaits world start is none = rw (is, none) refl
+
+-- the whole text
+pub whole_recorded : (all made_all : Bool) (start : RunPosition) (played scenario : List ℕ) (world : World)
+    (stage : RecordingState) (first marks : List LineMark) (text : List ℕ) →
+    made_all ≡ all → stage ≡ first_recording world start → first ≡ unmarked (pieces_of scenario) →
+    marks ≡ all_marked (events made_all stage (pieces_of played)) first → text ≡ without_last (written_lines made_all marks) →
+    text ≡ recorded all world start played scenario
+whole_recorded all made_all start played scenario world stage first marks text all_is stage_is first_is marks_is text_is =
+    text_is
+    ∙ ap (λ ms. without_last (written_lines made_all ms))
+    (marks_is ∙ ap (all_marked (events made_all stage (pieces_of played))) first_is
+    ∙ marks_in_all (events made_all stage (pieces_of played)) (pieces_of scenario))
+    ∙ rw (stage_is, all_is) refl
+
+-- and on the machine of a list
+pub recorded_there : (machine : List ℕ) (all : Bool) (start : RunPosition) (played scenario : List ℕ) (listed : Listed) (world : World)
+    (made : Result Recording BootFault) →
+    list_in machine ≡ Ok listed → Boots (start_list_of listed) → world ≡ start_world (start_list_of listed) →
+    IfOk made (λ recording. recording.text.items ≡ recorded all world start played scenario) →
+    IfOk made (λ recording. IsRecorded machine all start played scenario recording.text.items)
+recorded_there machine all start played scenario listed world (Ok recording) reads boots starts is = record {
+  listed = listed;
+  boots = record { reads = reads; boots = boots };
+  is = is ∙ ap (λ w. recorded all w start played scenario) starts;
+}
+recorded_there machine all start played scenario listed world (Err fault) reads boots starts none = tt
+
+pub ruleset unbooted = (fault_of_list, fault_of_text)

@@ -1,0 +1,6 @@
+pub mod RecordedCalls
+pub mod Recorded
+pub mod LineRecords
+pub mod Marked
+pub mod Views
+pub mod Pieces

@@ -1,0 +1,70 @@
+//! Lines that can't be parsed.
+
+use line_friendly::{FriendlyFault, trimmed_line};
+use line_names::{DirectiveFault, NameFault};
+use std::fmt;
+
+/// The reason why a line can't be parsed.
+#[derive(Clone, Copy, PartialEq, Eq)]
+pub enum UnreadReason {
+    /// The line is too long.
+    TooLong,
+    /// The line has a fault.
+    Fault(FriendlyFault),
+    /// A name in the line has a fault.
+    Name(NameFault),
+    /// The line is a directive that can't be followed, with its column: it became one when it was filled, or it begins with `@`
+    /// and is none.
+    Misplaced(usize, DirectiveFault),
+}
+
+impl UnreadReason {
+    /// Returns the column of the fault in its line, from 1 on.
+    pub fn column(self) -> usize {
+        match self {
+            UnreadReason::TooLong => 1,
+            UnreadReason::Fault(fault) => fault.column,
+            UnreadReason::Name(fault) => fault.column,
+            UnreadReason::Misplaced(column, _) => column,
+        }
+    }
+
+    /// Returns the message about this text of the line, which begins at the column.
+    pub fn about(self, text: &str) -> UnreadMessage<'_> {
+        UnreadMessage { why: self, text }
+    }
+}
+
+/// The reason why a line can't be parsed, as text for people.
+#[derive(Clone, Copy)]
+pub struct UnreadMessage<'a> {
+    why: UnreadReason,
+    text: &'a str,
+}
+
+impl fmt::Display for UnreadMessage<'_> {
+    fn fmt<W: fmt::Write>(&self, f: &mut fmt::Formatter<W>) -> fmt::Result {
+        match self.why {
+            UnreadReason::TooLong => f.write_str("line of more than 8192 bytes"),
+            UnreadReason::Fault(fault) => write!(f, "{}", fault.reason.about(self.text)),
+            UnreadReason::Name(fault) => write!(f, "{}", fault.reason.about(self.text)),
+            UnreadReason::Misplaced(_, why) => write!(f, "{why}"),
+        }
+    }
+}
+
+/// A line that can't be parsed.
+#[derive(Clone, Copy, PartialEq, Eq)]
+pub struct UnreadLine {
+    /// The number of the scenario's line, from 1 on.
+    pub number: u64,
+    /// The reason why it can't be parsed.
+    pub why: UnreadReason,
+}
+
+/// Returns the column of a line's first character, from 1 on.
+pub(crate) fn column_of(line: &[u8]) -> usize {
+    line.len()
+        .saturating_sub(trimmed_line(line).len())
+        .saturating_add(1)
+}

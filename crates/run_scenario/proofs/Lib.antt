@@ -1,0 +1,10 @@
+pub mod CallerLemmas
+pub mod CellLemmas
+pub mod FailLemmas
+pub mod LineLemmas
+pub mod PlayLemmas
+pub mod PlayedLemmas
+pub mod SaidLemmas
+pub mod ShownLemmas
+pub mod TurnLemmas
+pub mod WriteLemmas

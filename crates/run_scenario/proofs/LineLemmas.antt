@@ -1,0 +1,171 @@
+-- A line that is played: what it says is answered and told, or nothing changes, and then it is judged.
+use Rattle.std.proofs.Common.{◌≡◌, ℕ, ◌&&◌, ◌||◌, Bool, true, false, List, [], ◌∷◌, ◌++◌, append-nil, is_some, Option, Some, None, Result, Ok, Err, IfOk, OnOk, refl, sym, ◌∙◌, ap, subst}
+use Rattle.own_model.specs.LinesOfName.{said_by}
+use Rattle.own_model.specs.Transcript.{heard}
+use Rattle.own_model.specs.World.{World, world_running}
+use Rattle.line_friendly.specs.Friendly.FriendlyLine.{Nothing, Log, Call}
+use Rattle.run_lines.specs.Answer.{IsAnswer}
+use Rattle.run_lines.specs.Answered.{after_all}
+use Rattle.run_lines.specs.Faults.{Fails}
+use Rattle.run_lines.specs.RunOutput.{Tells, OutputsUnless}
+use Rattle.run_lines.specs.declared.line_run_fault.LineRunFault.{LineRunFault}
+use Rattle.run_lines.proofs.GatheredLemmas.{Tells-none}
+use Rattle.run_lines.proofs.ToldLemmas.{said_none, world_running-append}
+use Rattle.run_scenario.specs.Faults.{takes_memory}
+use Rattle.run_scenario.specs.CallAnswers.{ReportsCalls, IsAnsweredCall, IsAnsweredAs, answer_of}
+use Rattle.run_scenario.specs.Judging.{AnswersIn, Awaited, IsJudged, awaited_after, is_complained}
+use Rattle.run_scenario.specs.ScenarioRuns.{RunsLine, Point, point}
+use Rattle.run_scenario.specs.LineSteps.{Arrives, ResolvedLine, calls_in, binds_names, stand_after}
+use Rattle.run_scenario.specs.LineSteps.ResolvedLine.{TooLong, Unnamed, Follows, Says}
+use Rattle.run_scenario.specs.Observation.{IsAnsweredAfter, Watches}
+use Rattle.line_steps.specs.RunPosition.{RunPosition, arrived, crosses, passed}
+use Rattle.run_scenario.specs.declared.call_observer.ObservedCall.{ObservedCall}
+use Rattle.run_scenario.proofs.FailLemmas.{fails_before, fails_beside}
+use Rattle.run_scenario.proofs.PlayedLemmas.{told_of_one}
+use Rattle.run_scenario.proofs.TurnLemmas.{stands_answered}
+
+on_ok : {T E : Type 0} {P : Type 0} (r : Result T E) → P → OnOk r P
+on_ok (Ok done) p = p
+on_ok (Err fault) p = tt
+
+-- what was told is told, whatever a complaint becomes
+told_unless : {T E : Type 0} {w w' : Option (List ℕ)} {g g' text : List ℕ} (r : Result T E) → Tells w g w' g' text → OutputsUnless r w g w' g' text
+told_unless (Ok done) told = told
+told_unless {g' = g'} (Err fault) told = (g', told)
+
+-- ---- what is heard of its calls, and told
+
+module _ {only : Option (List ℕ)} {tells : World → List (List ℕ) → ℕ → List ℕ → List ℕ} {number : ℕ} {calls : List (List ℕ)} {old new : World} {w : Option (List ℕ)} {g : List ℕ} where
+  -- where none is answered nothing changes
+  pub hears_none : {seen : World → List (List ℕ) → Type 0} {T : Type 0} (r : Result T LineRunFault) → new ≡ after_all only old calls → said_by only calls ≡ [] → ReportsCalls only tells seen seen number calls old new r w g w g
+  hears_none {seen} r leaves none = record {
+    world = leaves;
+    told = λ start earlier watches. rw none (told_unless r (Tells-none w g));
+    sees = λ start earlier watches.
+        on_ok r (record {
+          leads = leaves ∙ ap (world_running old) none ∙ watches.leads ∙ ap (world_running start) (unchanged earlier);
+          sees = subst (seen start) (unchanged earlier) watches.sees;
+        });
+  }
+    where
+      unchanged : (earlier : List (List ℕ)) → earlier ≡ earlier ++ said_by only calls
+      unchanged earlier = sym (ap (λ c. earlier ++ c) none ∙ append-nil earlier)
+
+  module _ {w' : Option (List ℕ)} {g' : List ℕ} {seen now_seen : World → List (List ℕ) → Type 0} where
+    -- one that is answered is told to the watch
+    pub hears_one : {T : Type 0} (it : ObservedCall) (r : Result T LineRunFault) → new ≡ after_all only old calls → IsAnsweredAs only old number calls it →
+        ((start : World) (earlier : List (List ℕ)) → seen start earlier → IsAnsweredAfter start earlier it.line.now new it.answer → OutputsUnless r w g w' g' (tells start earlier it.number it.line.now)) →
+        ((start : World) (earlier : List (List ℕ)) → seen start earlier → IsAnsweredAfter start earlier it.line.now new it.answer → OnOk r (now_seen start (earlier ++ it.line.now ∷ []))) →
+        ReportsCalls only tells seen now_seen number calls old new r w g w' g'
+    hears_one it r leaves is told sees = record {
+      world = leaves;
+      told = λ start earlier watches.
+          subst (OutputsUnless r w g w' g') (ap (λ n. tells start earlier n it.line.now) is.numbered ∙ told_of_one (tells start) earlier number it.line.now _ is.said)
+          (told start earlier watches.sees (told_of start earlier watches));
+      sees = λ start earlier watches. watches_on r start earlier watches (sees start earlier watches.sees (told_of start earlier watches));
+    }
+      where
+        told_of : (start : World) (earlier : List (List ℕ)) → Watches seen start earlier old → IsAnsweredAfter start earlier it.line.now new it.answer
+        told_of start earlier watches = record {
+          leaves =
+              leaves ∙ ap (world_running old) is.said ∙ ap (λ world. world_running world (it.line.now ∷ [])) watches.leads ∙ world_running-append start earlier (it.line.now ∷ []);
+          answers = subst (λ (world : World). IsAnswer world (heard world.entries it.line.now) it.answer) watches.leads is.answers;
+        }
+
+        watches_on : {T : Type 0} (r : Result T LineRunFault) (start : World) (earlier : List (List ℕ)) → Watches seen start earlier old → OnOk r (now_seen start (earlier ++ it.line.now ∷ [])) →
+            OnOk r (Watches now_seen start (earlier ++ said_by only calls) new)
+        watches_on (Ok done) start earlier watches sees = rw is.said (record { leads = (told_of start earlier watches).leaves; sees = sees })
+        watches_on (Err fault) start earlier watches sees = tt
+
+    -- what was told stays told, whatever is complained of it
+    hears_on : {A T : Type 0} {done : A} (r : Result T LineRunFault) → ReportsCalls only tells seen now_seen number calls old new (Ok done) w g w' g' → ReportsCalls only tells seen now_seen number calls old new r w g w' g'
+    hears_on r hears = record {
+      world = hears.world;
+      told = λ start earlier watches. told_unless r (hears.told start earlier watches);
+      sees = λ start earlier watches. on_ok r (hears.sees start earlier watches);
+    }
+
+    hears_fault : {A T : Type 0} (fault : LineRunFault) → ReportsCalls {T = A} only tells seen now_seen number calls old new (Err fault) w g w' g' → ReportsCalls {T = T} only tells seen now_seen number calls old new (Err fault) w g w' g'
+    hears_fault fault hears = record { world = hears.world; told = hears.told; sees = λ start earlier watches. tt }
+
+-- ---- what is complained of it, and what comes of it
+
+answers_in : (only : Option (List ℕ)) (world : World) (number : ℕ) (calls : List (List ℕ)) (o : Option ObservedCall) → IsAnsweredCall only world number calls o → AnswersIn only world calls (answer_of o)
+answers_in only world number calls (Some it) is = (it.line.now, is.said, is.answers)
+answers_in only world number calls None none = none
+
+-- what takes room without its call takes some
+takes_wider : (calls : Bool) (deed : ResolvedLine) → takes_memory false deed ≡ true → takes_memory calls deed ≡ true
+takes_wider calls TooLong takes = takes
+takes_wider calls (Unnamed fault) takes = takes
+takes_wider calls (Follows directive) takes = takes
+takes_wider calls (Says f (Ok Nothing)) takes = takes
+takes_wider calls (Says f (Ok (Log text))) takes = takes
+takes_wider true (Says f (Ok (Call line reply))) takes = refl
+takes_wider false (Says f (Ok (Call line reply))) takes = takes
+takes_wider calls (Says f (Err fault)) takes = takes
+
+-- and so does a call that is told, where that takes some
+told_takes : (only : Option (List ℕ)) (world : World) (number : ℕ) (calls : Bool) (deed : ResolvedLine) (o : Option ObservedCall) → IsAnsweredCall only world number (calls_in deed) o → (is_some o && calls) ≡ true → takes_memory calls deed ≡ true
+told_takes only world number calls deed None none takes = absurd (let e : false ≡ true = takes in cc)
+told_takes only world number calls deed (Some it) is takes = of deed is.said
+  where
+    unsaid : {A : Type 0} → said_by only [] ≡ it.line.now ∷ [] → A
+    unsaid said = absurd (let e : [] ≡ it.line.now ∷ [] = sym (said_none only) ∙ said in cc)
+
+    of : (deed : ResolvedLine) → said_by only (calls_in deed) ≡ it.line.now ∷ [] → takes_memory calls deed ≡ true
+    of TooLong said = unsaid said
+    of (Unnamed fault) said = unsaid said
+    of (Follows directive) said = unsaid said
+    of (Says f (Ok Nothing)) said = unsaid said
+    of (Says f (Ok (Log text))) said = unsaid said
+    of (Says f (Ok (Call line reply))) said = ap (λ b. b || binds_names f) takes
+    of (Says f (Err fault)) said = unsaid said
+
+-- and where rounds begin or end behind a line that takes some too
+or_wider : (a b c : Bool) → (a ≡ true → b ≡ true) → (a || c) ≡ true → (b || c) ≡ true
+or_wider true b c wider takes = ap (λ x. x || c) (wider refl)
+or_wider false true c wider takes = refl
+or_wider false false c wider takes = takes
+
+or_left : (a c : Bool) → a ≡ true → (a || c) ≡ true
+or_left a c is = ap (λ x. x || c) is
+
+module _ {only : Option (List ℕ)} {tells : World → List (List ℕ) → ℕ → List ℕ → List ℕ} {calls : Bool} {seen now_seen : World → List (List ℕ) → Type 0} {old new : World} {stand next : RunPosition} {awaited now_awaited : Awaited}
+    {w w' : Option (List ℕ)} {g g' : List ℕ} (told_failed own_failed : Bool) (deed : ResolvedLine) (o : Option ObservedCall) (heard : IsAnsweredCall only old stand.number (calls_in deed) o) where
+  -- a line was told and judged
+  pub turn_judged : {T : Type 0} {done : T} (r : Result Bool LineRunFault) → ReportsCalls only tells seen now_seen stand.number (calls_in deed) old new (Ok done) w g w' g' → told_failed ≡ false →
+      IfOk r (λ complained. complained ≡ is_complained deed (answer_of o) awaited) → OnOk r (now_awaited ≡ awaited_after stand.number deed awaited) →
+      OnOk r (Arrives stand deed (answer_of o) next) → Fails r own_failed (takes_memory false deed || crosses stand) →
+      RunsLine only tells calls seen now_seen deed (told_failed || own_failed) r (point old stand awaited w g) (point new next now_awaited w' g')
+  turn_judged r hears works judged expects stands fails = record {
+    hears = hears_on r hears;
+    stands = stands_on r stands;
+    judged = judged_on r judged;
+    expects = expects;
+    failing = fails_beside r told_failed own_failed _ _ works fails (or_wider (takes_memory false deed) (takes_memory calls deed) (crosses stand) (takes_wider calls deed));
+  }
+    where
+      stands_on : (r : Result Bool LineRunFault) → OnOk r (Arrives stand deed (answer_of o) next) → OnOk r (next ≡ arrived (stand_after only old (passed stand) deed))
+      stands_on (Ok complained) stands = stands.is ∙ ap arrived (stands_answered only old (passed stand) deed _ (answers_in only old stand.number (calls_in deed) o heard))
+      stands_on (Err fault) stands = tt
+
+      judged_on : (r : Result Bool LineRunFault) → IfOk r (λ complained. complained ≡ is_complained deed (answer_of o) awaited) → IfOk r (IsJudged only old deed awaited)
+      judged_on (Ok complained) judged = (_, answers_in only old stand.number (calls_in deed) o heard, judged)
+      judged_on (Err fault) judged = tt
+
+  -- or it couldn't be told
+  pub turn_untold : {T : Type 0} (fault : LineRunFault) → ReportsCalls {T = T} only tells seen now_seen stand.number (calls_in deed) old new (Err fault) w g w' g' → own_failed ≡ false → Fails {T = T} (Err fault) told_failed (is_some o && calls) →
+      RunsLine only tells calls seen now_seen deed (told_failed || own_failed) (Err fault) (point old stand awaited w g) (point new next now_awaited w' g')
+  turn_untold {T} fault hears works fails = record {
+    hears = hears_fault fault hears;
+    stands = tt;
+    judged = tt;
+    expects = tt;
+    failing = fails_before T Bool fault told_failed own_failed (is_some o && calls) _ works fails (λ takes. or_left _ (crosses stand) (told_takes only old stand.number calls deed o heard takes));
+  }
+
+-- what a line is may be told in other words
+pub plays_as : {only : Option (List ℕ)} {tells : World → List (List ℕ) → ℕ → List ℕ → List ℕ} {calls : Bool} {seen now_seen : World → List (List ℕ) → Type 0} {deed here : ResolvedLine} {failed : Bool} {r : Result Bool LineRunFault} {old new : Point} →
+    deed ≡ here → RunsLine only tells calls seen now_seen deed failed r old new → RunsLine only tells calls seen now_seen here failed r old new
+plays_as {only} {tells} {calls} {seen} {now_seen} {failed = failed} {r = r} {old = old} {new = new} is plays = subst (λ d. RunsLine only tells calls seen now_seen d failed r old new) is plays

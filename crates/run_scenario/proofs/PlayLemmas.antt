@@ -1,0 +1,212 @@
+-- A play from line to line: what was played, and what it leaves at its end.
+use Rattle.std.proofs.Common.{◌≡◌, ◌||◌, ℕ, ◌≤◌, List, [], ◌∷◌, ◌++◌, length, Option, Some, None, IfNone, Result, Ok, Err, OnOk, Bool, true, false, ⊎_elim, refl, sym, ◌∙◌, ap, subst, append-nil}
+use Rattle.std.specs.Result.{result_err}
+use Rattle.own_model.specs.LinesOfName.{said_by}
+use Rattle.own_model.specs.StartList.{Entry}
+use Rattle.own_model.specs.World.{World}
+use Rattle.run_lines.specs.Answered.{after_all}
+use Rattle.run_lines.specs.Faults.{Fails, is_write_fault}
+use Rattle.run_lines.specs.RunOutput.{OutputsUnless}
+use Rattle.run_lines.specs.LineRuns.{EndsAs, EndsFor, Continues, PlaysAll as PlaysLines, HandlesLine}
+use Rattle.run_lines.specs.declared.line_run_fault.LineRunFault.{LineRunFault}
+use Rattle.run_lines.specs.declared.line_run_fault.LineRunFault.TheVariants.{ReadFault, WriteFault, TooManyLines, NoMemory}
+use Rattle.run_lines.proofs.FaultLemmas.{none_of, or_none}
+use Rattle.run_lines.proofs.ToldLemmas.{left_none, said_none}
+use Rattle.run_scenario.specs.Faults.{takes_memory}
+use Rattle.run_scenario.specs.RunCalls.{calls_answered, calls_of_steps, text_of_calls, text_of_steps}
+use Rattle.run_scenario.specs.ScenarioRuns.{ClosesAs, LeadsSteps, RunsAll, RunsLine, Point, Remains, StopsSteps, TakesMemoryFor, counted, most_lines}
+use Rattle.run_scenario.specs.LineSteps.{call_of, deed_of, left_behind, next_stand, stand_behind, turn_of, turns_of}
+use Rattle.run_scenario.specs.Observation.{Watches}
+use Rattle.line_steps.specs.RunPosition.{RunPosition, crosses}
+use Rattle.run_scenario.proofs.PlayedLemmas.{answered_more, answered-one, calls_of_steps-one, left_more, stand_more, told_more, text_of_steps-one, turns_more}
+
+-- ---- one line behind others
+
+-- what a line fails for, once it is counted
+pub counted_fails : (judged : Result Bool LineRunFault) (failed takes : Bool) → Fails judged failed takes → Fails (counted judged) failed true
+counted_fails (Ok complained) failed takes fails = fails
+counted_fails (Err ReadFault) failed takes fails = fails
+counted_fails (Err WriteFault) failed takes fails = fails
+counted_fails (Err TooManyLines) failed takes fails = fails
+counted_fails (Err NoMemory) failed takes fails = (fails.0, refl)
+
+-- what holds behind a line holds where the play goes on
+pub ready_next : {A : Type 0} (judged : Result Bool LineRunFault) → A → OnOk (counted judged) A
+ready_next (Ok complained) a = a
+ready_next (Err fault) a = tt
+
+module _ (only : Option (List ℕ)) (start mid : World) (first stand : RunPosition) (xs : List (List ℕ)) (line : List ℕ)
+    (left : mid ≡ after_all only start (calls_of_steps (turns_of only start first xs))) (stands : stand ≡ stand_behind only start first xs) where
+  abbrev earlier : List (List ℕ)
+  earlier = calls_answered only (turns_of only start first xs)
+
+  world_next : (last : World) → last ≡ left_behind only mid stand line → last ≡ after_all only start (calls_of_steps (turns_of only start first (xs ++ line ∷ [])))
+  world_next last then = left_more only start mid first stand xs (line ∷ []) left stands last (then ∙ ap (after_all only mid) (sym (calls_of_steps-one (turn_of stand line))))
+
+  seen_next : (seen : List (List ℕ) → Type 0) → seen (earlier ++ said_by only (call_of stand line)) → seen (calls_answered only (turns_of only start first (xs ++ line ∷ [])))
+  seen_next seen sees =
+      subst seen (ap (λ calls. earlier ++ calls) (sym (answered-one only (turn_of stand line))) ∙ answered_more only start mid first stand xs (line ∷ []) left stands []) sees
+
+  goes_on : {A : Type 0} (calls : Bool) (seen : List (List ℕ) → Type 0) (last : World) (next : RunPosition) (judged : Result Bool LineRunFault) (write_failed : Bool) → A → last ≡ left_behind only mid stand line →
+      OnOk judged (seen (earlier ++ said_by only (call_of stand line))) → OnOk judged (next ≡ next_stand only mid stand line) → Fails judged write_failed (takes_memory calls (deed_of stand line) || crosses stand) →
+      Continues (λ lines. A × LeadsSteps only start last first next seen lines) (λ fault lines. A × StopsSteps calls only start last first fault lines) (xs ++ line ∷ []) (counted judged)
+  goes_on calls seen last next (Ok complained) write_failed a world sees after fails = (
+    a,
+    record {
+      world_is = world_next last world;
+      stands = after ∙ stand_more only start mid first stand xs (line ∷ []) left stands;
+      sees = seen_next seen sees;
+    },
+  )
+  goes_on calls seen last next (Err ReadFault) write_failed a world sees after fails = absurd fails
+  goes_on calls seen last next (Err WriteFault) write_failed a world sees after fails = (a, record { world_is = world_next last world; takes = tt })
+  goes_on calls seen last next (Err TooManyLines) write_failed a world sees after fails = absurd fails
+  goes_on calls seen last next (Err NoMemory) write_failed a world sees after fails = (
+    a,
+    record {
+      world_is = world_next last world;
+      takes = (turns_of only start first xs, turn_of stand line, sym (turns_more only start mid first stand xs (line ∷ []) left stands), fails.1);
+    },
+  )
+
+  -- what is told of it is told behind what was told of those, and it leads on
+  pub bench_plays : {A : Type 0} (tells : List (List ℕ) → ℕ → List ℕ → List ℕ) (calls : Bool) (seen : List (List ℕ) → Type 0) (last : World) (next : RunPosition) (judged : Result Bool LineRunFault) (write_failed : Bool) (w w' : Option (List ℕ)) (g g' : List ℕ) → A →
+      last ≡ left_behind only mid stand line → OutputsUnless judged w g w' g' (text_of_calls tells earlier stand.number (said_by only (call_of stand line))) →
+      OnOk judged (seen (earlier ++ said_by only (call_of stand line))) → OnOk judged (next ≡ next_stand only mid stand line) → Fails judged write_failed (takes_memory calls (deed_of stand line) || crosses stand) →
+      HandlesLine (λ lines. text_of_steps tells only [] (turns_of only start first lines)) (λ lines. A × LeadsSteps only start last first next seen lines) (λ fault lines. A × StopsSteps calls only start last first fault lines) xs line (counted judged) w g w' g'
+  bench_plays tells calls seen last next judged write_failed w w' g g' a world told sees after fails = record {
+    piece = text_of_steps tells only earlier (turn_of stand line ∷ []);
+    more = sym (told_more only tells start mid first stand [] xs (line ∷ []) left stands);
+    tells = tells_counted _ judged (subst (OutputsUnless judged w g w' g') (text_of_steps-one only tells earlier (turn_of stand line)) told);
+    goes_on = goes_on calls seen last next judged write_failed a world sees after fails;
+  }
+    where
+      tells_counted : (text : List ℕ) (r : Result Bool LineRunFault) → OutputsUnless r w g w' g' text → OutputsUnless (counted r) w g w' g' text
+      tells_counted text (Ok complained) told = told
+      tells_counted text (Err fault) told = told
+
+-- what a watch has seen where it watches
+sees_on : {T E : Type 0} (r : Result T E) (seen : World → List (List ℕ) → Type 0) (start world : World) (calls : List (List ℕ)) → OnOk r (Watches seen start calls world) → OnOk r (seen start calls)
+sees_on (Ok x) seen start world calls watches = watches.sees
+sees_on (Err fault) seen start world calls watches = tt
+
+-- a player that is the one before is the one that began, if that was
+pub remains_on : {N R T : Type 0} {name mid_name now_name : N} {run mid_run now_run : R} {tells mid_tells now_tells : T} {holds mid_holds now_holds : List ℕ} → Remains name mid_name run mid_run tells mid_tells holds mid_holds →
+    Remains mid_name now_name mid_run now_run mid_tells now_tells mid_holds now_holds → Remains name now_name run now_run tells now_tells holds now_holds
+remains_on led stays =
+    record { name_is = stays.name_is ∙ led.name_is; run_is = stays.run_is ∙ led.run_is; tells_is = stays.tells_is ∙ led.tells_is; holds_is = stays.holds_is ∙ led.holds_is }
+
+-- and its machine is the list's still
+pub listed_on : {R : Type 0} (entries_at : R → List Entry) (only : Option (List ℕ)) (calls : List (List ℕ)) {at run : R} (old : World) {new : World} → new ≡ after_all only old calls → old.entries ≡ entries_at at → run ≡ at → new.entries ≡ entries_at run
+listed_on entries_at only calls old leaves listed run_is = ap (λ (w : World). w.entries) leaves ∙ listed ∙ ap entries_at (sym run_is)
+
+-- the same for a player that is the one that began
+pub bench_line : {R A : Type 0} (only_of : R → Option (List ℕ)) (seen_old seen_new : R → World → List (List ℕ) → Type 0) {at run : R} {telling now_telling : World → List (List ℕ) → ℕ → List ℕ → List ℕ} (start : World) {first : RunPosition} (xs : List (List ℕ)) (line : List ℕ)
+    (calls : Bool) (judged : Result Bool LineRunFault) {failed : Bool} {old new : Point} → A → run ≡ at → now_telling ≡ telling → LeadsSteps (only_of at) start old.world first old.stand (seen_old at start) xs →
+    RunsLine (only_of run) now_telling calls (seen_old run) (seen_new run) (deed_of old.stand line) failed judged old new →
+    HandlesLine (λ lines. text_of_steps (telling start) (only_of at) [] (turns_of (only_of at) start first lines)) (λ lines. A × LeadsSteps (only_of at) start new.world first new.stand (seen_new at start) lines)
+    (λ fault lines. A × StopsSteps calls (only_of at) start new.world first fault lines) xs line (counted judged) old.written old.gathered new.written new.gathered
+bench_line only_of seen_old seen_new {at} {run} {telling} {now_telling} start {first} xs line calls judged {failed} {old} {new} kept run_is tells_is led plays =
+    bench_plays (only_of at) start old.world first old.stand xs line led.world_is led.stands (telling start) calls (seen_new at start) new.world new.stand judged failed old.written new.written old.gathered new.gathered kept
+    here.hears.world (here.hears.told start _ watches) (sees_on judged _ _ _ _ (here.hears.sees start _ watches)) here.stands here.failing
+  where
+    here : RunsLine (only_of at) telling calls (seen_old at) (seen_new at) (deed_of old.stand line) failed judged old new
+    here =
+        subst (λ t. RunsLine (only_of at) t calls (seen_old at) (seen_new at) (deed_of old.stand line) failed judged old new) tells_is
+        (subst (λ r. RunsLine (only_of r) now_telling calls (seen_old r) (seen_new r) (deed_of old.stand line) failed judged old new) run_is plays)
+
+    watches : Watches (seen_old at) start (calls_answered (only_of at) (turns_of (only_of at) start first xs)) old.world
+    watches = record { leads = led.world_is; sees = led.sees }
+
+-- at first no line is
+pub leads_none : (only : Option (List ℕ)) (world : World) (first : RunPosition) (seen : List (List ℕ) → Type 0) → seen [] → LeadsSteps only world world first first seen []
+leads_none only world first seen sees = record { world_is = sym (left_none only world); stands = refl; sees = subst seen (sym (said_none only)) sees }
+
+-- ---- the end
+
+module _ (A : Type 0) (calls : Bool) (only : Option (List ℕ)) (old new : World) (first next : RunPosition) (seen : List (List ℕ) → Type 0) where
+  abbrev leads : List (List ℕ) → Type 0
+  leads lines = A × LeadsSteps only old new first next seen lines
+
+  abbrev stops : LineRunFault → List (List ℕ) → Type 0
+  stops fault lines = A × StopsSteps calls only old new first fault lines
+
+  -- what is known however it ends
+  ends_at : (lines : List (List ℕ)) (fault : Option LineRunFault) → EndsAs leads stops fault lines →
+      A × (new ≡ after_all only old (calls_of_steps (turns_of only old first lines))) × TakesMemoryFor calls fault (turns_of only old first lines) × IfNone fault (seen (calls_answered only (turns_of only old first lines)))
+  ends_at lines None ended = (ended.0, ended.1.world_is, tt, ended.1.sees)
+  ends_at lines (Some ReadFault) ended = (ended.0, ended.1.world_is, tt, tt)
+  ends_at lines (Some WriteFault) ended = ⊎_elim (λ on. (on.0, on.1.world_is, tt, tt)) (λ stopped. (stopped.0, stopped.1.world_is, tt, tt)) ended
+  ends_at lines (Some TooManyLines) ended = (ended.0, ended.1.world_is, tt, tt)
+  ends_at lines (Some NoMemory) ended = (ended.0, ended.1.world_is, ended.1.takes, tt)
+
+  module _ (tells : List (List ℕ) → ℕ → List ℕ → List ℕ) {fault : Option LineRunFault} {count : ℕ} {front : List ℕ} {input rest : Option (List ℕ)} {failed : Bool} {w w' : Option (List ℕ)}
+      (plays : PlaysLines (λ lines. text_of_steps tells only [] (turns_of only old first lines)) leads stops fault count most_lines front input rest failed w w') where
+    pub remains : A
+    remains = (ends_at plays.given fault plays.ends_as).0
+
+    pub world_left : new ≡ after_all only old (calls_of_steps (turns_of only old first plays.given))
+    world_left = (ends_at plays.given fault plays.ends_as).1
+
+    -- the turns of the lines were played
+    pub turns_played : RunsAll tells calls seen only first fault count old new front input rest failed w w'
+    turns_played = record {
+      given = plays.given;
+      readable = plays.readable;
+      world = world_left;
+      told = plays.writes;
+      ends = plays.ends;
+      takes = (ends_at plays.given fault plays.ends_as).2;
+      counted = plays.counted;
+      few = plays.few;
+      sees = (ends_at plays.given fault plays.ends_as).3;
+    }
+
+-- all lines were played, and then a write failed
+pub cut_behind : (input rest : Option (List ℕ)) (lines : List (List ℕ)) (failed : Bool) → length lines ≤ most_lines → EndsFor most_lines None lines input rest failed → EndsFor most_lines (Some WriteFault) lines input rest failed
+cut_behind None rest lines failed few ends = tt
+cut_behind (Some text) rest lines failed few ends = (ends.0, ends.1, (few, ends.2.1))
+
+-- what is complained of then comes as a fault, where it can't be told
+pub closes_as : (judged : Result Bool LineRunFault) (a b : Bool) → Fails judged b false → ClosesAs None (result_err (counted judged)) a b
+closes_as (Ok complained) a b fails = fails
+closes_as (Err ReadFault) a b fails = absurd fails
+closes_as (Err WriteFault) a b fails = (refl, fails)
+closes_as (Err TooManyLines) a b fails = absurd fails
+closes_as (Err NoMemory) a b fails = absurd (let e : false ≡ true = fails.1 in cc)
+
+-- complaints can be told where no fault came
+pub complaints_work : (fault : Option LineRunFault) (k a : Bool) → (k || a) ≡ is_write_fault fault → IfNone fault (a ≡ false)
+complaints_work None k a writing = (none_of k a writing).1
+complaints_work (Some fault) k a writing = tt
+
+-- what is complained of then may not be told
+pub plays_closed : {tells : List (List ℕ) → ℕ → List ℕ → List ℕ} {calls : Bool} {seen : List (List ℕ) → Type 0} {only : Option (List ℕ)} {first : RunPosition} {count : ℕ} {old new : World} {front : List ℕ} {input rest : Option (List ℕ)} {failed : Bool} {w w' : Option (List ℕ)}
+    (fault ended : Option LineRunFault) (a b : Bool) → ClosesAs fault ended a b → RunsAll tells calls seen only first fault count old new front input rest failed w w' →
+    RunsAll tells calls seen only first ended count old new front input rest failed w w'
+plays_closed None None a b closes plays = plays
+plays_closed {input = input} {rest = rest} {failed = failed} None (Some fault) a b closes plays =
+    rw closes.0 (record {
+      given = plays.given;
+      readable = plays.readable;
+      world = plays.world;
+      told = record { part = _; left = []; parts = sym (append-nil _); grows = plays.told };
+      ends = cut_behind input rest plays.given failed plays.few plays.ends;
+      takes = tt;
+      counted = tt;
+      few = plays.few;
+      sees = tt;
+    })
+plays_closed (Some fault) ended a b closes plays = rw closes.0 plays
+
+-- whether a write failed
+pub closed_writing : (fault ended : Option LineRunFault) (k a b : Bool) → (k || a) ≡ is_write_fault fault → ClosesAs fault ended a b → (k || b) ≡ is_write_fault ended
+closed_writing None None k a b writing closes = or_none k b (none_of k a writing).0 closes
+closed_writing None (Some fault) k a b writing closes = rw (closes.0, closes.1, (none_of k a writing).0) refl
+closed_writing (Some fault) ended k a b writing closes = rw (closes.0, closes.1) writing
+
+-- whether a read failed, and what was kept
+pub closed_on : (P : Type 0) (fault ended : Option LineRunFault) (a b : Bool) → ClosesAs fault ended a b → IfNone fault P → IfNone ended P
+closed_on P None None a b closes holds = holds
+closed_on P None (Some fault) a b closes holds = tt
+closed_on P (Some fault) ended a b closes holds = rw closes.0 tt

@@ -1,0 +1,163 @@
+-- Turns, one after others: the calls that are answered, and what is told of them.
+use Rattle.std.proofs.Common.{◌≡◌, ℕ, ◌<◌, ◌≤◌, true, false, cond, List, [], ◌∷◌, ◌++◌, length, nat_le, Option, None, arith, refl, sym, ◌∙◌, ap, append_assoc, append-nil}
+use Rattle.std.proofs.lemmas.Bool.Decides.{nat_tests}
+use Rattle.std.proofs.lemmas.Grind.{flat_map-append}
+use Rattle.own_model.specs.LinesOfName.{said_by}
+use Rattle.own_model.specs.Transcript.{longest_line}
+use Rattle.own_model.specs.World.{World, world_running}
+use Rattle.own_model.proofs.RunningLemmas.{Tracks-none, transcript_after-running}
+use Rattle.run_lines.specs.Answered.{after_all, output_of_lines}
+use Rattle.run_lines.proofs.ToldLemmas.{left_by_both, left_none, said_by-append, said_none, running_transcript-append, world_running-append}
+use Rattle.run_scenario.specs.RunCalls.{calls_answered, calls_of_steps, engine_text, text_of_calls, text_of_steps}
+use Rattle.run_scenario.specs.LineSteps.{LineStep, call_of, calls_in, deed_filled, deed_of, left_behind, next_stand, stand_behind, turn_of, turns_of}
+use Rattle.run_scenario.specs.LineSteps.ResolvedLine.{TooLong}
+use Rattle.line_names.specs.Filling.{filled}
+use Rattle.run_scenario.specs.Writes.{transcript_of}
+use Rattle.line_steps.specs.RunPosition.{RunPosition}
+
+-- a line's length is tested
+is_short : (n : ℕ) → n ≤ longest_line → nat_le n longest_line ≡ true
+is_short n short = grind (arith, nat_tests)
+
+is_long : (n : ℕ) → longest_line < n → nat_le n longest_line ≡ false
+is_long n long = grind (arith, nat_tests)
+
+-- what a line is that isn't too long
+pub deed_of-short : (stand : RunPosition) (line : List ℕ) → length line ≤ longest_line → deed_of stand line ≡ deed_filled (filled stand.known line)
+deed_of-short stand line short = ap (λ b. cond b (deed_filled (filled stand.known line)) TooLong) (is_short (length line) short)
+
+-- and one that is
+pub deed_of-long : (stand : RunPosition) (line : List ℕ) → longest_line < length line → deed_of stand line ≡ TooLong
+deed_of-long stand line long = ap (λ b. cond b (deed_filled (filled stand.known line)) TooLong) (is_long (length line) long)
+
+-- the calls of turns, and then of others
+pub calls_of_steps-append : (xs ys : List LineStep) → calls_of_steps (xs ++ ys) ≡ calls_of_steps xs ++ calls_of_steps ys
+calls_of_steps-append xs ys = flat_map-append (λ turn. calls_in turn.deed) xs ys
+
+-- of one
+pub calls_of_steps-one : (turn : LineStep) → calls_of_steps (turn ∷ []) ≡ calls_in turn.deed
+calls_of_steps-one turn = append-nil (calls_in turn.deed)
+
+-- what is told of a call that is answered
+pub told_of_one : (tells : List (List ℕ) → ℕ → List ℕ → List ℕ) (earlier : List (List ℕ)) (number : ℕ) (call : List ℕ) (calls : List (List ℕ)) → calls ≡ call ∷ [] →
+    tells earlier number call ≡ text_of_calls tells earlier number calls
+told_of_one tells earlier number call calls is = rw is (sym (append-nil (tells earlier number call)))
+
+module _ (only : Option (List ℕ)) where
+  -- the calls that are answered of turns, and then of others
+  pub answered-append : (earlier : List (List ℕ)) (xs ys : List LineStep) → (earlier ++ calls_answered only xs) ++ calls_answered only ys ≡ earlier ++ calls_answered only (xs ++ ys)
+  answered-append earlier xs ys =
+      append_assoc earlier (calls_answered only xs) (calls_answered only ys)
+      ∙ ap (λ calls. earlier ++ calls) (sym (ap (said_by only) (calls_of_steps-append xs ys) ∙ said_by-append only (calls_of_steps xs) (calls_of_steps ys)))
+
+  -- of one
+  pub answered-one : (turn : LineStep) → calls_answered only (turn ∷ []) ≡ said_by only (calls_in turn.deed)
+  answered-one turn = ap (said_by only) (calls_of_steps-one turn)
+
+  -- the world that both leave
+  left_by_turns : (world mid last : World) (xs ys : List LineStep) → mid ≡ after_all only world (calls_of_steps xs) → last ≡ after_all only mid (calls_of_steps ys) →
+      last ≡ after_all only world (calls_of_steps (xs ++ ys))
+  left_by_turns world mid last xs ys first then =
+      left_by_both only world mid last (calls_of_steps xs) (calls_of_steps ys) first then ∙ ap (after_all only world) (sym (calls_of_steps-append xs ys))
+
+  -- ---- the turns of lines, and then of others
+
+  left_on : (world : World) (stand : RunPosition) (x : List ℕ) (turns : List LineStep) →
+      after_all only (left_behind only world stand x) (calls_of_steps turns) ≡ after_all only world (calls_of_steps (turn_of stand x ∷ turns))
+  left_on world stand x turns = left_by_both only world (left_behind only world stand x) _ (call_of stand x) (calls_of_steps turns) refl refl
+
+  turns_of-append : (world : World) (stand : RunPosition) (xs ys : List (List ℕ)) →
+      turns_of only world stand (xs ++ ys)
+      ≡ turns_of only world stand xs ++ turns_of only (after_all only world (calls_of_steps (turns_of only world stand xs))) (stand_behind only world stand xs) ys
+  turns_of-append world stand [] ys = ap (λ w. turns_of only w stand ys) (sym (left_none only world))
+  turns_of-append world stand (x ∷ xs) ys =
+      let left = left_behind only world stand x in
+      let next = next_stand only world stand x in
+      ap (λ turns. turn_of stand x ∷ turns)
+      (turns_of-append left next xs ys
+      ∙ ap (λ w. turns_of only left next xs ++ turns_of only w (stand_behind only left next xs) ys) (left_on world stand x (turns_of only left next xs)))
+
+  stand_behind-append : (world : World) (stand : RunPosition) (xs ys : List (List ℕ)) →
+      stand_behind only world stand (xs ++ ys) ≡ stand_behind only (after_all only world (calls_of_steps (turns_of only world stand xs))) (stand_behind only world stand xs) ys
+  stand_behind-append world stand [] ys = ap (λ w. stand_behind only w stand ys) (sym (left_none only world))
+  stand_behind-append world stand (x ∷ xs) ys =
+      let left = left_behind only world stand x in
+      let next = next_stand only world stand x in
+      stand_behind-append left next xs ys
+      ∙ ap (λ w. stand_behind only w (stand_behind only left next xs) ys) (left_on world stand x (turns_of only left next xs))
+
+  module _ (world mid : World) (stand next : RunPosition) (xs ys : List (List ℕ)) (left : mid ≡ after_all only world (calls_of_steps (turns_of only world stand xs)))
+      (stands : next ≡ stand_behind only world stand xs) where
+    pub turns_more : turns_of only world stand xs ++ turns_of only mid next ys ≡ turns_of only world stand (xs ++ ys)
+    turns_more = (λ i. turns_of only world stand xs ++ turns_of only (left i) (stands i) ys) ∙ sym (turns_of-append world stand xs ys)
+
+    pub stand_more : stand_behind only mid next ys ≡ stand_behind only world stand (xs ++ ys)
+    stand_more = (λ i. stand_behind only (left i) (stands i) ys) ∙ sym (stand_behind-append world stand xs ys)
+
+    pub left_more : (last : World) → last ≡ after_all only mid (calls_of_steps (turns_of only mid next ys)) → last ≡ after_all only world (calls_of_steps (turns_of only world stand (xs ++ ys)))
+    left_more last then =
+        left_by_turns world mid last (turns_of only world stand xs) (turns_of only mid next ys) left then ∙ ap (λ turns. after_all only world (calls_of_steps turns)) turns_more
+
+    pub answered_more : (earlier : List (List ℕ)) →
+        (earlier ++ calls_answered only (turns_of only world stand xs)) ++ calls_answered only (turns_of only mid next ys) ≡ earlier ++ calls_answered only (turns_of only world stand (xs ++ ys))
+    answered_more earlier =
+        answered-append earlier (turns_of only world stand xs) (turns_of only mid next ys) ∙ ap (λ turns. earlier ++ calls_answered only turns) turns_more
+
+  module _ (tells : List (List ℕ) → ℕ → List ℕ → List ℕ) where
+    -- what is told of both
+    text_of_steps-append : (earlier : List (List ℕ)) (xs ys : List LineStep) →
+        text_of_steps tells only earlier (xs ++ ys) ≡ text_of_steps tells only earlier xs ++ text_of_steps tells only (earlier ++ calls_answered only xs) ys
+    text_of_steps-append earlier [] ys =
+        let none : earlier ++ calls_answered only [] ≡ earlier = ap (λ calls. earlier ++ calls) (said_none only) ∙ append-nil earlier in
+        rw none refl
+    text_of_steps-append earlier (x ∷ xs) ys =
+        let next = earlier ++ said_by only (calls_in x.deed) in
+        let told = text_of_calls tells earlier x.number (said_by only (calls_in x.deed)) in
+        let calls : next ++ calls_answered only xs ≡ earlier ++ calls_answered only (x ∷ xs) =
+        ap (λ c. (earlier ++ c) ++ calls_answered only xs) (sym (answered-one x)) ∙ answered-append earlier (x ∷ []) xs in
+        ap (λ text. told ++ text) (text_of_steps-append next xs ys)
+        ∙ sym (append_assoc told (text_of_steps tells only next xs) (text_of_steps tells only (next ++ calls_answered only xs) ys))
+        ∙ ap (λ c. text_of_steps tells only earlier (x ∷ xs) ++ text_of_steps tells only c ys) calls
+
+    pub told_more : (world mid : World) (stand next : RunPosition) (earlier xs ys : List (List ℕ)) → mid ≡ after_all only world (calls_of_steps (turns_of only world stand xs)) →
+        next ≡ stand_behind only world stand xs →
+        text_of_steps tells only earlier (turns_of only world stand xs) ++ text_of_steps tells only (earlier ++ calls_answered only (turns_of only world stand xs)) (turns_of only mid next ys)
+        ≡ text_of_steps tells only earlier (turns_of only world stand (xs ++ ys))
+    told_more world mid stand next earlier xs ys left stands =
+        sym (text_of_steps-append earlier (turns_of only world stand xs) (turns_of only mid next ys))
+        ∙ ap (text_of_steps tells only earlier) (turns_more world mid stand next xs ys left stands)
+
+    -- of one
+    pub text_of_steps-one : (earlier : List (List ℕ)) (turn : LineStep) →
+        text_of_calls tells earlier turn.number (said_by only (calls_in turn.deed)) ≡ text_of_steps tells only earlier (turn ∷ [])
+    text_of_steps-one earlier turn = sym (append-nil (text_of_calls tells earlier turn.number (said_by only (calls_in turn.deed))))
+
+-- ---- the engine's transcript
+
+told_calls_as_engine : (start : World) (earlier : List (List ℕ)) (number : ℕ) (calls : List (List ℕ)) →
+    text_of_calls (engine_text start) earlier number calls ≡ output_of_lines None (world_running start earlier) calls
+told_calls_as_engine start earlier number [] = refl
+told_calls_as_engine start earlier number (call ∷ calls) =
+    let told = output_of_lines None (world_running start earlier) (call ∷ []) in
+    ap (λ text. told ++ text) (told_calls_as_engine start (earlier ++ call ∷ []) number calls)
+    ∙ ap (λ world. told ++ output_of_lines None world calls) (sym (world_running-append start earlier (call ∷ [])))
+    ∙ sym (running_transcript-append (world_running start earlier) (call ∷ []) calls)
+
+-- is what is told of all turns' calls
+told_turns_as_engine : (only : Option (List ℕ)) (start : World) (earlier : List (List ℕ)) (turns : List LineStep) →
+    text_of_steps (engine_text start) only earlier turns ≡ output_of_lines None (world_running start earlier) (calls_answered only turns)
+told_turns_as_engine only start earlier [] = sym (ap (output_of_lines None (world_running start earlier)) (said_none only))
+told_turns_as_engine only start earlier (turn ∷ turns) =
+    let here = said_by only (calls_in turn.deed) in
+    let world = world_running start earlier in
+    ap (λ text. text ++ text_of_steps (engine_text start) only (earlier ++ here) turns) (told_calls_as_engine start earlier turn.number here)
+    ∙ ap (λ text. output_of_lines None world here ++ text) (told_turns_as_engine only start (earlier ++ here) turns)
+    ∙ ap (λ w. output_of_lines None world here ++ output_of_lines None w (calls_answered only turns)) (sym (world_running-append start earlier here))
+    ∙ sym (running_transcript-append world here (calls_answered only turns))
+    ∙ ap (output_of_lines None world) (sym (said_by-append only (calls_in turn.deed) (calls_of_steps turns)))
+
+-- which is the transcript of the calls
+pub told_as_engine : (only : Option (List ℕ)) (start : World) (turns : List LineStep) → text_of_steps (engine_text start) only [] turns ≡ transcript_of only start turns
+told_as_engine only start turns =
+    told_turns_as_engine only start [] turns
+    ∙ sym (transcript_after-running start.entries start.states start.states [] (calls_answered only turns) (Tracks-none start.entries start.states))

@@ -1,0 +1,24 @@
+-- A line is played where its lines before have led.
+use Rattle.std.specs.Option.{option_copied}
+use Rattle.own_model.specs.Listed.{start_list_of}
+use Rattle.own_model.specs.StartList.{entries_of}
+use Rattle.run_scenario.specs.LineSteps.{calls_in, deed_of}
+use Rattle.run_scenario.proofs.PlayLemmas.{bench_line, counted_fails, listed_on, ready_next, remains_on}
+use Rattle.run_scenario.proofs.scenario_runner.ScenarioRunnerLineHandler.play.Goals as goal
+
+pub returns-clause-played : goal.returns-clause-played
+returns-clause-played g c = λ first start earlier led.
+    rw c.count.ensures (bench_line (λ run. option_copied run.only) (λ run. g.W.CallObserver.sees c.args.self.now.watch.now run.list.now) (λ run. g.W.CallObserver.sees c.run_line-judged.new.self.watch.now run.list.now)
+    start earlier c.args.line.now g.W.CallObserver.takes c.run_line-judged.result (remains_on led.0 c.run_line-judged.ensures.remains) led.0.run_is led.0.tells_is led.1 c.run_line-judged.ensures.plays)
+
+pub returns-clause-failing : goal.returns-clause-failing
+returns-clause-failing g c = rw c.count.ensures (counted_fails c.run_line-judged.result _ _ c.run_line-judged.ensures.plays.failing)
+
+pub returns-clause-ready : goal.returns-clause-ready
+returns-clause-ready g c = λ more ready.
+    let now = c.args.self.now in
+    let only = option_copied now.run.now.only in
+    let deed = deed_of now.notes.now.stand c.args.line.now in
+    rw c.count.ensures (ready_next c.run_line-judged.result
+    (listed_on (λ run. entries_of (start_list_of run.list.now)) only (calls_in deed) c.args.core.now c.run_line-judged.ensures.plays.hears.world ready
+    c.run_line-judged.ensures.remains.run_is))

@@ -1,0 +1,13 @@
+pub mod Cells
+pub mod ResolvedLines
+pub mod ScenarioEnd
+pub mod Faults
+pub mod CallAnswers
+pub mod Judging
+pub mod RunCalls
+pub mod ScenarioRuns
+pub mod Said
+pub mod Texts
+pub mod LineSteps
+pub mod Observation
+pub mod Writes

@@ -1,0 +1,105 @@
+-- How far a run of the friendly form is, and how it ends.
+use Rattle.std.specs.Prelude.{◌≡◌, ℕ, ◌≤◌, ◌||◌, Bool, true, false, ⊤, List, [], ◌∷◌, ◌++◌, length, Option, Some, None, IfSome, IfNone, IfOk, OnOk, Result, Ok, Err}
+use Rattle.line_steps.specs.RunPosition.{RunPosition, arrived, crosses, passed}
+use Rattle.own_model.specs.World.{World}
+use Rattle.run_lines.specs.Answered.{after_all}
+use Rattle.run_lines.specs.Faults.{Fails}
+use Rattle.run_lines.specs.Lines.{AreReadable}
+use Rattle.run_lines.specs.LineRuns.{EndsFor, WritesOutput}
+use Rattle.run_lines.specs.declared.line_run_fault.LineRunFault.{LineRunFault}
+use Rattle.run_lines.specs.declared.line_run_fault.LineRunFault.TheVariants.{ReadFault, WriteFault, TooManyLines, NoMemory}
+use Rattle.run_scenario.specs.Faults.{takes_memory}
+use Rattle.run_scenario.specs.CallAnswers.{ReportsCalls}
+use Rattle.run_scenario.specs.Judging.{Awaited, IsJudged, awaited_after}
+use Rattle.run_scenario.specs.RunCalls.{calls_answered, calls_of_steps, text_of_steps}
+use Rattle.run_scenario.specs.LineSteps.{ResolvedLine, LineStep, calls_in, stand_after, stand_behind, turns_of}
+
+-- a line handler is the one that began: its sink of errors, its run, the text that it writes and what it was made with
+pub record Remains {N R T : Type 0} (name now_name : N) (run now_run : R) (tells now_tells : T) (holds now_holds : List ℕ)
+    : Type 0 where
+  pub name_is : now_name ≡ name
+  pub run_is : now_run ≡ run
+  pub tells_is : now_tells ≡ tells
+  pub holds_is : now_holds ≡ holds
+
+-- lines lead from one world to another, from a first position to this one, and their calls were observed
+pub record LeadsSteps (only : Option (List ℕ)) (start world : World) (first stand : RunPosition) (seen : List (List ℕ) → Type 0)
+    (lines : List (List ℕ)) : Type 0 where
+  pub world_is : world ≡ after_all only start (calls_of_steps (turns_of only start first lines))
+  pub stands : stand ≡ stand_behind only start first lines
+  pub sees : seen (calls_answered only (turns_of only start first lines))
+
+-- if the host was out of memory, the last of these lines took some
+abbrev pub TakesMemory : Bool → LineRunFault → List LineStep → Type 0
+TakesMemory calls ReadFault turns = ⊤
+TakesMemory calls WriteFault turns = ⊤
+TakesMemory calls TooManyLines turns = ⊤
+TakesMemory calls NoMemory turns =
+    (front : List LineStep) × (last : LineStep) × (turns ≡ front ++ last ∷ []) × ((takes_memory calls last.deed || last.crosses) ≡ true)
+
+-- lines lead from one world to another, and the last of them had a fault
+pub record StopsSteps (calls : Bool) (only : Option (List ℕ)) (start world : World) (first : RunPosition) (fault : LineRunFault)
+    (lines : List (List ℕ)) : Type 0 where
+  pub world_is : world ≡ after_all only start (calls_of_steps (turns_of only start first lines))
+  pub takes : TakesMemory calls fault (turns_of only start first lines)
+
+-- an error of a line is counted, unless there is a fault
+abbrev pub counted : Result Bool LineRunFault → Result (Unit {0}) LineRunFault
+counted (Ok complained) = Ok tt
+counted (Err fault) = Err fault
+
+-- after a run without a fault its last error may fail to be written; a run with a fault stays as it is
+abbrev pub ClosesAs : Option LineRunFault → Option LineRunFault → Bool → Bool → Type 0
+ClosesAs None None failed now_failed = now_failed ≡ false
+ClosesAs None (Some fault) failed now_failed = (fault ≡ WriteFault) × (now_failed ≡ true)
+ClosesAs (Some fault) ended failed now_failed = (ended ≡ Some fault) × (now_failed ≡ failed)
+
+-- ---- one line
+
+-- a run at a line: its world and its position, the log lines that are expected, and the text that was written
+pub record Point : Type 0 where
+  pub world : World
+  pub stand : RunPosition
+  pub awaited : Awaited
+  pub written : Option (List ℕ)
+  pub gathered : List ℕ
+
+abbrev pub point : World → RunPosition → Awaited → Option (List ℕ) → List ℕ → Point
+point world stand awaited written gathered =
+    record { world = world; stand = stand; awaited = awaited; written = written; gathered = gathered }
+
+-- a line is run by what it is: its call is answered and reported, the position moves on, and the line is checked, unless there is
+-- a fault, which it may have
+pub record RunsLine (only : Option (List ℕ)) (tells : World → List (List ℕ) → ℕ → List ℕ → List ℕ) (calls : Bool)
+    (seen now_seen : World → List (List ℕ) → Type 0) (deed : ResolvedLine) (failed : Bool) (result : Result Bool LineRunFault)
+    (old new : Point) : Type 0 where
+  pub hears : ReportsCalls only tells seen now_seen old.stand.number (calls_in deed) old.world new.world result old.written old.gathered
+      new.written new.gathered
+  pub stands : OnOk result (new.stand ≡ arrived (stand_after only old.world (passed old.stand) deed))
+  pub judged : IfOk result (IsJudged only old.world deed old.awaited)
+  pub expects : OnOk result (new.awaited ≡ awaited_after old.stand.number deed old.awaited)
+  pub failing : Fails result failed (takes_memory calls deed || crosses old.stand)
+
+-- ---- the whole run
+
+-- the maximum number of lines of a scenario that are run
+abbrev pub most_lines : ℕ
+most_lines = 1000000
+
+-- if the host was out of memory, the last line took some
+abbrev pub TakesMemoryFor : Bool → Option LineRunFault → List LineStep → Type 0
+TakesMemoryFor calls fault turns = IfSome fault (λ f. TakesMemory calls f turns)
+
+-- a scenario is run from its first position to its end or to a fault, after a text
+pub record RunsAll (tells : List (List ℕ) → ℕ → List ℕ → List ℕ) (calls : Bool) (seen : List (List ℕ) → Type 0)
+    (only : Option (List ℕ)) (first : RunPosition) (fault : Option LineRunFault) (count : ℕ) (old new : World) (front : List ℕ)
+    (input rest : Option (List ℕ)) (failed : Bool) (written now_written : Option (List ℕ)) : Type 0 where
+  pub given : List (List ℕ)
+  pub readable : AreReadable given
+  pub world : new ≡ after_all only old (calls_of_steps (turns_of only old first given))
+  pub told : WritesOutput fault written now_written (front ++ text_of_steps tells only [] (turns_of only old first given))
+  pub ends : EndsFor most_lines fault given input rest failed
+  pub takes : TakesMemoryFor calls fault (turns_of only old first given)
+  pub counted : IfNone fault (count ≡ length given)
+  pub few : length given ≤ most_lines
+  pub sees : IfNone fault (seen (calls_answered only (turns_of only old first given)))

@@ -1,0 +1,89 @@
+-- The text that a command writes for a scenario: the text for the lines that were run, and the text after it.
+use Rattle.std.specs.Prelude.{◌≡◌, ◌⊎◌, ℕ, Bool, true, false, List, [], ◌++◌, length, codes, decimal, Option, Some, None, IfSome, IfNone, Result, Ok, Err}
+use Rattle.std.specs.Io.KnownBytes.{Appends}
+use Rattle.std.specs.Option.{option_copied}
+use Rattle.own_model.specs.Listed.{Listed}
+use Rattle.own_model.specs.Text.{lines_of}
+use Rattle.own_model.specs.Transcript.{transcript_after}
+use Rattle.own_model.specs.World.{World}
+use Rattle.run_lines.specs.Answered.{after_all}
+use Rattle.run_lines.specs.Lines.{AreReadable}
+use Rattle.run_lines.specs.Machine.{IsMachine, accounts_for, world_of}
+use Rattle.run_lines.specs.Causes.{AppendsPart}
+use Rattle.run_scenario.specs.Faults.{unplayed}
+use Rattle.run_scenario.specs.RunCalls.{calls_answered}
+use Rattle.run_scenario.specs.ScenarioRuns.{TakesMemoryFor, most_lines}
+use Rattle.run_lines.specs.LineRuns.{EndsFor}
+use Rattle.run_scenario.specs.LineSteps.{LineStep, turns_of}
+use Rattle.run_scenario.specs.declared.scenario_end.ScenarioEnd.{ScenarioEnd}
+use Rattle.run_lines.specs.declared.line_run_fault.LineRunFault.{LineRunFault}
+use Rattle.run_lines.specs.declared.line_run_fault.LineRunFault.TheVariants.{ReadFault, WriteFault, TooManyLines, NoMemory}
+use Rattle.line_steps.specs.RunPosition.{RunPosition}
+
+-- all lines of a text
+abbrev pub AreAll : List (List ℕ) → List ℕ → Type 0
+AreAll lines text = lines_of text ≡ lines
+
+-- all text for these lines is written, and the text after it; if a write failed a part of the text for the lines, or of both if
+-- these are all lines; if the host was out of memory a part of the text for the lines; and at another fault all of it
+abbrev pub WritesBoth : Option LineRunFault → Option (List ℕ) → List (List ℕ) → Option (List ℕ) → Option (List ℕ) →
+    List ℕ → List ℕ → Type 0
+WritesBoth None input lines old new told behind = Appends old new (told ++ behind)
+WritesBoth (Some ReadFault) input lines old new told behind = Appends old new told
+WritesBoth (Some WriteFault) input lines old new told behind =
+    AppendsPart old new told ⊎ (IfSome input (AreAll lines) × AppendsPart old new (told ++ behind))
+WritesBoth (Some TooManyLines) input lines old new told behind = Appends old new told
+WritesBoth (Some NoMemory) input lines old new told behind = AppendsPart old new told
+
+-- a scenario was run, from its first line on, to its end or to a fault that has a cause, and this was written: the text for its
+-- lines, and the text after it, by the steps of the lines. It is given whether the text for calls takes memory of the host
+pub record IsRunFrom (turns : List (List ℕ) → List LineStep) (told behind : List LineStep → List ℕ) (calls : Bool) (ending : ScenarioEnd)
+    (input rest : Option (List ℕ)) (failed : Bool) (written now_written : Option (List ℕ)) : Type 0 where
+  pub given : List (List ℕ)
+  pub readable : AreReadable given
+  pub ends : EndsFor most_lines ending.fault given input rest failed
+  pub takes : TakesMemoryFor calls ending.fault (turns given)
+  pub counted : IfNone ending.fault (ending.lines ≡ length given)
+  pub writes : WritesBoth ending.fault input given written now_written (told (turns given)) (behind (turns given))
+
+-- the same on the machine of a text
+pub record IsRunOn (text : List ℕ) (turns : Listed → List (List ℕ) → List LineStep) (told behind : Listed → List LineStep → List ℕ)
+    (calls : Bool) (ending : ScenarioEnd) (input rest : Option (List ℕ)) (failed : Bool) (written now_written : Option (List ℕ))
+    : Type 0 where
+  pub listed : Listed
+  pub machine : IsMachine text listed
+  pub played :
+      IsRunFrom (turns listed) (told listed) (behind listed) calls ending input rest failed written now_written
+
+-- on the machine of a text nothing was run, since a device had failed before
+pub record IsNotRun (text : List ℕ) (ended : ScenarioEnd) (fault : LineRunFault) : Type 0 where
+  pub listed : Listed
+  pub machine : IsMachine text listed
+  pub ending : ended ≡ unplayed fault
+
+-- after a run without a fault this is written, or a part of it if a write failed; after another run nothing
+abbrev pub WritesAfter : Option LineRunFault → Option LineRunFault → Option (List ℕ) → Option (List ℕ) → List ℕ → Type 0
+WritesAfter None None old new behind = Appends old new behind
+WritesAfter None (Some fault) old new behind = (fault ≡ WriteFault) × AppendsPart old new behind
+WritesAfter (Some fault) ended old new behind = (ended ≡ Some fault) × (new ≡ old)
+
+pub record Closes (played ended : ScenarioEnd) (old new : Option (List ℕ)) (behind : List ℕ) : Type 0 where
+  pub lines : ended.lines ≡ played.lines
+  pub writes : WritesAfter played.fault ended.fault old new behind
+
+-- all of a text is written, or a part of it if a write failed
+abbrev pub IsWrittenBy : {T : Type 0} → Result T LineRunFault → Option (List ℕ) → Option (List ℕ) → List ℕ → Type 0
+IsWrittenBy (Ok done) old new text = Appends old new text
+IsWrittenBy (Err fault) old new text = (fault ≡ WriteFault) × AppendsPart old new text
+
+-- the steps of a scenario's lines on a machine, from its first position on
+abbrev pub turns_on : Option (List ℕ) → RunPosition → Listed → List (List ℕ) → List LineStep
+turns_on only first listed lines = turns_of only (world_of listed) first lines
+
+-- no text
+abbrev pub nothing_told : Listed → List LineStep → List ℕ
+nothing_told listed turns = []
+
+-- the transcript of the calls of lines in their steps, of all or of those of one name
+abbrev pub transcript_of : Option (List ℕ) → World → List LineStep → List ℕ
+transcript_of only world turns = transcript_after world.entries world.states [] (calls_answered only turns)

@@ -1,0 +1,39 @@
+//! Runs a scenario in the friendly form: each line is resolved, its call is answered and shown to an observer, and the reply is
+//! compared with the expected one.
+//!
+//! `view_runs` and `view_accounts` have the observers. For example `play(&mut bench, &mut core, b"", reader, writer)` runs the lines
+//! from a reader, and returns how the run ended.
+#![tactic(auto)]
+
+mod booted_scenario;
+mod call_observer;
+mod complaint;
+mod csv_row;
+mod expected_log;
+mod line_step;
+mod near_names;
+mod printable_hex;
+mod reply_checker;
+mod resolved_line;
+mod running;
+mod scenario_end;
+mod scenario_input;
+mod scenario_runner;
+mod scenario_state;
+mod source_line;
+mod text;
+mod theorems;
+
+pub use booted_scenario::BootedScenario;
+pub use call_observer::{CallObserver, ObservedCall};
+pub use csv_row::{add_account, add_cell, put_cell};
+pub use line_step::CallBuffers;
+pub use near_names::near_component;
+pub use printable_hex::PrintableHex;
+pub use running::play;
+pub use scenario_end::{ScenarioEnd, exit_status};
+pub use scenario_input::ScenarioInput;
+pub use scenario_runner::ScenarioRunner;
+pub use scenario_state::ScenarioState;
+pub use text::{add, add_number, caller_of, put_number, put_three, said_in};
+pub use theorems::bare_lines_stay;

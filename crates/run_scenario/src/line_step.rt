@@ -1,0 +1,243 @@
+//! The step of a line: the line is read, and its call is answered and reported.
+ghost use Rattle.std.specs.Prelude.{◌≡◌, ◌≤◌, ◌∷◌, ◌&&◌, [], ℕ, List, Option, IfSome, false, is_some, length};
+ghost use Rattle.std.specs.Option.{option_copied};
+ghost use Rattle.own_model.specs.Listed.{start_list_of};
+ghost use Rattle.own_model.specs.StartList.{entries_of};
+ghost use Rattle.own_model.specs.World.{World};
+ghost use Rattle.line_friendly.specs.Friendly.{said_of};
+ghost use Rattle.run_lines.specs.Answered.{after_all};
+ghost use Rattle.run_lines.specs.Faults.{Fails};
+ghost use Rattle.line_grammar.specs.Read.{IsReadAs, Reads};
+ghost use Rattle.line_names.specs.Views.{filled_view};
+ghost use Rattle.run_scenario.specs.CallAnswers.{ReportsCalls, IsAnsweredCall, TakesStep, answer_of};
+ghost use Rattle.run_scenario.specs.LineSteps.{deed_of};
+ghost use Rattle.run_scenario.specs.LineSteps.ResolvedLine.{Says};
+
+use crate::call_observer::{CallObserver, ObservedCall};
+use crate::resolved_line::{LineContent, ResolvedLine};
+use core_calls::Reply;
+use line_friendly::{FriendlyLine, LineBuffer, read_friendly};
+use line_names::{FilledLine, directive_of, fill};
+use line_steps::RunPosition;
+use list_parser::StartList;
+use pd_core::{Core, Router};
+use run_lines::{
+    LONGEST_LINE, LineAnswer, LineDispatcher, LineRunFault, NamedCall, Sink, WriteBuffer,
+};
+use std::alloc::Global;
+use trade_base::NoMemory;
+
+/// A line after substitution, and its answered call, if it has one that was answered.
+#[derive(Drop)]
+pub struct LineStep<'a> {
+    pub deed: ResolvedLine<'a>,
+    pub heard: Option<ObservedCall<'a>>,
+}
+
+/// Buffers for a line that is filled and parsed, and for the reply to its call.
+#[derive(Drop)]
+pub struct CallBuffers {
+    /// The line with the values of its names.
+    filled: LineBuffer,
+    /// The engine's line.
+    engine: LineBuffer,
+    /// The reply to the call.
+    reply: Reply,
+}
+
+impl CallBuffers {
+    /// Returns empty buffers. The error is that the host is out of memory.
+    pub fn new(alloc: Global) -> Result<CallBuffers, NoMemory> {
+        Ok(CallBuffers {
+            filled: LineBuffer::new(),
+            engine: LineBuffer::new(),
+            reply: Reply::boot(alloc)?,
+        })
+    }
+}
+
+/// Reads a line that isn't too long at a position of the run, and answers its call, if the call is to be answered. The line is
+/// filled with the values of its names, and then it is a directive or parsed.
+pub fn take_turn<'a, 'b, R: Router + Drop>(
+    run: &LineDispatcher<'a>,
+    core: &mut Core<R>,
+    stand: &RunPosition<'_>,
+    line: &'b [u8],
+    rooms: &'b mut CallBuffers,
+) -> LineStep<'b>
+where
+    'a: 'b,
+    requires short { length line.now ≤ LONGEST_LINE }
+    requires listed { core.old.entries ≡ entries_of (start_list_of run.now.list.now) }
+    ensures { TakesStep (option_copied run.now.only) stand.now.number
+        (deed_of stand.now line.now) core.old core.new result }
+{
+    match fill(line, stand.known(), &mut rooms.filled) {
+        Ok(filled) => match directive_of(filled.line) {
+            Some(directive) => LineStep {
+                deed: ResolvedLine::Follows(directive),
+                heard: None,
+            },
+            None => answer_filled(
+                run,
+                core,
+                stand,
+                filled,
+                &mut rooms.engine,
+                &mut rooms.reply,
+            ),
+        },
+        Err(fault) => LineStep {
+            deed: ResolvedLine::Unnamed(fault),
+            heard: None,
+        },
+    }
+}
+
+// Does the same for a filled line that is no directive.
+fn answer_filled<'a, 'b, R: Router + Drop>(
+    run: &LineDispatcher<'a>,
+    core: &mut Core<R>,
+    stand: &RunPosition<'_>,
+    filled: FilledLine<'b>,
+    room: &'b mut LineBuffer,
+    reply: &'b mut Reply,
+) -> LineStep<'b>
+where
+    'a: 'b,
+    requires listed { core.old.entries ≡ entries_of (start_list_of run.now.list.now) }
+    ensures { TakesStep (option_copied run.now.only) stand.now.number
+        (Says (filled_view filled.entry) (said_of filled.entry.line.now))
+        core.old core.new result }
+{
+    match read_friendly(filled.line, room) {
+        Ok(FriendlyLine::Nothing) => LineStep {
+            deed: ResolvedLine::Says {
+                filled,
+                said: Ok(LineContent::Nothing),
+            },
+            heard: None,
+        },
+        Ok(FriendlyLine::Log(text)) => LineStep {
+            deed: ResolvedLine::Says {
+                filled,
+                said: Ok(LineContent::Log(text)),
+            },
+            heard: None,
+        },
+        Ok(
+            FriendlyLine::Call {
+                line,
+                call,
+                reply: expected,
+            },
+        ) => {
+            let heard = hear(run, core, stand, line, call, reply);
+            LineStep {
+                deed: ResolvedLine::Says {
+                    filled,
+                    said: Ok(LineContent::Call {
+                        line,
+                        reply: expected,
+                    }),
+                },
+                heard,
+            }
+        }
+        Err(fault) => LineStep {
+            deed: ResolvedLine::Says {
+                filled,
+                said: Err(fault),
+            },
+            heard: None,
+        },
+    }
+}
+
+/// Answers a call in a plain line at a position of the run, or nothing if the call is skipped.
+pub fn answer_plain<'a, 'b, R: Router + Drop>(
+    run: &LineDispatcher<'a>,
+    core: &mut Core<R>,
+    stand: &RunPosition<'_>,
+    line: &'b [u8],
+    call: NamedCall<'b>,
+    rooms: &'b mut CallBuffers,
+) -> Option<ObservedCall<'b>>
+where
+    'a: 'b,
+    requires listed { core.old.entries ≡ entries_of (start_list_of run.now.list.now) }
+    requires read { Reads line.now call }
+    ensures world { core.new ≡ after_all (option_copied run.now.only) core.old (line.now ∷ []) }
+    ensures heard { IsAnsweredCall (option_copied run.now.only) core.old stand.now.number
+        (line.now ∷ []) result }
+    ensures read { IfSome result (λ it. IsReadAs it.line.now it.call) }
+{
+    hear(run, core, stand, line, Some(call), &mut rooms.reply)
+}
+
+// Answers the engine's line of a line at a position of the run. `call` is what was parsed of it.
+fn hear<'a, 'b, R: Router + Drop>(
+    run: &LineDispatcher<'a>,
+    core: &mut Core<R>,
+    stand: &RunPosition<'_>,
+    line: &'b [u8],
+    call: Option<NamedCall<'b>>,
+    reply: &'b mut Reply,
+) -> Option<ObservedCall<'b>>
+where
+    'a: 'b,
+    requires listed { core.old.entries ≡ entries_of (start_list_of run.now.list.now) }
+    requires read { IsReadAs line.now call }
+    ensures world { core.new ≡ after_all (option_copied run.now.only) core.old (line.now ∷ []) }
+    ensures heard { IsAnsweredCall (option_copied run.now.only) core.old stand.now.number
+        (line.now ∷ []) result }
+    ensures read { IfSome result (λ it. IsReadAs it.line.now it.call) }
+{
+    let number = stand.number();
+    match run.answer_read(core, line, call, reply) {
+        Some(answer) => Some(ObservedCall {
+            number,
+            line,
+            call,
+            answer,
+        }),
+        None => None,
+    }
+}
+
+/// Returns the answer to a call, if the call was answered.
+pub fn answer_in<'a>(heard: &Option<ObservedCall<'a>>) -> Option<LineAnswer<'a>>
+    ensures { result ≡ answer_of heard.now }
+{
+    match heard {
+        Some(heard) => Some(heard.answer),
+        None => None,
+    }
+}
+
+/// Reports a call to an observer, if the call was answered. The error is the observer's.
+pub fn report_call<R: Router + Drop, W: CallObserver, K: Sink>(
+    watch: &mut W,
+    core: &Core<R>,
+    list: &StartList,
+    heard: &Option<ObservedCall<'_>>,
+    gathered: &mut WriteBuffer,
+    writer: &mut K,
+) -> Result<(), LineRunFault>
+    requires listed { core.now.entries ≡ entries_of (start_list_of list.now) }
+    requires read { IfSome heard.now (λ it. IsReadAs it.line.now it.call) }
+    requires writes { K.has_failed writer.old ≡ false }
+    ensures hears { (only : Option (List ℕ)) (number : ℕ) (old : World) (calls : List (List ℕ)) →
+        core.now ≡ after_all only old calls → IsAnsweredCall only old number calls heard.now →
+        ReportsCalls only (W.tells watch.old) (W.sees watch.old list.now) (W.sees watch.new list.now)
+        number calls old core.now result
+        (K.contents writer.old) gathered.old (K.contents writer.new) gathered.new }
+    ensures same { W.tells watch.new ≡ W.tells watch.old }
+    ensures held { W.holds watch.new ≡ W.holds watch.old }
+    ensures failing { Fails result (K.has_failed writer.new) (is_some heard.now && W.takes) }
+{
+    match heard {
+        Some(heard) => watch.tell(core, list, heard, gathered, writer),
+        None => Ok(()),
+    }
+}

@@ -1,0 +1,222 @@
+//! Runs scenarios in the friendly form.
+ghost use Rattle.std.specs.Prelude.{◌≡◌, ◌≤◌, ◌||◌, [], length};
+ghost use Rattle.std.specs.Option.{option_copied};
+ghost use Rattle.own_model.specs.Listed.{start_list_of};
+ghost use Rattle.own_model.specs.StartList.{entries_of};
+ghost use Rattle.line_grammar.specs.Read.{Reads};
+ghost use Rattle.line_friendly.specs.Theorems.{IsBare, IsPlain};
+ghost use Rattle.run_lines.specs.Next.{OutputsWork};
+ghost use Rattle.run_scenario.specs.RunCalls.{text_of_steps};
+ghost use Rattle.run_scenario.specs.ScenarioRuns.{LeadsSteps, RunsLine, Remains, StopsSteps, counted, point};
+ghost use Rattle.run_scenario.specs.LineSteps.{deed_of, turns_of};
+
+use crate::call_observer::CallObserver;
+use crate::line_step::{CallBuffers, LineStep, answer_plain, report_call, take_turn};
+use crate::resolved_line::ResolvedLine;
+use crate::scenario_state::ScenarioState;
+use line_friendly::plain_call;
+use pd_core::{Core, Router};
+use run_lines::{
+    LONGEST_LINE, LineDispatcher, LineHandler, LineRunFault, NamedCall, Sink, WriteBuffer,
+};
+
+/// Runs lines of the friendly form: answers each call, reports it to an observer, and compares it with its expectation.
+pub struct ScenarioRunner<'e, 'r, 'l, 'n, 's, 'w, 'o, W: CallObserver, E: Sink> {
+    /// The sink to which errors of lines are written.
+    pub complaints: &'e mut E,
+    /// The start list, and the name whose lines are answered, if not all are.
+    pub run: &'r LineDispatcher<'l>,
+    /// The state of the run between two lines.
+    pub notes: &'n mut ScenarioState<'s>,
+    /// The observer of each call.
+    pub watch: &'w mut W,
+    /// Buffers for a line and a reply.
+    pub rooms: &'o mut CallBuffers,
+    /// The number of errors of lines so far.
+    pub complained: u64,
+}
+
+impl<W: CallObserver, E: Sink> Drop for ScenarioRunner<'_, '_, '_, '_, '_, '_, '_, W, E> {
+    // The sink of errors is returned unchanged.
+    fn drop(self)
+        ensures { self.exit.0.now ≡ self.entry.complaints.now }
+    {
+        let ScenarioRunner {
+            complaints: _complaints,
+            run: _run,
+            notes: _notes,
+            watch: _watch,
+            rooms: _rooms,
+            complained: _complained,
+        } = self;
+    }
+}
+
+impl<W: CallObserver, E: Sink> ScenarioRunner<'_, '_, '_, '_, '_, '_, '_, W, E> {
+    // Runs a line that isn't too long, and returns whether it has an error. Most lines are plain calls.
+    fn run_line<R: Router + Drop, K: Sink>(
+        &mut self,
+        core: &mut Core<R>,
+        line: &[u8],
+        gathered: &mut WriteBuffer,
+        writer: &mut K,
+    ) -> Result<bool, LineRunFault>
+        requires short { length line.now ≤ LONGEST_LINE }
+        requires listed { core.old.entries ≡ entries_of (start_list_of self.old.run.now.list.now) }
+        requires works { OutputsWork (K.has_failed writer.old)
+            (E.has_failed self.old.complaints.now) }
+        ensures remains { Remains self.old.complaints.ghost_name self.new.complaints.ghost_name
+            self.old.run.now self.new.run.now
+            (W.tells self.old.watch.now) (W.tells self.new.watch.now)
+            (W.holds self.old.watch.now) (W.holds self.new.watch.now) }
+        ensures plays { RunsLine (option_copied self.old.run.now.only) (W.tells self.old.watch.now)
+            W.takes (W.sees self.old.watch.now self.old.run.now.list.now)
+            (W.sees self.new.watch.now self.old.run.now.list.now)
+            (deed_of self.old.notes.now.stand line.now)
+            (K.has_failed writer.new || E.has_failed self.new.complaints.now) result
+            (point core.old self.old.notes.now.stand self.old.notes.now.critic.expected
+            (K.contents writer.old) gathered.old)
+            (point core.new self.new.notes.now.stand self.new.notes.now.critic.expected
+            (K.contents writer.new) gathered.new) }
+    {
+        match plain_call(line) {
+            Some(call) => self.run_plain_line(core, line, call, gathered, writer),
+            None => self.run_any_line(core, line, gathered, writer),
+        }
+    }
+
+    // Runs a plain call: answers it, reports the answer, and checks it.
+    fn run_plain_line<R: Router + Drop, K: Sink>(
+        &mut self,
+        core: &mut Core<R>,
+        line: &[u8],
+        call: NamedCall<'_>,
+        gathered: &mut WriteBuffer,
+        writer: &mut K,
+    ) -> Result<bool, LineRunFault>
+        requires plain { IsPlain line.now }
+        requires bare { IsBare line.now }
+        requires read { Reads line.now call }
+        requires short { length line.now ≤ LONGEST_LINE }
+        requires listed { core.old.entries ≡ entries_of (start_list_of self.old.run.now.list.now) }
+        requires works { OutputsWork (K.has_failed writer.old)
+            (E.has_failed self.old.complaints.now) }
+        ensures remains { Remains self.old.complaints.ghost_name self.new.complaints.ghost_name
+            self.old.run.now self.new.run.now
+            (W.tells self.old.watch.now) (W.tells self.new.watch.now)
+            (W.holds self.old.watch.now) (W.holds self.new.watch.now) }
+        ensures plays { RunsLine (option_copied self.old.run.now.only) (W.tells self.old.watch.now)
+            W.takes (W.sees self.old.watch.now self.old.run.now.list.now)
+            (W.sees self.new.watch.now self.old.run.now.list.now)
+            (deed_of self.old.notes.now.stand line.now)
+            (K.has_failed writer.new || E.has_failed self.new.complaints.now) result
+            (point core.old self.old.notes.now.stand self.old.notes.now.critic.expected
+            (K.contents writer.old) gathered.old)
+            (point core.new self.new.notes.now.stand self.new.notes.now.critic.expected
+            (K.contents writer.new) gathered.new) }
+    {
+        let list = self.run.list;
+        let heard = answer_plain(self.run, core, &self.notes.stand, line, call, self.rooms);
+        match report_call(self.watch, core, list, &heard, gathered, writer) {
+            Ok(()) => self.notes.take_plain(list, line, &heard, self.complaints),
+            Err(fault) => Err(fault),
+        }
+    }
+
+    // Runs any line: reads it, answers its call, reports the answer, and checks it.
+    fn run_any_line<R: Router + Drop, K: Sink>(
+        &mut self,
+        core: &mut Core<R>,
+        line: &[u8],
+        gathered: &mut WriteBuffer,
+        writer: &mut K,
+    ) -> Result<bool, LineRunFault>
+        requires short { length line.now ≤ LONGEST_LINE }
+        requires listed { core.old.entries ≡ entries_of (start_list_of self.old.run.now.list.now) }
+        requires works { OutputsWork (K.has_failed writer.old)
+            (E.has_failed self.old.complaints.now) }
+        ensures remains { Remains self.old.complaints.ghost_name self.new.complaints.ghost_name
+            self.old.run.now self.new.run.now
+            (W.tells self.old.watch.now) (W.tells self.new.watch.now)
+            (W.holds self.old.watch.now) (W.holds self.new.watch.now) }
+        ensures plays { RunsLine (option_copied self.old.run.now.only) (W.tells self.old.watch.now)
+            W.takes (W.sees self.old.watch.now self.old.run.now.list.now)
+            (W.sees self.new.watch.now self.old.run.now.list.now)
+            (deed_of self.old.notes.now.stand line.now)
+            (K.has_failed writer.new || E.has_failed self.new.complaints.now) result
+            (point core.old self.old.notes.now.stand self.old.notes.now.critic.expected
+            (K.contents writer.old) gathered.old)
+            (point core.new self.new.notes.now.stand self.new.notes.now.critic.expected
+            (K.contents writer.new) gathered.new) }
+    {
+        let list = self.run.list;
+        let turn = take_turn(self.run, core, &self.notes.stand, line, self.rooms);
+        match report_call(self.watch, core, list, &turn.heard, gathered, writer) {
+            Ok(()) => self.notes.take_in(list, line, &turn, self.complaints),
+            Err(fault) => Err(fault),
+        }
+    }
+}
+
+impl<W: CallObserver, E: Sink> LineHandler for ScenarioRunner<'_, '_, '_, '_, '_, '_, '_, W, E> {
+    ghost told = { λ bench start lines. text_of_steps (W.tells bench.watch.now start)
+        (option_copied bench.run.now.only) []
+        (turns_of (option_copied bench.run.now.only) start bench.notes.now.stand lines) };
+
+    ghost leads = { λ first start bench world lines.
+        Remains first.complaints.ghost_name bench.complaints.ghost_name first.run.now bench.run.now
+        (W.tells first.watch.now) (W.tells bench.watch.now) (W.holds first.watch.now) (W.holds bench.watch.now)
+        × LeadsSteps (option_copied first.run.now.only) start world first.notes.now.stand
+        bench.notes.now.stand (W.sees bench.watch.now first.run.now.list.now start) lines };
+
+    ghost stops = { λ first start bench world fault lines.
+        Remains first.complaints.ghost_name bench.complaints.ghost_name first.run.now bench.run.now
+        (W.tells first.watch.now) (W.tells bench.watch.now) (W.holds first.watch.now) (W.holds bench.watch.now)
+        × StopsSteps W.takes (option_copied first.run.now.only) start world first.notes.now.stand
+        fault lines };
+
+    ghost is_ready = { λ bench world _.
+        world.entries ≡ entries_of (start_list_of bench.run.now.list.now) };
+
+    ghost has_failed = { λ bench. E.has_failed bench.complaints.now };
+
+    fn play<R: Router + Drop, K: Sink>(
+        &mut self,
+        core: &mut Core<R>,
+        line: &[u8],
+        gathered: &mut WriteBuffer,
+        writer: &mut K,
+    ) -> Result<(), LineRunFault> {
+        let judged = self.run_line(core, line, gathered, writer);
+        count(&mut self.complained, judged)
+    }
+
+    fn play_too_long<R: Router + Drop, K: Sink>(
+        &mut self,
+        _core: &mut Core<R>,
+        _gathered: &mut WriteBuffer,
+        _writer: &mut K,
+    ) -> Result<(), LineRunFault> {
+        let turn = LineStep {
+            deed: ResolvedLine::TooLong,
+            heard: None,
+        };
+        let judged = self
+            .notes
+            .take_in(self.run.list, b"", &turn, self.complaints);
+        count(&mut self.complained, judged)
+    }
+}
+
+/// Adds an error of a line to the count, if there is one. Returns the fault of the run, if there is one.
+pub fn count(complained: &mut u64, judged: Result<bool, LineRunFault>) -> Result<(), LineRunFault>
+    ensures { result ≡ counted judged }
+{
+    match judged {
+        Ok(more) => {
+            *complained = complained.saturating_add(u64::from(more));
+            Ok(())
+        }
+        Err(fault) => Err(fault),
+    }
+}

@@ -1,0 +1,51 @@
+//! Lines of a scenario before substitution.
+
+use line_friendly::trimmed_line;
+use line_names::{NameTable, source_column, token_at};
+use view_diagnostics::FilePlace;
+
+/// A line of a scenario before substitution.
+#[derive(Clone, Copy)]
+pub struct SourceLine<'a> {
+    /// The number of the line, from 1 on.
+    pub number: u64,
+    /// The bytes of the line.
+    pub line: &'a [u8],
+}
+
+/// A line that is checked: before and after substitution, and with its expected reply, if it has one.
+#[derive(Clone, Copy)]
+pub struct JudgedLine<'a> {
+    /// The line before substitution.
+    pub given: SourceLine<'a>,
+    /// The line after substitution.
+    pub line: &'a [u8],
+    /// The expected reply.
+    pub reply: Option<&'a [u8]>,
+}
+
+impl<'a> SourceLine<'a> {
+    /// Returns the place of the first character of the line.
+    pub fn start(self) -> FilePlace {
+        let before = self
+            .line
+            .len()
+            .saturating_sub(trimmed_line(self.line).len());
+        FilePlace::Byte(self.number, before.saturating_add(1) as u64)
+    }
+
+    /// Returns the place of the text at a column of the filled line, if `known` holds the names that it was filled with.
+    pub fn place(self, known: &NameTable, column: usize) -> FilePlace {
+        FilePlace::Byte(self.number, self.column(known, column) as u64)
+    }
+
+    /// Returns the token at the place of a column of the filled line, as `place` does.
+    pub fn token(self, known: &NameTable, column: usize) -> &'a [u8] {
+        token_at(self.line, self.column(known, column))
+    }
+
+    // Returns the column of the text at a column of the filled line.
+    fn column(self, known: &NameTable, column: usize) -> usize {
+        source_column(self.line, known, column)
+    }
+}

@@ -1,0 +1,101 @@
+//! Pieces of text.
+ghost use Rattle.std.specs.Prelude.{◌≡◌, ◌+◌, ◌<◌, ◌≤◌, ◌++◌, [], length, false, is_err, IfSome, IfNone, Some, None};
+ghost use Rattle.arrayvec.specs.ArrayVec.{array_vec_len};
+ghost use Rattle.own_model.specs.Call.{Call as Said};
+ghost use Rattle.own_model.specs.Listed.{start_list_of};
+ghost use Rattle.own_model.specs.StartList.{entries_of};
+ghost use Rattle.own_model.specs.Transcript.{heard_spoken};
+ghost use Rattle.core_calls.specs.Call.{model_call};
+ghost use Rattle.run_lines.specs.RunOutput.{OutputsUnless};
+ghost use Rattle.line_grammar.specs.Read.{IsReadAs};
+ghost use Rattle.run_scenario.specs.Said.{caller_by, said_in};
+
+use arrayvec::ArrayVec;
+use core_calls::Call;
+use itoa::{Buffer, Integer};
+use list_parser::StartList;
+use run_lines::{DeviceFault, NamedCall, Sink, WriteBuffer};
+
+/// Gathers a number in decimal digits. The error is a failed write.
+pub fn put_number<I: Integer, K: Sink>(
+    number: I,
+    gathered: &mut WriteBuffer,
+    sink: &mut K,
+) -> Result<(), DeviceFault>
+    requires { K.has_failed sink.old ≡ false }
+    ensures told { OutputsUnless result (K.contents sink.old) gathered.old
+        (K.contents sink.new) gathered.new
+        (I.text number) }
+    ensures failing { K.has_failed sink.new ≡ is_err result }
+{
+    let mut digits = Buffer::new();
+    gathered.put(sink, digits.format(number).as_bytes())
+}
+
+/// Gathers three texts, one after another. The error is a failed write.
+pub fn put_three<K: Sink>(
+    first: &[u8],
+    then: &[u8],
+    last: &[u8],
+    gathered: &mut WriteBuffer,
+    sink: &mut K,
+) -> Result<(), DeviceFault>
+    requires { K.has_failed sink.old ≡ false }
+    ensures told { OutputsUnless result (K.contents sink.old) gathered.old
+        (K.contents sink.new) gathered.new
+        (first.now ++ then.now ++ last.now) }
+    ensures failing { K.has_failed sink.new ≡ is_err result }
+{
+    gathered.put(sink, first)?;
+    gathered.put(sink, then)?;
+    gathered.put(sink, last)
+}
+
+/// Appends a number in decimal digits to a text that has room for it.
+pub fn add_number<I: Integer, const N: usize>(text: &mut ArrayVec<u8, N>, number: I)
+    requires { array_vec_len text.old + I.MAX_STR_LEN ≤ N }
+    ensures items { text.new.items ≡ text.old.items ++ I.text number }
+    ensures len { array_vec_len text.new ≤ array_vec_len text.old + I.MAX_STR_LEN }
+{
+    let mut digits = Buffer::new();
+    add(text, digits.format(number).as_bytes());
+}
+
+/// Appends bytes to a text that has room for them.
+pub fn add<const N: usize>(text: &mut ArrayVec<u8, N>, more: &[u8])
+    requires { array_vec_len text.old + length more.now ≤ N }
+    ensures items { text.new.items ≡ text.old.items ++ more.now }
+    ensures len { array_vec_len text.new ≡ array_vec_len text.old + length more.now }
+{
+    let _ = text.try_extend_from_slice(more);
+}
+
+/// Returns the name and the call of an engine's line, if it is a call. `call` is what was parsed of the line.
+#[tactic(auto, using(crate::proofs::SaidLemmas::says))]
+pub fn said_in<'a>(line: &[u8], call: Option<NamedCall<'a>>) -> Option<(&'a [u8], Call<'a>)>
+    requires { IsReadAs line.now call }
+    ensures value { IfSome result (λ said.
+        said_in line.now ≡ Some (record { name = said.0.now; call = model_call said.1 })) }
+    ensures none { IfNone result (said_in line.now ≡ None) }
+{
+    let _ = line;
+    match call {
+        Some(said) => Some((said.name, said.call)),
+        None => None,
+    }
+}
+
+/// Returns the component that has a name and can make calls: none if the name is unknown or an init's.
+pub fn caller_of(list: &StartList, name: &[u8]) -> Option<usize>
+    ensures heard { (call : Said) → heard_spoken (entries_of (start_list_of list.now))
+        (Some (record { name = name.now; call = call }))
+        ≡ caller_by name.now call result }
+    ensures inside { IfSome result (λ component. component < length list.now.entries) }
+{
+    let component = list.find(name)?;
+    if list.is_init(component) {
+        None
+    } else {
+        Some(component)
+    }
+}

@@ -1,6 +1,0 @@
-pub mod KnownLemmas
-pub mod SumLemmas
-pub mod FillLemmas
-pub mod LawLemmas
-pub mod TrimLemmas
-pub mod PartLemmas

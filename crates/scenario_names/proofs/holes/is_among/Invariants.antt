@@ -1,8 +1,0 @@
--- Whether it is among those that are left.
-use Rattle.std.proofs.Common.{◌≡◌, drop, map}
-use Rattle.scenario_names.specs.Filling.{is_among}
-use Rattle.scenario_names.specs.Views.{hole_view}
-use Rattle.scenario_names.proofs.holes.is_among.Given as goal
-
-abbrev pub invariant-loop-hole : goal.invariant-loop-hole
-invariant-loop-hole l = is_among l.name (map hole_view l.holes) ≡ is_among l.name (map hole_view (drop l.hole-index l.holes))

@@ -1,6 +1,0 @@
--- Entry by entry.
-use Rattle.start_lists.proofs.QuotaLemmas.{faults_are_of_lacks, faults_name_the_first}
-use Rattle.start_lists.proofs.laws.quota_faults_are_of_lacks.Goals as goal
-
-pub returns : goal.returns
-returns c = record { exactly = faults_are_of_lacks; first = faults_name_the_first }

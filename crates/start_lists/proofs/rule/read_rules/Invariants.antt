@@ -1,8 +1,0 @@
-use Rattle.std.proofs.Common.{drop, map}
-use Rattle.serde_json.specs.View.{view}
-use Rattle.start_lists.specs.Rules.{rule_of}
-use Rattle.start_lists.proofs.MemberLemmas.{IsReadUpTo}
-use Rattle.start_lists.proofs.rule.read_rules.Given as goal
-
-abbrev pub invariant-loop-item : goal.invariant-loop-item
-invariant-loop-item l = IsReadUpTo rule_of (map view l.item-items) l.rules.items (map view (drop l.item-index l.item-items))

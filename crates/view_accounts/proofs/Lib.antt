@@ -1,0 +1,10 @@
+pub mod AccountViewLemmas
+pub mod AccountingLemmas
+pub mod ClosedLemmas
+pub mod HearLemmas
+pub mod KeptLemmas
+pub mod ListLemmas
+pub mod NeedLemmas
+pub mod NotedLemmas
+pub mod OpenLemmas
+pub mod PeakLemmas

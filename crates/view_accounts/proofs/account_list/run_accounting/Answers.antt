@@ -1,0 +1,11 @@
+-- The list behind what the play writes, which is nothing.
+use Rattle.view_accounts.specs.Accounting.{sessions_kept}
+use Rattle.view_accounts.proofs.AccountViewLemmas.{accounts_played}
+use Rattle.view_accounts.proofs.account_list.run_accounting.Goals as goal
+
+pub returns-clause-played : goal.returns-clause-played
+returns-clause-played g c = λ works. (
+  sessions_kept c.play-ending.new.bench.watch.now,
+  accounts_played c.play-ending.new.bench.watch.now c.args.stage.run.list.now c.play-ending.result c.close_accounting-ending.result c.requires.listed
+      (rw c.requires.all at (c.play-ending.ensures.plays works)) c.close_accounting-ending.ensures.closes,
+)

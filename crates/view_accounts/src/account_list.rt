@@ -1,0 +1,201 @@
+//! The account list with needs, peaks, servers and labels, after a run.
+ghost use Rattle.std.specs.Io.KnownBytes.{Appends};
+ghost use Rattle.std.specs.Prelude.{◌≡◌, ◌≢◌, ◌≤◌, ◌||◌, [], false, true, IfNone, IfOk, IfErr, IfSome, OnErr, OnOk, None, Some};
+ghost use Rattle.own_model.specs.Listed.{start_list_of};
+ghost use Rattle.own_model.specs.StartList.{entries_of};
+ghost use Rattle.list_parser.specs.declared.fault.BootFault.TheVariants.{NoMemory};
+ghost use Rattle.run_lines.specs.Machine.{boot_fault};
+ghost use Rattle.run_lines.specs.Causes.{HasCause, AppendsPart, is_write_fault as is_writing};
+ghost use Rattle.run_lines.specs.Faults.{is_write_fault};
+ghost use Rattle.run_lines.specs.declared.run_fault.RunFault.TheVariants.{WriteFault};
+ghost use Rattle.view_accounts.specs.Accounting.{OfSessions, SeesAccounts, accounts_behind, accounts_text, text_kept};
+ghost use Rattle.run_scenario.specs.Faults.{fault_before, unplayed};
+ghost use Rattle.run_scenario.specs.RunCalls.{calls_answered};
+ghost use Rattle.run_scenario.specs.LineSteps.{turns_of};
+ghost use Rattle.run_scenario.specs.Writes.{Closes, IsRunOn, IsRunFrom, IsNotRun, nothing_told, turns_on};
+ghost use Rattle.run_lines.specs.declared.line_run_fault.LineRunFault.TheVariants.{NoMemory as NoRoom};
+
+use crate::account_rows::AccountRows;
+use crate::accounting::Accounting;
+use crate::closed_lines::write_closed;
+use init_core::boot;
+use list_parser::{BootFault, StartList};
+use pd_core::{Core, Router};
+use run_lines::{LineDispatcher, LineRunFault, MAX_LINES, RunFault, Sink, Source, write_columns};
+use run_scenario::{
+    BootedScenario, CallBuffers, ScenarioEnd, ScenarioInput, ScenarioRunner, ScenarioState,
+    play as play_lines,
+};
+use std::alloc::{AllocError, Global};
+
+/// The account list of a scenario.
+#[derive(Drop)]
+pub struct AccountList {
+    /// How the run ended.
+    pub ending: ScenarioEnd,
+    /// The rows after the last line that was run. The error is that the host is out of memory.
+    pub rows: Result<AccountRows, AllocError>,
+}
+
+/// Runs a scenario, and then writes the account list. It has the account of the machine's init, those of the components with
+/// their reserves, and those of the open sessions. Each account has its need and its peak, a session also its server and its
+/// label. The sums of all limits follow, and then the closed sessions. A need is the minimum start budget with which the tests
+/// that passed still pass; an init's is what its list needs. A peak is the most that was in use at the start or after any line,
+/// of a session since its opening. Errors of lines are written as they are found.
+///
+/// After a fault of the run no list is written. If a write of the list failed, a first part of it is written. The run stops for
+/// the same reasons as `run`, and also if the host is out of memory at a call.
+#[tactic(auto, using(run_lines::proofs::MachineLemmas::tasks))]
+pub fn accounts<S: Source, K: Sink, E: Sink>(
+    alloc: Global,
+    play: ScenarioInput<'_>,
+    reader: &mut S,
+    writer: &mut K,
+    complaints: &mut E,
+) -> Result<AccountList, BootFault>
+    ensures played { IfOk result (λ accounts. fault_before (S.has_failed reader.old)
+        (K.has_failed writer.old || E.has_failed complaints.old) ≡ None →
+        (sessions : OfSessions) × IsRunOn play.entry.machine.now
+        (turns_on None play.entry.start) nothing_told (accounts_behind sessions) true accounts.ending
+        (S.remaining reader.old) (S.remaining reader.new)
+        (S.has_failed reader.new) (K.contents writer.old) (K.contents writer.new)) }
+    ensures few { IfOk result (λ accounts. accounts.ending.lines ≤ MAX_LINES) }
+    ensures writing { IfOk result (λ accounts. (K.has_failed writer.new
+        || E.has_failed complaints.new) ≡ is_write_fault accounts.ending.fault) }
+    ensures reading { IfOk result (λ accounts.
+        IfNone accounts.ending.fault (S.has_failed reader.new ≡ false)) }
+    ensures ok { IfOk result (λ accounts. IfSome accounts.ending.fault (λ fault. fault ≢ NoRoom →
+        IfSome (S.remaining reader.old) (λ input. HasCause input MAX_LINES
+        (S.has_failed reader.new) (K.has_failed writer.new || E.has_failed complaints.new)))) }
+    ensures before { IfOk result (λ accounts. IfSome (fault_before (S.has_failed reader.old)
+        (K.has_failed writer.old || E.has_failed complaints.old)) (λ fault.
+        IsNotRun play.entry.machine.now accounts.ending fault
+        × (reader.new ≡ reader.old) × (writer.new ≡ writer.old)
+        × (complaints.new ≡ complaints.old))) }
+    ensures unbooted { IfErr result (λ fault. fault ≢ NoMemory →
+        boot_fault play.entry.machine.now ≡ Some fault) }
+    ensures untouched { OnErr result
+        ((reader.new ≡ reader.old) × (writer.new ≡ writer.old)
+        × (complaints.new ≡ complaints.old)) }
+{
+    let rooms = CallBuffers::new(alloc)?;
+    let list = StartList::read(alloc, play.machine)?;
+    let core = boot(alloc, &list)?;
+    let mut watch = Accounting::new(alloc, &core)?;
+    let notes = ScenarioState::new(alloc, play.scenario, play.start);
+    let run = LineDispatcher {
+        list: &list,
+        only: None,
+    };
+    let stage = BootedScenario {
+        run,
+        core,
+        notes,
+        rooms,
+    };
+    Ok(run_accounting(alloc, stage, &mut watch, reader, writer, complaints))
+}
+
+// Does the same on a machine that has booted, with the peaks and needs of its accounts.
+fn run_accounting<R: Router + Drop, S: Source, K: Sink, E: Sink>(
+    alloc: Global,
+    stage: BootedScenario<'_, '_, R>,
+    watch: &mut Accounting,
+    reader: &mut S,
+    writer: &mut K,
+    complaints: &mut E,
+) -> AccountList
+    requires listed { stage.core.entries ≡ entries_of (start_list_of stage.run.list.now) }
+    requires all { stage.run.only ≡ None }
+    requires sees { SeesAccounts watch.old stage.run.list.now stage.core [] }
+    ensures played { fault_before (S.has_failed reader.old)
+        (K.has_failed writer.old || E.has_failed complaints.old) ≡ None →
+        (sessions : OfSessions)
+        × IsRunFrom (turns_of None stage.entry.core stage.entry.notes.stand) (λ _. [])
+        (λ turns. accounts_text sessions stage.entry.run.list.now stage.entry.core
+        (calls_answered None turns))
+        true result.ending (S.remaining reader.old) (S.remaining reader.new)
+        (S.has_failed reader.new) (K.contents writer.old) (K.contents writer.new) }
+    ensures few { result.ending.lines ≤ MAX_LINES }
+    ensures writing { (K.has_failed writer.new || E.has_failed complaints.new)
+        ≡ is_write_fault result.ending.fault }
+    ensures reading { IfNone result.ending.fault (S.has_failed reader.new ≡ false) }
+    ensures before { IfSome (fault_before (S.has_failed reader.old)
+        (K.has_failed writer.old || E.has_failed complaints.old))
+        (λ fault. (result.ending ≡ unplayed fault)
+        × (reader.new ≡ reader.old) × (writer.new ≡ writer.old)
+        × (complaints.new ≡ complaints.old)) }
+{
+    let BootedScenario {
+        run,
+        mut core,
+        mut notes,
+        mut rooms,
+    } = stage;
+    let mut bench = ScenarioRunner {
+        complaints,
+        run: &run,
+        notes: &mut notes,
+        watch,
+        rooms: &mut rooms,
+        complained: 0,
+    };
+    let ending = play_lines(&mut bench, &mut core, b"", reader, writer);
+    let rows = rows_after(alloc, &core, run.list, &bench);
+    let ending = close_accounting(ending, &core, run.list, &bench, writer);
+    AccountList { ending, rows }
+}
+
+// Returns the rows after a run.
+fn rows_after<R: Router + Drop, E: Sink>(
+    alloc: Global,
+    core: &Core<R>,
+    list: &StartList,
+    bench: &ScenarioRunner<'_, '_, '_, '_, '_, '_, '_, Accounting, E>,
+) -> Result<AccountRows, AllocError>
+    requires listed { core.now.entries ≡ entries_of (start_list_of list.now) }
+{
+    AccountRows::of(alloc, core, list, bench.watch)
+}
+
+// Writes the list after a run that ended without a fault.
+fn close_accounting<R: Router + Drop, K: Sink, E: Sink>(
+    ending: ScenarioEnd,
+    core: &Core<R>,
+    list: &StartList,
+    bench: &ScenarioRunner<'_, '_, '_, '_, '_, '_, '_, Accounting, E>,
+    writer: &mut K,
+) -> ScenarioEnd
+    requires listed { core.now.entries ≡ entries_of (start_list_of list.now) }
+    ensures closes { Closes ending result (K.contents writer.old) (K.contents writer.new)
+        (text_kept bench.now.watch.now list.now core.now) }
+    ensures failing { IfNone ending.fault (K.has_failed writer.new ≡ is_write_fault result.fault) }
+    ensures stopped { IfSome ending.fault (λ _. (result ≡ ending) × (writer.new ≡ writer.old)) }
+{
+    if ending.fault.is_some() {
+        return ending;
+    }
+    match write_accounts(core, list, bench.watch, writer) {
+        Ok(()) => ending,
+        Err(fault) => ending.stopped_by(LineRunFault::from(fault)),
+    }
+}
+
+// Writes the list, and the closed sessions after it.
+fn write_accounts<R: Router + Drop, K: Sink>(
+    core: &Core<R>,
+    list: &StartList,
+    watch: &Accounting,
+    writer: &mut K,
+) -> Result<(), RunFault>
+    requires listed { core.now.entries ≡ entries_of (start_list_of list.now) }
+    ensures told { OnOk result (Appends (K.contents writer.old) (K.contents writer.new)
+        (text_kept watch.now list.now core.now)) }
+    ensures fault { IfErr result (λ fault. fault ≡ WriteFault) }
+    ensures part { OnErr result (AppendsPart (K.contents writer.old) (K.contents writer.new)
+        (text_kept watch.now list.now core.now)) }
+    ensures writing { K.has_failed writer.new ≡ is_writing result }
+{
+    write_columns(core, list, watch, writer)?;
+    write_closed(list, watch.needs.sessions.closed.as_slice(), writer)
+}

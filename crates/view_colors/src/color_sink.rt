@@ -1,0 +1,143 @@
+//! A sink that colours lines.
+ghost use Rattle.std.specs.Prelude.{◌≡◌, ◌++◌, ◌∷◌, ◌||◌, [], false, IfOk, OnOk};
+ghost use Rattle.view_colors.specs.ColorSink.{left_of, painted, painted_lines, shade_of};
+
+use crate::shade::{Lines, Shade};
+use run_lines::{DeviceFault, Sink, WriteBuffer};
+use std::alloc::{AllocError, Global};
+
+/// A sink that colours each complete line, and writes the line to another sink; or one that passes bytes on unchanged.
+#[derive(Drop)]
+pub struct ColorSink<S> {
+    alloc: Global,
+    sink: S,
+    // The kind of lines, or nothing if bytes are passed on unchanged.
+    lines: Option<Lines>,
+    // The bytes of the line that isn't complete yet.
+    line: Vec<u8>,
+    gathered: WriteBuffer,
+    failed: bool,
+}
+
+impl<S: Sink> ColorSink<S> {
+    /// Returns a sink that colours lines of this kind and writes them to another sink.
+    pub fn new(alloc: Global, sink: S, lines: Lines) -> ColorSink<S>
+        requires { S.has_failed sink ≡ false }
+        ensures { ⟦<ColorSink<S> as Sink>⟧.has_failed result ≡ false }
+    {
+        ColorSink {
+            alloc,
+            sink,
+            lines: Some(lines),
+            line: Vec::new(alloc),
+            gathered: WriteBuffer::new(),
+            failed: false,
+        }
+    }
+
+    /// Returns a sink that passes bytes on to another sink unchanged.
+    pub fn plain(alloc: Global, sink: S) -> ColorSink<S>
+        requires { S.has_failed sink ≡ false }
+        ensures { ⟦<ColorSink<S> as Sink>⟧.has_failed result ≡ false }
+    {
+        ColorSink {
+            alloc,
+            sink,
+            lines: None,
+            line: Vec::new(alloc),
+            gathered: WriteBuffer::new(),
+            failed: false,
+        }
+    }
+
+    /// Returns the other sink, to which the lines are written.
+    pub fn sink(&self) -> &S {
+        &self.sink
+    }
+
+    /// Returns the other sink, with the lines that were written to it up to now.
+    pub fn into_sink(self) -> S
+        ensures { result ≡ self.sink }
+    {
+        self.sink
+    }
+
+    // Takes bytes, and writes the lines that they complete, coloured by the kind of these lines.
+    fn take(&mut self, lines: Lines, bytes: &[u8]) -> Result<(), DeviceFault>
+        requires { S.has_failed self.old.sink ≡ false }
+        ensures works { OnOk result (S.has_failed self.new.sink ≡ false) }
+        ensures kept { self.new.failed ≡ self.old.failed }
+    {
+        let mut text = Vec::new(self.alloc);
+        if add_painted(&mut text, lines, &mut self.line, bytes).is_err() {
+            return Err(DeviceFault);
+        }
+        self.gathered.put(&mut self.sink, text.as_slice())?;
+        self.gathered.flush(&mut self.sink)
+    }
+}
+
+impl<S: Sink> Sink for ColorSink<S> {
+    ghost has_failed = { λ painted. painted.failed || S.has_failed painted.sink };
+
+    fn write(&mut self, buffer: &[u8]) -> Result<usize, DeviceFault> {
+        let Some(lines) = self.lines else {
+            return self.sink.write(buffer);
+        };
+        if self.take(lines, buffer).is_err() {
+            self.failed = true;
+            return Err(DeviceFault);
+        }
+        Ok(buffer.len())
+    }
+
+    fn failed(&self) -> bool {
+        self.failed || self.sink.failed()
+    }
+}
+
+// Adds a line with its newline, between its colours.
+fn add_line(text: &mut Vec<u8>, shade: Shade, line: &[u8]) -> Result<(), AllocError>
+    ensures { OnOk result (text.new.items ≡ text.old.items ++ painted shade line.now ++ 10 ∷ []) }
+{
+    text.extend_from_slice(shade.code())?;
+    text.extend_from_slice(line)?;
+    text.extend_from_slice(shade.end())?;
+    text.push(b'\n')?;
+    Ok(())
+}
+
+// Adds the lines that bytes complete after the kept bytes of the first one, and keeps the bytes of the next line.
+fn add_painted(
+    text: &mut Vec<u8>,
+    lines: Lines,
+    line: &mut Vec<u8>,
+    bytes: &[u8],
+) -> Result<(), AllocError>
+    ensures text { OnOk result (text.new.items
+        ≡ text.old.items ++ painted_lines lines line.old.items bytes.now) }
+    ensures left { OnOk result (line.new.items ≡ left_of line.old.items bytes.now) }
+{
+    for byte in bytes {
+        if *byte == b'\n' {
+            add_line(text, lines.shade_of(line.as_slice()), line.as_slice())?;
+            line.clear();
+        } else {
+            line.push(*byte)?;
+        }
+    }
+    Ok(())
+}
+
+/// Returns a text with each line in its colour. The text after the last newline has no colour. The error is that the host is out
+/// of memory.
+pub fn paint(alloc: Global, lines: Lines, text: &[u8]) -> Result<Vec<u8>, AllocError>
+    ensures { IfOk result (λ told. told.items
+        ≡ painted_lines lines [] text.now ++ left_of [] text.now) }
+{
+    let mut told = Vec::new(alloc);
+    let mut line = Vec::new(alloc);
+    add_painted(&mut told, lines, &mut line, text)?;
+    told.extend_from_slice(line.as_slice())?;
+    Ok(told)
+}

@@ -1,0 +1,122 @@
+-- The coverage of a machine by the answered calls of a scenario: which of its rows are met.
+use Rattle.std.specs.Prelude.{ℕ, ◌+◌, ◌&&◌, ◌||◌, zero, suc, Bool, false, List, [], ◌∷◌, ◌++◌, map, length, Option, Some, None}
+use Rattle.std.specs.List.{flat_map, list_any}
+use Rattle.std.specs.Option.{option_copied}
+use Rattle.std.specs.Str.{bytes_eq}
+use Rattle.trade_base.specs.Refusal.{refusal_name}
+use Rattle.own_model.specs.Listed.{Listed, ListedEntry, ListedRule}
+use Rattle.own_model.specs.Call.{Spoken, parsed_call}
+use Rattle.run_exchanges.specs.Exchange.{Exchange}
+use Rattle.view_coverage.specs.Forms.{form_of, forms, is_form_of, refusals_of}
+use Rattle.view_coverage.specs.Requests.{errors_of, is_asked, is_error, request_word, requests}
+use Rattle.view_coverage.specs.Rules.{decided_by, is_rule}
+use Rattle.view_coverage.specs.declared.request_forms.CoverageRequest.{CoverageRequest}
+use Rattle.view_coverage.specs.declared.event.CoverageEvent.{CoverageEvent}
+use Rattle.view_coverage.specs.declared.event.CoverageEvent.TheVariants.{Refused, Failed, Decided}
+use Rattle.view_coverage.specs.declared.event.RouteOwner.{RouteOwner}
+use Rattle.view_coverage.specs.declared.event.RouteOwner.TheVariants.{Own, Inner, Machine}
+use Rattle.view_coverage.specs.declared.event.RulePlace.{RulePlace}
+use Rattle.view_coverage.specs.declared.call_forms.CoverageCall.{CoverageCall}
+use Rattle.view_coverage.specs.declared.row.CallEvidence.{CallEvidence}
+use Rattle.view_coverage.specs.declared.row.CoverageRow.{CoverageRow}
+
+-- ---- answers
+
+-- a call, as the engine's line, and its reply
+pub record Answer : Type 0 where
+  pub line : List ℕ
+  pub reply : List ℕ
+
+abbrev pub answer_of : Exchange → Answer
+answer_of exchange = record { line = exchange.line; reply = exchange.reply }
+
+-- ---- what an answer shows
+
+abbrev pub has_rule : List RulePlace → RulePlace → Bool
+has_rule rules rule = list_any (is_rule rule) rules
+
+-- the evidence of an answered line: its reply, and the rules that decided its session request. It has the form of the call and
+-- the first word of the request, if the line has these.
+pub record Evidence : Type 0 where
+  pub form : Option CoverageCall
+  pub word : Option (List ℕ)
+  pub reply : List ℕ
+  pub rules : List RulePlace
+
+abbrev pub evidence_in : CallEvidence → Evidence
+evidence_in it = record { form = it.form; word = option_copied it.word; reply = it.answer.text.now; rules = it.rules.now }
+
+-- the evidence of a line, by its call, if it has one, and by its reply
+abbrev pub evidence_of : Listed → Option Spoken → List ℕ → Evidence
+evidence_of list None reply = record { form = None; word = None; reply = reply; rules = [] }
+evidence_of list (Some said) reply = record {
+  form = form_of said.call;
+  word = request_word said.call;
+  reply = reply;
+  rules = decided_by list said reply;
+}
+
+abbrev pub evidence : Listed → Answer → Evidence
+evidence list answer = evidence_of list (parsed_call answer.line) answer.reply
+
+-- the evidence shows an event
+abbrev pub shown_with : Evidence → CoverageEvent → Bool
+shown_with it (Refused form refusal) = is_form_of form it.form && bytes_eq it.reply (refusal_name refusal)
+shown_with it (Failed asked error) = is_asked asked it.word && is_error error it.reply
+shown_with it (Decided rule) = has_rule it.rules rule
+
+abbrev pub is_shown : Listed → CoverageEvent → Answer → Bool
+is_shown list event answer = shown_with (evidence list answer) event
+
+-- ---- rows
+
+-- a row after a line was answered
+abbrev pub row_with : Evidence → CoverageRow → CoverageRow
+row_with it row = record { event = row.event; met = row.met || shown_with it row.event }
+
+-- rows after these lines were answered
+abbrev pub rows_after : Listed → List Answer → List CoverageRow → List CoverageRow
+rows_after list [] rows = rows
+rows_after list (answer ∷ answers) rows = rows_after list answers (map (row_with (evidence list answer)) rows)
+
+abbrev pub unmet : CoverageEvent → CoverageRow
+unmet event = record { event = event; met = false }
+
+abbrev pub refusal_rows : CoverageCall → List CoverageRow
+refusal_rows form = map (λ refusal. unmet (Refused form refusal)) (refusals_of form)
+
+abbrev pub error_rows : CoverageRequest → List CoverageRow
+error_rows asked = map (λ error. unmet (Failed asked error)) (errors_of asked)
+
+-- the rows of so many rules of a route
+abbrev pub route_rows : RouteOwner → ℕ → List CoverageRow
+route_rows route zero = []
+route_rows route (suc count) = route_rows route count ++ unmet (Decided (record { route = route; place = count })) ∷ []
+
+abbrev pub own_rows : ℕ → Option (List ListedRule) → List CoverageRow
+own_rows number None = []
+own_rows number (Some rules) = route_rows (Own number) (length rules)
+
+abbrev pub rows_of_entry : ℕ → ListedEntry → List CoverageRow
+rows_of_entry number entry = own_rows number entry.route ++ route_rows (Inner number) (length entry.inner_route)
+
+abbrev pub rows_of_entries : ℕ → List ListedEntry → List CoverageRow
+rows_of_entries number [] = []
+rows_of_entries number (entry ∷ entries) = rows_of_entry number entry ++ rows_of_entries (number + 1) entries
+
+abbrev pub calls_rows : List CoverageRow
+calls_rows = flat_map refusal_rows forms
+
+abbrev pub requests_rows : List CoverageRow
+requests_rows = flat_map error_rows requests
+
+-- the rows of a machine, none of them met
+abbrev pub rows_of : Listed → List CoverageRow
+rows_of list =
+    calls_rows ++ requests_rows ++ route_rows Machine (length list.default_route) ++ rows_of_entries 0 list.entries
+
+-- ---- all answers
+
+-- a row is also met if some answer shows its event
+abbrev pub row_by : Listed → List Answer → CoverageRow → CoverageRow
+row_by list answers row = record { event = row.event; met = row.met || list_any (is_shown list row.event) answers }

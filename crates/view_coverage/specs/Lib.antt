@@ -1,0 +1,6 @@
+pub mod Forms
+pub mod Requests
+pub mod Rules
+pub mod Covered
+pub mod Reported
+pub mod TableTheorems

@@ -1,0 +1,64 @@
+-- The table of requests: their forms, and the errors of each.
+use Rattle.std.specs.Prelude.{ℕ, ◌&&◌, ◌||◌, Bool, true, false, List, [], ◌∷◌, codes, length, take, drop, nat_le, Option, Some, None}
+use Rattle.std.specs.Str.{bytes_eq}
+use Rattle.own_model.specs.FileText.{error_name}
+use Rattle.own_model.specs.Call.{Call}
+use Rattle.own_model.specs.Call.Call.{CallSession}
+use Rattle.own_model.specs.Text.{first_word}
+use Rattle.core_calls.specs.FileError.{model_error}
+use Rattle.core_calls.specs.declared.file_error.FileError.{FileError}
+use Rattle.core_calls.specs.declared.file_error.FileError.TheVariants.{BadRequest, BadName, Exists, NotFound, Gap, TooLong, End, TooManyChunks, OutOfRam, OutOfCaps, InvalidSize, NoBuffer, BadRange}
+use Rattle.view_coverage.specs.declared.request_forms.CoverageRequest.{CoverageRequest}
+use Rattle.view_coverage.specs.declared.request_forms.CoverageRequest.TheVariants.{AnyRequest, Create, Write, Read, Size, Clear, Drop, Name, Buffer, Unbuffer, Put, Get}
+
+abbrev pub requests : List CoverageRequest
+requests = AnyRequest ∷ Create ∷ Write ∷ Read ∷ Size ∷ Clear ∷ Drop ∷ Name ∷ Buffer ∷ Unbuffer ∷ Put ∷ Get ∷ []
+
+abbrev pub asked_word : CoverageRequest → List ℕ
+asked_word AnyRequest = codes "any request"
+asked_word Create = codes "CREATE"
+asked_word Write = codes "WRITE"
+asked_word Read = codes "READ"
+asked_word Size = codes "SIZE"
+asked_word Clear = codes "CLEAR"
+asked_word Drop = codes "DROP"
+asked_word Name = codes "NAME"
+asked_word Buffer = codes "BUFFER"
+asked_word Unbuffer = codes "UNBUFFER"
+asked_word Put = codes "PUT"
+asked_word Get = codes "GET"
+
+-- in the order of tests
+abbrev pub errors_of : CoverageRequest → List FileError
+errors_of AnyRequest = BadRequest ∷ []
+errors_of Create = BadName ∷ Exists ∷ TooManyChunks ∷ OutOfRam ∷ OutOfCaps ∷ []
+errors_of Write = NotFound ∷ Gap ∷ OutOfRam ∷ OutOfCaps ∷ []
+errors_of Read = NotFound ∷ Gap ∷ TooLong ∷ []
+errors_of Size = NotFound ∷ []
+errors_of Clear = NotFound ∷ []
+errors_of Drop = NotFound ∷ []
+errors_of Name = End ∷ []
+errors_of Buffer = InvalidSize ∷ Exists ∷ OutOfRam ∷ OutOfCaps ∷ []
+errors_of Unbuffer = NoBuffer ∷ []
+errors_of Put = NotFound ∷ Gap ∷ NoBuffer ∷ BadRange ∷ OutOfRam ∷ OutOfCaps ∷ []
+errors_of Get = NotFound ∷ Gap ∷ NoBuffer ∷ BadRange ∷ []
+
+abbrev pub is_any : CoverageRequest → Bool
+is_any AnyRequest = true
+is_any asked = false
+
+-- the first word of the request that a call makes of a session
+abbrev pub request_word : Call → Option (List ℕ)
+request_word (CallSession selector request) = Some (first_word request).word
+request_word call = None
+
+-- the form includes a request that begins with this word, and nothing if there is no request
+abbrev pub is_asked : CoverageRequest → Option (List ℕ) → Bool
+is_asked asked None = false
+is_asked asked (Some word) = is_any asked || bytes_eq word (asked_word asked)
+
+-- a reply is an error
+abbrev pub is_error : FileError → List ℕ → Bool
+is_error error reply =
+    nat_le 4 (length reply)
+    && (bytes_eq (take 4 reply) (codes "ERR ") && bytes_eq (drop 4 reply) (error_name (model_error error)))

@@ -1,0 +1,80 @@
+//! The events that replies can show.
+ghost use Rattle.std.specs.Prelude.{◌≡◌};
+ghost use Rattle.std.specs.Str.{bytes_eq};
+ghost use Rattle.trade_base.specs.Refusal.{refusal_name};
+ghost use Rattle.view_coverage.specs.Requests.{is_error};
+ghost use Rattle.view_coverage.specs.Rules.{is_rule, is_same};
+
+use crate::call_forms::CoverageCall;
+use crate::request_forms::CoverageRequest;
+use core_calls::{Answer, FileError, Outcome, ServiceOutcome};
+use trade_base::Refusal;
+
+/// An event that a reply can show.
+#[derive(Clone, Copy)]
+pub enum CoverageEvent {
+    /// A call of a form is refused with this refusal.
+    Refused(CoverageCall, Refusal),
+    /// A request of a form is answered with this error.
+    Failed(CoverageRequest, FileError),
+    /// A rule decides a session request.
+    Decided(RulePlace),
+}
+
+/// The owner of a route, by number: an entry, an init for the default route of its list, or the machine.
+#[derive(Clone, Copy)]
+pub enum RouteOwner {
+    Own(usize),
+    Inner(usize),
+    Machine,
+}
+
+/// A rule, by its place in its route.
+#[derive(Clone, Copy)]
+pub struct RulePlace {
+    pub route: RouteOwner,
+    pub place: usize,
+}
+
+impl RouteOwner {
+    ghost use Rattle.std.specs.Prelude.{◌≡◌};
+    ghost use Rattle.view_coverage.specs.Rules.{is_same};
+
+    // Whether both routes have one owner.
+    fn is_same(self, other: RouteOwner) -> bool
+        ensures { result ≡ is_same self other }
+    {
+        match (self, other) {
+            (RouteOwner::Own(entry), RouteOwner::Own(number)) => entry == number,
+            (RouteOwner::Inner(init), RouteOwner::Inner(number)) => init == number,
+            (RouteOwner::Machine, RouteOwner::Machine) => true,
+            _ => false,
+        }
+    }
+}
+
+impl RulePlace {
+    ghost use Rattle.std.specs.Prelude.{◌≡◌};
+    ghost use Rattle.view_coverage.specs.Rules.{is_rule};
+
+    /// Returns whether both are the same rule of the same route.
+    pub(crate) fn is(self, other: RulePlace) -> bool
+        ensures { result ≡ is_rule self other }
+    {
+        self.place == other.place && self.route.is_same(other.route)
+    }
+}
+
+/// Returns whether a reply is a call's refusal of this kind.
+pub(crate) fn is_refused(answer: Answer<'_>, refusal: Refusal) -> bool
+    ensures { result ≡ bytes_eq answer.entry.text.now (refusal_name refusal) }
+{
+    matches!(answer.outcome, Outcome::Refused(other) if other == refusal)
+}
+
+/// Returns whether a reply is a service's error of this kind.
+pub(crate) fn is_error(answer: Answer<'_>, error: FileError) -> bool
+    ensures { result ≡ is_error error answer.entry.text.now }
+{
+    matches!(answer.outcome, Outcome::Served(ServiceOutcome::Refused(other)) if other == error)
+}

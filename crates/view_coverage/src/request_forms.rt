@@ -1,0 +1,155 @@
+//! The forms of requests of services, and the errors of each form.
+ghost use Rattle.std.specs.Prelude.{◌≡◌};
+ghost use Rattle.std.specs.Option.{option_copied};
+ghost use Rattle.core_calls.specs.Call.{model_call};
+ghost use Rattle.view_coverage.specs.Requests.{asked_word, errors_of, is_asked, request_word};
+
+use core_calls::{Call, FileError};
+use text_codec::split_first_word;
+
+/// What an error answers: any request of a session, or a request of one form.
+#[derive(Clone, Copy)]
+pub enum CoverageRequest {
+    AnyRequest,
+    Create,
+    Write,
+    Read,
+    Size,
+    Clear,
+    Drop,
+    Name,
+    Buffer,
+    Unbuffer,
+    Put,
+    Get,
+}
+
+/// All forms of requests, in the order in which they are printed.
+pub(crate) const REQUESTS: [CoverageRequest; 12] = [
+    CoverageRequest::AnyRequest,
+    CoverageRequest::Create,
+    CoverageRequest::Write,
+    CoverageRequest::Read,
+    CoverageRequest::Size,
+    CoverageRequest::Clear,
+    CoverageRequest::Drop,
+    CoverageRequest::Name,
+    CoverageRequest::Buffer,
+    CoverageRequest::Unbuffer,
+    CoverageRequest::Put,
+    CoverageRequest::Get,
+];
+
+impl CoverageRequest {
+    ghost use Rattle.std.specs.Prelude.{◌≡◌};
+    ghost use Rattle.std.specs.Option.{option_copied};
+    ghost use Rattle.view_coverage.specs.Requests.{asked_word, errors_of, is_any, is_asked};
+
+    /// Returns the first word of requests of this form, or `any request`.
+    pub fn word(self) -> &'static str
+        ensures { result.now ≡ asked_word self }
+    {
+        match self {
+            CoverageRequest::AnyRequest => "any request",
+            CoverageRequest::Create => "CREATE",
+            CoverageRequest::Write => "WRITE",
+            CoverageRequest::Read => "READ",
+            CoverageRequest::Size => "SIZE",
+            CoverageRequest::Clear => "CLEAR",
+            CoverageRequest::Drop => "DROP",
+            CoverageRequest::Name => "NAME",
+            CoverageRequest::Buffer => "BUFFER",
+            CoverageRequest::Unbuffer => "UNBUFFER",
+            CoverageRequest::Put => "PUT",
+            CoverageRequest::Get => "GET",
+        }
+    }
+
+    /// Returns the errors of requests of this form, in the order in which they are tested.
+    pub fn errors(self) -> &'static [FileError]
+        ensures { result.now ≡ errors_of self }
+    {
+        match self {
+            CoverageRequest::AnyRequest => &[FileError::BadRequest],
+            CoverageRequest::Create => {
+                &[
+                    FileError::BadName,
+                    FileError::Exists,
+                    FileError::TooManyChunks,
+                    FileError::OutOfRam,
+                    FileError::OutOfCaps,
+                ]
+            }
+            CoverageRequest::Write => {
+                &[
+                    FileError::NotFound,
+                    FileError::Gap,
+                    FileError::OutOfRam,
+                    FileError::OutOfCaps,
+                ]
+            }
+            CoverageRequest::Read => &[FileError::NotFound, FileError::Gap, FileError::TooLong],
+            CoverageRequest::Size | CoverageRequest::Clear | CoverageRequest::Drop => &[
+                FileError::NotFound,
+            ],
+            CoverageRequest::Name => &[FileError::End],
+            CoverageRequest::Buffer => {
+                &[
+                    FileError::InvalidSize,
+                    FileError::Exists,
+                    FileError::OutOfRam,
+                    FileError::OutOfCaps,
+                ]
+            }
+            CoverageRequest::Unbuffer => &[FileError::NoBuffer],
+            CoverageRequest::Put => {
+                &[
+                    FileError::NotFound,
+                    FileError::Gap,
+                    FileError::NoBuffer,
+                    FileError::BadRange,
+                    FileError::OutOfRam,
+                    FileError::OutOfCaps,
+                ]
+            }
+            CoverageRequest::Get => {
+                &[
+                    FileError::NotFound,
+                    FileError::Gap,
+                    FileError::NoBuffer,
+                    FileError::BadRange,
+                ]
+            }
+        }
+    }
+
+    // Whether this is any request.
+    fn is_any(self) -> bool
+        ensures { result ≡ is_any self }
+    {
+        matches!(self, CoverageRequest::AnyRequest)
+    }
+
+    /// Returns whether this includes a session's request that begins with a word; it includes nothing if there is no request.
+    pub(crate) fn is_in(self, word: Option<&[u8]>) -> bool
+        ensures { result ≡ is_asked self (option_copied word.entry) }
+    {
+        match word {
+            Some(word) => self.is_any() || word == self.word().as_bytes(),
+            None => false,
+        }
+    }
+}
+
+/// Returns the first word of the request that a call makes of a session, if it makes one.
+pub(crate) fn request_word(call: Call<'_>) -> Option<&[u8]>
+    ensures { option_copied result ≡ request_word (model_call call.entry) }
+{
+    match call {
+        Call::CallSession { request, .. } => {
+            let (word, _) = split_first_word(request);
+            Some(word)
+        }
+        _ => None,
+    }
+}

@@ -1,0 +1,77 @@
+//! Rows of coverage: events, and whether each is met.
+ghost use Rattle.std.specs.Prelude.{◌≡◌, map};
+ghost use Rattle.std.specs.List.{list_any};
+ghost use Rattle.view_coverage.specs.Covered.{evidence_in, has_rule, row_with, shown_with};
+
+use crate::call_forms::CoverageCall;
+use crate::event::{CoverageEvent, RulePlace, is_error, is_refused};
+use core_calls::Answer;
+
+/// A row of coverage: an event that a reply can show, and whether some reply showed it.
+#[derive(Clone, Copy)]
+pub struct CoverageRow {
+    pub event: CoverageEvent,
+    pub met: bool,
+}
+
+impl CoverageRow {
+    /// Returns whether the row is that of a rule.
+    pub(crate) fn is_of_a_rule(&self) -> bool {
+        matches!(self.event, CoverageEvent::Decided(_))
+    }
+}
+
+/// The evidence of an answered line: its reply, and the rules that decided its session request. It has the form of the call and
+/// the first word of the request, if the line has these.
+#[derive(Clone, Copy)]
+pub(crate) struct CallEvidence<'a, 'b> {
+    pub form: Option<CoverageCall>,
+    pub word: Option<&'a [u8]>,
+    pub answer: Answer<'a>,
+    pub rules: &'b [RulePlace],
+}
+
+impl CallEvidence<'_, '_> {
+    ghost use Rattle.std.specs.Prelude.{◌≡◌, map};
+    ghost use Rattle.view_coverage.specs.Covered.{evidence_in, row_with, shown_with};
+
+    // Returns whether it shows an event.
+    fn shows(self, event: CoverageEvent) -> bool
+        ensures { result ≡ shown_with (evidence_in self.entry) event }
+    {
+        match event {
+            CoverageEvent::Refused(form, refusal) => {
+                form.is_of(self.form) && is_refused(self.answer, refusal)
+            }
+            CoverageEvent::Failed(asked, error) => asked.is_in(self.word)
+                && is_error(self.answer, error),
+            CoverageEvent::Decided(rule) => has_rule(self.rules, rule),
+        }
+    }
+
+    // Returns a row after this evidence.
+    fn noted_in(self, row: CoverageRow) -> CoverageRow
+        ensures { result ≡ row_with (evidence_in self.entry) row }
+    {
+        CoverageRow {
+            event: row.event,
+            met: row.met || self.shows(row.event),
+        }
+    }
+
+    /// Marks each row as met whose event this evidence shows.
+    pub(crate) fn note(self, rows: &mut [CoverageRow])
+        ensures { rows.new ≡ map (row_with (evidence_in self.entry)) rows.old }
+    {
+        for row in rows.iter_mut() {
+            *row = self.noted_in(*row);
+        }
+    }
+}
+
+// Returns whether a rule is one of these.
+fn has_rule(rules: &[RulePlace], rule: RulePlace) -> bool
+    ensures { result ≡ has_rule rules.now rule }
+{
+    rules.iter().any(|other| rule.is(*other))
+}

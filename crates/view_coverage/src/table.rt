@@ -1,0 +1,105 @@
+//! The rows of a machine, none of them met.
+ghost use Rattle.std.specs.Prelude.{◌≡◌, ◌++◌, length, map, OnOk, IfOk};
+ghost use Rattle.std.specs.List.{flat_map};
+ghost use Rattle.view_coverage.specs.Covered.{error_rows, refusal_rows, route_rows, rows_of, rows_of_entries, rows_of_entry, unmet};
+
+use crate::call_forms::{CoverageCall, FORMS};
+use crate::event::{CoverageEvent, RouteOwner, RulePlace};
+use crate::request_forms::{CoverageRequest, REQUESTS};
+use crate::row::CoverageRow;
+use list_parser::{ListEntry, StartList};
+use std::alloc::{AllocError, Global};
+
+/// Returns the rows of a machine: of the table of calls, of the table of requests, and of each rule of its start list. Fails if
+/// the host is out of memory.
+pub(crate) fn rows_of(alloc: Global, list: &StartList) -> Result<Vec<CoverageRow>, AllocError>
+    ensures { IfOk result (λ rows. rows.items ≡ rows_of list.now) }
+{
+    let mut rows = Vec::new(alloc);
+    add_calls(&mut rows, &FORMS)?;
+    add_requests(&mut rows, &REQUESTS)?;
+    add_rules(&mut rows, RouteOwner::Machine, list.default_route().len())?;
+    add_entries(&mut rows, list.entries())?;
+    Ok(rows)
+}
+
+// A row that isn't met.
+fn unmet(event: CoverageEvent) -> CoverageRow
+    ensures { result ≡ unmet event }
+{
+    CoverageRow { event, met: false }
+}
+
+// Adds the refusals of calls of these forms.
+fn add_calls(rows: &mut Vec<CoverageRow>, forms: &[CoverageCall]) -> Result<(), AllocError>
+    ensures { OnOk result (rows.new.items ≡ rows.old.items ++ flat_map refusal_rows forms.now) }
+{
+    for form in forms {
+        add_refusals(rows, *form)?;
+    }
+    Ok(())
+}
+
+// Adds the errors of requests of these forms.
+fn add_requests(rows: &mut Vec<CoverageRow>, requests: &[CoverageRequest]) -> Result<(), AllocError>
+    ensures { OnOk result (rows.new.items ≡ rows.old.items ++ flat_map error_rows requests.now) }
+{
+    for asked in requests {
+        add_errors(rows, *asked)?;
+    }
+    Ok(())
+}
+
+// Adds the refusals of calls of a form.
+fn add_refusals(rows: &mut Vec<CoverageRow>, form: CoverageCall) -> Result<(), AllocError>
+    ensures { OnOk result (rows.new.items ≡ rows.old.items ++ refusal_rows form) }
+{
+    for refusal in form.refusals() {
+        rows.push(unmet(CoverageEvent::Refused(form, *refusal)))?;
+    }
+    Ok(())
+}
+
+// Adds the errors of requests of a form.
+fn add_errors(rows: &mut Vec<CoverageRow>, asked: CoverageRequest) -> Result<(), AllocError>
+    ensures { OnOk result (rows.new.items ≡ rows.old.items ++ error_rows asked) }
+{
+    for error in asked.errors() {
+        rows.push(unmet(CoverageEvent::Failed(asked, *error)))?;
+    }
+    Ok(())
+}
+
+// Adds so many rules of a route.
+fn add_rules(rows: &mut Vec<CoverageRow>, route: RouteOwner, count: usize) -> Result<(), AllocError>
+    ensures { OnOk result (rows.new.items ≡ rows.old.items ++ route_rows route count) }
+{
+    for place in 0..count {
+        rows.push(unmet(CoverageEvent::Decided(RulePlace { route, place })))?;
+    }
+    Ok(())
+}
+
+// Adds the rules that entries have.
+fn add_entries(rows: &mut Vec<CoverageRow>, entries: &[ListEntry]) -> Result<(), AllocError>
+    ensures { OnOk result (rows.new.items ≡ rows.old.items ++ rows_of_entries 0 entries.now) }
+{
+    for number in 0..entries.len() {
+        add_entry(rows, number, &entries[number])?;
+    }
+    Ok(())
+}
+
+// Adds the rules of an entry: its own route, and the default route of its list.
+fn add_entry(
+    rows: &mut Vec<CoverageRow>,
+    number: usize,
+    entry: &ListEntry,
+) -> Result<(), AllocError>
+    ensures { OnOk result (rows.new.items ≡ rows.old.items ++ rows_of_entry number entry.now) }
+{
+    if let Some(rules) = entry.route() {
+        add_rules(rows, RouteOwner::Own(number), rules.len())?;
+    }
+    add_rules(rows, RouteOwner::Inner(number), entry.inner_route().len())
+}

@@ -1,0 +1,66 @@
+-- Calls with their replies, one after another.
+use Rattle.std.proofs.Common.{◌≡◌, ℕ, List, [], ◌∷◌, ◌++◌, Bool, true, Option, None, IfNone, Ok, sym, ◌∙◌, ap, subst, append_assoc, append-nil}
+use Rattle.own_model.specs.Listed.{Listed, start_list_of}
+use Rattle.own_model.specs.StartList.{Boots}
+use Rattle.own_model.specs.World.{World, world_running}
+use Rattle.run_exchanges.specs.Exchange.{Exchange}
+use Rattle.list_parser.specs.StartText.{list_in}
+use Rattle.run_lines.specs.Machine.{world_of}
+use Rattle.run_lines.specs.declared.line_answer.LineAnswer.{LineAnswer}
+use Rattle.view_runs.specs.Answers.{IsAnswered, IsAnsweredFrom, exchange_in, exchanges, exchanges_after}
+use Rattle.run_scenario.specs.RunCalls.{calls_answered}
+use Rattle.run_scenario.specs.ScenarioRuns.{RunsAll}
+use Rattle.view_runs.specs.Tracing.{call_text}
+use Rattle.run_scenario.specs.LineSteps.{turns_of}
+use Rattle.run_scenario.specs.Observation.{IsAnsweredAfter}
+use Rattle.run_scenario.specs.Writes.{IsRunFrom, turns_on}
+use Rattle.run_scenario.specs.declared.scenario_end.ScenarioEnd.{ScenarioEnd}
+use Rattle.line_steps.specs.RunPosition.{RunPosition}
+use Rattle.run_scenario.proofs.WriteLemmas.{closes_alone, played_from, silent_turns}
+
+exchanges_more : (start : World) (earlier calls : List (List ℕ)) (call : List ℕ) →
+    exchanges_after start earlier (calls ++ call ∷ []) ≡ exchanges_after start earlier calls ++ exchange_in (world_running start (earlier ++ calls)) call ∷ []
+exchanges_more start earlier [] call = ap (λ e. exchange_in (world_running start e) call ∷ []) (sym (append-nil earlier))
+exchanges_more start earlier (first ∷ calls) call =
+    ap (λ es. exchange_in (world_running start earlier) first ∷ es)
+    (exchanges_more start (earlier ++ first ∷ []) calls call
+    ∙ ap (λ e. exchanges_after start (earlier ++ first ∷ []) calls ++ exchange_in (world_running start e) call ∷ []) (append_assoc earlier (first ∷ []) calls))
+
+-- a call more was observed
+pub sees_more : {start : World} {earlier : List (List ℕ)} {call : List ℕ} {core : World} {answer : LineAnswer} → IsAnsweredAfter start earlier call core answer → (kept : List Exchange) {more : List Exchange} {exchange : Exchange} →
+    kept ≡ exchanges start earlier → exchange ≡ record { name = answer.name.now; line = call; call = call_text call; reply = answer.reply.now } → more ≡ kept ++ exchange ∷ [] → more ≡ exchanges start (earlier ++ call ∷ [])
+sees_more {start} {earlier} {call} {core} {answer} told kept sees is more_is =
+    more_is
+    ∙ (λ i. sees i ++ is i ∷ [])
+    ∙ (λ i. exchanges start earlier ++ record { name = told.answers.name i; line = call; call = call_text call; reply = told.answers.reply i } ∷ [])
+    ∙ sym (exchanges_more start [] earlier call)
+
+-- what a play observed
+pub answered_from : {first : RunPosition} {start last : World} {kept found : List Exchange} {front : List ℕ} {input rest w w' : Option (List ℕ)} {failed : Bool} {tells : List (List ℕ) → ℕ → List ℕ → List ℕ} (ending : ScenarioEnd) → found ≡ kept →
+    RunsAll tells true (λ calls. kept ≡ exchanges start calls) None first ending.fault ending.lines start last front input rest failed w w' →
+    IsAnsweredFrom (turns_of None start first) start ending found input rest failed
+answered_from {first = first} {start = start} ending is plays = record {
+  given = plays.given;
+  readable = plays.readable;
+  ends = plays.ends;
+  are = subst (λ exchanged. IfNone ending.fault (exchanged ≡ exchanges start (calls_answered None (turns_of None start first plays.given)))) (sym is) plays.sees;
+}
+
+-- and it wrote nothing
+pub silent_played : {first : RunPosition} {seen : List (List ℕ) → Type 0} {start last : World} {input rest w w' : Option (List ℕ)} {failed : Bool} (ending : ScenarioEnd) →
+    RunsAll (λ _ _ _. []) true seen None first ending.fault ending.lines start last [] input rest failed w w' →
+    IsRunFrom (turns_of None start first) (λ _. []) (λ _. []) true ending input rest failed w w'
+silent_played {first = first} {start = start} {w' = w'} ending plays =
+    played_from ending ending plays (silent_turns None [] (turns_of None start first plays.given)) (closes_alone ending w')
+
+-- on the machine of a text
+pub answered_on : {text : List ℕ} {listed : Listed} (first : RunPosition) (ending : ScenarioEnd) {start : World} {begun : RunPosition} {kept : List Exchange} {input rest : Option (List ℕ)} {failed : Bool} →
+    list_in text ≡ Ok listed → Boots (start_list_of listed) → start ≡ world_of listed → begun ≡ first → IsAnsweredFrom (turns_of None start begun) start ending kept input rest failed →
+    IsAnswered text (turns_on None first) ending kept input rest failed
+answered_on {listed = listed} first ending {start = start} {kept = kept} {input = input} {rest = rest} {failed = failed} reads boots starts begins answered = record {
+  listed = listed;
+  machine = record { reads = reads; boots = boots };
+  answered =
+      subst (λ world. IsAnsweredFrom (turns_of None world first) world ending kept input rest failed) starts
+      (subst (λ stand. IsAnsweredFrom (turns_of None start stand) start ending kept input rest failed) begins answered);
+}

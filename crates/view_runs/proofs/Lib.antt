@@ -1,0 +1,4 @@
+pub mod AloneLemmas
+pub mod AnswerLemmas
+pub mod RowLemmas
+pub mod ViewLemmas

@@ -1,0 +1,104 @@
+-- What each command writes, from what its play promises.
+use Rattle.std.proofs.Common.{◌≡◌, ℕ, ◌≤◌, List, [], ◌∷◌, ◌++◌, Bool, true, false, length, Option, Some, None, IfNone, Result, Ok, Err, arith, refl, sym, ◌∙◌, ap, subst, length-append}
+use Rattle.std.proofs.lemmas.Bool.Decides.{nat_tests}
+use Rattle.std.specs.List.{filter}
+use Rattle.own_model.specs.LinesOfName.{is_line_of, said_by}
+use Rattle.own_model.specs.Listed.{Listed, start_list_of}
+use Rattle.own_model.specs.StartList.{entries_of}
+use Rattle.own_model.specs.World.{World}
+use Rattle.line_friendly.specs.Friendly.{FriendlyLine}
+use Rattle.line_friendly.specs.Friendly.FriendlyLine.{Nothing, Log, Call}
+use Rattle.line_friendly.specs.declared.fault.FriendlyFault.{FriendlyFault}
+use Rattle.run_lines.specs.Machine.{accounts_for}
+use Rattle.view_runs.specs.Alone.{SeesAlone, alone_sum, alone_call_text}
+use Rattle.run_scenario.specs.RunCalls.{calls_answered, calls_of_steps, text_of_steps}
+use Rattle.run_scenario.specs.ScenarioRuns.{RunsAll}
+use Rattle.view_runs.specs.Tracing.{trace_header, trace_call_text}
+use Rattle.run_scenario.specs.LineSteps.{ResolvedLine, LineStep, call_in, calls_in, left_behind, next_stand, turns_of}
+use Rattle.run_scenario.specs.LineSteps.ResolvedLine.{TooLong, Unnamed, Follows, Says}
+use Rattle.run_scenario.specs.Writes.{Closes, IsRunFrom, WritesAfter}
+use Rattle.view_runs.specs.Transcripts.{list_behind, text_of_run_call, shown_of}
+use Rattle.run_scenario.specs.declared.scenario_end.ScenarioEnd.{ScenarioEnd}
+use Rattle.run_lines.specs.declared.line_run_fault.LineRunFault.{LineRunFault}
+use Rattle.line_steps.specs.RunPosition.{RunPosition}
+use Rattle.run_scenario.proofs.PlayedLemmas.{told_as_engine}
+use Rattle.run_scenario.proofs.WriteLemmas.{closes_alone, closes_as, played_from}
+
+-- what is told, and the account list behind it where it is asked for
+pub run_played : (numbers accounts : Bool) (only : Option (List ℕ)) (listed : Listed) {first : RunPosition} {seen : List (List ℕ) → Type 0} {start last : World} {input rest w w' w'' : Option (List ℕ)} {failed : Bool} (played ended : ScenarioEnd) →
+    RunsAll (text_of_run_call numbers start) false seen only first played.fault played.lines start last [] input rest failed w w' → Closes played ended w' w'' (accounts_for accounts listed last) →
+    IsRunFrom (turns_of only start first) (shown_of numbers only start) (list_behind accounts only listed start) false ended input rest failed w w''
+run_played true accounts only listed {w' = w'} {w'' = w''} played ended plays closes =
+    played_from played ended plays refl (subst (λ world. Closes played ended w' w'' (accounts_for accounts listed world)) plays.world closes)
+run_played false accounts only listed {first = first} {start = start} {w' = w'} {w'' = w''} played ended plays closes =
+    played_from played ended plays (told_as_engine only start (turns_of only start first plays.given))
+    (subst (λ world. Closes played ended w' w'' (accounts_for accounts listed world)) plays.world closes)
+
+-- the rows of a trace, behind its header
+pub trace_played : {first : RunPosition} {seen : List (List ℕ) → Type 0} {start last : World} {input rest w w' : Option (List ℕ)} {failed : Bool} (ending : ScenarioEnd) →
+    RunsAll (trace_call_text start) false seen None first ending.fault ending.lines start last trace_header input rest failed w w' →
+    IsRunFrom (turns_of None start first) (λ turns. trace_header ++ text_of_steps (trace_call_text start) None [] turns) (λ _. []) false ending input rest failed w w'
+trace_played {w' = w'} ending plays = played_from ending ending plays refl (closes_alone ending w')
+
+-- ---- one name alone
+
+-- a filter leaves no more
+filter_few : {X : Type 0} (p : X → Bool) (xs : List X) → length (filter p xs) ≤ length xs
+filter_few p [] = omega arith
+filter_few p (x ∷ xs) = grind (arith, nat_tests, filter_few p xs)
+
+-- a line says one call at most
+one_call : (said : Result FriendlyLine FriendlyFault) → length (call_in said) ≤ 1
+one_call (Ok Nothing) = omega arith
+one_call (Ok (Log text)) = omega arith
+one_call (Ok (Call line reply)) = omega arith
+one_call (Err fault) = omega arith
+
+one_in : (deed : ResolvedLine) → length (calls_in deed) ≤ 1
+one_in TooLong = omega arith
+one_in (Unnamed fault) = omega arith
+one_in (Follows directive) = omega arith
+one_in (Says filled said) = one_call said
+
+-- so there are no more calls than turns, and as many of these as lines
+few_calls : (turns : List LineStep) → length (calls_of_steps turns) ≤ length turns
+few_calls [] = omega arith
+few_calls (turn ∷ turns) = omega (arith, few_calls turns, one_in turn.deed, length-append (calls_in turn.deed) (calls_of_steps turns))
+
+few_turns : (only : Option (List ℕ)) (world : World) (stand : RunPosition) (lines : List (List ℕ)) → length (turns_of only world stand lines) ≡ length lines
+few_turns only world stand [] = refl
+few_turns only world stand (line ∷ lines) = omega (arith, few_turns only (left_behind only world stand line) (next_stand only world stand line) lines)
+
+pub few_of_name : (name : List ℕ) (world : World) (stand : RunPosition) (lines : List (List ℕ)) → length (calls_answered (Some name) (turns_of None world stand lines)) ≤ length lines
+few_of_name name world stand lines =
+    omega (arith, filter_few (is_line_of name) (calls_of_steps (turns_of None world stand lines)), few_calls (turns_of None world stand lines), few_turns None world stand lines)
+
+pub alone_played : (name : List ℕ) {first : RunPosition} {start last core : World} {count : ℕ} {difference : Option ℕ} {input rest w w' w'' : Option (List ℕ)} {failed : Bool} (played ended : ScenarioEnd) → played.lines ≤ 1000000 →
+    RunsAll (alone_call_text name start) false (SeesAlone name core count difference start) None first played.fault played.lines start last [] input rest failed w w' →
+    Closes played ended w' w'' (alone_sum name count) →
+    IsRunFrom (turns_of None start first) (λ turns. text_of_steps (alone_call_text name start) None [] turns) (λ turns. alone_sum name (length (calls_answered (Some name) turns))) false ended input rest failed w w''
+alone_played name {first = first} {start = start} {core = core} {count = count} {difference = difference} {w' = w'} {w'' = w''} played ended few plays closes =
+    played_from played ended plays refl (closes_as played ended w' w'' _ _ (same played.fault plays.counted plays.sees) closes)
+  where
+    turns : List LineStep
+    turns = turns_of None start first plays.given
+
+    same : (f : Option LineRunFault) → IfNone f (played.lines ≡ length plays.given) → IfNone f (SeesAlone name core count difference start (calls_answered None turns)) →
+        IfNone f (alone_sum name count ≡ alone_sum name (length (calls_answered (Some name) turns)))
+    same None counted sees = ap (alone_sum name) (sees.counted (omega (arith, few, counted, few_of_name name start first plays.given)))
+    same (Some fault) counted sees = tt
+
+-- it differs nowhere
+pub alone_same : (fault : Option LineRunFault) (name : List ℕ) (start core : World) (count : ℕ) (difference : Option ℕ) (lines : List (List ℕ)) →
+    IfNone fault (SeesAlone name core count difference start lines) → IfNone fault (difference ≡ None)
+alone_same None name start core count difference lines sees = sees.alike
+alone_same (Some fault) name start core count difference lines sees = tt
+
+-- where the sum is written too, the play came to its end
+pub same_behind : (played ended : ScenarioEnd) (difference : Option ℕ) (w w' : Option (List ℕ)) {text : List ℕ} → Closes played ended w w' text → IfNone played.fault (difference ≡ None) → IfNone ended.fault (difference ≡ None)
+same_behind played ended difference w w' {text = text} closes same = behind played.fault ended.fault closes.writes same
+  where
+    behind : (f f' : Option LineRunFault) → WritesAfter f f' w w' text → IfNone f (difference ≡ None) → IfNone f' (difference ≡ None)
+    behind None None after same = same
+    behind None (Some fault) after same = tt
+    behind (Some fault) f' after same = subst (λ t. IfNone t (difference ≡ None)) (sym after.0) tt

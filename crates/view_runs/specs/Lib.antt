@@ -1,0 +1,4 @@
+pub mod Alone
+pub mod Answers
+pub mod Tracing
+pub mod Transcripts

@@ -1,0 +1,16 @@
+//! Shows a run: the transcript, the trace, the answers of its calls, and the replies to one component alone.
+//!
+//! `cli_runs`, `cli_lists` and `cli_tests` call it. For example `run(alloc, play, showing, reader, writer, complaints)?` writes a
+//! transcript, and returns how the run ended.
+#![tactic(auto)]
+
+mod alone_run;
+mod answer_list;
+mod byte_text;
+mod tracing;
+mod transcript;
+
+pub use alone_run::{AloneComparison, alone};
+pub use answer_list::{AnswerList, answers};
+pub use tracing::trace;
+pub use transcript::{TranscriptOptions, run};

@@ -1,0 +1,39 @@
+//! Scenarios by the names of their files, and the machines and policies next to them.
+ghost use Rattle.std.specs.Prelude.{◌≡◌, ◌++◌, codes, string_bytes, IfOk};
+ghost use Rattle.view_test_report.specs.Paths.{is_scenario, stem_of};
+
+use std::alloc::{AllocError, Global};
+
+/// The ending of a scenario's path.
+const SCENARIO: &[u8] = b".scenario";
+
+/// Returns whether a path is that of a scenario: it ends with `.scenario`.
+pub fn is_scenario(path: &str) -> bool
+    ensures { result ≡ is_scenario path.now }
+{
+    path.as_bytes().ends_with(SCENARIO)
+}
+
+/// Returns the path of the machine next to a scenario: `NAME.json` for `NAME.scenario`. The error is out of memory.
+pub fn machine_path(alloc: Global, path: &str) -> Result<String, AllocError>
+    ensures { IfOk result (λ machine. string_bytes machine ≡ stem_of path.now ++ codes ".json") }
+{
+    beside(alloc, path, ".json")
+}
+
+/// Returns the path of the policy next to a scenario: `NAME.policy` for `NAME.scenario`. The error is out of memory.
+pub fn policy_path(alloc: Global, path: &str) -> Result<String, AllocError>
+    ensures { IfOk result (λ policy. string_bytes policy ≡ stem_of path.now ++ codes ".policy") }
+{
+    beside(alloc, path, ".policy")
+}
+
+// Returns the path of a file next to a scenario, by its ending.
+fn beside(alloc: Global, path: &str, ending: &str) -> Result<String, AllocError>
+    ensures { IfOk result (λ other. string_bytes other ≡ stem_of path.now ++ ending.now) }
+{
+    match path.strip_suffix(".scenario") {
+        Some(stem) => format!(in alloc; "{stem}{ending}"),
+        None => format!(in alloc; "{path}{ending}"),
+    }
+}

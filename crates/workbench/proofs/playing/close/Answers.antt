@@ -1,7 +1,0 @@
--- A complaint that can't be told is the fault of a play that came to its end.
-use Rattle.workbench.proofs.PlayLemmas.{closes_as}
-use Rattle.workbench.proofs.playing.close.Goals as goal
-
-pub returns-in-None : goal.returns-in-None
-returns-in-None g c =
-    rw (c.in-None.is, c.err.ensures.value, c.count.ensures) (closes_as c.tell_left_over.result (g.E.Sink.has_failed c.args.complaints.now) _ c.tell_left_over.ensures.failing)

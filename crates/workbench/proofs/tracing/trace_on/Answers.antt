@@ -1,6 +1,0 @@
--- The rows behind the header.
-use Rattle.workbench.proofs.ViewLemmas.{trace_played}
-use Rattle.workbench.proofs.tracing.trace_on.Goals as goal
-
-pub returns-clause-played : goal.returns-clause-played
-returns-clause-played g c = λ works. trace_played c.play.result (rw c.requires.all at (c.play.ensures.plays works))

@@ -1,8 +1,0 @@
--- What is read of a page of help, by its rows.
-use Rattle.std.proofs.Common.{◌∙◌, codes, refl}
-use Rattle.clap.specs.Words.{found_of}
-use Rattle.clap.proofs.WalkLemmas.{first_value-rows}
-use Rattle.workbench_options.proofs.command.Command.help.Goals as goal
-
-pub returns : goal.returns
-returns c = (refl, c.get_str.ensures ∙ first_value-rows (found_of c.args.found.now) (codes "topic"))

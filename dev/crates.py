@@ -1,0 +1,37 @@
+"""What the tools of this folder share: the repository, its crates, and the form of a tool's command line."""
+import re
+import sys
+from pathlib import Path
+
+TOP = Path(__file__).resolve().parent.parent
+sys.path.insert(0, str(TOP / "tools/lib"))
+
+
+def arguments(name, usage, about):
+    """Returns a parser of a tool's command line."""
+    from nethrywel_tools.command_line import options
+
+    return options(name, usage, about)
+
+
+def text_of(path):
+    """Returns the text of a file of the repository."""
+    return (TOP / path).read_text(encoding="utf-8")
+
+
+def dependencies():
+    """Returns each crate of crates.txt with the names in its line."""
+    return {name: names.split() for name, names in re.findall(r"^(\w+):(.*)$", text_of("crates.txt"), re.M)}
+
+
+def below(rows):
+    """Returns for each crate all crates below it, and the libraries of the toolchain that they name."""
+    known = {}
+
+    def all_of(name):
+        if name not in known:
+            known[name] = set()
+            known[name].update(rows.get(name, []), *(all_of(it) for it in rows.get(name, [])))
+        return known[name]
+
+    return {name: all_of(name) for name in rows}
