@@ -1,11 +1,10 @@
 -- What a start list tells of a component's calls hangs on no budget.
-use Rattle.std.proofs.lemmas.Grind.{take_at_read}
-use Rattle.std.proofs.Common.{◌≡◌, ℕ, zero, suc, ◌+◌, ◌<◌, ◌==◌, cond, take, get_or, ◌&&◌, Bool, not, List, [], ◌∷◌, ◌++◌, length, map, refl, sym, ap, ◌∙◌}
-use Rattle.std.proofs.lemmas.List.{length-map, map-append}
-use Rattle.std.proofs.lemmas.Option.{same_Some, slice_get-map, unwrap_or-slice_get}
+use Rattle.std.proofs.Common.{◌≡◌, ℕ, zero, suc, ◌+◌, ◌<◌, ◌==◌, cond, ◌&&◌, Bool, List, [], ◌∷◌, ◌++◌, inl, inr, length, map, refl, sym, ap, arith, ◌∙◌}
+use Rattle.std.proofs.lemmas.List.{length-map}
+use Rattle.std.proofs.lemmas.Option.{none-some, same_Some, slice_get-map, slice_get_cases, unwrap_or-slice_get}
 use Rattle.std.proofs.lemmas.List.Sums.{sum_by-cons}
-use Rattle.std.specs.Prelude.{if◌then◌else◌, Option, Some, None, position, count_by, slice_index_or}
-use Rattle.std.specs.List.{prefix_len, slice_get}
+use Rattle.std.specs.Prelude.{if◌then◌else◌, Option, Some, None, count_by, slice_index_or}
+use Rattle.std.specs.List.{slice_get}
 use Rattle.std.specs.Option.{option_map, option_and_then, unwrap_or}
 use Rattle.std.specs.Str.{bytes_eq}
 use Rattle.list_parser.proofs.ListLemmas.{position-map}
@@ -19,7 +18,9 @@ use Rattle.own_model.specs.StartList.{StartEntry, of_component, start_state}
 use Rattle.own_model.specs.StartList.Kind.{Script}
 use Rattle.own_model.specs.Transcript.{nobody, nothing}
 use Rattle.budget_theorems.specs.Need.{budgeted}
-use Rattle.budget_least.specs.Alike.{bare, but_budgets, own_entry, own_state}
+use Rattle.list_parser.specs.Budgets.{bare, but_budgets, entry_with_budget, entry_with_reserve, with_budget, with_reserve}
+use Rattle.list_parser.proofs.BudgetLemmas.{budget_aside, changed_there, reserve_aside}
+use Rattle.budget_least.specs.Alike.{IsFunded, own_entry, own_state}
 use Rattle.budget_least.specs.Run.{Begins}
 
 -- ---- lists that a function makes
@@ -165,27 +166,46 @@ module _ (one other : Listed) (component : ℕ) (a b : ListedEntry) (is_a : slic
     growth = ap (λ s. s.heap.shape.growth) (state_named other component b is_b);
   }
 
--- ---- one element after another
+-- ---- a component that is given another budget
 
-pub same_next : {X Y : Type 0} (f : X → Y) (xs ys : List X) (i : ℕ) (d e : X) → i < length xs → i < length ys → map f (take i xs) ≡ map f (take i ys) →
-    f (get_or xs i d) ≡ f (get_or ys i e) → map f (take (i + 1) xs) ≡ map f (take (i + 1) ys)
-same_next f xs ys i d e within also same here =
-    ap (map f) (take_at_read xs i d within).1 ∙ map-append f (take i xs) (get_or xs i d ∷ []) ∙ (λ k. same k ++ here k ∷ [])
-    ∙ sym (ap (map f) (take_at_read ys i e also).1 ∙ map-append f (take i ys) (get_or ys i e ∷ []))
+-- a list but for budgets has as many entries
+pub same_count : (one other : Listed) → but_budgets one ≡ but_budgets other → length one.entries ≡ length other.entries
+same_count one other alike = sym (length-map one.entries bare) ∙ ap (λ list. length list.entries) alike ∙ length-map other.entries bare
 
--- entries that are the same in all but what they are given
-pub bare_alike : (a b : ListedEntry) → a.name ≡ b.name → a.path ≡ b.path → a.label ≡ b.label → a.home ≡ b.home → a.binary ≡ b.binary → a.provides ≡ b.provides →
-    a.route ≡ b.route → a.inner_route ≡ b.inner_route → bare a ≡ bare b
-bare_alike a b name path label home binary provides route inner = λ i. record {
-  name = name i;
-  path = path i;
-  label = label i;
-  home = home i;
-  binary = binary i;
-  ram = 0;
-  caps = 0;
-  provides = provides i;
-  route = route i;
-  reserve = None;
-  inner_route = inner i;
+-- nor does a list on which a budget or a reserve is set differ otherwise
+pub budget_set : (old new : Listed) (place : ℕ) (budget : Amounts) → new ≡ with_budget old place budget → but_budgets new ≡ but_budgets old
+budget_set old new place budget is = ap but_budgets is ∙ budget_aside old place budget
+
+pub reserve_set : (old new : Listed) (place : ℕ) (reserve : Option Amounts) → new ≡ with_reserve old place reserve → but_budgets new ≡ but_budgets old
+reserve_set old new place reserve is = ap but_budgets is ∙ reserve_aside old place reserve
+
+module _ (machine list : Listed) (component : ℕ) (budget : Amounts) (there : component < length list.entries) (funded : IsFunded machine list component budget) where
+  given : (entry : ListedEntry) × (slice_get list.entries component ≡ Some entry)
+  given = elim (slice_get_cases list.entries component).1 [ inl here ↦ (here.0, here.2) | inr past ↦ absurd (omega (arith, there, past.0)) ]
+
+  has : slice_get machine.entries component ≡ Some (entry_with_budget budget given.0)
+  has = funded.given ∙ changed_there (entry_with_budget budget) list.entries component ∙ ap (option_map (entry_with_budget budget)) given.1
+
+  pub funded_entry : own_entry machine component ≡ own_entry list component
+  funded_entry = same_entry machine list component (entry_with_budget budget given.0) given.0 has given.1 funded.alike
+
+  pub funded_begins : (own_entry list component).kind ≡ Script → Begins (start_list_of machine) component budget (own_state list component)
+  funded_begins script = begins machine list component (entry_with_budget budget given.0) given.0 has given.1 funded.alike script budget refl refl refl
+
+-- once all is taken away, and the inits are given enough, the component is given what it had but for its budget
+pub is_funded : (machine list : Listed) (component : ℕ) (budget : Amounts) (entry : ListedEntry) → slice_get list.entries component ≡ Some entry →
+    but_budgets machine ≡ but_budgets list → IsFunded (with_reserve (with_budget machine component budget) component entry.reserve) list component budget
+is_funded machine list component budget entry there alike = record {
+  alike = reserve_aside (with_budget machine component budget) component entry.reserve ∙ budget_aside machine component budget ∙ alike;
+  given =
+      changed_there (entry_with_reserve entry.reserve) (with_budget machine component budget).entries component
+      ∙ ap (option_map (entry_with_reserve entry.reserve)) (changed_there (entry_with_budget budget) machine.entries component)
+      ∙ by (slice_get machine.entries component) (sym (slice_get-map bare machine.entries component) ∙ ap (λ l. slice_get l.entries component) alike
+      ∙ slice_get-map bare list.entries component ∙ ap (option_map bare) there)
+      ∙ sym (changed_there (entry_with_budget budget) list.entries component ∙ ap (option_map (entry_with_budget budget)) there);
 }
+  where
+    by : (o : Option ListedEntry) → option_map bare o ≡ Some (bare entry) →
+        option_map (entry_with_reserve entry.reserve) (option_map (entry_with_budget budget) o) ≡ Some (entry_with_budget budget entry)
+    by (Some e) same = ap (λ b. Some (entry_with_reserve entry.reserve (entry_with_budget budget b))) (same_Some (bare e) (bare entry) same)
+    by None same = absurd (none-some (bare entry) same)

@@ -1,17 +1,12 @@
--- Start lists without the budgets of their entries.
-use Rattle.std.specs.Prelude.{ℕ, map, None}
-use Rattle.own_model.specs.Listed.{Listed, ListedEntry, start_list_of}
+-- Components of start lists, and lists in which one has another budget.
+use Rattle.std.specs.Prelude.{◌≡◌, ℕ}
+use Rattle.std.specs.List.{slice_get}
+use Rattle.own_model.specs.Amounts.{Amounts}
+use Rattle.own_model.specs.Listed.{Listed, start_list_of}
 use Rattle.own_model.specs.OwnState.{OwnState}
 use Rattle.own_model.specs.StartList.{Entry, entries_of, start_states}
 use Rattle.own_model.specs.Transcript.{entry_at, state_at}
-
--- an entry without its budget and its reserve
-abbrev pub bare : ListedEntry → ListedEntry
-bare entry = record entry { ram = 0; caps = 0; reserve = None }
-
--- a list of such entries, on no machine
-abbrev pub but_budgets : Listed → Listed
-but_budgets list = record list { pages = 0; caps = 0; entries = map bare list.entries }
+use Rattle.list_parser.specs.Budgets.{but_budgets, with_budget}
 
 -- a component of a list, and how it starts
 abbrev pub own_entry : Listed → ℕ → Entry
@@ -19,3 +14,8 @@ own_entry list component = entry_at (entries_of (start_list_of list)) component
 
 abbrev pub own_state : Listed → ℕ → OwnState
 own_state list component = state_at (start_states (start_list_of list)) component
+
+-- a list is another but for budgets and reserves, and a component is the one of the other with this budget
+pub record IsFunded (machine list : Listed) (component : ℕ) (budget : Amounts) : Type 0 where
+  pub alike : but_budgets machine ≡ but_budgets list
+  pub given : slice_get machine.entries component ≡ slice_get (with_budget list component budget).entries component

@@ -6,8 +6,8 @@ use crate::report::BudgetReport;
 use std::alloc::{AllocError, Global};
 use view_json::{JsonField, Listing};
 
-impl BudgetReport {
-    /// Returns a JSON array with an object for each interval of each account. The error is that the host is out of memory.
+impl BudgetReport<'_> {
+    /// Returns a list of JSON with a document for each row of each account. An error is out of memory.
     pub fn documents(&self, alloc: Global) -> Result<Vec<u8>, AllocError> {
         let mut listing = Listing::new(alloc);
         for account in self.accounts() {

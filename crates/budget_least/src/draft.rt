@@ -1,17 +1,11 @@
-//! Start lists with other budgets.
+//! The text of a start list with other budgets.
 
 use budget_meter::{Budget, Bytes};
-use list_parser::{Binary, BootFault, StartList};
+use list_parser::{BootFault, StartList};
 use serde_json::{Value, put};
 use std::alloc::Global;
 
-/// The most pages of a machine, and the most capabilities of one.
-pub(crate) const LARGEST: u64 = 4096;
-
-/// The most inits above a component.
-const DEEPEST: usize = 4;
-
-/// The JSON value of a start list, whose budgets can be changed, and the path of each entry in it.
+/// A start list's value, whose budgets are written anew, and where in it each entry stands.
 #[derive(Drop)]
 pub(crate) struct Draft {
     value: Value,
@@ -28,20 +22,7 @@ impl Draft {
         Ok(Draft { value, places })
     }
 
-    /// Returns the draft on the largest machine, without a budget for any component. The error is that the host is out of memory.
-    pub(crate) fn empty(alloc: Global, text: &[u8], list: &StartList) -> Result<Draft, BootFault> {
-        let mut draft = Draft::of(alloc, text, list)?;
-        draft.set_machine(alloc, LARGEST, LARGEST)?;
-        for (component, entry) in list.entries().iter().enumerate() {
-            draft.set_budget(alloc, component, Budget { ram: 0, caps: 0 })?;
-            if entry.reserve().is_some() {
-                draft.set_reserve(alloc, component, Budget { ram: 0, caps: 0 })?;
-            }
-        }
-        Ok(draft)
-    }
-
-    /// Sets the pages and the capabilities of the machine. The error is that the host is out of memory.
+    /// Gives the machine so many pages and capabilities.
     pub(crate) fn set_machine(
         &mut self,
         alloc: Global,
@@ -62,130 +43,27 @@ impl Draft {
         component: usize,
         budget: Budget,
     ) -> Result<(), BootFault> {
-        self.set(alloc, component, ["quantum", "caps"], budget)
-    }
-
-    // Sets the reserve of a component.
-    fn set_reserve(
-        &mut self,
-        alloc: Global,
-        component: usize,
-        reserve: Budget,
-    ) -> Result<(), BootFault> {
-        self.set(alloc, component, ["reserve", "reserve-caps"], reserve)
-    }
-
-    // Sets two members of a component's entry.
-    fn set(
-        &mut self,
-        alloc: Global,
-        component: usize,
-        members: [&str; 2],
-        budget: Budget,
-    ) -> Result<(), BootFault> {
         let Some(place) = self.places.get(component) else {
             return Ok(());
         };
         if let Some(Value::Object(entry)) = self.value.pointer_mut(place.as_str()) {
             let shown = Bytes(budget.ram);
             let ram = format!(in alloc; "{shown}")?;
-            put(entry, alloc, members[0], Value::from(ram))?;
-            put(entry, alloc, members[1], Value::from(budget.caps))?;
+            put(entry, alloc, "quantum", Value::from(ram))?;
+            put(entry, alloc, "caps", Value::from(budget.caps))?;
         }
         Ok(())
     }
 
-    /// Sets the budget and the reserve of a component of a list, and the same sum for each init above it. The error is that the
-    /// host is out of memory.
-    pub(crate) fn fund(
-        &mut self,
-        alloc: Global,
-        list: &StartList,
-        component: usize,
-        budget: Budget,
-    ) -> Result<(), BootFault> {
-        let reserve = reserve_of(list, component);
-        self.set_budget(alloc, component, budget)?;
-        if reserve.ram != 0 || reserve.caps != 0 {
-            self.set_reserve(alloc, component, reserve)?;
-        }
-        self.fund_inits(
-            alloc,
-            list,
-            component,
-            Budget {
-                ram: budget.ram.saturating_add(reserve.ram),
-                caps: budget.caps.saturating_add(reserve.caps),
-            },
-        )
-    }
-
-    // Sets a budget for each init above a component.
-    fn fund_inits(
-        &mut self,
-        alloc: Global,
-        list: &StartList,
-        component: usize,
-        budget: Budget,
-    ) -> Result<(), BootFault> {
-        let mut below = component;
-        for _ in 0..DEEPEST {
-            match parent_init_of(list, below) {
-                Some(init) => {
-                    self.set_budget(alloc, init, budget)?;
-                    below = init;
-                }
-                None => return Ok(()),
-            }
-        }
-        Ok(())
-    }
-
-    /// Removes the budget and the reserve of a component, and the budgets of the inits above it. The error is that the host is
-    /// out of memory.
-    pub(crate) fn clear(
-        &mut self,
-        alloc: Global,
-        list: &StartList,
-        component: usize,
-    ) -> Result<(), BootFault> {
-        let nothing = Budget { ram: 0, caps: 0 };
-        self.set_budget(alloc, component, nothing)?;
-        let reserve = reserve_of(list, component);
-        if reserve.ram != 0 || reserve.caps != 0 {
-            self.set_reserve(alloc, component, nothing)?;
-        }
-        self.fund_inits(alloc, list, component, nothing)
-    }
-
-    /// Returns the start list that the draft denotes now. The error is that of the list, or that the host is out of memory.
-    pub(crate) fn list(&self, alloc: Global) -> Result<StartList, BootFault> {
-        StartList::of_value(alloc, &self.value)
-    }
-
-    /// Returns the text of the draft, with a line for each member. The error is that the host is out of memory.
+    /// Its text, with a line for each member.
     pub(crate) fn text(&self, alloc: Global) -> Result<String, BootFault> {
         let text = self.value.to_string_pretty(alloc)?;
         Ok(text)
     }
 }
 
-/// Returns the reserve that a component of a list has at the start, in bytes and capabilities.
-pub(crate) fn reserve_of(list: &StartList, component: usize) -> Budget {
-    match list.entries().get(component) {
-        Some(entry) => {
-            let reserve = entry.reserve_at_start();
-            Budget {
-                ram: reserve.ram.0,
-                caps: u64::from(reserve.caps.0),
-            }
-        }
-        None => Budget { ram: 0, caps: 0 },
-    }
-}
-
-/// Returns the number of a component's parent init, if it is an init of the list itself.
-pub(crate) fn parent_init_of(list: &StartList, component: usize) -> Option<usize> {
+// The number of the init of a component, where that is one of the list itself.
+fn parent_init_of(list: &StartList, component: usize) -> Option<usize> {
     let entry = list.entries().get(component)?;
     entry.home().checked_sub(1)
 }

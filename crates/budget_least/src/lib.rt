@@ -5,12 +5,12 @@
 #![tactic(auto)]
 
 mod account_budgets;
-mod alike;
 mod binding_run;
 mod budget_intervals;
 mod documents;
 mod donation;
 mod draft;
+mod funded;
 mod lines_by_component;
 mod opened_sessions;
 mod own_run;

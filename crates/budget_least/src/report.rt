@@ -1,7 +1,8 @@
-//! The budgets that all accounts of a scenario need.
+//! What all accounts of a scenario need.
+ghost use Rattle.std.specs.Prelude.{◌<◌, ◌^◌, length};
 
 use crate::account_budgets::AccountBudgets;
-use crate::draft::{Draft, LARGEST, reserve_of};
+use crate::draft::Draft;
 use crate::lines_by_component::{ComponentLine, LinesByComponent, MisreadLine};
 use crate::report_text::BudgetCsv;
 use crate::script_search::ScriptSearch;
@@ -12,13 +13,13 @@ use list_parser::{Binary, BootFault, ListEntry, StartList};
 use std::alloc::Global;
 use trade_base::PAGE;
 
-/// The input of a search for budgets: the text of a start list, that of a scenario, and whether sessions keep the scenario's
-/// donations.
+/// What is asked: a start list, the text of a scenario, and whether sessions are given what the scenario donates, and not the
+/// least.
 #[derive(Clone, Copy)]
 pub struct BudgetQuery<'a> {
-    /// The text of the start list.
-    pub machine: &'a [u8],
-    /// The text of the scenario, with its rounds unfolded.
+    /// The start list.
+    pub list: &'a StartList,
+    /// The scenario, with its rounds unfolded.
     pub scenario: &'a [u8],
     /// Whether sessions keep the scenario's donations. Otherwise they get the minimum.
     pub as_donated: bool,
@@ -27,43 +28,41 @@ pub struct BudgetQuery<'a> {
 /// The budgets that each account of a scenario needs: the components in the order of the start list, the sessions of each before
 /// its own account.
 #[derive(Drop)]
-pub struct BudgetReport {
-    pub(crate) list: StartList,
+pub struct BudgetReport<'a> {
+    pub(crate) list: &'a StartList,
     pub(crate) accounts: Vec<AccountBudgets>,
     scene: LinesByComponent,
 }
 
-impl BudgetReport {
-    /// Returns the report on a query, by the run from the position `start`: names have the values that are given and that the run
-    /// binds. The error is that of the start list, which can't be parsed or doesn't boot, or that the host is out of memory.
+impl<'a> BudgetReport<'a> {
+    /// Returns the answer to a question, by the run from where it begins: names stand for what is given and what the run binds. An
+    /// error is that of the start list, which may not boot, or that the host has no memory.
     pub fn of(
         alloc: Global,
-        question: BudgetQuery<'_>,
+        question: BudgetQuery<'a>,
         start: RunPosition<'_>,
-    ) -> Result<BudgetReport, BootFault> {
-        let list = StartList::read(alloc, question.machine)?;
-        let scene = LinesByComponent::read(alloc, &list, question.scenario, start)?;
+    ) -> Result<BudgetReport<'a>, BootFault> {
+        let scene = LinesByComponent::read(alloc, question.list, question.scenario, start)?;
         let mut report = BudgetReport {
-            list,
+            list: question.list,
             accounts: Vec::new(alloc),
             scene,
         };
-        report.add_accounts(alloc, question)?;
+        report.add_accounts(alloc, question.as_donated)?;
         report.sum_inits();
         Ok(report)
     }
 
-    // Adds the accounts of all components, without the needs of inits.
-    fn add_accounts(&mut self, alloc: Global, question: BudgetQuery<'_>) -> Result<(), BootFault> {
-        let mut draft = Draft::empty(alloc, question.machine, &self.list)?;
-        for component in 0..self.list.count() {
+    // Adds the accounts of all components, without what inits need.
+    fn add_accounts(&mut self, alloc: Global, as_donated: bool) -> Result<(), BootFault> {
+        let list = self.list;
+        for component in 0..list.count() {
             if let Some(steps) = self.scene.steps.get_mut(component) {
                 add_component(
                     alloc,
-                    question.as_donated,
-                    &self.list,
+                    as_donated,
+                    list,
                     component,
-                    &mut draft,
                     steps.as_mut_slice(),
                     &mut self.accounts,
                 )?;
@@ -124,15 +123,15 @@ impl BudgetReport {
         self.accounts.as_slice()
     }
 
-    /// Returns the report as comma-separated values, one line for each interval.
-    pub fn into_csv(self) -> BudgetCsv {
+    /// The report as comma-separated values.
+    pub fn into_csv(self) -> BudgetCsv<'a> {
         BudgetCsv { report: self }
     }
 
-    /// Returns the text of the start list from which the report was made, with the minimum budgets. The machine is as large as
-    /// they need, and not smaller than before. The error is that of the text, or that the host is out of memory.
-    pub fn start_list(&self, alloc: Global, machine: &[u8]) -> Result<String, BootFault> {
-        let mut draft = Draft::of(alloc, machine, &self.list)?;
+    /// The text of a start list from which the report's was read, with the least budgets in place. The machine is as large as they
+    /// ask, and no smaller than it was.
+    pub fn start_list(&self, alloc: Global, text: &[u8]) -> Result<String, BootFault> {
+        let mut draft = Draft::of(alloc, text, self.list)?;
         for account in self.accounts.as_slice() {
             if let (None, Some(least)) = (account.session, account.least()) {
                 draft.set_budget(alloc, account.component, least)?;
@@ -185,20 +184,18 @@ fn add_component(
     as_donated: bool,
     list: &StartList,
     component: usize,
-    draft: &mut Draft,
     steps: &mut [ComponentLine],
     accounts: &mut Vec<AccountBudgets>,
-) -> Result<(), BootFault> {
-    let Some(entry) = list.entries().get(component) else {
-        return Ok(());
-    };
+) -> Result<(), BootFault>
+    requires { component < length list.now.entries }
+{
+    let entry = &list.entries()[component];
     let given = budget_of(entry);
     if entry.binary() == Binary::Script {
-        let mut script = ScriptSearch {
+        let script = ScriptSearch {
             list,
             component,
             given,
-            draft,
         };
         return script.add(alloc, steps, as_donated, accounts);
     }
@@ -246,8 +243,10 @@ fn split_around<'a>(line: &'a [u8], piece: &[u8]) -> Option<(&'a [u8], &'a [u8])
     None
 }
 
-// Returns the budget of an entry.
-fn budget_of(entry: &ListEntry) -> Budget {
+// The budget of an entry.
+fn budget_of(entry: &ListEntry) -> Budget
+    ensures { result.caps < 2 ^ 32 }
+{
     Budget {
         ram: entry.ram(),
         caps: u64::from(entry.caps()),

@@ -7,7 +7,7 @@ use crate::trial::{RefusedLine, SkippedLine};
 use budget_meter::{Budget, Bytes};
 use std::fmt;
 
-impl fmt::Display for BudgetReport {
+impl fmt::Display for BudgetReport<'_> {
     fn fmt<W: fmt::Write>(&self, f: &mut fmt::Formatter<W>) -> fmt::Result {
         for account in self.accounts() {
             self.show_name(f, account)?;
@@ -24,8 +24,8 @@ impl fmt::Display for BudgetReport {
     }
 }
 
-impl BudgetReport {
-    // Writes the path of an account's component.
+impl BudgetReport<'_> {
+    // The path of the component of an account.
     fn show_name<W: fmt::Write>(
         &self,
         f: &mut fmt::Formatter<W>,
@@ -166,11 +166,11 @@ fn show_left_out<W: fmt::Write>(
 
 /// A report as comma-separated values: a line of names, and a line for each interval.
 #[derive(Drop)]
-pub struct BudgetCsv {
-    pub(crate) report: BudgetReport,
+pub struct BudgetCsv<'a> {
+    pub(crate) report: BudgetReport<'a>,
 }
 
-impl fmt::Display for BudgetCsv {
+impl fmt::Display for BudgetCsv<'_> {
     fn fmt<W: fmt::Write>(&self, f: &mut fmt::Formatter<W>) -> fmt::Result {
         f.write_str("component,session,line,ram_from,ram_below,caps_from\n")?;
         for account in self.report.accounts() {
@@ -182,8 +182,8 @@ impl fmt::Display for BudgetCsv {
     }
 }
 
-impl BudgetCsv {
-    // Writes an interval of an account.
+impl BudgetCsv<'_> {
+    // A row of an account.
     fn show_row<W: fmt::Write>(
         &self,
         f: &mut fmt::Formatter<W>,

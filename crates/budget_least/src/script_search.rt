@@ -1,12 +1,9 @@
-//! The accounts of a script: those of its sessions, and its own.
-ghost use Rattle.std.specs.Prelude.{◌≡◌, ◌-◌, IfOk};
-ghost use Rattle.own_model.specs.StartList.Kind.{Script as AScript};
-ghost use Rattle.budget_least.specs.Alike.{own_entry};
-ghost use Rattle.budget_least.specs.Own.{AreExact};
+//! The accounts of a script: its sessions', and its own.
+ghost use Rattle.std.specs.Prelude.{◌≡◌, ◌-◌, ◌<◌, ◌^◌, length, IfOk};
 
 use crate::account_budgets::{AccountBudgets, GivenBudget, SessionKey};
 use crate::donation::args_with;
-use crate::draft::{Draft, LARGEST, reserve_of};
+use crate::funded::{LARGEST, funded, reserve_of};
 use crate::lines_by_component::ComponentLine;
 use crate::opened_sessions::{OpenedSession, OpenedSessions};
 use crate::own_trials::{funded_trial, own_rows};
@@ -21,52 +18,49 @@ use pd_core::{Core, Router};
 use std::alloc::Global;
 use trade_base::PAGE;
 
-/// A script of a list, and the list's draft for runs of it.
+/// A script of a list.
 #[derive(Drop)]
 pub(crate) struct ScriptSearch<'a> {
     pub(crate) list: &'a StartList,
     pub(crate) component: usize,
     /// The budget that the list gives it.
     pub(crate) given: Budget,
-    pub(crate) draft: &'a mut Draft,
+    ghost there: { component < length list.now.entries },
+    ghost few: { given.caps < 2 ^ 32 },
 }
 
 impl ScriptSearch<'_> {
-    /// Adds the needs of the script's accounts. The sessions are first, each by its opening donation with every other account
-    /// ample; then its own account. Its lines donate the minimum from then on, unless they keep their donations. The error is
-    /// that of a run.
+    ghost use Rattle.std.specs.Prelude.{◌≡◌, ◌-◌, IfOk};
+    ghost use Rattle.own_model.specs.StartList.Kind.{Script as AScript};
+    ghost use Rattle.budget_least.specs.Alike.{own_entry};
+    ghost use Rattle.budget_least.specs.Own.{AreExact};
+
+    /// Adds what its accounts need: its sessions' first, each by its opening donation with every other account ample, and then its
+    /// own. Its lines donate the least from then on, unless they are to donate what they say.
     pub(crate) fn add(
-        &mut self,
+        &self,
         alloc: Global,
         steps: &mut [ComponentLine],
         as_donated: bool,
         accounts: &mut Vec<AccountBudgets>,
     ) -> Result<(), BootFault> {
-        let given = funded_trial(
-            alloc,
-            self.draft,
-            self.list,
-            self.component,
-            steps,
-            self.given,
-        )?;
+        let given = funded_trial(alloc, self.list, self.component, steps, self.given)?;
         self.add_sessions(alloc, steps, as_donated, accounts)?;
         let own = self.own(alloc, steps, given)?;
         accounts.push(own)?;
-        self.draft.clear(alloc, self.list, self.component)
+        Ok(())
     }
 
     // Adds the needs of its sessions.
     fn add_sessions(
-        &mut self,
+        &self,
         alloc: Global,
         steps: &mut [ComponentLine],
         as_donated: bool,
         accounts: &mut Vec<AccountBudgets>,
     ) -> Result<(), BootFault> {
         let most = most_beside(reserve_of(self.list, self.component));
-        self.draft.fund(alloc, self.list, self.component, most)?;
-        let ample = self.draft.list(alloc)?;
+        let ample = funded(alloc, self.list, self.component, most)?;
         let sessions = OpenedSessions::of(alloc, &ample, self.component, steps)?;
         let core = boot(alloc, &ample)?;
         self.add_opened(
@@ -117,21 +111,20 @@ impl ScriptSearch<'_> {
     // Returns the need of its own account: exactly the budgets under which none of its calls is short of quota, up to the largest
     // machine's, less the reserve.
     fn own(
-        &mut self,
+        &self,
         alloc: Global,
         steps: &[ComponentLine],
         given: BudgetTrial,
     ) -> Result<AccountBudgets, BootFault>
         ensures { IfOk result (λ account.
-            (own_entry self.old.list.now self.old.component).kind ≡ AScript →
-            AreExact self.old.list.now self.old.component steps.now (4096 - account.reserve.caps)
+            (own_entry self.now.list.now self.now.component).kind ≡ AScript →
+            AreExact self.now.list.now self.now.component steps.now (4096 - account.reserve.caps)
             (16777216 - account.reserve.ram) account.found.rows.items) }
     {
         let reserve = reserve_of(self.list, self.component);
         let most = most_beside(reserve);
         let found = own_rows(
             alloc,
-            self.draft,
             self.list,
             self.component,
             steps,
@@ -188,8 +181,8 @@ fn most_beside(reserve: Budget) -> Budget
     ensures caps { result.caps ≡ 4096 - reserve.caps }
 {
     Budget {
-        ram: (LARGEST * PAGE).saturating_sub(reserve.ram),
-        caps: LARGEST.saturating_sub(reserve.caps),
+        ram: (u64::from(LARGEST) * PAGE).saturating_sub(reserve.ram),
+        caps: u64::from(LARGEST).saturating_sub(reserve.caps),
     }
 }
 

@@ -1,1 +1,2 @@
 pub mod PolicyVerdict
+pub mod Texts

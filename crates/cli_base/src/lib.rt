@@ -30,7 +30,7 @@ pub use replacing::{replace_file, write_file};
 pub use reports::{
     Spot, error_line, report, report_error, report_write_failure, summarize, summarize_errors,
 };
-pub use settings::Settings;
+pub use settings::{Settings, names_given};
 pub use status::{
     OUT_OF_MEMORY, REFUSED, StopMessage, UNREAD, UNWRITTEN, made_or_status, no_memory,
     print_documents, spot_of, status_of, unread_status,

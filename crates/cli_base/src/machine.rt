@@ -1,4 +1,8 @@
 //! Machines: those of start lists, and the built-in one.
+ghost use Rattle.std.specs.Prelude.{◌≡◌, Ok};
+ghost use Rattle.list_parser.specs.StartText.{list_in};
+ghost use Rattle.cli_base.specs.Texts.{bytes_of};
+
 use crate::files::{StartListFailure, filled_list};
 use crate::list_fault::tell_fault;
 use crate::reports::{Spot, report_error};
@@ -14,37 +18,44 @@ pub struct Machine<'a> {
     path: Option<&'a str>,
     text: MachineText,
     list: StartList,
+    ghost reads: { list_in (bytes_of text) ≡ Ok list },
 }
 
 // The text of a start list.
 #[derive(Drop)]
 enum MachineText {
-    // The text of the built-in machine.
-    BuiltIn,
-    // The text of a file, with the values of its names.
+    // That of the built-in machine.
+    BuiltIn(&'static str),
+    // That of a file, with the values of its names.
     Read(Vec<u8>),
 }
 
 impl MachineText {
-    // Returns the bytes of the text.
-    fn bytes(&self) -> &[u8] {
+    // Its bytes.
+    fn bytes(&self) -> &[u8]
+        ensures { result.now ≡ bytes_of self.now }
+    {
         match self {
-            MachineText::BuiltIn => MACHINE_A.as_bytes(),
+            MachineText::BuiltIn(text) => text.as_bytes(),
             MachineText::Read(text) => text,
         }
     }
 }
 
 impl<'a> Machine<'a> {
-    /// Reads the machine of a start list's path, or the built-in machine if `path` is none. Errors: the file can't be read, a
-    /// name has no value, the text is no start list.
+    ghost use Rattle.std.specs.Prelude.{◌≡◌, Ok};
+    ghost use Rattle.list_parser.specs.StartText.{list_in};
+    ghost use Rattle.cli_base.specs.Texts.{bytes_of};
+
+    /// Reads the machine of a start list's path, or the built-in machine if there is no path. Returns why the list can't be read
+    /// otherwise.
     pub fn find(
         rt: &HostRuntime,
         path: Option<&'a str>,
         settings: Settings<'_>,
     ) -> Result<Machine<'a>, StartListFailure<'a>> {
         let Some(file) = path else {
-            return Machine::of_text(rt, None, MachineText::BuiltIn);
+            return Machine::of_text(rt, None, MachineText::BuiltIn(MACHINE_A));
         };
         match filled_list(rt, file, settings) {
             Ok(text) => Machine::of_text(rt, path, MachineText::Read(text)),
@@ -84,13 +95,17 @@ impl<'a> Machine<'a> {
         self.path
     }
 
-    /// Returns the text of the machine's start list, in bytes.
-    pub fn text(&self) -> &[u8] {
+    /// Returns the text of its start list.
+    pub fn text(&self) -> &[u8]
+        ensures { result.now ≡ bytes_of self.now.text }
+    {
         self.text.bytes()
     }
 
-    /// Returns the start list that describes the machine.
-    pub fn list(&self) -> &StartList {
+    /// Returns its start list, which is the one that its text is.
+    pub fn list(&self) -> &StartList
+        ensures { list_in (bytes_of self.now.text) ≡ Ok result.now }
+    {
         &self.list
     }
 }

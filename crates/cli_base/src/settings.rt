@@ -1,4 +1,8 @@
 //! What a command line sets for each command: the values of names, and the form of diagnostics.
+ghost use Rattle.std.specs.Prelude.{◌≡◌, IfOk};
+ghost use Rattle.std.specs.Option.{option_copied, unwrap_or};
+ghost use Rattle.line_names.specs.NameTable.{nothing};
+
 use crate::reports::{Spot, report_error};
 use crate::status::{REFUSED, made_or_status};
 use line_names::{NameTable, RoundMark, is_name};
@@ -6,32 +10,27 @@ use line_steps::RunPosition;
 use std::alloc::{AllocError, Global};
 use view_diagnostics::{DiagnosticForm, Subject};
 
-/// The values of names, each `NAME=VALUE`, and the form of diagnostics.
+/// What names denote, and the form of diagnostics.
 #[derive(Clone, Copy)]
 pub struct Settings<'a> {
-    values: &'a [&'a str],
+    // Or nothing, where no name has a value.
+    known: Option<&'a NameTable>,
     /// The form of diagnostics.
     pub form: DiagnosticForm,
 }
 
 impl<'a> Settings<'a> {
-    /// Checks the `--set` arguments of a command line. For the first invalid one, prints why and returns the exit status 2.
-    pub fn read(
-        rt: &HostRuntime,
-        values: &'a [&'a str],
-        form: DiagnosticForm,
-    ) -> Result<Settings<'a>, u8> {
-        for value in values {
-            if !is_taken(rt, form, value) {
-                return Err(REFUSED);
-            }
+    /// Returns those by which names denote this.
+    pub fn new(known: &'a NameTable, form: DiagnosticForm) -> Settings<'a> {
+        Settings {
+            known: Some(known),
+            form,
         }
-        Ok(Settings { values, form })
     }
 
     /// Returns settings without values of names, with this form of diagnostics.
     pub fn without_values(form: DiagnosticForm) -> Settings<'a> {
-        Settings { values: &[], form }
+        Settings { known: None, form }
     }
 
     /// Returns a scenario's path as the subject of diagnostics, with their form.
@@ -42,15 +41,14 @@ impl<'a> Settings<'a> {
         }
     }
 
-    /// Binds each name to its value. Returns an error if the host is out of memory.
-    pub fn known(self, alloc: Global) -> Result<NameTable, AllocError> {
-        let mut known = NameTable::new(alloc);
-        for value in self.values {
-            if let (name, Some(value)) = parted(value) {
-                known.give(name.as_bytes(), value.as_bytes())?;
-            }
+    /// Returns a copy of what the names denote.
+    pub fn known(self, alloc: Global) -> Result<NameTable, AllocError>
+        ensures { IfOk result (λ known. known ≡ unwrap_or (option_copied self.known) nothing) }
+    {
+        match self.known {
+            Some(known) => known.copy(alloc),
+            None => Ok(NameTable::new(alloc)),
         }
-        Ok(known)
     }
 
     /// Binds each name to its value. If the host is out of memory, prints that and returns the exit status 1.
@@ -77,7 +75,33 @@ impl<'a> Settings<'a> {
     }
 }
 
-// Returns whether an argument binds a name to a value. Otherwise prints why it doesn't.
+/// Returns what names denote by arguments of `--set`, each `NAME=VALUE`, or the exit status if one is none or the host is out of
+/// memory, which is printed.
+pub fn names_given(
+    rt: &HostRuntime,
+    arguments: &[&str],
+    form: DiagnosticForm,
+) -> Result<NameTable, u8> {
+    for argument in arguments {
+        if !is_taken(rt, form, argument) {
+            return Err(REFUSED);
+        }
+    }
+    made_or_status(rt, known_by(rt.alloc(), arguments))
+}
+
+// What names denote by such arguments.
+fn known_by(alloc: Global, arguments: &[&str]) -> Result<NameTable, AllocError> {
+    let mut known = NameTable::new(alloc);
+    for argument in arguments {
+        if let (name, Some(value)) = parted(argument) {
+            known.give(name.as_bytes(), value.as_bytes())?;
+        }
+    }
+    Ok(known)
+}
+
+// Whether an argument gives a name a value; why it doesn't is printed.
 fn is_taken(rt: &HostRuntime, form: DiagnosticForm, argument: &str) -> bool {
     let (name, value) = parted(argument);
     let Some(value) = value else {

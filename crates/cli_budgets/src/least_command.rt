@@ -79,7 +79,7 @@ fn least_on(
         Err(status) => return status,
     };
     let question = BudgetQuery {
-        machine: machine.text(),
+        list: machine.list(),
         scenario: lines.bytes(),
         as_donated: asked.as_donated,
     };
@@ -96,7 +96,7 @@ fn tell_report(
     text: &[u8],
     asked: &LeastOptions<'_>,
     form: DiagnosticForm,
-    report: BudgetReport,
+    report: BudgetReport<'_>,
 ) -> u8 {
     let misread = tell_misread(rt, form, asked.scenario, text, &report);
     let status = match made_or_status(rt, misread) {
@@ -112,7 +112,7 @@ fn tell_misread(
     form: DiagnosticForm,
     scenario: &str,
     text: &[u8],
-    report: &BudgetReport,
+    report: &BudgetReport<'_>,
 ) -> Result<u8, AllocError> {
     let all = report.misread();
     if all.is_empty() {
@@ -136,7 +136,7 @@ fn tell(
     machine: &[u8],
     scenario: &[u8],
     telling: BudgetFormat,
-    report: BudgetReport,
+    report: BudgetReport<'_>,
 ) -> u8 {
     match telling {
         BudgetFormat::Text => status_of(rt, print!(rt; "{report}")),

@@ -121,11 +121,10 @@ impl<'a> DiffRuns<'a> {
     }
 }
 
-// A start list that boots, with its text.
+// A start list that boots.
 #[derive(Drop)]
 struct ListFile<'a> {
     path: &'a str,
-    text: Vec<u8>,
     review: Review,
 }
 
@@ -134,7 +133,7 @@ impl<'a> ListFile<'a> {
     fn at(rt: &HostRuntime, form: DiagnosticForm, path: &'a str) -> Option<ListFile<'a>> {
         match read_list(rt, path) {
             Ok(text) => match Review::read(rt.alloc(), &text) {
-                Ok(review) => Some(ListFile { path, text, review }),
+                Ok(review) => Some(ListFile { path, review }),
                 Err(fault) => {
                     tell_fault(rt, form, path, &fault);
                     None
@@ -296,7 +295,7 @@ fn needs<'a>(
     let alloc = rt.alloc();
     let start = Settings::without_values(form).start_or_status(rt, lines.marks())?;
     let question = BudgetQuery {
-        machine: &policy.text,
+        list: policy.review.list(),
         scenario: lines.bytes(),
         as_donated: true,
     };
@@ -315,7 +314,7 @@ fn tell_unplayed(rt: &HostRuntime, form: DiagnosticForm, path: &str, fault: &Boo
 // Returns the needs of the components' own accounts by a report.
 fn needs_told<'a>(
     alloc: Global,
-    report: &BudgetReport,
+    report: &BudgetReport<'_>,
     list: &'a StartList,
 ) -> Result<Vec<ComponentNeed<'a>>, AllocError> {
     let mut needs = Vec::new(alloc);
@@ -357,7 +356,7 @@ fn answers_on(
 ) -> Result<Vec<Exchange>, u8> {
     let settings = Settings::without_values(form);
     let play = ScenarioInput {
-        machine: &policy.text,
+        list: policy.review.list(),
         scenario: settings.subject(path),
         start: settings.start_or_status(rt, lines.marks())?,
     };

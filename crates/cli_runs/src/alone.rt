@@ -142,7 +142,7 @@ impl<'a> One<'a> {
             Err(status) => return status,
         };
         let play = ScenarioInput {
-            machine: self.machine.text(),
+            list: self.machine.list(),
             scenario: all.settings.subject(all.scenario),
             start,
         };

@@ -54,7 +54,7 @@ fn record_on(
         text,
         unfolded: lines.bytes(),
     };
-    match record(rt.alloc(), machine.text(), scenario, start, wanted.all) {
+    match record(rt.alloc(), machine.list(), scenario, start, wanted.all) {
         Ok(recording) => tell_recording(rt, settings.form, wanted, text, &recording),
         Err(fault) => report_boot_fault(rt, settings.form, machine, &fault),
     }

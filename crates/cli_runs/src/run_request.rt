@@ -127,7 +127,7 @@ fn play_from(
         Err(status) => return status,
     };
     let play = ScenarioInput {
-        machine: machine.text(),
+        list: machine.list(),
         scenario: scene.settings.subject(scene.scenario),
         start,
     };

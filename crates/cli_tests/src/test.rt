@@ -386,7 +386,7 @@ fn played(
     coverings: &mut CoveragePrinter,
 ) -> Result<TestRun, AllocError> {
     let play = ScenarioInput {
-        machine: case.machine.text(),
+        list: case.machine.list(),
         scenario: Settings::without_values(DiagnosticForm::Text).subject(case.scenario),
         start: case.settings.start(rt.alloc(), marks)?,
     };

@@ -46,7 +46,19 @@ impl NameTable {
         }
     }
 
-    /// Returns the value of a name: the given one, or else the newest that is bound to it.
+    /// The same once more.
+    pub fn copy(&self, alloc: Global) -> Result<NameTable, AllocError>
+        ensures { IfOk result (λ copy. copy ≡ self.now) }
+    {
+        Ok(NameTable {
+            alloc,
+            given: copy_bindings(alloc, self.given.as_slice())?,
+            bound: copy_bindings(alloc, self.bound.as_slice())?,
+            rounds: Vec::from_slice(alloc, self.rounds.as_slice())?,
+        })
+    }
+
+    /// What a name stands for: what is given, or else the newest that is bound to it.
     pub fn value(&self, name: &[u8]) -> Option<&[u8]>
         ensures { option_copied result ≡ value_of self.now name.now }
     {
@@ -109,7 +121,18 @@ fn make_binding(alloc: Global, name: &[u8], value: &[u8]) -> Result<Binding, All
     })
 }
 
-// Returns the value of the newest binding of a name.
+// Bindings once more.
+fn copy_bindings(alloc: Global, bindings: &[Binding]) -> Result<Vec<Binding>, AllocError>
+    ensures { IfOk result (λ copies. map binding_of copies.items ≡ map binding_of bindings.now) }
+{
+    let mut copies = Vec::new(alloc);
+    for binding in bindings {
+        copies.push(make_binding(alloc, &binding.name, &binding.value)?)?;
+    }
+    Ok(copies)
+}
+
+// What the newest binding of a name stands for.
 #[tactic(auto, using(crate::proofs::KnownLemmas::newests))]
 fn newest<'a>(bindings: &'a [Binding], name: &[u8]) -> Option<&'a [u8]>
     ensures { option_copied result ≡ newest name.now (map binding_of bindings.now) }

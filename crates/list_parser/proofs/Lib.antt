@@ -11,3 +11,4 @@ pub mod ListedLemmas
 pub mod QuotaLemmas
 pub mod GivenLemmas
 mod MachineLemmas
+pub mod BudgetLemmas

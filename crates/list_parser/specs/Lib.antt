@@ -11,3 +11,4 @@ pub mod Quota
 pub mod FaultPlace
 pub mod HeadParts
 pub mod ListLaws
+pub mod Budgets

@@ -1,5 +1,5 @@
-//! Entries of a start list, and the binaries that they run.
-ghost use Rattle.std.specs.Prelude.{◌≡◌, ◌≤◌, length, Ok};
+//! Entries of a start list, and what they run.
+ghost use Rattle.std.specs.Prelude.{◌≡◌, ◌≤◌, length, IfOk, Ok};
 ghost use Rattle.std.specs.Option.{option_map};
 ghost use Rattle.std.specs.Result.{result_map_both};
 ghost use Rattle.own_model.specs.Listed.{offers, reserve_of, serves, service_of};
@@ -13,8 +13,9 @@ ghost use Rattle.list_parser.specs.declared.fault.BootFault.TheVariants.{QuotaEx
 
 use crate::fault::{BootFault, ConfigField};
 use crate::name::{Label, Name, Path};
-use crate::rule::Rule;
+use crate::rule::{Rule, copy_rules};
 use core_calls::Reserve;
+use std::alloc::{AllocError, Global};
 use std::marker::Model;
 use trade_base::{Caps, Ram, Service};
 
@@ -270,6 +271,38 @@ impl ListEntry {
         ensures { result ≡ offers init service.now self.now }
     {
         self.home == init && (self.provides && self.binary.serves(service))
+    }
+
+    /// Copies the entry.
+    pub(crate) fn copy(&self, alloc: Global) -> Result<ListEntry, AllocError>
+        ensures { IfOk result (λ copy. copy ≡ self.now) }
+    {
+        let route = copy_route(alloc, self.route())?;
+        let inner_route = copy_rules(alloc, self.inner_route.as_slice())?;
+        Ok(ListEntry {
+            name: self.name.copy(),
+            path: self.path.copy(),
+            label: self.label.copy(),
+            home: self.home,
+            binary: self.binary,
+            ram: self.ram,
+            caps: self.caps,
+            provides: self.provides,
+            route,
+            reserve: self.reserve,
+            inner_route,
+        })
+    }
+}
+
+/// Copies a route, if there is one.
+fn copy_route(alloc: Global, route: Option<&[Rule]>) -> Result<Option<Vec<Rule>>, AllocError>
+    ensures { IfOk result (λ copy. option_map (λ rules. rules.items) copy
+        ≡ option_map (λ rules. rules.now) route.entry) }
+{
+    match route {
+        Some(rules) => Ok(Some(copy_rules(alloc, rules)?)),
+        None => Ok(None),
     }
 }
 

@@ -2,6 +2,7 @@
 //! Example: `StartList::read(alloc, text)?.count()` is the number of components.
 #![tactic(auto)]
 
+mod budgets;
 mod entry;
 mod entry_head;
 mod fault;

@@ -42,12 +42,12 @@ pub const DEEPEST: usize = 3;
 /// A machine, and the components that its inits start: the entries of all lists, each init directly before its own entries.
 #[derive(Drop)]
 pub struct StartList {
-    pages: u32,
-    caps: u32,
-    default_route: Vec<Rule>,
-    entries: Vec<ListEntry>,
-    /// The index of the entries' paths.
-    finder: PathIndex,
+    pub(crate) pages: u32,
+    pub(crate) caps: u32,
+    pub(crate) default_route: Vec<Rule>,
+    pub(crate) entries: Vec<ListEntry>,
+    /// Of the entries.
+    pub(crate) finder: PathIndex,
 }
 
 impl Model for StartList {

@@ -32,7 +32,16 @@ impl PathIndex {
         PathIndex { firsts }
     }
 
-    /// Returns the place of the first entry that has a path, if there is one.
+    /// Copies the finder.
+    pub(crate) fn copy(&self) -> PathIndex
+        ensures { result.firsts ≡ self.now.firsts }
+    {
+        PathIndex {
+            firsts: self.firsts,
+        }
+    }
+
+    /// The place of the first entry of a path, if there is one.
     pub(crate) fn find(&self, entries: &[ListEntry], path: &[u8]) -> Option<usize>
         requires { AreFirst self.now.firsts entries.now }
         ensures { result ≡ position (λ entry. bytes_eq entry.path path.now) entries.now }

@@ -36,6 +36,17 @@ impl Target {
             Target::Parent => true,
         }
     }
+
+    /// Copies the target.
+    fn copy(&self) -> Target
+        ensures { result ≡ self.now }
+    {
+        match self {
+            Target::Child(name) => Target::Child(name.copy()),
+            Target::AnyChild => Target::AnyChild,
+            Target::Parent => Target::Parent,
+        }
+    }
 }
 
 /// A rule: the service and the label test that it asks for, if any, and its target.
@@ -71,6 +82,22 @@ impl Rule {
             return Ok(None);
         };
         Ok(Some(told.kept(alloc)?))
+    }
+
+    /// Copies the rule.
+    fn copy(&self, alloc: Global) -> Result<Rule, AllocError>
+        ensures { IfOk result (λ copy. copy ≡ self.now) }
+    {
+        let labels = self.labels.copy(alloc)?;
+        let service = match &self.service {
+            Some(service) => Some(service.copy()),
+            None => None,
+        };
+        Ok(Rule {
+            service,
+            labels,
+            target: self.target.copy(),
+        })
     }
 }
 
@@ -230,8 +257,18 @@ fn target_named(
     }
 }
 
-/// Reads the rules in a JSON value, or returns `None` if it is no list of at most 32 rules. Returns an error if the host is
-/// out of memory.
+/// Copies rules.
+pub(crate) fn copy_rules(alloc: Global, rules: &[Rule]) -> Result<Vec<Rule>, AllocError>
+    ensures { IfOk result (λ copies. copies.items ≡ rules.now) }
+{
+    let mut copies = Vec::new(alloc);
+    for rule in rules {
+        copies.push(rule.copy(alloc)?)?;
+    }
+    Ok(copies)
+}
+
+/// The rules that a value lists, if it is a list of at most 32 rules.
 pub(crate) fn read_rules(alloc: Global, value: &Value) -> Result<Option<Vec<Rule>>, AllocError>
     ensures { IfOk result
         (λ rules. option_map (λ list. list.items) rules ≡ rules_of (view value.now)) }

@@ -3,17 +3,13 @@ use Rattle.std.proofs.Common.{◌≡◌, ℕ, ◌<◌, ◌≤◌, nat_le, nat_lt
 use Rattle.std.specs.List.{flat_map}
 use Rattle.std.proofs.lemmas.Bool.Decides.{nat_tests}
 use Rattle.line_steps.specs.RunPosition.{RunPosition, arrived, passed}
-use Rattle.own_model.specs.Listed.{Listed, start_list_of}
 use Rattle.own_model.specs.Reply.{log_text}
-use Rattle.own_model.specs.StartList.{Boots}
 use Rattle.own_model.specs.Transcript.{heard as heard_call, longest_line}
-use Rattle.own_model.specs.World.{World, start_world}
-use Rattle.list_parser.specs.StartText.{list_in}
+use Rattle.own_model.specs.World.{World}
 use Rattle.list_parser.specs.declared.fault.BootFault.{BootFault}
 use Rattle.line_friendly.specs.Friendly.{FriendlyLine, said_of}
 use Rattle.line_friendly.specs.declared.fault.FriendlyFault.{FriendlyFault}
 use Rattle.run_lines.specs.Answer.{finished_lines}
-use Rattle.run_lines.proofs.MachineLemmas.{fault_of_list, fault_of_text}
 use Rattle.line_names.specs.Directives.{Directive, directive_of}
 use Rattle.line_names.specs.Filling.{FilledLine, filled}
 use Rattle.line_names.specs.NameTable.{NameTable}
@@ -22,7 +18,7 @@ use Rattle.run_record.specs.Marked.{StepsTo, all_marked, marks_after, unmarked}
 use Rattle.run_record.specs.RecordedCalls.{RecordedLine, RecordedCall, RecordingState, deed_by, deed_filled, deed_of, deed_said, events, first_recording, hearing_of, line_passed, events_in, reply_in, rounds_passed, recording_after, recording_behind}
 use Rattle.run_record.specs.RecordedCalls.RecordedLine.{Passes, Follows, Awaits, Calls}
 use Rattle.run_record.specs.RecordedCalls.Meeting.{Hears}
-use Rattle.run_record.specs.Recorded.{IsRecorded, LineMark, pieces_of, recorded, without_last, written_lines}
+use Rattle.run_record.specs.Recorded.{LineMark, pieces_of, recorded, without_last, written_lines}
 use Rattle.run_record.specs.Views.{recorded_call_view, recording_in}
 use Rattle.run_record.specs.declared.recorded_call.RecordedCall.{RecordedCall as Heard}
 use Rattle.run_record.specs.declared.recording.Recording.{Recording}
@@ -175,16 +171,8 @@ whole_recorded all made_all start played scenario world stage first marks text a
     ∙ rw (stage_is, all_is) refl
 
 -- and on the machine of a list
-pub recorded_there : (machine : List ℕ) (all : Bool) (start : RunPosition) (played scenario : List ℕ) (listed : Listed) (world : World)
-    (made : Result Recording BootFault) →
-    list_in machine ≡ Ok listed → Boots (start_list_of listed) → world ≡ start_world (start_list_of listed) →
-    IfOk made (λ recording. recording.text.items ≡ recorded all world start played scenario) →
-    IfOk made (λ recording. IsRecorded machine all start played scenario recording.text.items)
-recorded_there machine all start played scenario listed world (Ok recording) reads boots starts is = record {
-  listed = listed;
-  boots = record { reads = reads; boots = boots };
-  is = is ∙ ap (λ w. recorded all w start played scenario) starts;
-}
-recorded_there machine all start played scenario listed world (Err fault) reads boots starts none = tt
-
-pub ruleset unbooted = (fault_of_list, fault_of_text)
+pub recorded_there : (all : Bool) (start : RunPosition) (played scenario : List ℕ) (world listed : World) (made : Result Recording BootFault) →
+    world ≡ listed → IfOk made (λ recording. recording.text.items ≡ recorded all world start played scenario) →
+    IfOk made (λ recording. recording.text.items ≡ recorded all listed start played scenario)
+recorded_there all start played scenario world listed made starts is =
+    subst (λ w. IfOk made (λ recording. recording.text.items ≡ recorded all w start played scenario)) starts is

@@ -1,17 +1,15 @@
--- A scenario with the replies of its calls after them, line for line.
-use Rattle.std.specs.Prelude.{◌≡◌, ℕ, ◌+◌, ◌-◌, ◌==◌, ◌&&◌, not, Bool, true, false, List, [], ◌∷◌, ◌++◌, length, take, drop, codes, nat_eq, nat_le, slice_index, is_none, if◌then◌else◌, Option, Some, None, Result, Ok, Err}
+-- A scenario with the replies of its calls behind them, line for line.
+use Rattle.std.specs.Prelude.{ℕ, ◌+◌, ◌-◌, ◌==◌, ◌&&◌, not, Bool, true, false, List, [], ◌∷◌, ◌++◌, length, take, drop, codes, nat_eq, nat_le, slice_index, is_none, if◌then◌else◌, Option, Some, None, Result, Ok, Err}
 use Rattle.std.specs.List.{flat_map, list_all, list_any, slice_split}
 use Rattle.std.specs.Option.{unwrap_or}
 use Rattle.std.specs.Str.{bytes_eq}
 use Rattle.line_steps.specs.RunPosition.{RunPosition}
-use Rattle.own_model.specs.Listed.{Listed}
 use Rattle.own_model.specs.Transcript.{longest_line}
 use Rattle.own_model.specs.World.{World}
 use Rattle.line_friendly.specs.Expected.{meets}
 use Rattle.line_friendly.specs.Friendly.{FriendlyLine, arrow_of, end_of, said_of}
 use Rattle.line_friendly.specs.Friendly.FriendlyLine.{Nothing, Log, Call}
 use Rattle.line_friendly.specs.declared.fault.FriendlyFault.{FriendlyFault}
-use Rattle.run_lines.specs.Machine.{IsMachine, world_of}
 use Rattle.line_names.specs.Filling.{FilledLine, filled, is_dollar}
 use Rattle.line_names.specs.declared.fault.NameFault.{NameFault}
 use Rattle.run_record.specs.RecordedCalls.{Event, RecordedCall, Meeting, events, first_recording}
@@ -196,10 +194,3 @@ met all world start played = events all (first_recording world start) (pieces_of
 abbrev pub recorded : Bool → World → RunPosition → List ℕ → List ℕ → List ℕ
 recorded all world start played text =
     without_last (written_lines all (marks_of 1 (met all world start played) (pieces_of text)))
-
--- on the machine of a start list's text this is a scenario with its replies; the text `played` is the scenario with its rounds
--- unfolded
-pub record IsRecorded (machine : List ℕ) (all : Bool) (start : RunPosition) (played scenario text : List ℕ) : Type 0 where
-  pub listed : Listed
-  pub boots : IsMachine machine listed
-  pub is : text ≡ recorded all (world_of listed) start played scenario

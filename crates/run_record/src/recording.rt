@@ -1,10 +1,11 @@
 //! The recording of a scenario.
 ghost use Rattle.std.specs.Prelude.{◌≡◌, ◌≢◌, ◌++◌, ◌∷◌, [], false, IfErr, IfOk, OnOk, Some};
 ghost use Rattle.own_model.specs.Listed.{start_list_of};
-ghost use Rattle.own_model.specs.StartList.{entries_of};
+ghost use Rattle.own_model.specs.StartList.{Boots, entries_of};
+ghost use Rattle.list_parser.specs.Quota.{quota_fault};
 ghost use Rattle.list_parser.specs.declared.fault.BootFault.TheVariants.{NoMemory};
-ghost use Rattle.run_lines.specs.Machine.{boot_fault};
-ghost use Rattle.run_record.specs.Recorded.{IsRecorded, recorded};
+ghost use Rattle.run_lines.specs.Machine.{world_of};
+ghost use Rattle.run_record.specs.Recorded.{recorded};
 
 use crate::line_marks::LineMarks;
 use crate::recording_run::RecordingRun;
@@ -33,28 +34,29 @@ pub struct Recording {
     pub unread: Vec<UnreadLine>,
 }
 
-/// Runs a scenario from the position `start`, and writes its own lines with their replies. The reply of a call is written after
-/// it, and the log lines that the call finishes are written before it. This is done for each call without an expected reply, or
-/// with `all` for each call. A line within rounds expects what holds in all of them: its reply, or `granted` or `refused` if its
-/// replies differ. If a reply binds a name, the expectation stays. A call whose line can't have an expectation, as one after `!`,
-/// stays. Every other byte stays. The error is that of the start list, which can't be parsed or doesn't boot, or that the host is
-/// out of memory.
-#[tactic(auto, using(crate::proofs::RecordedLemmas::unbooted))]
+/// Plays a scenario from where its run begins, and writes its own lines with the reply of each call behind it, and before
+/// it the log lines that the call finishes, as what is expected of it: of each call of which no reply is expected yet, or
+/// with `all` of each anew, whatever is expected of it. A line within rounds expects what holds in all of them: its reply,
+/// or where that is another one from round to round whether it refuses. Where a reply binds a name, what is expected stays
+/// as it is. Every other byte stays. A call whose line can't say what is expected of it, as one behind `!`, stays as it is.
+/// An error is that of the start list, which may not boot, or want of memory.
+#[tactic(auto, using(run_lines::proofs::MachineLemmas::listed_at_start))]
 pub fn record(
     alloc: Global,
-    machine: &[u8],
+    list: &StartList,
     scenario: Scenario<'_>,
     start: RunPosition<'_>,
     all: bool,
 ) -> Result<Recording, BootFault>
-    ensures recorded { IfOk result (λ recording. IsRecorded machine.now all start.entry
-        scenario.entry.unfolded.now scenario.entry.text.now recording.text.items) }
+    ensures recorded { IfOk result (λ recording. recording.text.items
+        ≡ recorded all (world_of list.now) start.entry scenario.entry.unfolded.now
+        scenario.entry.text.now) }
+    ensures boots { OnOk result (Boots (start_list_of list.now)) }
     ensures unbooted { IfErr result (λ fault. fault ≢ NoMemory →
-        boot_fault machine.now ≡ Some fault) }
+        quota_fault list.now ≡ Some fault) }
 {
-    let list = StartList::read(alloc, machine)?;
-    let mut core = boot(alloc, &list)?;
-    record_on(alloc, &list, &mut core, scenario, start, all)
+    let mut core = boot(alloc, list)?;
+    record_on(alloc, list, &mut core, scenario, start, all)
 }
 
 // Records a scenario on the machine of a list, which has just booted.

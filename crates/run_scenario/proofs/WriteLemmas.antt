@@ -2,12 +2,10 @@
 use Rattle.std.proofs.Common.{◌≡◌, ◌≢◌, ℕ, ◌≤◌, Bool, true, false, List, [], ◌∷◌, ◌++◌, length, Option, Some, None, IfSome, IfNone, Result, Ok, Err, IsErrAnd, inl, inr, arith, refl, sym, ◌∙◌, ap, subst, append_assoc, append-nil}
 use Rattle.std.specs.Prelude.{⊤}
 use Rattle.std.specs.Io.KnownBytes.{Appends}
-use Rattle.own_model.specs.Listed.{Listed, start_list_of}
-use Rattle.own_model.specs.StartList.{Boots}
+use Rattle.own_model.specs.Listed.{Listed}
 use Rattle.own_model.specs.LinesOfName.{said_by}
 use Rattle.own_model.specs.Text.{lines_of}
 use Rattle.own_model.specs.World.{World}
-use Rattle.list_parser.specs.StartText.{list_in}
 use Rattle.run_lines.specs.RunOutput.{Tells, OutputsPart}
 use Rattle.run_lines.specs.Machine.{world_of}
 use Rattle.run_lines.specs.Causes.{HasCause, AppendsPart}
@@ -22,7 +20,7 @@ use Rattle.run_scenario.specs.RunCalls.{text_of_calls, text_of_steps}
 use Rattle.run_scenario.specs.ScenarioRuns.{RunsAll, TakesMemoryFor, most_lines}
 use Rattle.run_lines.specs.LineRuns.{EndsFor, WritesOutput}
 use Rattle.run_scenario.specs.LineSteps.{LineStep, calls_in, turns_of}
-use Rattle.run_scenario.specs.Writes.{AreAll, Closes, IsRunOn, IsRunFrom, IsNotRun, IsWrittenBy, WritesAfter, WritesBoth, turns_on}
+use Rattle.run_scenario.specs.Writes.{AreAll, Closes, IsRunFrom, IsWrittenBy, WritesAfter, WritesBoth, turns_on}
 use Rattle.run_scenario.specs.declared.scenario_end.ScenarioEnd.{ScenarioEnd}
 use Rattle.run_lines.specs.declared.line_run_fault.LineRunFault.{LineRunFault}
 use Rattle.run_lines.specs.declared.line_run_fault.LineRunFault.TheVariants.{ReadFault, WriteFault, TooManyLines, NoMemory}
@@ -170,22 +168,14 @@ played_from {told = told} {behind = behind} {calls = calls} {only = only} {first
           (subst (WritesOutput played.fault w w') same plays.told) closes.writes;
     }
 
--- on the machine of a text
-pub is_played : {text : List ℕ} {listed : Listed} {calls : Bool} (only : Option (List ℕ)) (first : RunPosition) (told : World → List LineStep → List ℕ) (behind : Listed → World → List LineStep → List ℕ) (ending : ScenarioEnd) {start : World} {begun : RunPosition}
+-- on the machine of a list
+pub played_on : (listed : Listed) {calls : Bool} (only : Option (List ℕ)) (first : RunPosition) (told behind : World → List LineStep → List ℕ) (ending : ScenarioEnd) {start : World} {begun : RunPosition}
     (input rest : Option (List ℕ)) (failed : Bool) (w w' : Option (List ℕ)) →
-    list_in text ≡ Ok listed → Boots (start_list_of listed) → start ≡ world_of listed → begun ≡ first → IsRunFrom (turns_of only start begun) (told start) (behind listed start) calls ending input rest failed w w' →
-    IsRunOn text (turns_on only first) (λ l. told (world_of l)) (λ l. behind l (world_of l)) calls ending input rest failed w w'
-is_played {listed = listed} {calls = calls} only first told behind ending {start = start} input rest failed w w' reads boots starts begins played = record {
-  listed = listed;
-  machine = record { reads = reads; boots = boots };
-  played =
-      subst (λ world. IsRunFrom (turns_of only world first) (told world) (behind listed world) calls ending input rest failed w w') starts
-      (subst (λ stand. IsRunFrom (turns_of only start stand) (told start) (behind listed start) calls ending input rest failed w w') begins played);
-}
-
--- it has booted, and nothing more
-is_unplayed : {text : List ℕ} {listed : Listed} (ending : ScenarioEnd) (fault : LineRunFault) → list_in text ≡ Ok listed → Boots (start_list_of listed) → ending ≡ unplayed fault → IsNotRun text ending fault
-is_unplayed {listed = listed} ending fault reads boots is = record { listed = listed; machine = record { reads = reads; boots = boots }; ending = is }
+    start ≡ world_of listed → begun ≡ first → IsRunFrom (turns_of only start begun) (told start) (behind start) calls ending input rest failed w w' →
+    IsRunFrom (turns_on only first listed) (told (world_of listed)) (behind (world_of listed)) calls ending input rest failed w w'
+played_on listed {calls = calls} only first told behind ending {start = start} input rest failed w w' starts begins played =
+    subst (λ world. IsRunFrom (turns_of only world first) (told world) (behind world) calls ending input rest failed w w') starts
+    (subst (λ stand. IsRunFrom (turns_of only start stand) (told start) (behind start) calls ending input rest failed w w') begins played)
 
 -- ---- within the bounds, and with no failed device, only want of room is a cause to stop
 pub caused : {turns : List (List ℕ) → List LineStep} {told behind : List LineStep → List ℕ} {calls : Bool} {ending : ScenarioEnd} {input rest : Option (List ℕ)} {failed : Bool} {w w' : Option (List ℕ)} (write_failed : Bool) →
@@ -221,12 +211,6 @@ ends_for_cause {behind = behind} read_before write_before write_failed played =
 pub unplayed_with : (ending : ScenarioEnd) (B C D E : Type 0) (o : Option LineRunFault) → (B → E) → IfSome o (λ fault. (ending ≡ unplayed fault) × B × C × D) → IfSome o (λ fault. (ending ≡ unplayed fault) × E)
 unplayed_with ending B C D E None seen before = tt
 unplayed_with ending B C D E (Some fault) seen before = (before.0, seen before.1)
-
--- and of the machine
-pub unplayed_on : (text : List ℕ) {listed : Listed} (ending : ScenarioEnd) (B C D : Type 0) (o : Option LineRunFault) → list_in text ≡ Ok listed → Boots (start_list_of listed) →
-    IfSome o (λ fault. (ending ≡ unplayed fault) × B × C × D) → IfSome o (λ fault. IsNotRun text ending fault × B × C × D)
-unplayed_on text ending B C D None reads boots before = tt
-unplayed_on text ending B C D (Some fault) reads boots before = (is_unplayed ending fault reads boots before.0, before.1, before.2, before.3)
 
 -- a fault before anything is told loses all of it
 pub lost_all : (w : Option (List ℕ)) (g text : List ℕ) → OutputsPart w g w text

@@ -8,9 +8,8 @@ use Rattle.own_model.specs.Transcript.{transcript_after}
 use Rattle.own_model.specs.World.{World}
 use Rattle.run_lines.specs.Answered.{after_all}
 use Rattle.run_lines.specs.Lines.{AreReadable}
-use Rattle.run_lines.specs.Machine.{IsMachine, accounts_for, world_of}
+use Rattle.run_lines.specs.Machine.{accounts_for, world_of}
 use Rattle.run_lines.specs.Causes.{AppendsPart}
-use Rattle.run_scenario.specs.Faults.{unplayed}
 use Rattle.run_scenario.specs.RunCalls.{calls_answered}
 use Rattle.run_scenario.specs.ScenarioRuns.{TakesMemoryFor, most_lines}
 use Rattle.run_lines.specs.LineRuns.{EndsFor}
@@ -46,22 +45,7 @@ pub record IsRunFrom (turns : List (List ℕ) → List LineStep) (told behind : 
   pub counted : IfNone ending.fault (ending.lines ≡ length given)
   pub writes : WritesBoth ending.fault input given written now_written (told (turns given)) (behind (turns given))
 
--- the same on the machine of a text
-pub record IsRunOn (text : List ℕ) (turns : Listed → List (List ℕ) → List LineStep) (told behind : Listed → List LineStep → List ℕ)
-    (calls : Bool) (ending : ScenarioEnd) (input rest : Option (List ℕ)) (failed : Bool) (written now_written : Option (List ℕ))
-    : Type 0 where
-  pub listed : Listed
-  pub machine : IsMachine text listed
-  pub played :
-      IsRunFrom (turns listed) (told listed) (behind listed) calls ending input rest failed written now_written
-
--- on the machine of a text nothing was run, since a device had failed before
-pub record IsNotRun (text : List ℕ) (ended : ScenarioEnd) (fault : LineRunFault) : Type 0 where
-  pub listed : Listed
-  pub machine : IsMachine text listed
-  pub ending : ended ≡ unplayed fault
-
--- after a run without a fault this is written, or a part of it if a write failed; after another run nothing
+-- behind a play that came to its end this is written, or a part of it where a write failed; behind another nothing
 abbrev pub WritesAfter : Option LineRunFault → Option LineRunFault → Option (List ℕ) → Option (List ℕ) → List ℕ → Type 0
 WritesAfter None None old new behind = Appends old new behind
 WritesAfter None (Some fault) old new behind = (fault ≡ WriteFault) × AppendsPart old new behind
@@ -76,13 +60,13 @@ abbrev pub IsWrittenBy : {T : Type 0} → Result T LineRunFault → Option (List
 IsWrittenBy (Ok done) old new text = Appends old new text
 IsWrittenBy (Err fault) old new text = (fault ≡ WriteFault) × AppendsPart old new text
 
--- the steps of a scenario's lines on a machine, from its first position on
+-- the turns of a scenario's lines on the machine of a list, from its first stand on
 abbrev pub turns_on : Option (List ℕ) → RunPosition → Listed → List (List ℕ) → List LineStep
 turns_on only first listed lines = turns_of only (world_of listed) first lines
 
--- no text
-abbrev pub nothing_told : Listed → List LineStep → List ℕ
-nothing_told listed turns = []
+-- nothing stands there
+abbrev pub nothing_told : List LineStep → List ℕ
+nothing_told turns = []
 
 -- the transcript of the calls of lines in their steps, of all or of those of one name
 abbrev pub transcript_of : Option (List ℕ) → World → List LineStep → List ℕ

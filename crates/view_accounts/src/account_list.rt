@@ -2,9 +2,9 @@
 ghost use Rattle.std.specs.Io.KnownBytes.{Appends};
 ghost use Rattle.std.specs.Prelude.{◌≡◌, ◌≢◌, ◌≤◌, ◌||◌, [], false, true, IfNone, IfOk, IfErr, IfSome, OnErr, OnOk, None, Some};
 ghost use Rattle.own_model.specs.Listed.{start_list_of};
-ghost use Rattle.own_model.specs.StartList.{entries_of};
+ghost use Rattle.own_model.specs.StartList.{Boots, entries_of};
+ghost use Rattle.list_parser.specs.Quota.{quota_fault};
 ghost use Rattle.list_parser.specs.declared.fault.BootFault.TheVariants.{NoMemory};
-ghost use Rattle.run_lines.specs.Machine.{boot_fault};
 ghost use Rattle.run_lines.specs.Causes.{HasCause, AppendsPart, is_write_fault as is_writing};
 ghost use Rattle.run_lines.specs.Faults.{is_write_fault};
 ghost use Rattle.run_lines.specs.declared.run_fault.RunFault.TheVariants.{WriteFault};
@@ -12,7 +12,7 @@ ghost use Rattle.view_accounts.specs.Accounting.{OfSessions, SeesAccounts, accou
 ghost use Rattle.run_scenario.specs.Faults.{fault_before, unplayed};
 ghost use Rattle.run_scenario.specs.RunCalls.{calls_answered};
 ghost use Rattle.run_scenario.specs.LineSteps.{turns_of};
-ghost use Rattle.run_scenario.specs.Writes.{Closes, IsRunOn, IsRunFrom, IsNotRun, nothing_told, turns_on};
+ghost use Rattle.run_scenario.specs.Writes.{Closes, IsRunFrom, nothing_told, turns_on};
 ghost use Rattle.run_lines.specs.declared.line_run_fault.LineRunFault.TheVariants.{NoMemory as NoRoom};
 
 use crate::account_rows::AccountRows;
@@ -43,9 +43,9 @@ pub struct AccountList {
 /// that passed still pass; an init's is what its list needs. A peak is the most that was in use at the start or after any line,
 /// of a session since its opening. Errors of lines are written as they are found.
 ///
-/// After a fault of the run no list is written. If a write of the list failed, a first part of it is written. The run stops for
-/// the same reasons as `run`, and also if the host is out of memory at a call.
-#[tactic(auto, using(run_lines::proofs::MachineLemmas::tasks))]
+/// At a fault of the play no list is written, and at one of the list's a part of it, from the front. It stops as `run` does, and for
+/// want of room at a call too.
+#[tactic(auto, using(run_lines::proofs::MachineLemmas::listed_at_start))]
 pub fn accounts<S: Source, K: Sink, E: Sink>(
     alloc: Global,
     play: ScenarioInput<'_>,
@@ -55,8 +55,8 @@ pub fn accounts<S: Source, K: Sink, E: Sink>(
 ) -> Result<AccountList, BootFault>
     ensures played { IfOk result (λ accounts. fault_before (S.has_failed reader.old)
         (K.has_failed writer.old || E.has_failed complaints.old) ≡ None →
-        (sessions : OfSessions) × IsRunOn play.entry.machine.now
-        (turns_on None play.entry.start) nothing_told (accounts_behind sessions) true accounts.ending
+        (sessions : OfSessions) × IsRunFrom (turns_on None play.entry.start play.entry.list.now)
+        nothing_told (accounts_behind sessions play.entry.list.now) true accounts.ending
         (S.remaining reader.old) (S.remaining reader.new)
         (S.has_failed reader.new) (K.contents writer.old) (K.contents writer.new)) }
     ensures few { IfOk result (λ accounts. accounts.ending.lines ≤ MAX_LINES) }
@@ -69,22 +69,22 @@ pub fn accounts<S: Source, K: Sink, E: Sink>(
         (S.has_failed reader.new) (K.has_failed writer.new || E.has_failed complaints.new)))) }
     ensures before { IfOk result (λ accounts. IfSome (fault_before (S.has_failed reader.old)
         (K.has_failed writer.old || E.has_failed complaints.old)) (λ fault.
-        IsNotRun play.entry.machine.now accounts.ending fault
+        (accounts.ending ≡ unplayed fault)
         × (reader.new ≡ reader.old) × (writer.new ≡ writer.old)
         × (complaints.new ≡ complaints.old))) }
+    ensures boots { OnOk result (Boots (start_list_of play.entry.list.now)) }
     ensures unbooted { IfErr result (λ fault. fault ≢ NoMemory →
-        boot_fault play.entry.machine.now ≡ Some fault) }
+        quota_fault play.entry.list.now ≡ Some fault) }
     ensures untouched { OnErr result
         ((reader.new ≡ reader.old) × (writer.new ≡ writer.old)
         × (complaints.new ≡ complaints.old)) }
 {
     let rooms = CallBuffers::new(alloc)?;
-    let list = StartList::read(alloc, play.machine)?;
-    let core = boot(alloc, &list)?;
+    let core = boot(alloc, play.list)?;
     let mut watch = Accounting::new(alloc, &core)?;
     let notes = ScenarioState::new(alloc, play.scenario, play.start);
     let run = LineDispatcher {
-        list: &list,
+        list: play.list,
         only: None,
     };
     let stage = BootedScenario {

@@ -1,13 +1,11 @@
 -- Calls with their replies, one after another.
-use Rattle.std.proofs.Common.{◌≡◌, ℕ, List, [], ◌∷◌, ◌++◌, Bool, true, Option, None, IfNone, Ok, sym, ◌∙◌, ap, subst, append_assoc, append-nil}
-use Rattle.own_model.specs.Listed.{Listed, start_list_of}
-use Rattle.own_model.specs.StartList.{Boots}
+use Rattle.std.proofs.Common.{◌≡◌, ℕ, List, [], ◌∷◌, ◌++◌, Bool, true, Option, None, IfNone, sym, ◌∙◌, ap, subst, append_assoc, append-nil}
+use Rattle.own_model.specs.Listed.{Listed}
 use Rattle.own_model.specs.World.{World, world_running}
 use Rattle.run_exchanges.specs.Exchange.{Exchange}
-use Rattle.list_parser.specs.StartText.{list_in}
 use Rattle.run_lines.specs.Machine.{world_of}
 use Rattle.run_lines.specs.declared.line_answer.LineAnswer.{LineAnswer}
-use Rattle.view_runs.specs.Answers.{IsAnswered, IsAnsweredFrom, exchange_in, exchanges, exchanges_after}
+use Rattle.view_runs.specs.Answers.{IsAnsweredFrom, exchange_in, exchanges, exchanges_after}
 use Rattle.run_scenario.specs.RunCalls.{calls_answered}
 use Rattle.run_scenario.specs.ScenarioRuns.{RunsAll}
 use Rattle.view_runs.specs.Tracing.{call_text}
@@ -53,14 +51,10 @@ pub silent_played : {first : RunPosition} {seen : List (List ℕ) → Type 0} {s
 silent_played {first = first} {start = start} {w' = w'} ending plays =
     played_from ending ending plays (silent_turns None [] (turns_of None start first plays.given)) (closes_alone ending w')
 
--- on the machine of a text
-pub answered_on : {text : List ℕ} {listed : Listed} (first : RunPosition) (ending : ScenarioEnd) {start : World} {begun : RunPosition} {kept : List Exchange} {input rest : Option (List ℕ)} {failed : Bool} →
-    list_in text ≡ Ok listed → Boots (start_list_of listed) → start ≡ world_of listed → begun ≡ first → IsAnsweredFrom (turns_of None start begun) start ending kept input rest failed →
-    IsAnswered text (turns_on None first) ending kept input rest failed
-answered_on {listed = listed} first ending {start = start} {kept = kept} {input = input} {rest = rest} {failed = failed} reads boots starts begins answered = record {
-  listed = listed;
-  machine = record { reads = reads; boots = boots };
-  answered =
-      subst (λ world. IsAnsweredFrom (turns_of None world first) world ending kept input rest failed) starts
-      (subst (λ stand. IsAnsweredFrom (turns_of None start stand) start ending kept input rest failed) begins answered);
-}
+-- on the machine of a list
+pub answered_on : (listed : Listed) (first : RunPosition) (ending : ScenarioEnd) {start : World} {begun : RunPosition} {kept : List Exchange} {input rest : Option (List ℕ)} {failed : Bool} →
+    start ≡ world_of listed → begun ≡ first → IsAnsweredFrom (turns_of None start begun) start ending kept input rest failed →
+    IsAnsweredFrom (turns_on None first listed) (world_of listed) ending kept input rest failed
+answered_on listed first ending {start = start} {kept = kept} {input = input} {rest = rest} {failed = failed} starts begins answered =
+    subst (λ world. IsAnsweredFrom (turns_of None world first) world ending kept input rest failed) starts
+    (subst (λ stand. IsAnsweredFrom (turns_of None start stand) start ending kept input rest failed) begins answered)

@@ -41,8 +41,8 @@ alone_sum name lines =
     if lines == 0 then name ++ codes ": no line of the scenario" ++ 10 ∷ []
     else decimal lines ++ codes " lines of " ++ name ++ codes ": the same alone as in the whole run" ++ 10 ∷ []
 
-abbrev pub alone_behind : List ℕ → Listed → List LineStep → List ℕ
-alone_behind name listed turns = alone_sum name (length (calls_answered (Some name) turns))
+abbrev pub alone_behind : List ℕ → List LineStep → List ℕ
+alone_behind name turns = alone_sum name (length (calls_answered (Some name) turns))
 
 abbrev pub alone_text : List ℕ → Listed → List LineStep → List ℕ
 alone_text name listed turns = text_of_steps (alone_call_text name (world_of listed)) None [] turns

@@ -1,13 +1,11 @@
 -- The calls of a scenario with their replies.
 use Rattle.std.specs.Prelude.{◌≡◌, ℕ, Bool, List, [], ◌∷◌, ◌++◌, Option, None, IfNone}
-use Rattle.own_model.specs.Listed.{Listed}
 use Rattle.own_model.specs.Reply.{reply_text}
 use Rattle.own_model.specs.Transcript.{heard}
 use Rattle.own_model.specs.World.{World, world_running}
 use Rattle.run_exchanges.specs.Exchange.{Exchange}
 use Rattle.run_lines.specs.Answer.{answered_name, answered_reply}
 use Rattle.run_lines.specs.Lines.{AreReadable}
-use Rattle.run_lines.specs.Machine.{IsMachine, world_of}
 use Rattle.run_lines.specs.LineRuns.{EndsFor}
 use Rattle.run_scenario.specs.RunCalls.{calls_answered}
 use Rattle.run_scenario.specs.ScenarioRuns.{most_lines}
@@ -37,10 +35,3 @@ pub record IsAnsweredFrom (turns : List (List ℕ) → List LineStep) (start : W
   pub readable : AreReadable given
   pub ends : EndsFor most_lines ending.fault given input rest failed
   pub are : IfNone ending.fault (found ≡ exchanges start (calls_answered None (turns given)))
-
--- the same on the machine of a text
-pub record IsAnswered (text : List ℕ) (turns : Listed → List (List ℕ) → List LineStep) (ending : ScenarioEnd) (found : List Exchange)
-    (input rest : Option (List ℕ)) (failed : Bool) : Type 0 where
-  pub listed : Listed
-  pub machine : IsMachine text listed
-  pub answered : IsAnsweredFrom (turns listed) (world_of listed) ending found input rest failed

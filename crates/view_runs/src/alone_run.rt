@@ -1,13 +1,13 @@
-//! The replies to one component in the whole run, and in a run of its own lines alone.
-ghost use Rattle.std.specs.Prelude.{◌≡◌, ◌≢◌, ◌≤◌, ◌∷◌, ◌++◌, ◌||◌, [], ℕ, List, codes, decimal, length, false, true, is_err, IfOk, IfErr, IfNone, IfSome, OnErr, None, Some};
+//! What one component is told in the whole run, and in a run of its own lines alone.
+ghost use Rattle.std.specs.Prelude.{◌≡◌, ◌≢◌, ◌≤◌, ◌∷◌, ◌++◌, ◌||◌, [], ℕ, List, codes, decimal, length, false, true, is_err, IfOk, IfErr, IfNone, IfSome, OnErr, OnOk, None, Some};
 ghost use Rattle.std.specs.Option.{option_map_or};
 ghost use Rattle.std.specs.Result.{result_err};
 ghost use Rattle.own_model.specs.Listed.{start_list_of};
-ghost use Rattle.own_model.specs.StartList.{entries_of};
+ghost use Rattle.own_model.specs.StartList.{Boots, entries_of};
+ghost use Rattle.list_parser.specs.Quota.{quota_fault};
 ghost use Rattle.list_parser.specs.declared.fault.BootFault.TheVariants.{NoMemory};
 ghost use Rattle.run_lines.specs.Answer.{answer_text};
 ghost use Rattle.run_lines.specs.RunOutput.{OutputsUnless};
-ghost use Rattle.run_lines.specs.Machine.{boot_fault};
 ghost use Rattle.line_grammar.specs.Read.{IsReadAs};
 ghost use Rattle.run_lines.specs.Causes.{HasCause};
 ghost use Rattle.run_scenario.specs.Faults.{fault_before, unplayed};
@@ -16,7 +16,7 @@ ghost use Rattle.view_runs.specs.Alone.{AreAlike, SeesAlone, alone_behind, alone
 ghost use Rattle.run_scenario.specs.RunCalls.{calls_answered, text_of_steps};
 ghost use Rattle.run_scenario.specs.Texts.{in_brackets, line_text};
 ghost use Rattle.run_scenario.specs.LineSteps.{turns_of};
-ghost use Rattle.run_scenario.specs.Writes.{Closes, IsRunOn, IsRunFrom, IsNotRun, IsWrittenBy, turns_on};
+ghost use Rattle.run_scenario.specs.Writes.{Closes, IsRunFrom, IsWrittenBy, turns_on};
 ghost use Rattle.run_lines.specs.declared.line_run_fault.LineRunFault.TheVariants.{NoMemory as NoRoom};
 
 use crate::byte_text::{put_text_after, shown_in};
@@ -270,9 +270,9 @@ fn put_side<K: Sink>(
 /// writes how many these lines are, and that their answers are the same. They always are the same: each component's answers are
 /// those of its own run. Errors of lines are written as they are found.
 ///
-/// After a fault the text up to then is written. If a write failed or the host is out of memory, only a first part of it is
-/// written. The run stops for the same reasons as `run`.
-#[tactic(auto, using(run_lines::proofs::MachineLemmas::tasks))]
+/// At a fault what was told by then is written, or where a write failed or the host has no room a part of it, from the front. It
+/// stops as `run` does.
+#[tactic(auto, using(run_lines::proofs::MachineLemmas::listed_at_start))]
 pub fn alone<S: Source, K: Sink, E: Sink>(
     alloc: Global,
     play: ScenarioInput<'_>,
@@ -283,14 +283,15 @@ pub fn alone<S: Source, K: Sink, E: Sink>(
 ) -> Result<AloneComparison, BootFault>
     ensures played { IfOk result (λ compared. fault_before (S.has_failed reader.old)
         (K.has_failed writer.old || E.has_failed complaints.old) ≡ None →
-        IsRunOn play.entry.machine.now (turns_on None play.entry.start)
-        (alone_text name.now) (alone_behind name.now) false compared.ending
+        IsRunFrom (turns_on None play.entry.start play.entry.list.now)
+        (alone_text name.now play.entry.list.now) (alone_behind name.now) false compared.ending
         (S.remaining reader.old) (S.remaining reader.new)
         (S.has_failed reader.new) (K.contents writer.old) (K.contents writer.new)) }
     ensures summed { IfOk result (λ compared. fault_before (S.has_failed reader.old)
         (K.has_failed writer.old || E.has_failed complaints.old) ≡ None →
-        IsRunOn play.entry.machine.now (turns_on None play.entry.start)
-        (alone_text name.now) (λ _ _. alone_sum name.now compared.lines) false compared.ending
+        IsRunFrom (turns_on None play.entry.start play.entry.list.now)
+        (alone_text name.now play.entry.list.now) (λ _. alone_sum name.now compared.lines)
+        false compared.ending
         (S.remaining reader.old) (S.remaining reader.new)
         (S.has_failed reader.new) (K.contents writer.old) (K.contents writer.new)) }
     ensures same { IfOk result (λ compared. fault_before (S.has_failed reader.old)
@@ -307,20 +308,20 @@ pub fn alone<S: Source, K: Sink, E: Sink>(
         (S.has_failed reader.new) (K.has_failed writer.new || E.has_failed complaints.new)))) }
     ensures before { IfOk result (λ compared. IfSome (fault_before (S.has_failed reader.old)
         (K.has_failed writer.old || E.has_failed complaints.old)) (λ fault.
-        IsNotRun play.entry.machine.now compared.ending fault
+        (compared.ending ≡ unplayed fault)
         × (reader.new ≡ reader.old) × (writer.new ≡ writer.old)
         × (complaints.new ≡ complaints.old))) }
+    ensures boots { OnOk result (Boots (start_list_of play.entry.list.now)) }
     ensures unbooted { IfErr result (λ fault. fault ≢ NoMemory →
-        boot_fault play.entry.machine.now ≡ Some fault) }
+        quota_fault play.entry.list.now ≡ Some fault) }
     ensures untouched { OnErr result
         ((reader.new ≡ reader.old) × (writer.new ≡ writer.old)
         × (complaints.new ≡ complaints.old)) }
 {
     let rooms = CallBuffers::new(alloc)?;
     let reply = Reply::boot(alloc)?;
-    let list = StartList::read(alloc, play.machine)?;
-    let whole = boot(alloc, &list)?;
-    let alone = boot(alloc, &list)?;
+    let whole = boot(alloc, play.list)?;
+    let alone = boot(alloc, play.list)?;
     let mut notes = ScenarioState::new(alloc, play.scenario, play.start);
     let machines = Machines {
         whole,
@@ -328,7 +329,7 @@ pub fn alone<S: Source, K: Sink, E: Sink>(
         reply,
         rooms,
     };
-    let named = AloneRun::new(&list, name);
+    let named = AloneRun::new(play.list, name);
     Ok(run_alone(&named, machines, &mut notes, reader, writer, complaints))
 }
 

@@ -1,18 +1,19 @@
 //! The answered calls of a scenario, as values.
 ghost use Rattle.std.specs.Prelude.{◌≡◌, ◌≢◌, ◌≤◌, ◌∷◌, ◌++◌, ◌||◌, [], false, true, IfOk, IfErr, IfNone, IfSome, OnErr, OnOk, None, Some, drop, length};
 ghost use Rattle.own_model.specs.Listed.{start_list_of};
-ghost use Rattle.own_model.specs.StartList.{entries_of};
+ghost use Rattle.own_model.specs.StartList.{Boots, entries_of};
+ghost use Rattle.list_parser.specs.Quota.{quota_fault};
 ghost use Rattle.list_parser.specs.declared.fault.BootFault.TheVariants.{NoMemory};
-ghost use Rattle.run_lines.specs.Machine.{boot_fault};
+ghost use Rattle.run_lines.specs.Machine.{world_of};
 ghost use Rattle.run_lines.specs.Causes.{HasCause};
 ghost use Rattle.run_lines.specs.Faults.{is_write_fault};
 ghost use Rattle.run_lines.specs.declared.line_run_fault.LineRunFault.TheVariants.{NoMemory as NoRoom};
 ghost use Rattle.line_grammar.specs.Read.{IsReadAs};
-ghost use Rattle.view_runs.specs.Answers.{IsAnswered, IsAnsweredFrom, exchanges};
+ghost use Rattle.view_runs.specs.Answers.{IsAnsweredFrom, exchanges};
 ghost use Rattle.run_scenario.specs.Faults.{fault_before, unplayed};
 ghost use Rattle.view_runs.specs.Tracing.{call_text};
 ghost use Rattle.run_scenario.specs.LineSteps.{turns_of};
-ghost use Rattle.run_scenario.specs.Writes.{IsRunOn, IsRunFrom, IsNotRun, nothing_told, turns_on};
+ghost use Rattle.run_scenario.specs.Writes.{IsRunFrom, nothing_told, turns_on};
 
 use core_calls::Answer;
 use init_core::boot;
@@ -103,9 +104,9 @@ fn start_of_call(line: &[u8], call: Option<NamedCall<'_>>) -> usize
     }
 }
 
-/// Runs a scenario, and returns its answered calls. Only errors of lines are written, as they are found. The run stops for the
-/// same reasons as `run`, and also if the host is out of memory at a call.
-#[tactic(auto, using(run_lines::proofs::MachineLemmas::tasks))]
+/// Runs a scenario, and returns its answered calls. Only complaints are written, as they come. It stops as `run` does, and also if
+/// the host is out of memory at a call.
+#[tactic(auto, using(run_lines::proofs::MachineLemmas::listed_at_start))]
 pub fn answers<S: Source, K: Sink, E: Sink>(
     alloc: Global,
     play: ScenarioInput<'_>,
@@ -115,14 +116,14 @@ pub fn answers<S: Source, K: Sink, E: Sink>(
 ) -> Result<AnswerList, BootFault>
     ensures played { IfOk result (λ answers. fault_before (S.has_failed reader.old)
         (K.has_failed writer.old || E.has_failed complaints.old) ≡ None →
-        IsRunOn play.entry.machine.now (turns_on None play.entry.start) nothing_told
+        IsRunFrom (turns_on None play.entry.start play.entry.list.now) nothing_told
         nothing_told true answers.ending
         (S.remaining reader.old) (S.remaining reader.new)
         (S.has_failed reader.new) (K.contents writer.old) (K.contents writer.new)) }
     ensures answered { IfOk result (λ answers. fault_before (S.has_failed reader.old)
         (K.has_failed writer.old || E.has_failed complaints.old) ≡ None →
-        IsAnswered play.entry.machine.now (turns_on None play.entry.start)
-        answers.ending answers.exchanges.items
+        IsAnsweredFrom (turns_on None play.entry.start play.entry.list.now)
+        (world_of play.entry.list.now) answers.ending answers.exchanges.items
         (S.remaining reader.old) (S.remaining reader.new) (S.has_failed reader.new)) }
     ensures few { IfOk result (λ answers. answers.ending.lines ≤ MAX_LINES) }
     ensures writing { IfOk result (λ answers. (K.has_failed writer.new
@@ -134,21 +135,21 @@ pub fn answers<S: Source, K: Sink, E: Sink>(
         (S.has_failed reader.new) (K.has_failed writer.new || E.has_failed complaints.new)))) }
     ensures before { IfOk result (λ answers. IfSome (fault_before (S.has_failed reader.old)
         (K.has_failed writer.old || E.has_failed complaints.old)) (λ fault.
-        IsNotRun play.entry.machine.now answers.ending fault
+        (answers.ending ≡ unplayed fault)
         × (reader.new ≡ reader.old) × (writer.new ≡ writer.old)
         × (complaints.new ≡ complaints.old))) }
+    ensures boots { OnOk result (Boots (start_list_of play.entry.list.now)) }
     ensures unbooted { IfErr result (λ fault. fault ≢ NoMemory →
-        boot_fault play.entry.machine.now ≡ Some fault) }
+        quota_fault play.entry.list.now ≡ Some fault) }
     ensures untouched { OnErr result
         ((reader.new ≡ reader.old) × (writer.new ≡ writer.old)
         × (complaints.new ≡ complaints.old)) }
 {
     let rooms = CallBuffers::new(alloc)?;
-    let list = StartList::read(alloc, play.machine)?;
-    let core = boot(alloc, &list)?;
+    let core = boot(alloc, play.list)?;
     let notes = ScenarioState::new(alloc, play.scenario, play.start);
     let run = LineDispatcher {
-        list: &list,
+        list: play.list,
         only: None,
     };
     let stage = BootedScenario {

@@ -1,16 +1,16 @@
 //! The trace of a scenario: a row of figures for each call.
-ghost use Rattle.std.specs.Prelude.{◌≡◌, ◌≢◌, ◌+◌, ◌^◌, ◌<◌, ◌≤◌, ◌∷◌, ◌++◌, ◌||◌, [], ⊤, length, decimal, false, is_err, IfOk, IfErr, IfSome, OnErr, IfNone, None, Some, drop};
+ghost use Rattle.std.specs.Prelude.{◌≡◌, ◌≢◌, ◌+◌, ◌^◌, ◌<◌, ◌≤◌, ◌∷◌, ◌++◌, ◌||◌, [], ⊤, length, decimal, false, is_err, IfOk, IfErr, IfSome, OnErr, OnOk, IfNone, None, Some, drop};
 ghost use Rattle.std.specs.Option.{option_map, unwrap_or};
 ghost use Rattle.arrayvec.specs.ArrayVec.{array_vec_len};
 ghost use Rattle.csv.specs.Writing.{default_writer, fields_text};
 ghost use Rattle.own_model.specs.Listed.{start_list_of};
-ghost use Rattle.own_model.specs.StartList.{entries_of};
+ghost use Rattle.own_model.specs.StartList.{Boots, entries_of};
 ghost use Rattle.own_model.specs.Text.{hex_bytes};
 ghost use Rattle.own_model.specs.Transcript.{heard, heard_spoken, state_at};
+ghost use Rattle.list_parser.specs.Quota.{quota_fault};
 ghost use Rattle.list_parser.specs.declared.fault.BootFault.TheVariants.{NoMemory};
 ghost use Rattle.core_calls.specs.Call.{model_call};
 ghost use Rattle.run_lines.specs.RunOutput.{OutputsUnless};
-ghost use Rattle.run_lines.specs.Machine.{boot_fault};
 ghost use Rattle.line_grammar.specs.Read.{IsReadAs};
 ghost use Rattle.run_lines.specs.Causes.{HasCause};
 ghost use Rattle.run_scenario.specs.Faults.{fault_before, unplayed};
@@ -20,7 +20,7 @@ ghost use Rattle.run_scenario.specs.Texts.{characters_text};
 ghost use Rattle.view_runs.specs.Tracing.{call_text, caller_cells, figures, session_cells, session_of, stranger_cells, trace_header, trace_call_text, trace_text};
 ghost use Rattle.run_scenario.specs.Cells.{cell_text};
 ghost use Rattle.run_scenario.specs.LineSteps.{turns_of};
-ghost use Rattle.run_scenario.specs.Writes.{IsRunOn, IsRunFrom, IsNotRun, nothing_told, turns_on};
+ghost use Rattle.run_scenario.specs.Writes.{IsRunFrom, nothing_told, turns_on};
 ghost use Rattle.run_lines.specs.declared.line_run_fault.LineRunFault.TheVariants.{NoMemory as NoRoom};
 
 use crate::byte_text::{put_text_cell, shown_in};
@@ -234,10 +234,9 @@ fn session_of(call: Call<'_>) -> Option<u64>
 /// line, the component, the call, the reply, and use and limit of RAM and of capabilities after it. It also has these of the
 /// session that the call names, and the text of the call's bytes. Errors of lines are written as they are found.
 ///
-/// The figures are those of the own state that the call leaves its caller. After a fault the rows of the lines up to then are
-/// written. If a write failed or the host is out of memory, only a first part of them is written. The run stops for the same
-/// reasons as `run`.
-#[tactic(auto, using(run_lines::proofs::MachineLemmas::tasks))]
+/// The figures are those of the own state that the call leaves its caller. At a fault the rows of the lines that were
+/// played are written, or where a write failed or the host has no room a part of them, from the front. It stops as `run` does.
+#[tactic(auto, using(run_lines::proofs::MachineLemmas::listed_at_start))]
 pub fn trace<S: Source, K: Sink, E: Sink>(
     alloc: Global,
     play: ScenarioInput<'_>,
@@ -247,8 +246,8 @@ pub fn trace<S: Source, K: Sink, E: Sink>(
 ) -> Result<ScenarioEnd, BootFault>
     ensures played { IfOk result (λ ending. fault_before (S.has_failed reader.old)
         (K.has_failed writer.old || E.has_failed complaints.old) ≡ None →
-        IsRunOn play.entry.machine.now (turns_on None play.entry.start) trace_text
-        nothing_told false ending
+        IsRunFrom (turns_on None play.entry.start play.entry.list.now)
+        (trace_text play.entry.list.now) nothing_told false ending
         (S.remaining reader.old) (S.remaining reader.new)
         (S.has_failed reader.new) (K.contents writer.old) (K.contents writer.new)) }
     ensures few { IfOk result (λ ending. ending.lines ≤ MAX_LINES) }
@@ -261,21 +260,21 @@ pub fn trace<S: Source, K: Sink, E: Sink>(
         (S.has_failed reader.new) (K.has_failed writer.new || E.has_failed complaints.new)))) }
     ensures before { IfOk result (λ ending. IfSome (fault_before (S.has_failed reader.old)
         (K.has_failed writer.old || E.has_failed complaints.old)) (λ fault.
-        IsNotRun play.entry.machine.now ending fault
+        (ending ≡ unplayed fault)
         × (reader.new ≡ reader.old) × (writer.new ≡ writer.old)
         × (complaints.new ≡ complaints.old))) }
+    ensures boots { OnOk result (Boots (start_list_of play.entry.list.now)) }
     ensures unbooted { IfErr result (λ fault. fault ≢ NoMemory →
-        boot_fault play.entry.machine.now ≡ Some fault) }
+        quota_fault play.entry.list.now ≡ Some fault) }
     ensures untouched { OnErr result
         ((reader.new ≡ reader.old) × (writer.new ≡ writer.old)
         × (complaints.new ≡ complaints.old)) }
 {
     let rooms = CallBuffers::new(alloc)?;
-    let list = StartList::read(alloc, play.machine)?;
-    let core = boot(alloc, &list)?;
+    let core = boot(alloc, play.list)?;
     let notes = ScenarioState::new(alloc, play.scenario, play.start);
     let run = LineDispatcher {
-        list: &list,
+        list: play.list,
         only: None,
     };
     let stage = BootedScenario {

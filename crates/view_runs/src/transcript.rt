@@ -1,18 +1,18 @@
 //! The run of a scenario in the friendly form: its transcript, as the engine writes it.
-ghost use Rattle.std.specs.Prelude.{◌≡◌, ◌≢◌, ◌≤◌, ◌++◌, ◌||◌, [], ⊤, false, true, is_err, IfNone, IfOk, IfErr, IfSome, OnErr, Some};
+ghost use Rattle.std.specs.Prelude.{◌≡◌, ◌≢◌, ◌≤◌, ◌++◌, ◌||◌, [], ⊤, false, true, is_err, IfNone, IfOk, IfErr, IfSome, OnErr, OnOk, Some};
 ghost use Rattle.std.specs.Option.{option_copied};
 ghost use Rattle.own_model.specs.AccountList.{account_list_text};
 ghost use Rattle.own_model.specs.Listed.{start_list_of};
-ghost use Rattle.own_model.specs.StartList.{entries_of};
+ghost use Rattle.own_model.specs.StartList.{Boots, entries_of};
+ghost use Rattle.list_parser.specs.Quota.{quota_fault};
 ghost use Rattle.list_parser.specs.declared.fault.BootFault.TheVariants.{NoMemory};
 ghost use Rattle.run_lines.specs.Answer.{answer_text};
 ghost use Rattle.run_lines.specs.RunOutput.{OutputsUnless};
-ghost use Rattle.run_lines.specs.Machine.{boot_fault};
 ghost use Rattle.run_lines.specs.Causes.{HasCause};
 ghost use Rattle.run_scenario.specs.Faults.{fault_before, unplayed};
 ghost use Rattle.run_lines.specs.Faults.{is_write_fault};
 ghost use Rattle.run_scenario.specs.LineSteps.{turns_of};
-ghost use Rattle.run_scenario.specs.Writes.{Closes, IsRunOn, IsRunFrom, IsNotRun, turns_on};
+ghost use Rattle.run_scenario.specs.Writes.{Closes, IsRunFrom, turns_on};
 ghost use Rattle.view_runs.specs.Transcripts.{list_behind, number_before, run_behind, text_of_run_call, text_of_run, shown_of};
 ghost use Rattle.run_lines.specs.declared.line_run_fault.LineRunFault.TheVariants.{NoMemory as NoRoom};
 
@@ -108,12 +108,11 @@ fn write_numbered<K: Sink>(
 /// its number. With `accounts` the account list is written after a run without a fault. Errors of lines are written as they are
 /// found.
 ///
-/// The transcript is that of the calls in the scenario's lines, and the account list is that of the world after them. After a
-/// fault the transcript of the lines up to then is written. If a write failed or the host is out of memory, only a first part of
-/// it is written. The run stops for the reasons of the engine's run. It also stops if the host is out of memory at a line that
-/// can't be parsed or that expects a log line. If a device had failed before, the fault of the outputs is returned first, and no
-/// device is used. No device is used either if no machine boots.
-#[tactic(auto, using(run_lines::proofs::MachineLemmas::tasks))]
+/// What is written is the transcript of the calls that the scenario's lines say, and the account list of the world after them;
+/// at a fault the transcript of the lines that were played, or where a write failed or the host has no room a part of these, from
+/// the front. It stops for the causes of the engine's run, or for want of room at a line that isn't read or that expects a log
+/// line. A device that had failed before is told, the outputs first, and none is touched then, nor where no machine is booted.
+#[tactic(auto, using(run_lines::proofs::MachineLemmas::listed_at_start))]
 pub fn run<S: Source, K: Sink, E: Sink>(
     alloc: Global,
     play: ScenarioInput<'_>,
@@ -124,9 +123,10 @@ pub fn run<S: Source, K: Sink, E: Sink>(
 ) -> Result<ScenarioEnd, BootFault>
     ensures played { IfOk result (λ ending. fault_before (S.has_failed reader.old)
         (K.has_failed writer.old || E.has_failed complaints.old) ≡ None →
-        IsRunOn play.entry.machine.now
-        (turns_on (option_copied showing.entry.only) play.entry.start)
-        (text_of_run showing.entry) (run_behind showing.entry) false ending
+        IsRunFrom
+        (turns_on (option_copied showing.entry.only) play.entry.start play.entry.list.now)
+        (text_of_run showing.entry play.entry.list.now) (run_behind showing.entry play.entry.list.now)
+        false ending
         (S.remaining reader.old) (S.remaining reader.new)
         (S.has_failed reader.new) (K.contents writer.old) (K.contents writer.new)) }
     ensures few { IfOk result (λ ending. ending.lines ≤ MAX_LINES) }
@@ -139,21 +139,21 @@ pub fn run<S: Source, K: Sink, E: Sink>(
         (S.has_failed reader.new) (K.has_failed writer.new || E.has_failed complaints.new)))) }
     ensures before { IfOk result (λ ending. IfSome (fault_before (S.has_failed reader.old)
         (K.has_failed writer.old || E.has_failed complaints.old)) (λ fault.
-        IsNotRun play.entry.machine.now ending fault
+        (ending ≡ unplayed fault)
         × (reader.new ≡ reader.old) × (writer.new ≡ writer.old)
         × (complaints.new ≡ complaints.old))) }
+    ensures boots { OnOk result (Boots (start_list_of play.entry.list.now)) }
     ensures unbooted { IfErr result (λ fault. fault ≢ NoMemory →
-        boot_fault play.entry.machine.now ≡ Some fault) }
+        quota_fault play.entry.list.now ≡ Some fault) }
     ensures untouched { OnErr result
         ((reader.new ≡ reader.old) × (writer.new ≡ writer.old)
         × (complaints.new ≡ complaints.old)) }
 {
     let rooms = CallBuffers::new(alloc)?;
-    let list = StartList::read(alloc, play.machine)?;
-    let core = boot(alloc, &list)?;
+    let core = boot(alloc, play.list)?;
     let notes = ScenarioState::new(alloc, play.scenario, play.start);
     let run = LineDispatcher {
-        list: &list,
+        list: play.list,
         only: showing.only,
     };
     let stage = BootedScenario {

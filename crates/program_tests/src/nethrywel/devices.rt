@@ -1,6 +1,6 @@
 //! Readers and writers that fail, and the status of each ending.
 use crate::devices::{TestReader, TestWriter};
-use init_core::{BootFault, MACHINE_A};
+use init_core::{BootFault, MACHINE_A, StartList};
 use line_names::NameTable;
 use line_steps::RunPosition;
 use run_lines::{Input, LineRunFault, Output};
@@ -46,8 +46,9 @@ fn played(
     writer: &mut Output<TestWriter>,
     complaints: &mut Output<TestWriter>,
 ) -> Result<ScenarioEnd, BootFault> {
+    let list = StartList::read(alloc, machine.as_bytes())?;
     let play = ScenarioInput {
-        machine: machine.as_bytes(),
+        list: &list,
         scenario: Subject {
             file: b"it",
             form: DiagnosticForm::Text,

@@ -1,25 +1,22 @@
--- On the machine of the text.
+-- On the machine of the list.
 use Rattle.std.proofs.Common.{ap, [], None}
 use Rattle.view_accounts.specs.Accounting.{accounts_text}
 use Rattle.run_scenario.specs.RunCalls.{calls_answered}
-use Rattle.run_scenario.proofs.WriteLemmas.{ends_for_some_cause, is_played, unplayed_on, unplayed_with}
+use Rattle.run_scenario.proofs.WriteLemmas.{ends_for_some_cause, played_on, unplayed_with}
 use Rattle.view_accounts.proofs.account_list.accounts.Goals as goal
 
 pub returns-clause-played : goal.returns-clause-played
 returns-clause-played g c = λ works.
     let played = c.run_accounting.ensures.played works in (
       played.0,
-      is_played None c.args.play.start (λ _ _. []) (λ listed start turns. accounts_text played.0 listed start (calls_answered None turns)) c.run_accounting.result.ending _ _ _ _ _
-          c.in_ok-list.ensures.ok c.in_ok-core.ensures.covered c.in_ok-core.ensures.started c.new-notes.ensures played.1,
+      played_on c.args.play.list.now None c.args.play.start (λ _ _. []) (λ start turns. accounts_text played.0 c.args.play.list.now start (calls_answered None turns)) c.run_accounting.result.ending _ _ _ _ _
+          c.in_ok-core.ensures.started c.new-notes.ensures played.1,
     )
 
 pub run_accounting-requires-clause-sees : goal.run_accounting-requires-clause-sees
-run_accounting-requires-clause-sees g c = c.in_ok-watch.ensures c.in_ok-list.list c.in_ok-core.ensures.started
+run_accounting-requires-clause-sees g c = c.in_ok-watch.ensures c.args.play.list.now c.in_ok-core.ensures.started
 
 pub returns-clause-ok : goal.returns-clause-ok
 returns-clause-ok g c =
     ends_for_some_cause _ _ _ c.run_accounting.ensures.played
     (unplayed_with c.run_accounting.result.ending _ _ _ _ _ (ap g.S.Source.has_failed) c.run_accounting.ensures.before) c.run_accounting.ensures.writing
-
-pub returns-clause-before : goal.returns-clause-before
-returns-clause-before g c = unplayed_on _ c.run_accounting.result.ending _ _ _ _ c.in_ok-list.ensures.ok c.in_ok-core.ensures.covered c.run_accounting.ensures.before

@@ -1,26 +1,23 @@
--- On the machine of the text; and what a name is told hangs on its own lines alone.
+-- On the machine of the list; and what a name is told hangs on its own lines alone.
 use Rattle.std.proofs.Common.{ap, [], length, None, Some}
 use Rattle.view_runs.specs.Alone.{alone_sum, alone_call_text}
 use Rattle.run_scenario.specs.RunCalls.{calls_answered, text_of_steps}
 use Rattle.view_runs.proofs.AloneLemmas.{are_alike}
-use Rattle.run_scenario.proofs.WriteLemmas.{ends_for_cause, is_played, unplayed_on, unplayed_with}
+use Rattle.run_scenario.proofs.WriteLemmas.{ends_for_cause, played_on, unplayed_with}
 use Rattle.view_runs.proofs.alone_run.alone.Goals as goal
 
 pub returns-clause-played : goal.returns-clause-played
 returns-clause-played g c = λ works.
-    is_played None c.args.play.start (λ start turns. text_of_steps (alone_call_text c.args.name.now start) None [] turns) (λ _ _ turns. alone_sum c.args.name.now (length (calls_answered (Some c.args.name.now) turns))) c.run_alone.result.ending _ _ _ _ _
-    c.in_ok-list.ensures.ok c.in_ok-whole.ensures.covered c.in_ok-whole.ensures.started c.new-notes.ensures (rw c.new-named.ensures.name at (c.run_alone.ensures.played works))
+    played_on c.args.play.list.now None c.args.play.start (λ start turns. text_of_steps (alone_call_text c.args.name.now start) None [] turns) (λ _ turns. alone_sum c.args.name.now (length (calls_answered (Some c.args.name.now) turns))) c.run_alone.result.ending _ _ _ _ _
+    c.in_ok-whole.ensures.started c.new-notes.ensures (rw c.new-named.ensures.name at (c.run_alone.ensures.played works))
 
 pub returns-clause-summed : goal.returns-clause-summed
 returns-clause-summed g c = λ works.
-    is_played None c.args.play.start (λ start turns. text_of_steps (alone_call_text c.args.name.now start) None [] turns) (λ _ _ _. alone_sum c.args.name.now c.run_alone.result.lines) c.run_alone.result.ending _ _ _ _ _
-    c.in_ok-list.ensures.ok c.in_ok-whole.ensures.covered c.in_ok-whole.ensures.started c.new-notes.ensures (rw c.new-named.ensures.name at (c.run_alone.ensures.summed works))
+    played_on c.args.play.list.now None c.args.play.start (λ start turns. text_of_steps (alone_call_text c.args.name.now start) None [] turns) (λ _ _. alone_sum c.args.name.now c.run_alone.result.lines) c.run_alone.result.ending _ _ _ _ _
+    c.in_ok-whole.ensures.started c.new-notes.ensures (rw c.new-named.ensures.name at (c.run_alone.ensures.summed works))
 
 pub returns-clause-alike : goal.returns-clause-alike
 returns-clause-alike g c = are_alike c.args.name.now
-
-pub returns-in_err-list-clause-alike : goal.returns-in_err-list-clause-alike
-returns-in_err-list-clause-alike g c = are_alike c.args.name.now
 
 pub returns-in_err-whole-clause-alike : goal.returns-in_err-whole-clause-alike
 returns-in_err-whole-clause-alike g c = are_alike c.args.name.now
@@ -37,6 +34,3 @@ returns-in_err-reply-clause-alike g c = are_alike c.args.name.now
 pub returns-clause-ok : goal.returns-clause-ok
 returns-clause-ok g c =
     ends_for_cause _ _ _ c.run_alone.ensures.played (unplayed_with c.run_alone.result.ending _ _ _ _ _ (ap g.S.Source.has_failed) c.run_alone.ensures.before) c.run_alone.ensures.writing
-
-pub returns-clause-before : goal.returns-clause-before
-returns-clause-before g c = unplayed_on _ c.run_alone.result.ending _ _ _ _ c.in_ok-list.ensures.ok c.in_ok-whole.ensures.covered c.run_alone.ensures.before

@@ -1,18 +1,15 @@
--- On the machine of the text.
+-- On the machine of the list.
 use Rattle.std.proofs.Common.{ap, ◌++◌, [], None}
 use Rattle.run_scenario.specs.RunCalls.{text_of_steps}
 use Rattle.view_runs.specs.Tracing.{trace_header, trace_call_text}
-use Rattle.run_scenario.proofs.WriteLemmas.{ends_for_cause, is_played, unplayed_on, unplayed_with}
+use Rattle.run_scenario.proofs.WriteLemmas.{ends_for_cause, played_on, unplayed_with}
 use Rattle.view_runs.proofs.tracing.trace.Goals as goal
 
 pub returns-clause-played : goal.returns-clause-played
 returns-clause-played g c = λ works.
-    is_played None c.args.play.start (λ start turns. trace_header ++ text_of_steps (trace_call_text start) None [] turns) (λ _ _ _. []) c.trace_on.result _ _ _ _ _
-    c.in_ok-list.ensures.ok c.in_ok-core.ensures.covered c.in_ok-core.ensures.started c.new-notes.ensures (c.trace_on.ensures.played works)
+    played_on c.args.play.list.now None c.args.play.start (λ start turns. trace_header ++ text_of_steps (trace_call_text start) None [] turns) (λ _ _. []) c.trace_on.result _ _ _ _ _
+    c.in_ok-core.ensures.started c.new-notes.ensures (c.trace_on.ensures.played works)
 
 pub returns-clause-ok : goal.returns-clause-ok
 returns-clause-ok g c =
     ends_for_cause _ _ _ c.trace_on.ensures.played (unplayed_with c.trace_on.result _ _ _ _ _ (ap g.S.Source.has_failed) c.trace_on.ensures.before) c.trace_on.ensures.writing
-
-pub returns-clause-before : goal.returns-clause-before
-returns-clause-before g c = unplayed_on _ c.trace_on.result _ _ _ _ c.in_ok-list.ensures.ok c.in_ok-core.ensures.covered c.trace_on.ensures.before
