@@ -76,8 +76,8 @@ def once(tmp_path_factory):
 
 @pytest.fixture
 def report(once):
-    """Returns what writes the page of a name in view_test_report.REPORTS, once for all tests, and returns its path."""
-    from view_test_report import write_report
+    """Returns what writes the page of a name in test_report.REPORTS, once for all tests, and returns its path."""
+    from test_report import write_report
 
     return lambda name: once(f"report-{name}", lambda folder: write_report(name, folder)) / f"{name}.html"
 

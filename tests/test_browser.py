@@ -5,7 +5,7 @@ from pathlib import Path
 import pytest
 from commands import CHROMIUM, crawler_files, needs
 from conftest import running_desk
-from view_test_report import REPORTS, SCRIPT
+from test_report import REPORTS, SCRIPT
 
 pytestmark = [needs(*CHROMIUM), pytest.mark.slow]
 RIGHT = "\ue014"
@@ -58,7 +58,7 @@ SHOWN = {
 
 
 @pytest.mark.parametrize("name", REPORTS)
-def view_test_report(browser, report, name):
+def test_report(browser, report, name):
     """A report opens without a message on the console and without requests, and its views answer clicks and keys."""
     page = browser
     page.console()

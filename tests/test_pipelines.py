@@ -212,7 +212,7 @@ def test_diff_as_json(nethrywel):
         elif it["kind"] == "need":
             needs = f"needs {it['needs_ram']} bytes, {it['needs_caps']} caps"
             it["needs"] = "no budget serves" if it["needs_ram"] is None else needs
-        lines += line_of(DIFFERENCES[it["kind"] + it.get("change", "")], it)
+        lines += line_of(DIFFERENCES.get(it["kind"] + it.get("change", "")) or DIFFERENCES[it["kind"]], it)
     assert lines == nethrywel(*words, cwd=DIFF).out
     assert documents(nethrywel, "diff", "before.json", "before.json", cwd=DIFF) == []
 
@@ -230,7 +230,7 @@ def test_diff_of_replies(nethrywel, tmp_path, scenario, line):
 
 @pytest.mark.parametrize("words, stdin", [
     ("run -", "alice alloc 4K => cap \x1b[31m\u2028error: forged\nali\u2029ce quota\nalice al\x07oc\n"),
-    ("alone alice -", 'alice open LOG ram_quota=8K, label="\x1b[2J"\nalice quota => \x1b[31m2\nalice al\x07oc \u2028\n'),
+    ("alone alice -", 'alice quota => \x1b[31m2\nalice al\x07oc \u2028\n'),
     ("check -", '{"machine":{"pages":64,"caps":64},"odd\u2028error: forged\\u001b[31m":1,"start":[]}'),
     ("check no\x1b[31m\u2028ne.json", ""), ("test no\x1b[31mne.scenario", ""),
 ], ids=["run", "alone", "check", "list", "test"])

@@ -53,7 +53,8 @@ def test_budgets(shown):
     assert found["alice", None]["short"] and found["bob", "1"]["line"] == 7
     assert found["alice", None]["told"] == ["ram from 36K, caps from 2", "given 32K and 8: insufficient; the least is 36K and 2"]
     assert found["bob", "1"]["told"] == ["ram from 8K, caps from 3", "given 16K and 4: 8K and 1 could be saved"]
-    alice, bob = shown(None, "alice alloc 800M\nbob alloc 4K\n")[0].least()["accounts"][::-1]
+    found = {it["name"]: it for it in shown(None, "alice alloc 800M\nbob alloc 4K\n")[0].least()["accounts"]}
+    alice, bob = found["alice"], found["bob"]
     assert alice["short"] and alice["told"] == ["no budget serves"]
     assert not bob["short"] and bob["given"] == (65536, 16)
 

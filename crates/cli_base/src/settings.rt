@@ -43,7 +43,7 @@ impl<'a> Settings<'a> {
 
     /// Returns a copy of what the names denote.
     pub fn known(self, alloc: Global) -> Result<NameTable, AllocError>
-        ensures { IfOk result (λ known. known ≡ unwrap_or (option_copied self.known) nothing) }
+        ensures { IfOk result (λ known. known ≡ unwrap_or (option_copied self.entry.known) nothing) }
     {
         match self.known {
             Some(known) => known.copy(alloc),

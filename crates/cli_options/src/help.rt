@@ -59,8 +59,8 @@ Calls:
   close S            Close a session; its donation returns
   quota              Print use and limits; reply: ram U/L caps U/L
   reserve            Print the reserve; reply: ram R caps C
-  request ARGS       BufferTransfer quota from the reserve to the account
-  yield ARGS         BufferTransfer unused quota from the account to the reserve
+  request ARGS       Move quota from the reserve to the account
+  yield ARGS         Move unused quota from the account to the reserve
   exit               Exit; all quota returns to the parent init
 N and LEN are bytes: 4096, 4K or 2M. S is a selector from a reply. A is an address:
 0x10000000. ARGS is ram_quota=8K, cap_quota=3, and optionally label=\"..\".
@@ -106,7 +106,7 @@ Refusals:
 docs/reference/calls.md states for each call when it is refused.
 ";
 
-pub(crate) const RUN: &str = "RunOptions a scenario and report each reply that isn't as expected";
+pub(crate) const RUN: &str = "Run a scenario and report each reply that isn't as expected";
 
 pub(crate) const RECORD: &str = "Write a scenario with each call's reply as its expected reply";
 
@@ -129,7 +129,7 @@ pub(crate) const ACCOUNTS: &str = "Show all accounts after a scenario, with need
 pub(crate) const ALONE: &str =
     "Compare the replies to NAME, or with --all to each script, with a run of its lines alone";
 
-pub(crate) const TEST: &str = "RunOptions scenarios as tests and report the results (TAP 13)";
+pub(crate) const TEST: &str = "Run scenarios as tests and report the results (TAP 13)";
 
 pub(crate) const DIFF: &str =
     "Compare two start lists: entries, budgets, who reaches whom, and replies";
@@ -152,7 +152,7 @@ pub(crate) const LIST: &str = "The path of a start list in JSON; - is standard i
 
 pub(crate) const MACHINE: &str = "A start list in JSON; without it the built-in machine";
 
-pub(crate) const ONLY: &str = "RunOptions the lines of this component alone";
+pub(crate) const ONLY: &str = "Run the lines of this component alone";
 
 pub(crate) const WITH_ACCOUNTS: &str = "Print all accounts after the last reply";
 

@@ -15,5 +15,5 @@ mod unread_line;
 mod writing;
 
 pub use pieces::first_piece;
-pub use run_record::{Recording, Scenario, record};
+pub use recording::{Recording, Scenario, record};
 pub use unread_line::{UnreadLine, UnreadMessage, UnreadReason};

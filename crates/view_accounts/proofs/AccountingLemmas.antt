@@ -8,7 +8,7 @@ use Rattle.view_accounts.specs.Meters.{SeesNeeds}
 use Rattle.view_accounts.specs.declared.accounting.Accounting.{Accounting}
 
 pub sees_both : {T E : Type 0} (watch : Accounting) (listed : Listed) {start : World} {calls : List (List ℕ)} (r : Result T E) →
-    OnOk r (SeesPeaks (peaked watch.peaks.init) watch.peaks.components.items watch.peaks.sessions.items listed start calls) → SeesNeeds watch.needs.meters.items start calls →
+    OnOk r (SeesPeaks (peaked watch.peaks.init) watch.peaks.components.items watch.peaks.sessions listed start calls) → SeesNeeds watch.needs.meters.items start calls →
     OnOk r (SeesAccounts watch listed start calls)
 sees_both watch listed (Ok done) peaks needs = record { peaks = peaks; needs = needs }
 sees_both watch listed (Err fault) peaks needs = tt

@@ -1,180 +1,91 @@
 -- What is kept of peaks from call to call.
-use Rattle.std.proofs.Common.{Bor, ◌≡◌, ◌≤◌, inl, inr, ℕ, ◌+◌, ◌<◌, ◌==◌, ◌&&◌, Bool, true, false, true≢false, cond, eqb-true, not, List, [], ◌∷◌, ◌++◌, length, is_some, max, Option, Some, None, refl, sym, ◌∙◌, ap, arith}
-use Rattle.std.proofs.lemmas.Bool.{eq-eqb, and_parts}
-use Rattle.std.proofs.lemmas.Bool.Decides.{nat_tests}
+use Rattle.std.proofs.Common.{Bor, ◌≡◌, ◌≢◌, inl, inr, ℕ, ◌+◌, ◌<◌, ◌==◌, ◌&&◌, Bool, true, false, true≢false, cond, eqb-true, List, [], ◌∷◌, ◌++◌, length, is_some, max, refl, sym, ◌∙◌, ap, subst, arith}
+use Rattle.std.proofs.lemmas.Bool.{and_parts, cases_lt, eqb-false}
+use Rattle.std.proofs.lemmas.List.{get_or-set_other, get_or-set_same, set_past}
 use Rattle.std.proofs.lemmas.Option.{none-some, same_Some}
-use Rattle.std.specs.Prelude.{nat_le, nat_lt, not, ◌||◌}
+use Rattle.std.specs.Prelude.{Option, Some, None, nat_le}
 use Rattle.std.specs.List.{position}
 use Rattle.std.specs.Str.{bytes_eq}
 use Rattle.std.specs.Option.{option_map, option_map_or, option_or}
-use Rattle.std.proofs.Math.Bool.{and-false}
+use Rattle.trade_base.specs.declared.refusal.Refusal.{Refusal}
 use Rattle.own_model.proofs.RunningLemmas.{world_running-push}
 use Rattle.own_model.specs.Account.{Account}
 use Rattle.own_model.specs.Amounts.{Amounts}
-use Rattle.own_model.specs.Call.{Spoken, parsed_call}
+use Rattle.own_model.specs.Call.{Call, Spoken, parsed_call}
 use Rattle.own_model.specs.Call.Call.{Open}
-use Rattle.own_model.specs.Listed.{Listed, route_of, start_list_of}
-use Rattle.own_model.specs.Routes.{label_with}
-use Rattle.own_model.specs.StartList.{Entry, Kind}
+use Rattle.own_model.specs.Limits.{init_after, inits_after}
+use Rattle.own_model.specs.Listed.{Listed, start_list_of}
+use Rattle.own_model.specs.OwnState.{OwnState}
+use Rattle.own_model.specs.OwnStep.{own_step}
+use Rattle.own_model.specs.Reply.{Reply, reply_text}
+use Rattle.own_model.specs.Reply.Reply.{Selected, Done, Refused}
+use Rattle.own_model.specs.Running.{running_step}
+use Rattle.own_model.specs.Session.{Session}
+use Rattle.own_model.specs.StartList.{Entry, Kind, init_at, no_account}
 use Rattle.own_model.specs.StartList.Kind.{Script, Server, Init}
-use Rattle.core_calls.specs.Call.{model_call}
-use Rattle.core_calls.specs.declared.call.Call.{Call as Calling}
-use Rattle.core_calls.specs.declared.call.Call.TheVariants.{Open as Opening}
-use Rattle.own_model.specs.Session.{Session, given}
-use Rattle.own_model.specs.StartList.{no_account}
-use Rattle.own_model.specs.Transcript.{Heard, entry_at, heard, heard_call, classify_call, heard_spoken, longest_line}
+use Rattle.own_model.specs.Transcript.{Heard, Made, calls_in, entry_at, heard, heard_call, classify_call, heard_spoken, longest_line, nothing, state_at}
 use Rattle.own_model.specs.Transcript.Heard.{NoCall, Stranger, Caller}
-use Rattle.own_model.specs.World.{World, account_at, machine_init, world_running}
+use Rattle.own_model.specs.World.{World, account_at, account_by, machine_init, world_after_line, world_running}
+use Rattle.core_calls.specs.Outcome.{IsText}
+use Rattle.run_lines.specs.Answer.{answered_reply}
 use Rattle.run_lines.specs.Machine.{world_of}
-use Rattle.view_accounts.specs.Kept.{SeesPeaks, begun, begun_as, begun_by, begun_with, found, grown, in_use, is_kept_at, noted_in, noted_more, opens_for, peak_at, raised_in}
-use Rattle.view_accounts.specs.Peaks.{Noted, is_open, label_by, noted_of, opens, peak_of, server_by, session_account_at, session_at, worlds}
+use Rattle.run_lines.specs.declared.line_answer.LineAnswer.{LineAnswer}
+use Rattle.view_accounts.specs.Kept.{SeesPeaks, begun_with, found, grown, in_use, noted_after, noted_in, noted_more, peak_at, raised_in}
+use Rattle.view_accounts.specs.Peaks.{Noted, is_open, label_by, noted_of, peak_of, server_by, session_account_at, session_at, worlds}
 use Rattle.run_scenario.specs.Said.{said_in}
+use Rattle.run_scenario.specs.Observation.{IsAnsweredAfter}
 use Rattle.view_accounts.specs.declared.peaks.Peak.{Peak}
 use Rattle.view_accounts.specs.declared.peaks.SessionPeak.{SessionPeak as Kept}
-use Rattle.view_accounts.proofs.NotedLemmas.{noted_first, noted_still}
-use Rattle.view_accounts.proofs.OpenLemmas.{OpensNone, closed_at_start, closed_still}
-use Rattle.view_accounts.proofs.PeakLemmas.{peak-more, worlds-more}
+use Rattle.view_accounts.specs.declared.session_outcome.SessionOutcome.{SessionOutcome}
+use Rattle.view_accounts.specs.declared.session_table.SessionTable.{SessionTable}
+use Rattle.view_accounts.proofs.NeedLemmas.{steps_now}
+use Rattle.view_accounts.proofs.NotedLemmas.{noted_first, noted_last, noted_still}
+use Rattle.view_accounts.proofs.OpenLemmas.{closed_at_start, none_still}
+use Rattle.view_accounts.proofs.PeakLemmas.{peak-more, peak-same, worlds-more}
+use Rattle.view_accounts.proofs.SessionStepLemmas.{IsOutcome, noted_aside, noted_is, session_in}
 
--- ---- lists of what is kept
+-- ---- what is kept of one session
 
--- one more is found where none was before it
-pub found-more : (kept : List Kept) (session : Kept) (component selector : ℕ) →
-    found (kept ++ session ∷ []) component selector ≡ option_or (found kept component selector) (cond (is_kept_at component selector session) (Some (noted_in session)) None)
-found-more [] session component selector = refl
-found-more (first ∷ kept) session component selector =
-    elim (is_kept_at component selector first) as
-    (λ b. cond b (Some (noted_in first)) (found (kept ++ session ∷ []) component selector)
-    ≡ option_or (cond b (Some (noted_in first)) (found kept component selector)) (cond (is_kept_at component selector session) (Some (noted_in session)) None)) [
-      | true ↦ refl
-      | false ↦ found-more kept session component selector
-    ]
+-- one is put under a selector, or taken
+pub found_then : (b : Bool) (x now was : Option Kept) → now ≡ cond b x was → option_map noted_in now ≡ cond b (option_map noted_in x) (option_map noted_in was)
+found_then true x now was is = ap (option_map noted_in) is
+found_then false x now was is = ap (option_map noted_in) is
 
-or_none : (o : Option Noted) → option_or o None ≡ o
-or_none None = refl
-or_none (Some noted) = refl
+-- one is looked at
+pub noted_found : (o : Option (Bor Kept)) (kept : Option Kept) → option_map (λ value. value.now) o ≡ kept → option_map (λ session. noted_in session.now) o ≡ option_map noted_in kept
+noted_found None kept is = ap (option_map noted_in) is
+noted_found (Some value) kept is = ap (option_map noted_in) is
 
--- nothing more is kept where nothing is begun
-pub none_kept : (was begun : Option Noted) → begun ≡ None → was ≡ option_or was begun
-none_kept was begun none = sym (ap (option_or was) none ∙ or_none was)
+-- one was opened, or none
+pub found_opened : (b : Bool) (session : Kept) (now was : Option Kept) (begun : Option Noted) → now ≡ cond b (Some session) was → Some (noted_in session) ≡ begun →
+    option_map noted_in now ≡ option_or (cond b begun None) (option_map noted_in was)
+found_opened true session now was begun is noted = ap (option_map noted_in) is ∙ ap (λ o. option_or o (option_map noted_in was)) noted
+found_opened false session now was begun is noted = ap (option_map noted_in) is
 
--- whose a session is hangs on its component and its selector alone
-at_same : (component selector : ℕ) (one other : Kept) → one.component ≡ other.component → one.selector ≡ other.selector → is_kept_at component selector one ≡ is_kept_at component selector other
-at_same component selector one other same_component same_selector = λ i. (component == same_component i) && (selector == same_selector i)
+pub found_unopened : (b : Bool) (now : Option Session) (first : Session → Noted) (was : Option Noted) → None ≡ option_map (λ (x : Session). x.account) now →
+    was ≡ option_or (cond b (option_map first now) None) was
+found_unopened true None first was none = refl
+found_unopened true (Some x) first was none = absurd (none-some x.account none)
+found_unopened false now first was none = refl
 
-raised_or : (now : Option Session) (was : Option Noted) (noted raised : Noted) (account : Account) → option_map (λ (x : Session). x.account) now ≡ Some account → raised ≡ noted_more noted account →
-    option_or (raised_in now was) (Some raised) ≡ raised_in now (option_or was (Some noted))
-raised_or None was noted raised account there is = absurd (none-some account there)
-raised_or (Some x) None noted raised account there is = let same : x.account ≡ account = same_Some x.account account there in ap Some (is ∙ ap (noted_more noted) (sym same))
-raised_or (Some x) (Some was) noted raised account there is = refl
+-- one was used, or is gone, at the place where it was
+module _ (component selector c q : ℕ) (kept : ℕ → ℕ → Option Kept) (now : ℕ → ℕ → Option Session) where
+  abbrev here : Bool
+  here = c == component && q == selector
 
-gone_none : (now : Option Session) (was : Option Noted) → option_map (λ (x : Session). x.account) now ≡ None → raised_in now was ≡ None
-gone_none None was gone = refl
-gone_none (Some x) was gone = absurd (none-some x.account (sym gone))
+  -- the place is the same
+  at_place : (x : Option Noted) → x ≡ raised_in (now component selector) (option_map noted_in (kept component selector)) →
+      (b : Bool) → here ≡ b → cond b x (option_map noted_in (kept c q)) ≡ cond b (raised_in (now c q) (option_map noted_in (kept c q))) (option_map noted_in (kept c q))
+  at_place x is true same =
+      let parts = and_parts (c == component) (q == selector) same in
+      let same_component : component ≡ c = sym (eqb-true c component parts.0) in
+      let same_selector : selector ≡ q = sym (eqb-true q selector parts.1) in
+      is ∙ (λ i. raised_in (now (same_component i) (same_selector i)) (option_map noted_in (kept (same_component i) (same_selector i))))
+  at_place x is false apart = refl
 
-module _ (world : World) (kept yielded : List Kept) (session : Kept) (component selector : ℕ) (so_far : found kept component selector ≡ raised_in (session_at component selector world) (found yielded component selector)) where
-  abbrev now : Option Session
-  now = session_at component selector world
-
-  -- a session that is still there
-  pub raised_more : (raised : Kept) (account : Account) → noted_in raised ≡ noted_more (noted_in session) account → raised.component ≡ session.component → raised.selector ≡ session.selector →
-      (component ≡ session.component → selector ≡ session.selector → option_map (λ (x : Session). x.account) now ≡ Some account) →
-      found (kept ++ raised ∷ []) component selector ≡ raised_in now (found (yielded ++ session ∷ []) component selector)
-  raised_more raised account noted same_component same_selector there =
-      found-more kept raised component selector
-      ∙ (λ i. option_or (so_far i) (cond (at_same component selector raised session same_component same_selector i) (Some (noted_in raised)) None))
-      ∙ by (is_kept_at component selector session) refl
-      ∙ ap (raised_in now) (sym (found-more yielded session component selector))
-    where
-      by : (b : Bool) → is_kept_at component selector session ≡ b →
-          option_or (raised_in now (found yielded component selector)) (cond b (Some (noted_in raised)) None)
-          ≡ raised_in now (option_or (found yielded component selector) (cond b (Some (noted_in session)) None))
-      by true is =
-          let parts = and_parts (component == session.component) (selector == session.selector) is in
-          raised_or now (found yielded component selector) (noted_in session) (noted_in raised) account (there (eqb-true _ _ parts.0) (eqb-true _ _ parts.1)) noted
-      by false is = or_none (raised_in now (found yielded component selector)) ∙ ap (raised_in now) (sym (or_none (found yielded component selector)))
-
-  -- and one that is gone
-  pub gone_more : (component ≡ session.component → selector ≡ session.selector → option_map (λ (x : Session). x.account) now ≡ None) →
-      found kept component selector ≡ raised_in now (found (yielded ++ session ∷ []) component selector)
-  gone_more gone =
-      so_far ∙ by (is_kept_at component selector session) refl ∙ ap (raised_in now) (sym (found-more yielded session component selector))
-    where
-      by : (b : Bool) → is_kept_at component selector session ≡ b →
-          raised_in now (found yielded component selector) ≡ raised_in now (option_or (found yielded component selector) (cond b (Some (noted_in session)) None))
-      by true is =
-          let parts = and_parts (component == session.component) (selector == session.selector) is in
-          let none = gone (eqb-true _ _ parts.0) (eqb-true _ _ parts.1) in
-          gone_none now (found yielded component selector) none ∙ sym (gone_none now (option_or (found yielded component selector) (Some (noted_in session))) none)
-      by false is = ap (raised_in now) (sym (or_none (found yielded component selector)))
-
--- ---- sessions that a call has opened
-
--- of those under selectors below one this is begun
-abbrev pub begun_below : (ℕ → Option Noted) → ℕ → ℕ → ℕ → ℕ → Option Noted
-begun_below starts component count c q = cond (c == component && nat_lt q count) (starts q) None
-
-joined : (was : Option Noted) (own less equal : Bool) (a b : Option Noted) → (equal ≡ true → b ≡ a) →
-    option_or (option_or was (cond (own && less) a None)) (cond (own && equal) b None) ≡ option_or was (cond (own && (less || equal)) a None)
-joined (Some w) own less equal a b same = refl
-joined None false less equal a b same = refl
-joined None true true true None b same = same refl
-joined None true true true (Some x) b same = refl
-joined None true true false a b same = or_none a
-joined None true false true a b same = same refl
-joined None true false false a b same = refl
-
-already : (was now : Option Noted) (own less equal : Bool) (a : Option Noted) → now ≡ option_or was (cond (own && less) a None) → (own ≡ true → equal ≡ true → is_some now ≡ true) →
-    now ≡ option_or was (cond (own && (less || equal)) a None)
-already (Some w) now own less equal a is some = is
-already None now false less equal a is some = is
-already None now true true equal a is some = is
-already None now true false false a is some = is
-already None now true false true a is some = absurd (true≢false (sym (some refl refl) ∙ ap is_some is))
-
-below_next : (q count : ℕ) → (nat_lt q count || q == count) ≡ nat_lt q (count + 1)
-below_next q count = grind (arith, nat_tests)
-
-module _ (starts : ℕ → Option Noted) (component count c q : ℕ) (was now : Option Noted) (so_far : now ≡ option_or was (begun_below starts component count c q)) where
-  -- one more
-  pub begun_more : (then : Option Noted) → then ≡ option_or now (cond (c == component && q == count) (starts count) None) → then ≡ option_or was (begun_below starts component (count + 1) c q)
-  begun_more then is =
-      is ∙ ap (λ o. option_or o (cond (c == component && q == count) (starts count) None)) so_far
-      ∙ joined was (c == component) (nat_lt q count) (q == count) (starts q) (starts count) (λ equal. ap starts (sym (eqb-true q count equal)))
-      ∙ ap (λ b. option_or was (cond (c == component && b) (starts q) None)) (below_next q count)
-
-  -- or the next is kept already
-  pub begun_already : (c ≡ component → q ≡ count → is_some now ≡ true) → now ≡ option_or was (begun_below starts component (count + 1) c q)
-  begun_already some =
-      already was now (c == component) (nat_lt q count) (q == count) (starts q) so_far (λ own equal. some (eqb-true c component own) (eqb-true q count equal))
-      ∙ ap (λ b. option_or was (cond (c == component && b) (starts q) None)) (below_next q count)
-
--- what is kept once one more was looked at
-module _ (starts : ℕ → Option Noted) (component count : ℕ) (was now : List Kept)
-    (so_far : (c q : ℕ) → found now c q ≡ option_or (found was c q) (begun_below starts component count c q)) where
-  pub kept_more : (then : List Kept) → ((c q : ℕ) → found then c q ≡ option_or (found now c q) (cond (c == component && q == count) (starts count) None)) →
-      (c q : ℕ) → found then c q ≡ option_or (found was c q) (begun_below starts component (count + 1) c q)
-  kept_more then is c q = begun_more starts component count c q (found was c q) (found now c q) (so_far c q) (found then c q) (is c q)
-
-  pub kept_already : is_some (found now component count) ≡ true → (c q : ℕ) → found now c q ≡ option_or (found was c q) (begun_below starts component (count + 1) c q)
-  kept_already some c q =
-      begun_already starts component count c q (found was c q) (found now c q) (so_far c q)
-      (λ own under. ap (λ k. is_some (found now k q)) own ∙ ap (λ n. is_some (found now component n)) under ∙ some)
-
--- none was looked at
-pub kept_first : (starts : ℕ → Option Noted) (component : ℕ) (was : List Kept) (c q : ℕ) → found was c q ≡ option_or (found was c q) (begun_below starts component 0 c q)
-kept_first starts component was c q = none_kept (found was c q) (begun_below starts component 0 c q) none
-  where
-    below : nat_lt q 0 ≡ false
-    below = grind (arith, nat_tests)
-
-    none : begun_below starts component 0 c q ≡ None
-    none = ap (λ b. cond ((c == component) && b) (starts q) None) below ∙ ap (λ b. cond b (starts q) None) (and-false (c == component))
-
--- what is there is found
-pub is_found : {A : Type 0} (of : A → Noted) (o : Option A) (is : Option Noted) (none : Bool) → option_map of o ≡ is → is_some o ≡ not none → none ≡ false → is_some is ≡ true
-is_found of None is true noted there some = absurd (true≢false some)
-is_found of None is false noted there some = absurd (true≢false (sym there))
-is_found of (Some x) is none noted there some = ap is_some (sym noted)
+  pub found_named : (x then : Option Kept) → then ≡ cond here x (kept c q) → option_map noted_in x ≡ raised_in (now component selector) (option_map noted_in (kept component selector)) →
+      option_map noted_in then ≡ cond here (raised_in (now c q) (option_map noted_in (kept c q))) (option_map noted_in (kept c q))
+  found_named x then is noted = found_then here x then (kept c q) is ∙ at_place (option_map noted_in x) noted here refl
 
 -- what is noted of a session that is there
 abbrev pub noted_first_of : Account → Option ℕ → List ℕ → Noted
@@ -185,88 +96,79 @@ pub begun_there : (now : Option Session) (account : Account) (server : Option �
 begun_there None account server label is = absurd (none-some account (sym is))
 begun_there (Some x) account server label is = let same : account ≡ x.account = same_Some account x.account is in ap (λ (a : Account). Some (noted_first_of a server label)) same
 
--- ---- what a line opens
+-- what isn't noted isn't raised
+pub raised_none : (now : Option Session) (was : Option Noted) → was ≡ None → None ≡ raised_in now was
+raised_none now was none = by now ∙ ap (raised_in now) (sym none)
+  where
+    by : (o : Option Session) → None ≡ raised_in o None
+    by None = refl
+    by (Some x) = refl
+
+-- ---- what a line is heard as
 
 -- a line is heard as what it says
 pub heard_said : (entries : List Entry) (line : List ℕ) → heard entries line ≡ heard_spoken entries (said_in line)
 heard_said entries line =
     elim (nat_le (length line) longest_line) as (λ b. cond b (heard_spoken entries (parsed_call line)) NoCall ≡ heard_spoken entries (cond b (parsed_call line) None)) [ true ↦ refl | false ↦ refl ]
 
-opens_not_of : (kind : Kind) (says : Spoken) (component c : ℕ) → opens says.call ≡ false → opens_for c (classify_call kind says component) ≡ false
-opens_not_of Script says component c other = ap (λ b. (c == component) && b) other ∙ and-false (c == component)
-opens_not_of Server says component c other = ap (λ b. (c == component) && b) other ∙ and-false (c == component)
-opens_not_of Init says component c other = refl
+-- a call says what it is heard as
+abbrev heard_as_call : Heard → Option Call
+heard_as_call NoCall = None
+heard_as_call (Stranger name) = None
+heard_as_call (Caller made) = Some made.call
 
-opens_not_found : (entries : List Entry) (says : Spoken) (found_at : Option ℕ) (c : ℕ) → opens says.call ≡ false → opens_for c (heard_call entries says found_at) ≡ false
-opens_not_found entries says None c other = refl
-opens_not_found entries says (Some component) c other = opens_not_of (entry_at entries component).kind says component c other
+says_of : (kind : Kind) (says : Spoken) (component : ℕ) (call : Call) → heard_as_call (classify_call kind says component) ≡ Some call → says.call ≡ call
+says_of Script says component call is = same_Some says.call call is
+says_of Server says component call is = same_Some says.call call is
+says_of Init says component call is = absurd (none-some call is)
 
-module _ (listed : Listed) (world : World) (line : List ℕ) (c q : ℕ) where
-  begun_not : opens_for c (heard_spoken world.entries (said_in line)) ≡ false → begun_by listed world line c q ≡ None
-  begun_not none = ap (λ b. cond b (begun listed world line c q) None) (ap (opens_for c) (heard_said world.entries line) ∙ none)
+says_called : (entries : List Entry) (says : Spoken) (at : Option ℕ) (call : Call) → heard_as_call (heard_call entries says at) ≡ Some call → says.call ≡ call
+says_called entries says None call is = absurd (none-some call is)
+says_called entries says (Some component) call is = says_of (entry_at entries component).kind says component call is
 
-  -- no call opens none
-  pub begun_unsaid : said_in line ≡ None → begun_by listed world line c q ≡ None
-  begun_unsaid none = begun_not (ap (λ says. opens_for c (heard_spoken world.entries says)) none)
+said_call : (entries : List Entry) (said : Option Spoken) (call : Call) → heard_as_call (heard_spoken entries said) ≡ Some call → option_map (λ (says : Spoken). says.call) said ≡ Some call
+said_call entries None call is = absurd (none-some call is)
+said_call entries (Some says) call is = ap Some (says_called entries says (position (λ (entry : Entry). bytes_eq entry.name says.name) entries) call is)
 
-  -- nor does another call
-  pub begun_other : (says : Spoken) → said_in line ≡ Some says → opens says.call ≡ false → begun_by listed world line c q ≡ None
-  begun_other says said other =
-      begun_not (ap (λ s. opens_for c (heard_spoken world.entries s)) said
-      ∙ opens_not_found world.entries says (position (λ (entry : Entry). bytes_eq entry.name says.name) world.entries) c other)
+-- ---- what accounts use after a call
 
-  -- nor one of nobody
-  pub begun_stranger : (says : Spoken) → said_in line ≡ Some says → heard_spoken world.entries (Some says) ≡ Stranger says.name → begun_by listed world line c q ≡ None
-  begun_stranger says said is = begun_not (ap (λ s. opens_for c (heard_spoken world.entries s)) said ∙ ap (opens_for c) is)
+inits_use : (home : ℕ) (inits : List Account) (s next : OwnState) (n : ℕ) → in_use (init_at (inits_after home inits s next) n) ≡ in_use (init_at inits n)
+inits_use home inits s next n = elim (n == home) as (λ b. (n == home) ≡ b → in_use (init_at (inits_after home inits s next) n) ≡ in_use (init_at inits n)) [
+  | true ↦ λ same. elim (cases_lt home (length inits)) [
+    | inl within ↦
+        let here : n ≡ home = eqb-true n home same in
+        ap (λ k. in_use (init_at (inits_after home inits s next) k)) here
+        ∙ ap in_use (get_or-set_same inits home (init_after (init_at inits home) s next) no_account within)
+        ∙ ap (λ k. in_use (init_at inits k)) (sym here)
+    | inr past ↦ ap (λ (l : List Account). in_use (init_at l n)) (set_past inits home (init_after (init_at inits home) s next) past)
+  ]
+  | false ↦ λ apart. ap in_use (get_or-set_other inits home n (init_after (init_at inits home) s next) no_account (eqb-false n home apart))
+] refl
 
-  module _ (name service text : List ℕ) (component count : ℕ) (said : said_in line ≡ Some (record { name = name; call = Open service text }))
-      (is : heard_spoken world.entries (Some (record { name = name; call = Open service text })) ≡ Caller (record { component = component; call = Open service text })) where
-    -- and those that one may have opened are these
-    pub begun_all : ((k : ℕ) → count ≤ k → session_at component k world ≡ None) → begun_below (begun_with listed world service text component) component count c q ≡ begun_by listed world line c q
-    begun_all none =
-        by (c == component) (nat_lt q count) refl refl
-        ∙ ap (λ b. cond b (begun listed world line c q) None)
-        (sym (ap (opens_for c) (heard_said world.entries line ∙ ap (heard_spoken world.entries) said ∙ is)))
-      where
-        with_it : begun_with listed world service text c q ≡ begun listed world line c q
-        with_it = ap (λ s. begun_as world (server_by listed c s) (label_by (entry_at world.entries c).label s) c q) (sym said)
+use_by : (kind : Kind) (init init' own own' : Account) → in_use init' ≡ in_use init → own' ≡ own → in_use (account_by kind init' own') ≡ in_use (account_by kind init own)
+use_by Script init init' own own' used same = ap in_use same
+use_by Server init init' own own' used same = ap in_use same
+use_by Init init init' own own' used same = used
 
-        by : (own below : Bool) → (c == component) ≡ own → nat_lt q count ≡ below →
-            cond (own && below) (begun_with listed world service text component q) None ≡ cond (own && true) (begun listed world line c q) None
-        by false below is_own is_below = refl
-        by true true is_own is_below = ap (λ k. begun_with listed world service text k q) (sym (eqb-true c component is_own)) ∙ with_it
-        by true false is_own is_below =
-            let past : count ≤ q = grind (arith, nat_tests) in
-            sym (ap (option_map (λ (x : Session). noted_first_of x.account (route_of listed component service (given text).label) (label_with (entry_at world.entries component).label (given text).label))) (none q past))
-            ∙ ap (λ k. begun_with listed world service text k q) (sym (eqb-true c component is_own)) ∙ with_it
+module _ (world : World) (made : Made) where
+  abbrev next : OwnState
+  next = (running_step world.entries world.states made).next
 
--- a call that isn't `open` asks for none
-pub opens_not : (call : Calling) → ((service args : Bor (List ℕ)) → call ≡ Opening service args → ⊥) → opens (model_call call) ≡ false
-opens_not (Opening service args) other = absurd (other service args refl)
-opens_not call other = refl
+  abbrev left_by : World
+  left_by = world_after_line world (Caller made)
 
--- ---- a call more
+  use_of_inits : (n : ℕ) → in_use (init_at left_by.inits n) ≡ in_use (init_at world.inits n)
+  use_of_inits n = inits_use (entry_at world.entries made.component).home world.inits (state_at world.states made.component) next n
 
-opens_none : (component : ℕ) (what : Heard) → opens_for component what ≡ false → OpensNone component what
-opens_none component NoCall none = tt
-opens_none component (Stranger name) none = tt
-opens_none component (Caller made) none = elim (component == made.component) as (λ b. (component == made.component) ≡ b → (b && opens made.call) ≡ false → OpensNone component (Caller made)) [
-  | true ↦ λ own other. inr other
-  | false ↦ λ own other. inl (λ same. true≢false (sym (eq-eqb component made.component same) ∙ own))
-] refl none
+  -- another's state stays
+  aside : (place : ℕ) → place ≢ made.component → state_at left_by.states place ≡ state_at world.states place
+  aside place apart = get_or-set_other world.states made.component place next nothing apart
 
--- what is noted now, by whether the session was open before and what it is now
-noted_by : (before : Bool) (now : Option Session) (opening : Bool) (was is : Noted) (first : Session → Noted) →
-    (before ≡ true → (x : Session) → now ≡ Some x → is ≡ noted_more was x.account) →
-    (before ≡ false → (x : Session) → now ≡ Some x → (opening ≡ true) × (is ≡ first x)) →
-    option_or (raised_in now (cond before (Some was) None)) (cond opening (option_map first now) None) ≡ cond (is_some now) (Some is) None
-noted_by true None true was is first still starts = refl
-noted_by true None false was is first still starts = refl
-noted_by true (Some x) opening was is first still starts = ap Some (sym (still refl x refl))
-noted_by false None true was is first still starts = refl
-noted_by false None false was is first still starts = refl
-noted_by false (Some x) true was is first still starts = ap Some (sym (starts refl x refl).1)
-noted_by false (Some x) false was is first still starts = absurd (true≢false (sym (starts refl x refl).0))
+  -- and so does what its account uses
+  use_aside : (place : ℕ) → place ≢ made.component → in_use (account_at left_by place) ≡ in_use (account_at world place)
+  use_aside place apart =
+      use_by (entry_at world.entries place).kind (init_at world.inits (place + 1)) (init_at left_by.inits (place + 1)) (state_at world.states place).account (state_at left_by.states place).account
+      (use_of_inits (place + 1)) (ap (λ s. s.account) (aside place apart))
 
 -- ---- at the start
 
@@ -276,9 +178,9 @@ most_of_one n = omega arith
 peak_first : (account_in : World → Account) (start : World) → in_use (account_in start) ≡ peak_of account_in (worlds start [])
 peak_first account_in start = λ i. record { ram = most_of_one (account_in start).ram_used i; caps = most_of_one (account_in start).caps_used i }
 
-pub sees_first : {init : Amounts} {components : List Peak} {sessions : List Kept} (listed : Listed) {start : World} → start ≡ world_of listed → init ≡ in_use (machine_init start) →
-    length components ≡ length start.entries → ((place : ℕ) → place < length start.entries → peak_at components place ≡ in_use (account_at start place)) → sessions ≡ [] →
-    SeesPeaks init components sessions listed start []
+pub sees_first : {init : Amounts} {components : List Peak} {sessions : SessionTable Kept} (listed : Listed) {start : World} → start ≡ world_of listed → init ≡ in_use (machine_init start) →
+    length components ≡ length start.entries → ((place : ℕ) → place < length start.entries → peak_at components place ≡ in_use (account_at start place)) →
+    ((component selector : ℕ) → found sessions component selector ≡ None) → SeesPeaks init components sessions listed start []
 sees_first {init} {components} {sessions} listed {start} starts of_init count of_components none =
     let closed = λ (component selector : ℕ). ap (is_open component selector) starts ∙ closed_at_start component selector (start_list_of listed) in
     record {
@@ -287,77 +189,213 @@ sees_first {init} {components} {sessions} listed {start} starts of_init count of
       of_components = λ place within. of_components place within ∙ peak_first (λ w. account_at w place) start;
       none_at_start = closed;
       of_sessions = λ component selector within.
-          ap (λ kept. found kept component selector) none
-          ∙ ap (λ b. cond b (Some (noted_of listed start [] component selector)) None) (sym (closed component selector));
+          none component selector ∙ ap (λ b. cond b (Some (noted_of listed start [] component selector)) None) (sym (closed component selector));
     }
 
 -- ---- and then from call to call
 
-module _ {init : Amounts} {components : List Peak} {sessions : List Kept} {listed : Listed} {start : World} {earlier : List (List ℕ)} (sees : SeesPeaks init components sessions listed start earlier)
-    (call : List ℕ) (left : World) (leads : left ≡ world_running start (earlier ++ call ∷ [])) where
+-- what is noted of a session in a world
+abbrev noted_by : Option Session → Noted → Option Noted
+noted_by now noted = cond (is_some now) (Some noted) None
+
+noted_same : (before now : Option Session) (was is : Noted) → now ≡ before → (is_some now ≡ true → was ≡ is) → noted_by before was ≡ noted_by now is
+noted_same before now was is same noted = ap (λ o. noted_by o was) (sym same) ∙ by now noted
+  where
+    by : (o : Option Session) → (is_some o ≡ true → was ≡ is) → noted_by o was ≡ noted_by o is
+    by None noted = refl
+    by (Some x) noted = ap Some (noted refl)
+
+noted_raised : (before now : Option Session) (was is : Noted) → (is_some before ≡ true → (x : Session) → now ≡ Some x → is ≡ noted_more was x.account) → (before ≡ None → now ≡ None) →
+    raised_in now (noted_by before was) ≡ noted_by now is
+noted_raised None None was is still closed = refl
+noted_raised None (Some x) was is still closed = absurd (none-some x (sym (closed refl)))
+noted_raised (Some b) None was is still closed = refl
+noted_raised (Some b) (Some x) was is still closed = ap Some (sym (still refl x refl))
+
+module _ {init : Amounts} {components : List Peak} {sessions : SessionTable Kept} {listed : Listed} {start : World} {earlier : List (List ℕ)} (sees : SeesPeaks init components sessions listed start earlier)
+    (line : List ℕ) where
   abbrev after : World
-  after = world_running start (earlier ++ call ∷ [])
+  after = world_running start (earlier ++ line ∷ [])
 
   abbrev before : World
   before = world_running start earlier
 
-  grows : (account_in : World → Account) → grown (peak_of account_in (worlds start earlier)) (account_in left) ≡ peak_of account_in (worlds start (earlier ++ call ∷ []))
-  grows account_in =
-      ap (λ w. grown (peak_of account_in (worlds start earlier)) (account_in w)) leads
-      ∙ sym (peak-more account_in (worlds start earlier) after) ∙ ap (peak_of account_in) (sym (worlds-more start earlier call))
+  abbrev was_noted : ℕ → ℕ → Noted
+  was_noted component selector = noted_of listed start earlier component selector
 
-  -- what is found of a session
-  found_now : (component selector : ℕ) → component < length start.entries →
-      option_or (raised_in (session_at component selector after) (found sessions component selector)) (begun_by listed after call component selector)
-      ≡ cond (is_open component selector after) (Some (noted_of listed start (earlier ++ call ∷ []) component selector)) None
-  found_now component selector within =
-      let noted = noted_of listed start earlier component selector in
-      ap (λ f. option_or (raised_in (session_at component selector after) f) (begun_by listed after call component selector)) (sees.of_sessions component selector within)
-      ∙ noted_by (is_open component selector before) (session_at component selector after) (opens_for component (heard start.entries call))
-      noted (noted_of listed start (earlier ++ call ∷ []) component selector)
-      (λ (x : Session). record {
-        peak = in_use x.account;
-        server = server_by listed component (said_in call);
-        label = label_by (entry_at start.entries component).label (said_in call);
-      })
-      (λ was x now. noted_still component selector start earlier call (there x now) listed (sees.none_at_start component selector) was ∙ ap (noted_more noted) (account x now))
-      (λ closed x now. (
-        opening closed x now (opens_for component (heard start.entries call)) refl,
-        noted_first component selector start earlier call (there x now) listed closed ∙ (λ i. record {
-          peak = in_use (account x now i);
-          server = server_by listed component (said_in call);
-          label = label_by (entry_at start.entries component).label (said_in call);
-        }),
-      ))
-    where
-      there : (x : Session) → session_at component selector after ≡ Some x → is_open component selector after ≡ true
-      there x now = ap is_some now
+  abbrev is_noted : ℕ → ℕ → Noted
+  is_noted component selector = noted_of listed start (earlier ++ line ∷ []) component selector
 
-      account : (x : Session) → session_at component selector after ≡ Some x → session_account_at component selector after ≡ x.account
-      account x now = ap (λ o. option_map_or (λ (s : Session). s.account) o no_account) now
+  -- the peak of an account whose use stays
+  stays : (account_in : World → Account) → in_use (account_in after) ≡ in_use (account_in before) → peak_of account_in (worlds start earlier) ≡ peak_of account_in (worlds start (earlier ++ line ∷ []))
+  stays account_in used = peak-same account_in start earlier line used
 
-      opening : is_open component selector before ≡ false → (x : Session) → session_at component selector after ≡ Some x → (b : Bool) → opens_for component (heard start.entries call) ≡ b →
-          opens_for component (heard start.entries call) ≡ true
-      opening closed x now true is = is
-      opening closed x now false is =
-          let still : is_open component selector after ≡ false =
-          ap (is_open component selector) (world_running-push start earlier call)
-          ∙ closed_still component selector before closed (heard start.entries call) (opens_none component (heard start.entries call) is) in
-          absurd (true≢false (sym (there x now) ∙ still))
+  -- and of one that is looked at
+  grows : (account_in : World → Account) → grown (peak_of account_in (worlds start earlier)) (account_in after) ≡ peak_of account_in (worlds start (earlier ++ line ∷ []))
+  grows account_in = sym (peak-more account_in (worlds start earlier) after) ∙ ap (peak_of account_in) (sym (worlds-more start earlier line))
 
-  pub sees_more : (init' : Amounts) (components' : List Peak) (sessions' : List Kept) → init' ≡ grown init (machine_init left) → length components' ≡ length components →
-      ((place : ℕ) → place < length start.entries → peak_at components' place ≡ grown (peak_at components place) (account_at left place)) →
-      ((component selector : ℕ) → component < length start.entries →
-      found sessions' component selector ≡ option_or (raised_in (session_at component selector left) (found sessions component selector)) (begun_by listed left call component selector)) →
-      SeesPeaks init' components' sessions' listed start (earlier ++ call ∷ [])
-  sees_more init' components' sessions' of_init count of_components of_sessions = record {
-    of_init = of_init ∙ ap (λ peak. grown peak (machine_init left)) sees.of_init ∙ grows machine_init;
-    count = count ∙ sees.count;
-    of_components = λ place within.
-        of_components place within ∙ ap (λ peak. grown peak (account_at left place)) (sees.of_components place within) ∙ grows (λ w. account_at w place);
+  module _ (component selector : ℕ) where
+    account_is : (world : World) (x : Session) → session_at component selector world ≡ Some x → session_account_at component selector world ≡ x.account
+    account_is world x there = ap (λ o. option_map_or (λ (s : Session). s.account) o no_account) there
+
+    -- what is noted of a session that stays
+    same_noted : session_at component selector after ≡ session_at component selector before → is_open component selector after ≡ true → was_noted component selector ≡ is_noted component selector
+    same_noted same now =
+        let then : is_open component selector before ≡ true = ap is_some (sym same) ∙ now in
+        sym (noted_last component selector start earlier listed then)
+        ∙ ap (λ o. noted_more (was_noted component selector) (option_map_or (λ (s : Session). s.account) o no_account)) (sym same)
+        ∙ sym (noted_still component selector start earlier line now listed (sees.none_at_start component selector) then)
+
+    -- and of one that is used
+    more_noted : is_open component selector before ≡ true → (x : Session) → session_at component selector after ≡ Some x → is_noted component selector ≡ noted_more (was_noted component selector) x.account
+    more_noted then x there =
+        noted_still component selector start earlier line (ap is_some there) listed (sees.none_at_start component selector) then
+        ∙ ap (noted_more (was_noted component selector)) (account_is after x there)
+
+    -- and of one that the line's call opened
+    first_noted : (service text : List ℕ) (made : Made) → heard start.entries line ≡ Caller made → made.call ≡ Open service text → session_at component selector before ≡ None → is_open component selector after ≡ true →
+        begun_with listed after service text component selector ≡ Some (is_noted component selector)
+    first_noted service text made is called closed now = by (session_at component selector after) refl
+      where
+        said : option_map (λ (says : Spoken). says.call) (said_in line) ≡ Some (Open service text)
+        said = said_call start.entries (said_in line) (Open service text) (ap heard_as_call (sym (heard_said start.entries line) ∙ is) ∙ ap Some called)
+
+        server_is : (o : Option Spoken) → option_map (λ (says : Spoken). says.call) o ≡ Some (Open service text) → server_by listed component (Some (record { name = []; call = Open service text })) ≡ server_by listed component o
+        server_is None none = absurd (none-some (Open service text) none)
+        server_is (Some says) of = let same : says.call ≡ Open service text = same_Some says.call (Open service text) of in ap (λ call. server_by listed component (Some (record { name = []; call = call }))) (sym same)
+
+        label_is : (o : Option Spoken) → option_map (λ (says : Spoken). says.call) o ≡ Some (Open service text) →
+            label_by (entry_at start.entries component).label (Some (record { name = []; call = Open service text })) ≡ label_by (entry_at start.entries component).label o
+        label_is None none = absurd (none-some (Open service text) none)
+        label_is (Some says) of =
+            let same : says.call ≡ Open service text = same_Some says.call (Open service text) of in
+            ap (λ call. label_by (entry_at start.entries component).label (Some (record { name = []; call = call }))) (sym same)
+
+        by : (o : Option Session) → session_at component selector after ≡ o → begun_with listed after service text component selector ≡ Some (is_noted component selector)
+        by None gone = absurd (true≢false (sym now ∙ ap is_some gone))
+        by (Some x) there =
+            ap (option_map (λ (s : Session). noted_first_of s.account (server_by listed component (Some (record { name = []; call = Open service text }))) (label_by (entry_at start.entries component).label (Some (record { name = []; call = Open service text }))))) there
+            ∙ (λ i. Some (noted_first_of (sym (account_is after x there) i) (server_is (said_in line) said i) (label_is (said_in line) said i)))
+            ∙ ap Some (sym (noted_first component selector start earlier line now listed (ap is_some closed)))
+
+  -- ---- a line that calls nobody
+
+  pub sees_silent : calls_in (heard start.entries line) ≡ [] → SeesPeaks init components sessions listed start (earlier ++ line ∷ [])
+  sees_silent none = record {
+    of_init = sees.of_init ∙ stays machine_init (ap (λ w. in_use (machine_init w)) same);
+    count = sees.count;
+    of_components = λ place within. sees.of_components place within ∙ stays (λ w. account_at w place) (ap (λ w. in_use (account_at w place)) same);
     none_at_start = sees.none_at_start;
     of_sessions = λ component selector within.
-        of_sessions component selector within
-        ∙ ap (λ w. option_or (raised_in (session_at component selector w) (found sessions component selector)) (begun_by listed w call component selector)) leads
-        ∙ found_now component selector within;
+        sees.of_sessions component selector within
+        ∙ noted_same (session_at component selector before) (session_at component selector after) (was_noted component selector) (is_noted component selector)
+        (ap (session_at component selector) same) (same_noted component selector (ap (session_at component selector) same));
+  }
+    where
+      silent : (what : Heard) → calls_in what ≡ [] → world_after_line before what ≡ before
+      silent NoCall empty = refl
+      silent (Stranger name) empty = refl
+      silent (Caller made) empty = absurd (true≢false (ap (λ (l : List Made). is_none_of l) (sym empty)))
+        where
+          is_none_of : List Made → Bool
+          is_none_of [] = true
+          is_none_of (first ∷ rest) = false
+
+      same : after ≡ before
+      same = world_running-push start earlier line ∙ silent (heard start.entries line) none
+
+  -- ---- and one that a component's call is
+
+  module _ (component : ℕ) (call : Call) (is : heard start.entries line ≡ Caller (record { component = component; call = call })) (outcome : SessionOutcome)
+      (tells : IsOutcome (own_step (entry_at start.entries component) call (state_at before.states component)).reply (λ k. session_at component k after) outcome) where
+    abbrev made : Made
+    made = record { component = component; call = call }
+
+    after_is : after ≡ world_after_line before (Caller made)
+    after_is = world_running-push start earlier line ∙ ap (world_after_line before) is
+
+    step_is : state_at after.states component ≡ (own_step (entry_at start.entries component) call (state_at before.states component)).next
+    step_is = steps_now start earlier line component call is
+
+    -- a session of the caller
+    own_noted : (q : ℕ) → component < length start.entries → noted_after listed after component call outcome component q (found sessions component q) ≡ noted_by (session_at component q after) (is_noted component q)
+    own_noted q within =
+        noted_is listed after component (entry_at start.entries component) (state_at before.states component) outcome q (found sessions component q) (noted_by (session_at component q after) (is_noted component q))
+        call
+        (record {
+          tells = subst (λ s. IsOutcome (own_step (entry_at start.entries component) call (state_at before.states component)).reply (λ k. session_in k s) outcome) step_is tells;
+          stays = λ same. was ∙ noted_same (session_at component q before) (session_at component q after) (was_noted component q) (is_noted component q)
+              (ap (session_in q) step_is ∙ same) (same_noted component q (ap (session_in q) step_is ∙ same));
+          comes = λ service text opening closed there.
+              let now : is_open component q after ≡ true = ap (λ s. is_some (session_in q s)) step_is ∙ there in
+              ap (λ o. option_or o (found sessions component q)) (first_noted component q service text made is opening closed now)
+              ∙ ap (λ b. cond b (Some (is_noted component q)) None) (sym now);
+          changes = λ none.
+              ap (raised_in (session_at component q after)) was
+              ∙ noted_raised (session_at component q before) (session_at component q after) (was_noted component q) (is_noted component q) (more_noted component q)
+              (λ closed. ap (session_in q) step_is ∙ none_still q (state_at before.states component) closed (entry_at start.entries component) call none);
+          goes = λ gone. ap (λ o. noted_by o (is_noted component q)) (sym (ap (session_in q) step_is ∙ gone));
+        })
+      where
+        was : found sessions component q ≡ noted_by (session_at component q before) (was_noted component q)
+        was = sees.of_sessions component q within
+
+    -- and any one
+    all_noted : (c q : ℕ) → c < length start.entries → noted_after listed after component call outcome c q (found sessions c q) ≡ noted_by (session_at c q after) (is_noted c q)
+    all_noted c q within = elim (c == component) as (λ b. (c == component) ≡ b → noted_after listed after component call outcome c q (found sessions c q) ≡ noted_by (session_at c q after) (is_noted c q)) [
+      | true ↦ λ same.
+          let here : component ≡ c = sym (eqb-true c component same) in
+          subst (λ k. noted_after listed after component call outcome k q (found sessions k q) ≡ noted_by (session_at k q after) (is_noted k q)) here
+          (own_noted q (subst (λ k. k < length start.entries) (sym here) within))
+      | false ↦ λ apart.
+          let same : session_at c q after ≡ session_at c q before =
+          ap (session_at c q) after_is ∙ ap (session_in q) (aside before made c (eqb-false c component apart)) in
+          noted_aside listed after component call outcome c q (found sessions c q) apart ∙ sees.of_sessions c q within
+          ∙ noted_same (session_at c q before) (session_at c q after) (was_noted c q) (is_noted c q) same (same_noted c q same)
+    ] refl
+
+    pub sees_called : (left : World) → left ≡ after → (init' : Amounts) (components' : List Peak) (sessions' : SessionTable Kept) → init' ≡ init → length components' ≡ length components →
+        ((place : ℕ) → place ≢ component → peak_at components' place ≡ peak_at components place) →
+        (component < length components → peak_at components' component ≡ grown (peak_at components component) (account_at left component)) →
+        ((c q : ℕ) → found sessions' c q ≡ noted_after listed left component call outcome c q (found sessions c q)) →
+        SeesPeaks init' components' sessions' listed start (earlier ++ line ∷ [])
+    sees_called left leads init' components' sessions' of_init count others own of_sessions = record {
+      of_init = of_init ∙ sees.of_init ∙ stays machine_init (ap (λ w. in_use (machine_init w)) after_is ∙ use_of_inits before made 0);
+      count = count ∙ sees.count;
+      of_components = λ place within. by_place place within (place == component) refl;
+      none_at_start = sees.none_at_start;
+      of_sessions = λ c q within. of_sessions c q ∙ ap (λ w. noted_after listed w component call outcome c q (found sessions c q)) leads ∙ all_noted c q within;
+    }
+      where
+        by_place : (place : ℕ) → place < length start.entries → (b : Bool) → (place == component) ≡ b → peak_at components' place ≡ peak_of (λ w. account_at w place) (worlds start (earlier ++ line ∷ []))
+        by_place place within true same =
+            let here : component ≡ place = sym (eqb-true place component same) in
+            subst (λ k. peak_at components' k ≡ peak_of (λ w. account_at w k) (worlds start (earlier ++ line ∷ []))) here
+            (own (subst (λ k. k < length components) (sym here) (omega (arith, within, sees.count))) ∙ ap (λ w. grown (peak_at components component) (account_at w component)) leads
+            ∙ ap (λ peak. grown peak (account_at after component)) (sees.of_components component (subst (λ k. k < length start.entries) (sym here) within))
+            ∙ grows (λ w. account_at w component))
+        by_place place within false apart =
+            others place (eqb-false place component apart) ∙ sees.of_components place within
+            ∙ stays (λ w. account_at w place) (ap (λ w. in_use (account_at w place)) after_is ∙ use_aside before made place (eqb-false place component apart))
+
+-- ---- what an outcome tells of sessions, by what was told of the call
+
+module _ {start : World} {earlier : List (List ℕ)} {line : List ℕ} {left : World} {answer : LineAnswer} (told : IsAnsweredAfter start earlier line left answer)
+    (component : ℕ) (call : Call) (is : heard start.entries line ≡ Caller (record { component = component; call = call })) where
+  abbrev replied : Reply
+  replied = (own_step (entry_at start.entries component) call (state_at (world_running start earlier).states component)).reply
+
+  is_text : (reply : Reply) → replied ≡ reply → IsText answer.outcome (reply_text reply)
+  is_text reply same =
+      subst (IsText answer.outcome) (told.answers.reply ∙ ap (λ what. reply_text (answered_reply (world_running start earlier) what)) is ∙ ap reply_text same) answer.rendered
+
+  pub is_outcome : (outcome : SessionOutcome) →
+      ((selector : ℕ) → IsText answer.outcome (reply_text (Selected selector)) → is_open component selector left ≡ true → outcome.opened ≡ Some selector) →
+      (IsText answer.outcome (reply_text Done) → outcome.is_done ≡ true) →
+      ((refusal : Refusal) → IsText answer.outcome (reply_text (Refused refusal)) → outcome ≡ record { opened = None; is_done = false }) →
+      IsOutcome replied (λ k. session_at component k (world_running start (earlier ++ line ∷ []))) outcome
+  is_outcome outcome opened done refused = record {
+    opened = λ selector same there. opened selector (is_text (Selected selector) same) (subst (λ w. is_open component selector w ≡ true) (sym told.leaves) there);
+    done = λ same. done (is_text Done same);
+    refused = λ refusal same. refused refusal (is_text (Refused refusal) same);
   }

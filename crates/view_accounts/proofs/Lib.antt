@@ -8,3 +8,5 @@ pub mod NeedLemmas
 pub mod NotedLemmas
 pub mod OpenLemmas
 pub mod PeakLemmas
+pub mod SessionStepLemmas
+pub mod SessionTableLemmas

@@ -67,6 +67,10 @@ module _ (start : World) (earlier : List (List ℕ)) (line : List ℕ) (componen
       states_running-at start.entries start.states (earlier ++ line ∷ []) component ∙ ap (λ calls. own_run entry calls first) calls_own
       ∙ own_run-append entry (own_calls start earlier component) (call ∷ []) first
 
+  -- which is what its call makes of what it had
+  pub steps_now : state_at (world_running start (earlier ++ line ∷ [])).states component ≡ (own_step entry call (state_at (world_running start earlier).states component)).next
+  steps_now = stands_now ∙ ap (λ s. (own_step entry call s).next) (sym (states_running-at start.entries start.states earlier component))
+
   -- which a meter is told
   pub is_told : {left : World} {answer : LineAnswer} (after : Quotas) → IsAnsweredAfter start earlier line left answer → entry.kind ≡ Kind.Script → quotas_account after ≡ account_at left component →
       HasReply answer.reply.now after (own_step entry call (own_run entry (own_calls start earlier component) first))

@@ -4,10 +4,10 @@ use Rattle.std.proofs.lemmas.List.{get_or_append_left, get_or-append-add}
 use Rattle.own_model.specs.Listed.{Listed}
 use Rattle.own_model.specs.Transcript.{entry_at}
 use Rattle.own_model.specs.World.{World, world_running}
-use Rattle.view_accounts.specs.Kept.{in_use, noted_more}
+use Rattle.view_accounts.specs.Kept.{grown, in_use, noted_more}
 use Rattle.view_accounts.specs.Peaks.{is_open, label_by, lasting, noted_of, opener, peak_of, server_by, session_account_at, since_open, worlds}
 use Rattle.run_scenario.specs.Said.{said_in}
-use Rattle.view_accounts.proofs.PeakLemmas.{lasting-later, lasting-more, lasting-none, length-worlds, peak-more, worlds-last, worlds-more}
+use Rattle.view_accounts.proofs.PeakLemmas.{grown_twice, lasting-later, lasting-more, lasting-none, length-worlds, peak-more, worlds-last, worlds-more}
 
 most_of_one : (n : ℕ) → max n 0 ≡ n
 most_of_one n = omega arith
@@ -41,6 +41,23 @@ module _ (component selector : ℕ) (start : World) where
     none_since closed =
         let last = worlds-last start calls in
         ap (lasting (is_open component selector)) last.1 ∙ lasting-none (is_open component selector) last.0 (world_running start calls) closed
+
+    -- what is noted of one that is open covers its use now
+    pub noted_last : (listed : Listed) → is_open component selector (world_running start calls) ≡ true →
+        noted_more (noted_of listed start calls component selector) (session_account_at component selector (world_running start calls))
+        ≡ noted_of listed start calls component selector
+    noted_last listed now =
+        let last = worlds-last start calls in
+        let world = world_running start calls in
+        let account_in = session_account_at component selector in
+        let since : since_open component selector start calls ≡ lasting (is_open component selector) last.0 ++ world ∷ [] =
+        ap (lasting (is_open component selector)) last.1 ∙ lasting-more (is_open component selector) last.0 world now in
+        let peak = ap (peak_of account_in) since ∙ peak-more account_in (lasting (is_open component selector) last.0) world in
+        λ i. record {
+          peak = (ap (λ p. grown p (account_in world)) peak ∙ grown_twice (peak_of account_in (lasting (is_open component selector) last.0)) (account_in world) ∙ sym peak) i;
+          server = server_by listed component (said_in (opener component selector start calls));
+          label = label_by (entry_at start.entries component).label (said_in (opener component selector start calls));
+        }
 
     module _ (call : List ℕ) (now : is_open component selector (world_running start (calls ++ call ∷ [])) ≡ true) where
       since_more : since_open component selector start (calls ++ call ∷ []) ≡ since_open component selector start calls ++ world_running start (calls ++ call ∷ []) ∷ []

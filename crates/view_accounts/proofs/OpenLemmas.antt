@@ -1,5 +1,5 @@
 -- A session comes under a selector only by a call that opens one.
-use Rattle.std.proofs.Common.{arith, rules, ◌≡◌, ◌≢◌, ℕ, ◌==◌, is_some, ap, ◌⊎◌, inl, inr, Bool, true, false, List, Some, subst, refl, sym, ◌∙◌, true≢false, eqb, eqb-true}
+use Rattle.std.proofs.Common.{arith, rules, ◌≡◌, ◌≢◌, ℕ, is_some, ap, inl, inr, Bool, true, false, List, Some, refl, sym, ◌∙◌, true≢false, eqb, eqb-true}
 use Rattle.std.proofs.lemmas.Bool.{eqb-false}
 use Rattle.std.proofs.lemmas.Option.{none-some}
 use Rattle.std.specs.Prelude.{Option, None}
@@ -20,14 +20,12 @@ use Rattle.own_model.specs.SessionArgs.{Arguments}
 use Rattle.own_model.specs.StartList.{Entry}
 use Rattle.std.proofs.Common.{length, map}
 use Rattle.std.proofs.lemmas.Bool.{cases_lt}
-use Rattle.std.proofs.lemmas.List.{get_or-map, get_or-set_other, get_or-set_same, get_or_past, length-map, set_past}
+use Rattle.std.proofs.lemmas.List.{get_or-map, get_or_past, length-map}
 use Rattle.own_model.specs.Amounts.{no_amounts}
-use Rattle.own_model.specs.Running.{running_step}
 use Rattle.own_model.specs.StartList.{StartEntry, StartList, start_state}
-use Rattle.own_model.specs.Transcript.{Heard, Made, entry_at, nobody, nothing, state_at}
-use Rattle.own_model.specs.Transcript.Heard.{NoCall, Stranger, Caller}
-use Rattle.own_model.specs.World.{World, start_world, world_after_line}
-use Rattle.view_accounts.specs.Peaks.{is_open, opens, session_at}
+use Rattle.own_model.specs.Transcript.{nobody, nothing}
+use Rattle.own_model.specs.World.{start_world}
+use Rattle.view_accounts.specs.Peaks.{is_open, opens}
 
 module _ (selector : ℕ) where
   -- the selector names no session
@@ -143,55 +141,7 @@ module _ (selector : ℕ) where
     pub none_still : (entry : Entry) (call : Call) → opens call ≡ false → IsNone (own_step entry call s).next
     none_still entry call other = stays (is_of_session call) entry call refl other
 
--- ---- in a world
-
--- what names no session is open nowhere
-closed_none : (o : Option Session) → is_some o ≡ false → o ≡ None
-closed_none None is = refl
-closed_none (Some x) is = absurd (true≢false is)
-
--- a call opens no session of this component
-abbrev pub OpensNone : ℕ → Heard → Type 0
-OpensNone component NoCall = Unit {0}
-OpensNone component (Stranger name) = Unit {0}
-OpensNone component (Caller made) = (component ≢ made.component) ⊎ (opens made.call ≡ false)
-
-module _ (component selector : ℕ) (world : World) (closed : is_open component selector world ≡ false) where
-  none_now : session_at component selector world ≡ None
-  none_now = closed_none (session_at component selector world) closed
-
-  -- another's call leaves its state
-  by_other : (made : Made) → component ≢ made.component → is_open component selector (world_after_line world (Caller made)) ≡ false
-  by_other made apart =
-      ap (λ s. is_some (session_named (get s.selectors selector)))
-      (get_or-set_other world.states made.component component (running_step world.entries world.states made).next nothing apart)
-      ∙ closed
-
-  -- and so does its own that opens none
-  by_own : (made : Made) → opens made.call ≡ false → (own : Bool) → (component == made.component) ≡ own → is_open component selector (world_after_line world (Caller made)) ≡ false
-  by_own made other false is = by_other made (eqb-false component made.component is)
-  by_own made other true is =
-      let here : component ≡ made.component = eqb-true component made.component is in
-      let stays : session_at made.component selector world ≡ None = subst (λ c. session_at c selector world ≡ None) here none_now in
-      let entry = entry_at world.entries made.component in
-      let next = (running_step world.entries world.states made).next in
-      subst (λ c. is_open c selector (world_after_line world (Caller made)) ≡ false) (sym here)
-      (elim (cases_lt made.component (length world.states)) [
-        | inl within ↦
-            ap (λ s. is_some (session_named (get s.selectors selector))) (get_or-set_same world.states made.component next nothing within)
-            ∙ ap is_some (none_still selector (state_at world.states made.component) stays entry made.call other)
-        | inr past ↦
-            ap (λ (s : OwnState). is_some (session_named (get s.selectors selector)))
-            (ap (λ (l : List OwnState). state_at l made.component) (set_past world.states made.component next past) ∙ get_or_past world.states made.component nothing past)
-            ∙ ap (λ o. is_some (session_named o)) (get-empty selector)
-      ])
-
-  -- a session that isn't there still isn't
-  pub closed_still : (what : Heard) → OpensNone component what → is_open component selector (world_after_line world what) ≡ false
-  closed_still NoCall none = closed
-  closed_still (Stranger name) none = closed
-  closed_still (Caller made) (inl apart) = by_other made apart
-  closed_still (Caller made) (inr other) = by_own made other (component == made.component) refl
+-- ---- at the start
 
 no_start : StartEntry
 no_start = record { entry = nobody; ram = 0; caps = 0; reserve = no_amounts }

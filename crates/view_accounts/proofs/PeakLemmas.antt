@@ -1,10 +1,11 @@
 -- Peaks over the worlds so far, once there is one more.
-use Rattle.std.proofs.Common.{◌≡◌, ℕ, ◌+◌, ◌≤◌, ◌&&◌, Bool, true, false, List, [], ◌∷◌, ◌++◌, length, max, refl, ◌∙◌, ap, arith}
+use Rattle.std.proofs.Common.{◌≡◌, ℕ, ◌+◌, ◌≤◌, ◌&&◌, Bool, true, false, List, [], ◌∷◌, ◌++◌, length, max, refl, sym, ◌∙◌, ap, arith}
 use Rattle.std.specs.List.{list_all}
 use Rattle.std.proofs.lemmas.Bool.Decides.{nat_tests}
 use Rattle.own_model.specs.Account.{Account}
 use Rattle.own_model.specs.World.{World, world_running}
-use Rattle.view_accounts.specs.Kept.{grown}
+use Rattle.own_model.specs.Amounts.{Amounts}
+use Rattle.view_accounts.specs.Kept.{grown, in_use}
 use Rattle.view_accounts.specs.Peaks.{lasting, most, peak_of, worlds}
 
 -- the worlds after a call more
@@ -40,6 +41,27 @@ peak-more account_in ws world = λ i. record {
   ram = most-more (λ w. (account_in w).ram_used) ws world i;
   caps = most-more (λ w. (account_in w).caps_used) ws world i;
 }
+
+max_twice : (m n : ℕ) → max (max m n) n ≡ max m n
+max_twice m n = omega arith
+
+-- the same use twice is no more than once
+pub grown_twice : (peak : Amounts) (account : Account) → grown (grown peak account) account ≡ grown peak account
+grown_twice peak account = λ i. record { ram = max_twice peak.ram account.ram_used i; caps = max_twice peak.caps account.caps_used i }
+
+-- where the last world uses what the one before it does the peak stays
+pub peak-same : (account_in : World → Account) (start : World) (calls : List (List ℕ)) (call : List ℕ) →
+    in_use (account_in (world_running start (calls ++ call ∷ []))) ≡ in_use (account_in (world_running start calls)) →
+    peak_of account_in (worlds start calls) ≡ peak_of account_in (worlds start (calls ++ call ∷ []))
+peak-same account_in start calls call same =
+    let last = worlds-last start calls in
+    let before = account_in (world_running start calls) in
+    let peak = peak_of account_in (worlds start calls) in
+    let is : peak ≡ grown (peak_of account_in last.0) before = ap (peak_of account_in) last.1 ∙ peak-more account_in last.0 (world_running start calls) in
+    is ∙ sym (grown_twice (peak_of account_in last.0) before) ∙ ap (λ p. grown p before) (sym is)
+    ∙ (λ i. record { ram = max peak.ram ((sym same i).ram); caps = max peak.caps ((sym same i).caps) })
+    ∙ sym (peak-more account_in (worlds start calls) (world_running start (calls ++ call ∷ [])))
+    ∙ ap (peak_of account_in) (sym (worlds-more start calls call))
 
 -- ---- the last worlds in which something holds
 

@@ -59,19 +59,19 @@ accounts_behind sessions listed turns = accounts_text sessions listed (world_of 
 
 pub record SeesAccounts (watch : Accounting) (listed : Listed) (start : World) (earlier : List (List ℕ)) : Type 0 where
   pub peaks :
-      SeesPeaks (peaked watch.peaks.init) watch.peaks.components.items watch.peaks.sessions.items listed start earlier
+      SeesPeaks (peaked watch.peaks.init) watch.peaks.components.items watch.peaks.sessions listed start earlier
   pub needs : SeesNeeds watch.needs.meters.items start earlier
 
 abbrev pub beside_kept : Accounting → Listed → Beside
 beside_kept watch listed =
     with_needs
-    (needs_by (needed_of watch.needs.meters.items) (needs_of_sessions watch.needs.sessions.opened.items) listed)
+    (needs_by (needed_of watch.needs.meters.items) (needs_of_sessions watch.needs.sessions.opened) listed)
     (peaks_beside (entries_of (start_list_of listed)) (peaked watch.peaks.init) (peak_at watch.peaks.components.items)
-    (found watch.peaks.sessions.items))
+    (found watch.peaks.sessions))
 
 abbrev pub sessions_kept : Accounting → OfSessions
 sessions_kept watch = record {
-  needs = needs_of_sessions watch.needs.sessions.opened.items;
+  needs = needs_of_sessions watch.needs.sessions.opened;
   closed = watch.needs.sessions.closed.items;
 }
 

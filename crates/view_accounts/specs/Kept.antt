@@ -1,18 +1,21 @@
--- The peaks that are kept, and their meaning for the accounts so far.
-use Rattle.std.specs.Prelude.{◌≡◌, ℕ, ◌<◌, ◌==◌, ◌&&◌, Bool, false, List, [], ◌∷◌, length, max, slice_index_or, if◌then◌else◌, Option, Some, None}
-use Rattle.std.specs.Option.{option_map}
+-- What is kept of peaks, and what it tells of the accounts so far.
+use Rattle.std.specs.Prelude.{◌≡◌, ℕ, ◌<◌, ◌==◌, ◌&&◌, Bool, false, List, length, max, slice_index_or, if◌then◌else◌, Option, Some, None}
+use Rattle.std.specs.Option.{option_map, option_or}
 use Rattle.own_model.specs.Account.{Account}
 use Rattle.own_model.specs.Amounts.{Amounts}
+use Rattle.own_model.specs.Call.{Call}
+use Rattle.own_model.specs.Call.Call.{Open, Upgrade, CallSession, Close, Exit}
 use Rattle.own_model.specs.Listed.{Listed, route_of}
 use Rattle.own_model.specs.Routes.{label_with}
 use Rattle.own_model.specs.Session.{Session, given}
-use Rattle.own_model.specs.Transcript.{Heard, entry_at, heard}
-use Rattle.own_model.specs.Transcript.Heard.{NoCall, Stranger, Caller}
+use Rattle.own_model.specs.Transcript.{entry_at}
 use Rattle.own_model.specs.World.{World, account_at, machine_init, world_running}
-use Rattle.view_accounts.specs.Peaks.{Noted, is_open, label_by, noted_of, opens, peak_of, server_by, session_at, worlds}
-use Rattle.run_scenario.specs.Said.{said_in}
+use Rattle.view_accounts.specs.Peaks.{Noted, is_open, noted_of, peak_of, session_at, worlds}
+use Rattle.view_accounts.specs.SessionTable.{value_at}
 use Rattle.view_accounts.specs.declared.peaks.Peak.{Peak}
 use Rattle.view_accounts.specs.declared.peaks.SessionPeak.{SessionPeak as Kept}
+use Rattle.view_accounts.specs.declared.session_outcome.SessionOutcome.{SessionOutcome}
+use Rattle.view_accounts.specs.declared.session_table.SessionTable.{SessionTable}
 
 abbrev pub peaked : Peak → Amounts
 peaked peak = record { ram = peak.ram.0; caps = peak.caps.0 }
@@ -24,14 +27,9 @@ peak_at peaks place = peaked (slice_index_or peaks place (record { ram = record 
 abbrev pub noted_in : Kept → Noted
 noted_in session = record { peak = peaked session.peak; server = session.server; label = session.label.items }
 
--- the kept values of the session that a selector of a component names
-abbrev pub is_kept_at : ℕ → ℕ → Kept → Bool
-is_kept_at component selector session = component == session.component && selector == session.selector
-
-abbrev pub found : List Kept → ℕ → ℕ → Option Noted
-found [] component selector = None
-found (session ∷ rest) component selector =
-    if is_kept_at component selector session then Some (noted_in session) else found rest component selector
+-- what is kept of the session under a selector of a component
+abbrev pub found : SessionTable Kept → ℕ → ℕ → Option Noted
+found sessions component selector = option_map noted_in (value_at sessions component selector)
 
 -- ---- after one more call
 
@@ -52,13 +50,7 @@ abbrev pub raised_in : Option Session → Option Noted → Option Noted
 raised_in None noted = None
 raised_in (Some session) noted = option_map (λ n. noted_more n session.account) noted
 
--- a call opens a session of this component
-abbrev pub opens_for : ℕ → Heard → Bool
-opens_for component NoCall = false
-opens_for component (Stranger name) = false
-opens_for component (Caller made) = component == made.component && opens made.call
-
--- the values of a session that was just opened, if there is one, by its server and its label
+-- what is noted of a session that was just opened, if there is one, by its server and its label
 abbrev pub begun_as : World → Option ℕ → List ℕ → ℕ → ℕ → Option Noted
 begun_as world server label component selector =
     option_map (λ (session : Session). record { peak = in_use session.account; server = server; label = label })
@@ -70,20 +62,36 @@ begun_with listed world service text component selector =
     begun_as world (route_of listed component service (given text).label)
     (label_with (entry_at world.entries component).label (given text).label) component selector
 
--- by the call
-abbrev pub begun : Listed → World → List ℕ → ℕ → ℕ → Option Noted
-begun listed world call component selector =
-    begun_as world (server_by listed component (said_in call)) (label_by (entry_at world.entries component).label (said_in call))
-    component selector
+-- what is noted of the session under a selector of a component, by what was noted, once a component asked for a session: the one
+-- under this selector was opened, or none
+abbrev pub noted_opened : Listed → World → ℕ → List ℕ → List ℕ → Option ℕ → ℕ → ℕ → Option Noted → Option Noted
+noted_opened listed world component service text (Some selector) c q was =
+    option_or (if c == component && q == selector then begun_with listed world service text component selector else None) was
+noted_opened listed world component service text None c q was = was
 
-abbrev pub begun_by : Listed → World → List ℕ → ℕ → ℕ → Option Noted
-begun_by listed world call component selector =
-    if opens_for component (heard world.entries call) then begun listed world call component selector else None
+-- once it made another call of the session under a selector
+abbrev pub noted_named : World → ℕ → ℕ → ℕ → ℕ → Option Noted → Option Noted
+noted_named world component selector c q was =
+    if c == component && q == selector then raised_in (session_at c q world) was else was
+
+-- and once it exited, or was refused to
+abbrev pub noted_exited : ℕ → Bool → ℕ → Option Noted → Option Noted
+noted_exited component exited c was = if exited && c == component then None else was
+
+-- once it made any call
+abbrev pub noted_after : Listed → World → ℕ → Call → SessionOutcome → ℕ → ℕ → Option Noted → Option Noted
+noted_after listed world component (Open service text) outcome c q was =
+    noted_opened listed world component service text outcome.opened c q was
+noted_after listed world component (Upgrade selector text) outcome c q was = noted_named world component selector c q was
+noted_after listed world component (CallSession selector request) outcome c q was = noted_named world component selector c q was
+noted_after listed world component (Close selector) outcome c q was = noted_named world component selector c q was
+noted_after listed world component Exit outcome c q was = noted_exited component outcome.is_done c was
+noted_after listed world component call outcome c q was = was
 
 -- ---- so far
 
--- they are those of all accounts of a machine so far: of its init, of each component, and of each open session
-pub record SeesPeaks (init : Amounts) (components : List Peak) (sessions : List Kept) (listed : Listed) (start : World)
+-- it is that of all accounts of a machine so far: of its init, of each component, and of each session that is open
+pub record SeesPeaks (init : Amounts) (components : List Peak) (sessions : SessionTable Kept) (listed : Listed) (start : World)
     (earlier : List (List ℕ)) : Type 0 where
   pub of_init : init ≡ peak_of machine_init (worlds start earlier)
   pub count : length components ≡ length start.entries

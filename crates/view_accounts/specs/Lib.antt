@@ -4,3 +4,4 @@ pub mod Meters
 pub mod Needs
 pub mod PeakList
 pub mod Peaks
+pub mod SessionTable

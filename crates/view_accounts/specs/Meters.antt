@@ -1,5 +1,6 @@
--- The meters of needs, and their meaning for the accounts so far.
-use Rattle.std.specs.Prelude.{◌≡◌, ℕ, ◌<◌, ◌==◌, ◌&&◌, false, List, [], ◌∷◌, length, slice_index_or, if◌then◌else◌}
+-- What is kept of needs, and what it tells of the accounts so far.
+use Rattle.std.specs.Prelude.{◌≡◌, ℕ, ◌<◌, false, List, [], length, slice_index_or}
+use Rattle.std.specs.Option.{option_map_or}
 use Rattle.own_model.specs.Account.{Account}
 use Rattle.own_model.specs.Amounts.{Amounts}
 use Rattle.own_model.specs.OwnState.{OwnState}
@@ -12,8 +13,10 @@ use Rattle.budget_meter.specs.Needs.{amounts_of}
 use Rattle.budget_meter.specs.declared.account.AccountMeter.{AccountMeter}
 use Rattle.budget_meter.specs.declared.budget.Budget.{Budget}
 use Rattle.view_accounts.specs.Needs.{Needed, budget_at, limits, own_calls}
+use Rattle.view_accounts.specs.SessionTable.{value_at}
 use Rattle.view_accounts.specs.declared.session_needs.MeteredSession.{MeteredSession}
 use Rattle.view_accounts.specs.declared.needs.AccountNeed.{AccountNeed}
+use Rattle.view_accounts.specs.declared.session_table.SessionTable.{SessionTable}
 
 -- the meter before any observation
 abbrev pub no_meter : AccountMeter
@@ -41,13 +44,11 @@ abbrev pub needed_in : AccountNeed → Needed
 needed_in figure = record { need = amounts_of figure.need; gone = figure.is_gone }
 
 -- of the session under a selector of a component, or nothing
-abbrev pub needed_of_session : List MeteredSession → ℕ → ℕ → Budget
-needed_of_session [] component selector = record { ram = 0; caps = 0 }
-needed_of_session (session ∷ rest) component selector =
-    if session.component == component && session.selector == selector then session.need
-    else needed_of_session rest component selector
+abbrev pub needed_of_session : SessionTable MeteredSession → ℕ → ℕ → Budget
+needed_of_session sessions component selector =
+    option_map_or (λ session. session.need) (value_at sessions component selector) (record { ram = 0; caps = 0 })
 
-abbrev pub needs_of_sessions : List MeteredSession → ℕ → ℕ → Amounts
+abbrev pub needs_of_sessions : SessionTable MeteredSession → ℕ → ℕ → Amounts
 needs_of_sessions sessions component selector = amounts_of (needed_of_session sessions component selector)
 
 -- a meter is that of any script that begins with this account

@@ -11,6 +11,8 @@ mod needs;
 mod peak_columns;
 mod peaks;
 mod session_needs;
+mod session_outcome;
+mod session_table;
 
 pub use account_list::{AccountList, accounts};
 pub use account_rows::AccountRows;

@@ -87,7 +87,7 @@ impl Needs {
     /// Returns the need of an account; an init's is the need of its list.
     pub(crate) fn needed(&self, list: &StartList, owner: AccountOwner) -> AccountNeed
         ensures { needed_in result ≡ needs_by (needed_of self.now.meters.items)
-            (needs_of_sessions self.now.sessions.opened.items) list.now owner }
+            (needs_of_sessions self.now.sessions.opened) list.now owner }
     {
         match owner {
             AccountOwner::Init => AccountNeed::of(self.below(list, None)),
@@ -235,10 +235,10 @@ fn added(one: Budget, other: Budget) -> Budget
     }
 }
 
-// Returns the component that makes the call of an engine's line, and the call, if it has both. `call` is what was parsed of the
-// line.
+/// Returns the component that makes the call of an engine's line, and the call, if it has both. `call` is what was parsed of the
+/// line.
 #[tactic(auto, using(crate::proofs::HearLemmas::calls_none, crate::proofs::HearLemmas::calls_nobody, crate::proofs::HearLemmas::calls_one))]
-fn made_in<'a>(
+pub(crate) fn made_in<'a>(
     list: &StartList,
     line: &[u8],
     call: Option<NamedCall<'a>>,

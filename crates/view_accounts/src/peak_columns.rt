@@ -23,7 +23,7 @@ impl Columns for Peaks {
 
     ghost beside = { λ peaks list. peaks_beside (entries_of (start_list_of list))
         (peaked peaks.init)
-        (peak_at peaks.components.items) (found peaks.sessions.items) };
+        (peak_at peaks.components.items) (found peaks.sessions) };
 
     fn put<K: Sink>(
         &self,

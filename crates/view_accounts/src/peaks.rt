@@ -1,5 +1,5 @@
 //! The peaks of accounts: the most that was in use after any line.
-ghost use Rattle.std.specs.Prelude.{◌≡◌, ◌<◌, ◌≤◌, ◌==◌, ◌&&◌, ℕ, [], length, if◌then◌else◌, None, IfOk, IfSome, OnOk};
+ghost use Rattle.std.specs.Prelude.{◌≡◌, ◌≢◌, ◌<◌, ◌≤◌, ◌==◌, ◌&&◌, ℕ, true, length, if◌then◌else◌, None, IfOk, OnOk};
 ghost use Rattle.std.specs.Option.{option_map, option_or};
 ghost use Rattle.own_model.specs.Listed.{start_list_of};
 ghost use Rattle.own_model.specs.Routes.{label_with};
@@ -7,19 +7,20 @@ ghost use Rattle.own_model.specs.Session.{Session as Opened, given};
 ghost use Rattle.own_model.specs.StartList.{entries_of};
 ghost use Rattle.own_model.specs.World.{account_at, machine_init};
 ghost use Rattle.pd_core.specs.Answer.{quotas_account};
-ghost use Rattle.line_grammar.specs.Read.{IsReadAs};
-ghost use Rattle.view_accounts.specs.Kept.{begun_by, begun_with, found, grown, in_use, is_kept_at, noted_in, noted_more, peak_at, peaked, raised_in};
-ghost use Rattle.view_accounts.specs.Peaks.{session_at};
+ghost use Rattle.core_calls.specs.Call.{model_call};
+ghost use Rattle.view_accounts.specs.Kept.{begun_with, found, grown, in_use, noted_after, noted_exited, noted_in, noted_more, noted_named, noted_opened, peak_at, peaked};
 
+use crate::needs::made_in;
+use crate::session_outcome::SessionOutcome;
+use crate::session_table::SessionTable;
 use core_calls::{Call, Quotas};
 use list_parser::StartList;
 use list_routes::route;
 use pd_core::{Core, Router};
-use run_lines::{LineRunFault, NamedCall, Sink, WriteBuffer};
-use run_scenario::{CallObserver, ObservedCall, caller_of, said_in};
+use run_lines::{LineRunFault, Sink, WriteBuffer};
+use run_scenario::{CallObserver, ObservedCall};
 use session_proto::SessionArgs;
 use std::alloc::{AllocError, Global};
-use std::mem;
 use trade_base::{Caps, Ram};
 
 /// The most of an account that was in use after any line, in bytes and capabilities.
@@ -77,13 +78,6 @@ impl SessionPeak {
             peak: self.peak.raised(account),
         }
     }
-
-    // Returns whether a selector of a component names the session.
-    fn is_at(&self, component: usize, selector: u64) -> bool
-        ensures { result ≡ is_kept_at component selector self.now }
-    {
-        self.component == component && self.selector == selector
-    }
 }
 
 // The arguments with which a component opens a session.
@@ -101,7 +95,7 @@ pub(crate) struct Peaks {
     pub init: Peak,
     pub components: Vec<Peak>,
     /// The sessions that are open now.
-    pub sessions: Vec<SessionPeak>,
+    pub sessions: SessionTable<SessionPeak>,
 }
 
 impl Peaks {
@@ -112,7 +106,8 @@ impl Peaks {
             length peaks.components.items ≡ length core.now.entries) }
         ensures components { IfOk result (λ peaks. (place : ℕ) → place < length core.now.entries →
             peak_at peaks.components.items place ≡ in_use (account_at core.now place)) }
-        ensures sessions { IfOk result (λ peaks. peaks.sessions.items ≡ []) }
+        ensures sessions { IfOk result (λ peaks. (component selector : ℕ) →
+            found peaks.sessions component selector ≡ None) }
     {
         let mut components = Vec::new(alloc);
         for component in 0..core.count() {
@@ -122,7 +117,7 @@ impl Peaks {
             alloc,
             init: Peak::of(core.init_account()),
             components,
-            sessions: Vec::new(alloc),
+            sessions: SessionTable::new(alloc),
         })
     }
 
@@ -141,96 +136,87 @@ impl Peaks {
 
     /// Returns the open session that a selector of a component names, if it is kept.
     pub(crate) fn session(&self, component: usize, selector: u64) -> Option<&SessionPeak>
-        ensures noted { option_map (λ session. noted_in session.now) result
-            ≡ found self.now.sessions.items component selector }
-        ensures component { IfSome result (λ session. session.now.component ≡ component) }
-        ensures selector { IfSome result (λ session. session.now.selector ≡ selector) }
+        ensures { option_map (λ session. noted_in session.now) result
+            ≡ found self.now.sessions component selector }
     {
-        for session in &self.sessions {
-            if session.is_at(component, selector) {
-                return Some(session);
-            }
-        }
-        None
+        self.sessions.get(component, selector)
     }
 
-    // Raises the peaks of init and the components to what is in use now.
-    fn raise_accounts<R: Router + Drop>(&mut self, core: &Core<R>)
-        ensures init { peaked self.new.init ≡ grown (peaked self.old.init) (machine_init core.now) }
-        ensures count { length self.new.components.items ≡ length self.old.components.items }
-        ensures components { (place : ℕ) → place < length core.now.entries →
-            place < length self.old.components.items →
-            peak_at self.new.components.items place
-            ≡ grown (peak_at self.old.components.items place) (account_at core.now place) }
-        ensures sessions { self.new.sessions.items ≡ self.old.sessions.items }
-    {
-        self.init = self.init.raised(core.init_account());
-        for component in 0..core.count() {
-            if component < self.components.len() {
-                let peak = self.components[component].raised(core.account(component));
-                self.components[component] = peak;
-            }
-        }
-    }
-
-    // Raises the peaks of sessions to what is in use now, and removes the closed sessions.
-    fn raise_sessions<R: Router + Drop>(&mut self, core: &Core<R>) -> Result<(), AllocError>
+    // Raises the peak of a component by what its account has in use now.
+    fn raise_component<R: Router + Drop>(&mut self, core: &Core<R>, component: usize)
+        requires component { component < length core.now.entries }
         ensures init { self.new.init ≡ self.old.init }
-        ensures components { self.new.components.items ≡ self.old.components.items }
-        ensures sessions { OnOk result ((component selector : ℕ) →
-            component < length core.now.entries →
-            found self.new.sessions.items component selector
-            ≡ raised_in (session_at component selector core.now)
-            (found self.old.sessions.items component selector)) }
+        ensures count { length self.new.components.items ≡ length self.old.components.items }
+        ensures others { (place : ℕ) → place ≢ component →
+            peak_at self.new.components.items place ≡ peak_at self.old.components.items place }
+        ensures own { component < length self.old.components.items →
+            peak_at self.new.components.items component
+            ≡ grown (peak_at self.old.components.items component) (account_at core.now component) }
+        ensures sessions { self.new.sessions ≡ self.old.sessions }
     {
-        let mut open = Vec::new(self.alloc);
-        for session in mem::replace(&mut self.sessions, Vec::new(self.alloc)) {
-            if let Some(account) = account_of(core, session.component, session.selector) {
-                open.push(session.raised(account))?;
-            }
+        if component < self.components.len() {
+            let peak = self.components[component].raised(core.account(component));
+            self.components[component] = peak;
         }
-        self.sessions = open;
-        Ok(())
     }
 
-    // Keeps the sessions that the call of a line has just opened.
-    fn keep_opened<R: Router + Drop>(
+    // Follows the sessions of a component in one of its calls, by the outcome of the call.
+    fn follow<R: Router + Drop>(
         &mut self,
         core: &Core<R>,
         list: &StartList,
-        line: &[u8],
-        call: Option<NamedCall<'_>>,
+        component: usize,
+        call: Call<'_>,
+        outcome: SessionOutcome,
     ) -> Result<(), AllocError>
+        requires component { component < length core.now.entries }
         requires listed { core.now.entries ≡ entries_of (start_list_of list.now) }
-        requires read { IsReadAs line.now call }
         ensures init { self.new.init ≡ self.old.init }
         ensures components { self.new.components.items ≡ self.old.components.items }
-        ensures sessions { OnOk result ((component selector : ℕ) →
-            component < length core.now.entries →
-            found self.new.sessions.items component selector
-            ≡ option_or (found self.old.sessions.items component selector)
-            (begun_by list.now core.now line.now component selector)) }
+        ensures sessions { OnOk result ((c q : ℕ) → found self.new.sessions c q
+            ≡ noted_after list.now core.now component (model_call call.entry) outcome c q
+            (found self.old.sessions c q)) }
     {
-        let Some((name, call)) = said_in(line, call) else {
-            return Ok(());
-        };
-        let Call::Open { service, args } = call else {
-            return Ok(());
-        };
-        let Some(component) = caller_of(list, name) else {
-            return Ok(());
-        };
-        for selector in 0..=core.last_selector(component) {
-            if self.session(component, selector).is_none() {
+        match call {
+            Call::Open { service, args } => {
                 let opening = Opening {
                     component,
                     service,
                     args,
                 };
-                self.keep_new(core, list, opening, selector)?;
+                self.keep_opened(core, list, opening, outcome)
             }
+            Call::Upgrade { selector, .. }
+            | Call::CallSession { selector, .. }
+            | Call::Close(selector) => self.raise_session(core, component, selector),
+            Call::Exit => {
+                self.end_all(component, outcome);
+                Ok(())
+            }
+            _ => Ok(()),
         }
-        Ok(())
+    }
+
+    // Keeps the session that a call opened, if it opened one.
+    fn keep_opened<R: Router + Drop>(
+        &mut self,
+        core: &Core<R>,
+        list: &StartList,
+        opening: Opening<'_>,
+        outcome: SessionOutcome,
+    ) -> Result<(), AllocError>
+        requires component { opening.component < length core.now.entries }
+        requires listed { core.now.entries ≡ entries_of (start_list_of list.now) }
+        ensures init { self.new.init ≡ self.old.init }
+        ensures components { self.new.components.items ≡ self.old.components.items }
+        ensures sessions { OnOk result ((c q : ℕ) → found self.new.sessions c q
+            ≡ noted_opened list.now core.now opening.entry.component opening.entry.service.now
+            opening.entry.args.now outcome.opened c q (found self.old.sessions c q)) }
+    {
+        match outcome.opened {
+            Some(selector) => self.keep_new(core, list, opening, selector),
+            None => Ok(()),
+        }
     }
 
     // Keeps the session that a selector names, if there is one, with these arguments.
@@ -245,26 +231,61 @@ impl Peaks {
         requires listed { core.now.entries ≡ entries_of (start_list_of list.now) }
         ensures init { self.new.init ≡ self.old.init }
         ensures components { self.new.components.items ≡ self.old.components.items }
-        ensures sessions { OnOk result ((c q : ℕ) →
-            found self.new.sessions.items c q
-            ≡ option_or (found self.old.sessions.items c q)
-            (if c == opening.entry.component && q == selector
+        ensures sessions { OnOk result ((c q : ℕ) → found self.new.sessions c q
+            ≡ option_or (if c == opening.entry.component && q == selector
             then begun_with list.now core.now opening.entry.service.now opening.entry.args.now
-            opening.entry.component selector else None)) }
+            opening.entry.component selector else None)
+            (found self.old.sessions c q)) }
     {
         let component = opening.component;
         let Some(account) = core.session_account(component, selector) else {
             return Ok(());
         };
         let given = label_given(opening.args);
-        self.sessions.push(SessionPeak {
+        let session = SessionPeak {
             component,
             selector,
             server: route(list, component, opening.service, given),
             label: label_of(self.alloc, list.label(component), given)?,
             peak: Peak::of(account),
-        })?;
-        Ok(())
+        };
+        self.sessions.set(component, selector, session)
+    }
+
+    // Raises the peak of the session under a selector by what its account has in use now, or forgets the session if it is closed.
+    fn raise_session<R: Router + Drop>(
+        &mut self,
+        core: &Core<R>,
+        component: usize,
+        selector: u64,
+    ) -> Result<(), AllocError>
+        requires component { component < length core.now.entries }
+        ensures init { self.new.init ≡ self.old.init }
+        ensures components { self.new.components.items ≡ self.old.components.items }
+        ensures sessions { OnOk result ((c q : ℕ) → found self.new.sessions c q
+            ≡ noted_named core.now component selector c q (found self.old.sessions c q)) }
+    {
+        let Some(session) = self.sessions.take(component, selector) else {
+            return Ok(());
+        };
+        match core.session_account(component, selector) {
+            Some(account) => self
+                .sessions
+                .set(component, selector, session.raised(account)),
+            None => Ok(()),
+        }
+    }
+
+    // Forgets all sessions of a component if it exited.
+    fn end_all(&mut self, component: usize, outcome: SessionOutcome)
+        ensures init { self.new.init ≡ self.old.init }
+        ensures components { self.new.components.items ≡ self.old.components.items }
+        ensures sessions { (c q : ℕ) → found self.new.sessions c q
+            ≡ noted_exited component outcome.is_done c (found self.old.sessions c q) }
+    {
+        if outcome.is_done {
+            self.sessions.take_all(component);
+        }
     }
 }
 
@@ -276,8 +297,7 @@ impl CallObserver for Peaks {
 
     ghost takes = { true };
 
-    ghost sees = { λ peaks. SeesPeaks (peaked peaks.init) peaks.components.items
-        peaks.sessions.items };
+    ghost sees = { λ peaks. SeesPeaks (peaked peaks.init) peaks.components.items peaks.sessions };
 
     fn tell<R: Router + Drop, K: Sink>(
         &mut self,
@@ -287,27 +307,17 @@ impl CallObserver for Peaks {
         _gathered: &mut WriteBuffer,
         _writer: &mut K,
     ) -> Result<(), LineRunFault> {
-        self.raise_accounts(core);
-        self.raise_sessions(core)?;
-        self.keep_opened(core, list, heard.line, heard.call)?;
+        let Some((component, call)) = made_in(list, heard.line, heard.call) else {
+            return Ok(());
+        };
+        let outcome = SessionOutcome::of(core, component, heard.answer.outcome);
+        self.raise_component(core, component);
+        self.follow(core, list, component, call, outcome)?;
         Ok(())
     }
 }
 
-// Returns the account of the session that a selector of the component at a place names, if it names one.
-fn account_of<R: Router + Drop>(core: &Core<R>, component: usize, selector: u64) -> Option<Quotas>
-    ensures { component < length core.now.entries → option_map quotas_account result
-        ≡ option_map (λ (session : Opened). session.account)
-        (session_at component selector core.now) }
-{
-    if component < core.count() {
-        core.session_account(component, selector)
-    } else {
-        None
-    }
-}
-
-// Returns the label in the arguments of a session, or none if they can't be parsed.
+// The label that a client gives with the arguments of a session: none where they are no arguments.
 fn label_given(args: &[u8]) -> &[u8]
     ensures label { result.now ≡ (given args.now).label }
     ensures short { length result.now ≤ 64 }

@@ -3,17 +3,17 @@ ghost use Rattle.std.specs.Prelude.{◌≡◌, ◌<◌, length};
 ghost use Rattle.view_accounts.specs.Meters.{needed_of_session};
 
 use crate::peaks::{Peaks, SessionPeak};
+use crate::session_table::SessionTable;
 use budget_meter::{Budget, SessionMeter};
 use core_calls::{Answer, Call, Outcome};
 use pd_core::{Core, Router};
 use std::alloc::{AllocError, Global};
-use std::mem;
 
-/// An open session with the need of its account.
+/// What the account of an open session needs.
 #[derive(Drop)]
 pub(crate) struct MeteredSession {
-    pub component: usize,
-    pub selector: u64,
+    /// How many sessions were opened before it.
+    earlier: u64,
     pub need: Budget,
     meter: SessionMeter,
 }
@@ -25,13 +25,23 @@ pub(crate) struct ClosedSession {
     pub need: Budget,
 }
 
-/// The sessions so far, with the needs of their accounts.
+// The selector of a session that ends, and what its account needed.
+#[derive(Clone, Copy)]
+struct Ended {
+    earlier: u64,
+    selector: u64,
+    need: Budget,
+}
+
+/// The sessions so far.
 #[derive(Drop)]
 pub(crate) struct SessionNeeds {
     alloc: Global,
-    /// The sessions that are open now.
-    pub opened: Vec<MeteredSession>,
-    /// The sessions that are closed, in the order of their closes.
+    /// Those that are open now.
+    pub opened: SessionTable<MeteredSession>,
+    // How many were opened.
+    count: u64,
+    /// Those that were closed, in this order.
     pub closed: Vec<ClosedSession>,
 }
 
@@ -40,21 +50,20 @@ impl SessionNeeds {
     pub(crate) fn new(alloc: Global) -> SessionNeeds {
         SessionNeeds {
             alloc,
-            opened: Vec::new(alloc),
+            opened: SessionTable::new(alloc),
+            count: 0,
             closed: Vec::new(alloc),
         }
     }
 
     /// Returns the need of the session that a selector of a component names, or zero if no such session is open.
     pub(crate) fn needed(&self, component: usize, selector: u64) -> Budget
-        ensures { result ≡ needed_of_session self.now.opened.items component selector }
+        ensures { result ≡ needed_of_session self.now.opened component selector }
     {
-        for session in &self.opened {
-            if session.component == component && session.selector == selector {
-                return session.need;
-            }
+        match self.opened.get(component, selector) {
+            Some(session) => session.need,
+            None => Budget { ram: 0, caps: 0 },
         }
-        Budget { ram: 0, caps: 0 }
     }
 
     /// Observes a component's call that opens, calls, upgrades or ends a session, with its reply, the core after it, and the
@@ -75,7 +84,8 @@ impl SessionNeeds {
                 self.ask(core, component, selector, Some(request), reply)
             }
             Call::Upgrade { selector, .. } => self.ask(core, component, selector, None, reply),
-            Call::Close(_) | Call::Exit => self.end(core, component, peaks),
+            Call::Close(selector) => self.end(component, selector, reply.outcome, peaks),
+            Call::Exit => self.end_all(component, reply.outcome, peaks),
             _ => Ok(()),
         }
     }
@@ -97,13 +107,13 @@ impl SessionNeeds {
             return Ok(());
         };
         let meter = SessionMeter::new(self.alloc, account);
-        self.opened.push(MeteredSession {
-            component,
-            selector,
+        let session = MeteredSession {
+            earlier: self.count,
             need: meter.least(),
             meter,
-        })?;
-        Ok(())
+        };
+        self.count = self.count.saturating_add(1);
+        self.opened.set(component, selector, session)
     }
 
     // Observes a request of a session, or an upgrade of it.
@@ -120,46 +130,87 @@ impl SessionNeeds {
         let Some(account) = core.session_account(component, selector) else {
             return Ok(());
         };
-        for session in self.opened.as_mut_slice() {
-            if session.component == component && session.selector == selector {
-                match request {
-                    Some(request) => session.meter.hear(request, reply, account)?,
-                    None => session.meter.raise(account),
-                }
-                session.need = session.meter.least();
-            }
+        let Some(mut session) = self.opened.take(component, selector) else {
+            return Ok(());
+        };
+        match request {
+            Some(request) => session.meter.hear(request, reply, account)?,
+            None => session.meter.raise(account),
+        }
+        session.need = session.meter.least();
+        self.opened.set(component, selector, session)
+    }
+
+    // Keeps the session under a selector of a component as closed, if its call closed it.
+    fn end(
+        &mut self,
+        component: usize,
+        selector: u64,
+        outcome: Outcome,
+        peaks: &Peaks,
+    ) -> Result<(), AllocError> {
+        let Outcome::Done = outcome else {
+            return Ok(());
+        };
+        match self.opened.take(component, selector) {
+            Some(session) => self.keep_closed(peaks.session(component, selector), session.need),
+            None => Ok(()),
+        }
+    }
+
+    // Keeps all sessions of a component as closed if it exited, in the order in which they were opened.
+    fn end_all(
+        &mut self,
+        component: usize,
+        outcome: Outcome,
+        peaks: &Peaks,
+    ) -> Result<(), AllocError> {
+        let Outcome::Done = outcome else {
+            return Ok(());
+        };
+        let mut ended = ended_of(self.alloc, self.opened.take_all(component))?;
+        ended.sort_unstable_by_key(|session| session.earlier);
+        for session in ended {
+            self.keep_closed(peaks.session(component, session.selector), session.need)?;
         }
         Ok(())
     }
 
-    // Keeps the sessions of a component that were closed, as they were before.
-    fn end<R: Router + Drop>(
+    // Keeps a session as closed, as it was until then.
+    fn keep_closed(
         &mut self,
-        core: &Core<R>,
-        component: usize,
-        peaks: &Peaks,
-    ) -> Result<(), AllocError>
-        requires { component < length core.now.entries }
-    {
-        let mut open = Vec::new(self.alloc);
-        for session in mem::replace(&mut self.opened, Vec::new(self.alloc)) {
-            if session.component != component
-                || core.session_account(component, session.selector).is_some()
-            {
-                open.push(session)?;
-            } else if let Some(kept) = peaks.session(component, session.selector) {
-                self.closed.push(ClosedSession {
-                    session: copied(self.alloc, kept)?,
-                    need: session.need,
-                })?;
-            }
+        session: Option<&SessionPeak>,
+        need: Budget,
+    ) -> Result<(), AllocError> {
+        if let Some(session) = session {
+            self.closed.push(ClosedSession {
+                session: copied(self.alloc, session)?,
+                need,
+            })?;
         }
-        self.opened = open;
         Ok(())
     }
 }
 
-// Returns a copy of a session.
+// The sessions of a component that end, by what it has under its selectors.
+fn ended_of(
+    alloc: Global,
+    sessions: Vec<Option<MeteredSession>>,
+) -> Result<Vec<Ended>, AllocError> {
+    let mut ended = Vec::new(alloc);
+    for (selector, session) in sessions.iter().enumerate() {
+        if let Some(session) = session {
+            ended.push(Ended {
+                earlier: session.earlier,
+                selector: selector as u64,
+                need: session.need,
+            })?;
+        }
+    }
+    Ok(ended)
+}
+
+// A session once more, as a value of its own.
 fn copied(alloc: Global, session: &SessionPeak) -> Result<SessionPeak, AllocError> {
     let mut label = Vec::new(alloc);
     label.extend_from_slice(session.label.as_slice())?;

@@ -23,6 +23,7 @@ use Rattle.run_scenario.specs.Texts.{line_text}
 use Rattle.run_scenario.specs.Cells.{account_cells, cell_text}
 use Rattle.view_runs.specs.Tracing.{call_text, cells_of, figures, open_cells, stranger_cells, trace_row, trace_call_text}
 use Rattle.run_scenario.specs.Observation.{IsAnsweredAfter}
+use Rattle.run_scenario.proofs.CellLemmas.{cells_more, plain_number}
 
 -- empty cells
 pub five_empty : codes ",,,,," ≡ fields_text default_writer ([] ∷ cells_of None)
@@ -34,6 +35,19 @@ unfolding fields_text
 nine_empty = refl
 
 pub ruleset empty_cells = (five_empty, nine_empty)
+
+-- a cell, and then others
+cell_then : (old x : List ℕ) (xs : List (List ℕ)) → old ++ fields_text default_writer (x ∷ xs) ≡ (old ++ cell_text x) ++ fields_text default_writer xs
+unfolding fields_text
+cell_then old x xs = sym (append_assoc old (cell_text x) (fields_text default_writer xs))
+
+none_then : (old : List ℕ) → old ++ fields_text default_writer [] ≡ old
+unfolding fields_text
+none_then old = append-nil old
+
+-- one cell after cells
+last_cell : (xs : List (List ℕ)) (x : List ℕ) → fields_text default_writer xs ++ cell_text x ≡ fields_text default_writer (xs ++ x ∷ [])
+last_cell xs x = sym (cells_more xs (x ∷ []) ∙ cell_then (fields_text default_writer xs) x [] ∙ none_then (fields_text default_writer xs ++ cell_text x))
 
 -- ---- the row
 

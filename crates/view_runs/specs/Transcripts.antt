@@ -11,6 +11,7 @@ use Rattle.run_lines.specs.Lines.{AreReadable}
 use Rattle.run_lines.specs.Machine.{accounts_for, world_of}
 use Rattle.run_lines.specs.Causes.{AppendsPart}
 use Rattle.run_scenario.specs.RunCalls.{calls_of_steps, engine_text, text_of_steps}
+use Rattle.run_scenario.specs.Writes.{transcript_of}
 use Rattle.run_lines.specs.LineRuns.{EndsFor}
 use Rattle.run_scenario.specs.LineSteps.{LineStep}
 use Rattle.run_lines.specs.declared.line_run_fault.LineRunFault.{LineRunFault}

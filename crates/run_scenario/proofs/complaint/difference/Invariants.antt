@@ -1,6 +1,6 @@
 -- As many bytes as were found alike stand in the reply.
 use Rattle.std.proofs.Common.{length, ◌-◌, ◌≤◌}
-use Rattle.run_scenario.proofs.complaint.difference.SourceLine as goal
+use Rattle.run_scenario.proofs.complaint.difference.Given as goal
 
 abbrev pub invariant-loop-alike : goal.invariant-loop-alike
 invariant-loop-alike l = l.alike ≤ length l.reply

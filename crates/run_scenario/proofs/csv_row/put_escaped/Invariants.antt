@@ -2,7 +2,7 @@
 use Rattle.std.proofs.Common.{◌≡◌, false, take}
 use Rattle.csv.specs.Writing.{default_writer, escaped}
 use Rattle.run_lines.specs.RunOutput.{Tells}
-use Rattle.run_scenario.proofs.csv_row.put_escaped.SourceLine as goal
+use Rattle.run_scenario.proofs.csv_row.put_escaped.Given as goal
 
 abbrev pub invariant-loop-place : goal.invariant-loop-place
 invariant-loop-place g l = record {

@@ -3,7 +3,7 @@ use Rattle.std.proofs.Common.{◌≡◌, false, take}
 use Rattle.own_model.specs.Text.{hex_bytes}
 use Rattle.run_lines.specs.RunOutput.{Tells}
 use Rattle.run_scenario.specs.Texts.{characters_text, written_in}
-use Rattle.run_scenario.proofs.printable_hex.put_signs.SourceLine as goal
+use Rattle.run_scenario.proofs.printable_hex.put_signs.Given as goal
 
 abbrev pub invariant-loop-place : goal.invariant-loop-place
 invariant-loop-place g l = record {

@@ -5,7 +5,7 @@ use Rattle.own_model.specs.Amounts.{Amounts}
 use Rattle.budget_theorems.specs.Need.{Need}
 use Rattle.budget_theorems.specs.Intervals.{is_covered, stretches}
 use Rattle.budget_least.specs.BudgetIntervals.{covered_with, AreRows}
-use Rattle.budget_least.proofs.budget_intervals.BudgetIntervals.gather.GivenBudget as goal
+use Rattle.budget_least.proofs.budget_intervals.BudgetIntervals.gather.Given as goal
 
 abbrev pub invariant-loop-made : goal.invariant-loop-made
 invariant-loop-made g l = record {

@@ -6,7 +6,7 @@ use Rattle.own_model.specs.OwnState.{OwnState}
 use Rattle.own_model.specs.Transcript.{entry_at}
 use Rattle.budget_least.specs.Run.{HasLeft}
 use Rattle.budget_least.specs.Steps.{calls_of}
-use Rattle.budget_least.proofs.own_run.OwnRun.go_through.GivenBudget as goal
+use Rattle.budget_least.proofs.own_run.OwnRun.go_through.Given as goal
 
 abbrev pub invariant-loop-step : goal.invariant-loop-step
 invariant-loop-step g l = record {

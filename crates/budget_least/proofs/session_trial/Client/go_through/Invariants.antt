@@ -4,7 +4,7 @@ use Rattle.own_model.specs.Amounts.{Amounts}
 use Rattle.own_model.specs.Session.{Session}
 use Rattle.budget_meter.specs.SessionRuns.{Sent}
 use Rattle.budget_least.specs.OpenedSessions.{HasLeft, sent_at}
-use Rattle.budget_least.proofs.session_trial.Client.go_through.GivenBudget as goal
+use Rattle.budget_least.proofs.session_trial.Client.go_through.Given as goal
 
 abbrev pub invariant-loop-place : goal.invariant-loop-place
 invariant-loop-place g l = record {

@@ -12,7 +12,7 @@ use Rattle.view_accounts.specs.declared.peaks.Peaks.{Peaks}
 use Rattle.view_accounts.proofs.accounting.AccountingColumns.put.Goals as goal
 
 abbrev behind : Peaks → Listed → Beside
-behind peaks list = peaks_beside (entries_of (start_list_of list)) (peaked peaks.init) (peak_at peaks.components.items) (found peaks.sessions.items)
+behind peaks list = peaks_beside (entries_of (start_list_of list)) (peaked peaks.init) (peak_at peaks.components.items) (found peaks.sessions)
 
 pub returns-in_err-put_needed-clause-told : goal.returns-in_err-put_needed-clause-told
 returns-in_err-put_needed-clause-told g c =

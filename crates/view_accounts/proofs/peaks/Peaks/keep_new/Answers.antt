@@ -1,32 +1,25 @@
--- The session is the last that is found.
-use Rattle.std.proofs.Common.{Bool, true, false, refl, ℕ, ◌≡◌, List, Option, cond, ◌&&◌, ◌==◌, Some, None, sym, ap, ◌∙◌}
-use Rattle.std.specs.Option.{option_map, option_or}
-use Rattle.own_model.specs.Routes.{label_with}
-use Rattle.own_model.specs.Transcript.{entry_at}
-use Rattle.own_model.specs.Listed.{route_of}
-use Rattle.pd_core.specs.Answer.{quotas_account}
-use Rattle.view_accounts.specs.Kept.{found}
-use Rattle.view_accounts.specs.Peaks.{session_at}
-use Rattle.view_accounts.proofs.KeptLemmas.{found-more, begun_there, none_kept}
-use Rattle.run_lines.proofs.AccountLemmas.{entries_within}
-use Rattle.std.proofs.lemmas.Option.{none-some}
-use Rattle.own_model.specs.Session.{Session, given}
+-- The session is found under its selector.
+use Rattle.std.proofs.Common.{List, Option, Some, ℕ, ◌≡◌, ◌==◌, ◌&&◌, ◌∙◌, sym, ap}
 use Rattle.own_model.specs.Amounts.{Amounts}
-use Rattle.view_accounts.specs.Peaks.{Noted}
+use Rattle.own_model.specs.Listed.{route_of}
+use Rattle.own_model.specs.Routes.{label_with}
+use Rattle.own_model.specs.Session.{given}
+use Rattle.own_model.specs.Transcript.{entry_at}
+use Rattle.pd_core.specs.Answer.{quotas_account}
+use Rattle.run_lines.proofs.AccountLemmas.{entries_within}
+use Rattle.view_accounts.specs.Kept.{found}
+use Rattle.view_accounts.specs.Peaks.{Noted, session_at}
+use Rattle.view_accounts.specs.SessionTable.{value_at}
+use Rattle.view_accounts.proofs.KeptLemmas.{begun_there, found_opened, found_unopened}
+use Rattle.view_accounts.proofs.SessionTableLemmas.{on_ok_by}
 use Rattle.view_accounts.proofs.peaks.Peaks.keep_new.Goals as goal
 
 abbrev noted_with : Amounts → Option ℕ → List ℕ → Noted
 noted_with peak server label = record { peak = peak; server = server; label = label }
 
--- none is there
-not_begun : (own : Bool) (now : Option Session) (first : Session → Noted) → None ≡ option_map (λ (x : Session). x.account) now → cond own (option_map first now) None ≡ None
-not_begun true None first none = refl
-not_begun true (Some x) first none = absurd (none-some x.account none)
-not_begun false now first none = refl
-
 pub returns-in_default-clause-sessions : goal.returns-in_default-clause-sessions
 returns-in_default-clause-sessions g c = λ k q.
-    none_kept _ _ (not_begun (k == c.args.opening.component && q == c.args.selector) (session_at c.args.opening.component c.args.selector c.args.core.now) _ c.in_default.ensures)
+    found_unopened (k == c.args.opening.component && q == c.args.selector) (session_at c.args.opening.component c.args.selector c.args.core.now) _ (found c.args.self.now.sessions k q) c.in_default.ensures
 
 pub label-requires : goal.label-requires
 label-requires g c = entries_within c.args.list.now c.args.core.now c.requires.listed c.requires.component
@@ -38,13 +31,14 @@ route-requires g c = record {
 }
 
 pub returns-clause-sessions : goal.returns-clause-sessions
-returns-clause-sessions g c = λ k q.
+returns-clause-sessions g c =
     let server = route_of c.args.list.now c.args.opening.component c.args.opening.service.now (given c.args.opening.args.now).label in
     let label = label_with (entry_at c.args.core.now.entries c.args.opening.component).label (given c.args.opening.args.now).label in
     let server_is : c.route.result ≡ server = c.route.ensures ∙ ap (route_of c.args.list.now c.args.opening.component c.args.opening.service.now) c.label_given-given.ensures.label in
     let client_is : c.label.result.now ≡ (entry_at c.args.core.now.entries c.args.opening.component).label = c.label.ensures.listed ∙ ap (λ entries. (entry_at entries c.args.opening.component).label) (sym c.requires.listed) in
     let label_is : c.in_ok-label_of.field-0.items ≡ label = c.in_ok-label_of.ensures ∙ (λ i. label_with (client_is i) (c.label_given-given.ensures.label i)) in
-    ap (λ kept. found kept k q) c.in_ok-push.ensures.items
-    ∙ found-more c.args.self.now.sessions.items _ k q
-    ∙ ap (λ o. option_or (found c.args.self.now.sessions.items k q) (cond (k == c.args.opening.component && q == c.args.selector) o None))
-    ((λ i. Some (noted_with (c.of.ensures i) (server_is i) (label_is i))) ∙ begun_there (session_at c.args.opening.component c.args.selector c.args.core.now) (quotas_account c.in-Some.account) server label c.in-Some.ensures)
+    on_ok_by c.set.result
+    (λ is k q.
+    found_opened (k == c.args.opening.component && q == c.args.selector) _ _ (value_at c.args.self.now.sessions k q) _ (is k q)
+    ((λ i. Some (noted_with (c.of.ensures i) (server_is i) (label_is i))) ∙ begun_there (session_at c.args.opening.component c.args.selector c.args.core.now) (quotas_account c.in-Some.account) server label c.in-Some.ensures))
+    c.set.ensures
