@@ -25,7 +25,7 @@ pub record LiesInLarge (share : Share) (address start ds : ℕ) : Type 0 where
 -- it lies where a site says
 abbrev pub LiesAt : Heap → Share → ℕ → HeapLocation → Type 0
 LiesAt heap share address (InChunk at) = LiesInChunk heap address at.chunk at.offset
-LiesAt heap share address (InLarge start ds) = LiesInLarge share address start ds.0
+LiesAt heap share address (InLarge block) = LiesInLarge share address block.start block.ds.0
 
 -- it lies in none of a heap's chunks and large blocks
 pub record LiesOutside (heap : Heap) (share : Share) (address : ℕ) : Type 0 where

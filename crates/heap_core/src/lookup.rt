@@ -17,13 +17,20 @@ use std::marker::Brand;
 use std::sync::ledger::Blank;
 use trade_base::DsId;
 
+/// A large block: its start address and its dataspace.
+#[derive(Clone, Copy)]
+pub struct LargeBlock {
+    pub start: u64,
+    pub ds: DsId,
+}
+
 /// The part of a heap that contains an address.
 #[derive(Clone, Copy)]
 pub enum HeapLocation {
     /// The address is in a chunk.
     InChunk(BlockAddr),
-    /// The address is in a large block, which has this start address and dataspace.
-    InLarge { start: u64, ds: DsId },
+    /// The address is in a large block.
+    InLarge(LargeBlock),
 }
 
 impl Heap {
@@ -47,9 +54,7 @@ impl Heap {
     {
         match self.site(memory, map, address)? {
             HeapLocation::InChunk(at) => self.range_in_chunk(memory, map, at, address, count),
-            HeapLocation::InLarge { start, ds } => self.range_in_large(
-                memory, map, start, ds, address, count,
-            ),
+            HeapLocation::InLarge(block) => self.range_in_large(memory, map, block, address, count),
         }
     }
 
@@ -118,7 +123,7 @@ impl Heap {
             return None;
         }
         if tag == LARGE {
-            return Some(HeapLocation::InLarge { start, ds });
+            return Some(HeapLocation::InLarge(LargeBlock { start, ds }));
         }
         Some(HeapLocation::InChunk(BlockAddr {
             chunk: tag as usize,
@@ -164,23 +169,22 @@ impl Heap {
         &self,
         memory: &Memory,
         map: &RegionMap,
-        start: u64,
-        ds: DsId,
+        block: LargeBlock,
         address: u64,
         count: u64,
     ) -> Option<(DsId, u64)>
         requires sound { IsSound self.now memory.now map.now }
         requires some { 1 ≤ count }
-        requires lies { LiesInLarge
-            (share_at (payer_of self.now) memory.now map.now) address start ds.0 }
+        requires lies { LiesInLarge (share_at (payer_of self.now) memory.now map.now) address
+            block.start block.ds.0 }
         ensures { FindsRange self.now memory.now map.now address count result }
     {
         // The contract is about the map; the caller passes the block's start.
         let _ = map;
-        let offset = address - start;
-        if count > memory.size(ds) - offset {
+        let offset = address - block.start;
+        if count > memory.size(block.ds) - offset {
             return None;
         }
-        Some((ds, offset))
+        Some((block.ds, offset))
     }
 }

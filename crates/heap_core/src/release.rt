@@ -11,7 +11,7 @@ ghost use Rattle.heap_core.specs.Lookup.{LiesInChunk, LiesInLarge};
 
 use crate::blocks::give;
 use crate::heap::Heap;
-use crate::lookup::HeapLocation;
+use crate::lookup::{HeapLocation, LargeBlock};
 use avl_alloc::BlockAddr;
 use dataspace_core::Memory;
 use region_map::RegionMap;
@@ -50,7 +50,7 @@ impl Heap {
     {
         match self.site(memory, map, address).ok_or(Refusal::PageFault)? {
             HeapLocation::InChunk(at) => self.free_small(memory, map, at, address),
-            HeapLocation::InLarge { start, ds } => self.free_large(memory, map, start, ds, address),
+            HeapLocation::InLarge(block) => self.free_large(memory, map, block, address),
         }
     }
 
@@ -149,13 +149,12 @@ impl Heap {
         &mut self,
         memory: &mut Memory,
         map: &mut RegionMap,
-        start: u64,
-        ds: DsId,
+        block: LargeBlock,
         address: u64,
     ) -> Result<(), Refusal>
         requires sound { IsSound self.old memory.old map.old }
-        requires lies { LiesInLarge
-            (share_at (payer_of self.old) memory.old map.old) address start ds.0 }
+        requires lies { LiesInLarge (share_at (payer_of self.old) memory.old map.old) address
+            block.start block.ds.0 }
         ensures refusal { result_err result
             ≡ free_refusal (heap_at self.old memory.old map.old) address }
         ensures large { OnOk result
@@ -166,11 +165,11 @@ impl Heap {
         ensures err { Unchanged (OnErr result)
             self.old self.new memory.old memory.new map.old map.new }
     {
-        if start != address {
+        if block.start != address {
             return Err(Refusal::PageFault);
         }
-        let index = index_of(&self.large, start);
-        self.give_large(memory, map, index, ds);
+        let index = index_of(&self.large, block.start);
+        self.give_large(memory, map, index, block.ds);
         Ok(())
     }
 
