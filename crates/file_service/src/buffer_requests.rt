@@ -13,8 +13,9 @@ ghost use Rattle.file_service.specs.SessionHeaps.{StaySoundHeaps};
 ghost use Rattle.file_service.specs.SessionBuffer.{buffer_key};
 ghost use Rattle.file_service.specs.Session.{Answers, IsReady, session_served, counted_reply, done_reply, lent_reply, lent_effect, gone_effect};
 
+use crate::contents::ContentRange;
 use crate::file_requests::error_of;
-use crate::session::{FileSession, SessionBuffer};
+use crate::session::{FileRange, FileSession, SessionBuffer};
 use crate::write_source::WriteSource;
 use dataspace_core::Memory;
 use region_map::RegionMap;
@@ -76,7 +77,7 @@ impl FileSession {
         Ok(lent.space)
     }
 
-    /// Writes `count` bytes of the buffer from a place on over a file's bytes from an offset on, and returns the count.
+    /// Writes the bytes of the buffer from a place on over a range of a file, and returns their number.
     ///
     /// Refuses with `NotFound`, `Gap`, `NoBuffer`, then `BadRange` if the bytes are not all in the buffer. Then refuses if
     /// the account does not cover a longer content.
@@ -84,60 +85,66 @@ impl FileSession {
         &mut self,
         memory: &mut Memory,
         map: &mut RegionMap,
-        name: &[u8],
-        offset: u64,
+        file: &FileRange<'_>,
         place: u64,
-        count: u64,
     ) -> Result<u64, FileError>
         requires ready { IsReady self.old memory.old map.old }
         ensures answers { Answers
-            (session_served (Some (OfBuffer (Put name.now offset place count)))
+            (session_served (Some (OfBuffer
+            (Put file.now.name.now file.now.offset place file.now.len)))
             self.old memory.old map.old)
             (counted_reply result) self.old self.new memory.new map.new }
         ensures same { buffer_key self.new.buffer ≡ buffer_key self.old.buffer }
         ensures stays { StaySoundHeaps self.old.rooms self.new.rooms
             memory.old memory.new map.old map.new }
     {
-        let found = self.find(memory, map, name).ok_or(FileError::NotFound)?;
-        if offset > found.node.size {
+        let found = self
+            .find(memory, map, file.name)
+            .ok_or(FileError::NotFound)?;
+        if file.offset > found.node.size {
             return Err(FileError::Gap);
         }
+        let count = file.len;
         let lent = self.range(memory, place, count)?;
         let source = WriteSource::Buffer { lent, place, count };
-        self.overwrite(memory, map, found, offset, source)
+        self.overwrite(memory, map, found, file.offset, source)
     }
 
-    /// Copies at most `count` bytes of a file from an offset on into the buffer from a place on, and returns their number.
+    /// Copies the bytes that a file has in a range into the buffer from a place on, and returns their number.
     ///
-    /// Refuses with `NotFound`, `Gap`, `NoBuffer`, then `BadRange` if the buffer has no room for `count` bytes.
+    /// Refuses with `NotFound`, `Gap`, `NoBuffer`, then `BadRange` if the buffer has no room for the range.
     pub(crate) fn get(
         &self,
         memory: &mut Memory,
         map: &RegionMap,
-        name: &[u8],
-        offset: u64,
+        file: &FileRange<'_>,
         place: u64,
-        count: u64,
     ) -> Result<u64, FileError>
         requires ready { IsReady self.now memory.old map.now }
         ensures answers { Answers
-            (session_served (Some (OfBuffer (Get name.now offset place count)))
+            (session_served (Some (OfBuffer
+            (Get file.now.name.now file.now.offset place file.now.len)))
             self.now memory.old map.now)
             (counted_reply result) self.now self.now memory.new map.now }
         ensures stays { StaySoundHeaps self.now.rooms self.now.rooms
             memory.old memory.new map.now map.now }
     {
-        let found = self.find(memory, map, name).ok_or(FileError::NotFound)?;
+        let found = self
+            .find(memory, map, file.name)
+            .ok_or(FileError::NotFound)?;
         let size = found.node.size;
-        if offset > size {
+        if file.offset > size {
             return Err(FileError::Gap);
         }
-        let lent = self.range(memory, place, count)?;
-        let part = count.min(size - offset);
+        let lent = self.range(memory, place, file.len)?;
+        let part = file.len.min(size - file.offset);
         if part > 0 {
-            let content = found.node.content;
-            self.rooms
-                .fill_buffer(memory, map, lent, place, content, offset, part);
+            let range = ContentRange {
+                address: found.node.content,
+                offset: file.offset,
+                count: part,
+            };
+            self.rooms.fill_buffer(memory, map, lent, place, range);
         }
         Ok(part)
     }

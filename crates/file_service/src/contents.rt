@@ -14,6 +14,14 @@ use dataspace_core::Memory;
 use region_map::RegionMap;
 use trade_base::{DsId, Refusal};
 
+/// A range of a content: the content's address, the offset of the first byte, and the number of bytes.
+#[derive(Clone, Copy)]
+pub(crate) struct ContentRange {
+    pub(crate) address: u64,
+    pub(crate) offset: u64,
+    pub(crate) count: u64,
+}
+
 impl SessionHeaps {
     /// Allocates a content of this number of bytes, all zero, and returns its address. The account is charged for whole
     /// pages, including the header, and for one capability.
@@ -90,7 +98,13 @@ impl SessionHeaps {
         if buffer.is_empty() {
             return;
         }
-        let (ds, at) = self.find_content(memory, map, address, offset, buffer.len() as u64);
+        let count = buffer.len() as u64;
+        let range = ContentRange {
+            address,
+            offset,
+            count,
+        };
+        let (ds, at) = self.find_content(memory, map, range);
         memory.read(ds, at, buffer);
     }
 
@@ -114,7 +128,13 @@ impl SessionHeaps {
         if bytes.is_empty() {
             return;
         }
-        let (ds, at) = self.find_content(memory, map, address, offset, bytes.len() as u64);
+        let count = bytes.len() as u64;
+        let range = ContentRange {
+            address,
+            offset,
+            count,
+        };
+        let (ds, at) = self.find_content(memory, map, range);
         memory.write(ds, at, bytes);
     }
 
@@ -140,58 +160,66 @@ impl SessionHeaps {
         if count == 0 {
             return;
         }
-        let (source, place) = self.find_content(memory, map, from, 0, count);
-        self.fill_content(memory, map, to, 0, source, place, count);
+        let front = ContentRange {
+            address: from,
+            offset: 0,
+            count,
+        };
+        let (source, place) = self.find_content(memory, map, front);
+        let target = ContentRange {
+            address: to,
+            offset: 0,
+            count,
+        };
+        self.fill_content(memory, map, target, source, place);
     }
 
-    /// Overwrites a content from an offset on with `count` bytes of another dataspace from `place` on.
+    /// Overwrites a range of a content with as many bytes of another dataspace from `place` on.
     pub(crate) fn fill_content(
         &self,
         memory: &mut Memory,
         map: &RegionMap,
-        address: u64,
-        offset: u64,
+        range: ContentRange,
         source: DsId,
         place: u64,
-        count: u64,
     )
         requires furnished { AreSoundHeaps self.now memory.old map.now }
-        requires there { HasBytes
-            (stock_of self.now memory.old map.now).contents address offset count }
-        requires source { IsThere memory.old source.0 place count }
-        requires apart { IsElsewhere self.now.contents memory.old map.now source.0 address }
+        requires there { HasBytes (stock_of self.now memory.old map.now).contents
+            range.address range.offset range.count }
+        requires source { IsThere memory.old source.0 place range.count }
+        requires apart { IsElsewhere self.now.contents memory.old map.now source.0 range.address }
         ensures written { let bytes = (space_at memory.old source.0).bytes in
             stock_of self.now memory.new map.now
-            ≡ content_written address offset (slice_range bytes place (place + count))
+            ≡ content_written range.address range.offset
+            (slice_range bytes place (place + range.count))
             (stock_of self.now memory.old map.now) }
         ensures keeps { KeepsRooms self.now self.now
             memory.old memory.new map.now map.now }
     {
+        let count = range.count;
         if count == 0 {
             return;
         }
-        let (ds, at) = self.find_content(memory, map, address, offset, count);
+        let (ds, at) = self.find_content(memory, map, range);
         memory.copy(source, place, ds, at, count);
     }
 
-    /// Finds the dataspace that has some bytes of a content, and the offset in it.
+    /// Finds the dataspace that has a range of a content, and the offset in it.
     pub(crate) fn find_content(
         &self,
         memory: &Memory,
         map: &RegionMap,
-        address: u64,
-        offset: u64,
-        count: u64,
+        range: ContentRange,
     ) -> (DsId, u64)
         requires furnished { AreSoundHeaps self.now memory.now map.now }
-        requires there { HasBytes
-            (stock_of self.now memory.now map.now).contents address offset count }
-        requires some { 1 ≤ count }
+        requires there { HasBytes (stock_of self.now memory.now map.now).contents
+            range.address range.offset range.count }
+        requires some { 1 ≤ range.count }
         ensures { FindsContent self.now.contents memory.now map.now
-            result.0.0 result.1 address offset count }
+            result.0.0 result.1 range.address range.offset range.count }
     {
         self.contents
-            .block_of(memory, map, address + offset, count)
+            .block_of(memory, map, range.address + range.offset, range.count)
             .unwrap()
     }
 }

@@ -15,7 +15,7 @@ ghost use Rattle.file_service.specs.Source.{bytes_from, HasSource};
 ghost use Rattle.file_service.specs.SessionHeaps.{stock_of, AreSoundHeaps, KeepsRooms};
 ghost use Rattle.file_service.specs.Session.{files_in, HasFiles, Finds, LinksTo, IsListed, Unlists, IsFresh, IsOwn, KeepsOwn, Serves, done_reply, counted_reply, served_in};
 
-use crate::name_tree::PREVIOUS;
+use crate::name_tree::{NamedNode, PREVIOUS};
 use crate::node::{NEXT, Node, copied};
 use crate::session::{FileSession, FoundFile};
 use crate::session_heaps::SessionHeaps;
@@ -211,9 +211,10 @@ impl FileSession {
         self.rooms.store_new(memory, map, address, &node, last);
         self.link(memory, map, last, address);
         self.last = address;
+        let entered = NamedNode { address, name };
         self.root = self
             .rooms
-            .enter::<Brand>(memory, map, self.root, name, address, Blank::new(1));
+            .enter::<Brand>(memory, map, self.root, &entered, Blank::new(1));
     }
 
     // Removes a file's node from the tree, links the next node back to the previous one, and returns the previous one.

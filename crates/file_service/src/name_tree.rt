@@ -33,6 +33,13 @@ const HIGH: u64 = 80;
 /// The offset in a node's block of the address of the previous node, in the order of creation.
 pub(crate) const PREVIOUS: u64 = 88;
 
+/// A file's node that is to be in the tree: its address, and the file's name.
+#[derive(Clone, Copy)]
+pub(crate) struct NamedNode<'a> {
+    pub(crate) address: u64,
+    pub(crate) name: &'a [u8],
+}
+
 /// A memory whose loaded words are counted.
 pub(crate) struct CountedMemory<'a, L: Ledger> {
     pub(crate) memory: &'a mut Memory,
@@ -338,16 +345,16 @@ impl SessionHeaps {
         memory: &mut Memory,
         map: &RegionMap,
         root: u64,
-        name: &[u8],
-        address: u64,
+        node: &NamedNode<'_>,
         blank: Blank,
     ) -> u64
         requires blank { IsBlankOf blank.name blank.parts L.name L.parts }
-        requires few { length name.now ≤ 32 }
+        requires few { length node.now.name.now ≤ 32 }
         requires furnished { AreSoundHeaps self.now memory.old map.now }
-        requires unnamed { (blocks : List ℕ) × CanEnter root blocks address (rank_of name.now)
+        requires unnamed { (blocks : List ℕ)
+            × CanEnter root blocks node.now.address (rank_of node.now.name.now)
             (stock_of self.now memory.old map.now).nodes }
-        ensures enters { Enters root address (rank_of name.now) result
+        ensures enters { Enters root node.now.address (rank_of node.now.name.now) result
             (stock_of self.now memory.old map.now).nodes
             (stock_of self.now memory.new map.now).nodes }
         ensures tree { ChangesTree (stock_of self.now memory.old map.now)
@@ -361,7 +368,7 @@ impl SessionHeaps {
             map,
             memory: PhantomData,
         };
-        nodes.enter(&mut counted, root, NameKey::of(name), address)
+        nodes.enter(&mut counted, root, NameKey::of(node.name), node.address)
     }
 
     /// Removes the node of a name from the tree and returns the tree's root.

@@ -7,7 +7,7 @@ ghost use Rattle.file_service.specs.SessionHeaps.{stock_of, AreSoundHeaps};
 ghost use Rattle.file_service.specs.Session.{files_in, HasFiles, counted_reply, bytes_reply, IsTold};
 
 use crate::node::{NEXT, Node};
-use crate::session::FileSession;
+use crate::session::{FileRange, FileSession};
 use dataspace_core::Memory;
 use region_map::RegionMap;
 use session_proto::FileError;
@@ -33,41 +33,43 @@ impl FileSession {
         Ok(found.node.size)
     }
 
-    /// Reads at most `len` bytes of a file from an offset on to the front of a buffer, and returns their number.
+    /// Reads the bytes that a file has in a range to the front of a buffer, and returns their number.
     ///
     /// Refuses with `NotFound` if there is no such file. Then refuses with `Gap` if the offset is above its size, then
-    /// `TooLong` if `len` is above 1024.
+    /// `TooLong` if the range has more than 1024 bytes.
     pub(crate) fn read(
         &self,
         memory: &mut Memory,
         map: &RegionMap,
-        name: &[u8],
-        offset: u64,
-        len: u64,
+        file: &FileRange<'_>,
         buffer: &mut [u8],
     ) -> Result<usize, FileError>
-        requires room { len ≤ MOST_READ → len ≤ length buffer.old }
+        requires room { file.now.len ≤ MOST_READ → file.now.len ≤ length buffer.old }
         requires furnished { AreSoundHeaps self.now.rooms memory.old map.now }
         requires files { HasFiles self.now (stock_of self.now.rooms memory.old map.now) }
-        ensures told { IsTold (Read name.now offset len) (bytes_reply buffer.new result) self.now
+        ensures told { IsTold (Read file.now.name.now file.now.offset file.now.len)
+            (bytes_reply buffer.new result) self.now
             (stock_of self.now.rooms memory.old map.now) }
         ensures count { IfOk result (λ count. count ≤ length buffer.new) }
         ensures same_length { length buffer.new ≡ length buffer.old }
         ensures memory { memory.new ≡ memory.old }
     {
-        let found = self.find(memory, map, name).ok_or(FileError::NotFound)?;
+        let found = self
+            .find(memory, map, file.name)
+            .ok_or(FileError::NotFound)?;
         let size = found.node.size;
-        if offset > size {
+        if file.offset > size {
             return Err(FileError::Gap);
         }
-        if len > MOST_READ {
+        if file.len > MOST_READ {
             return Err(FileError::TooLong);
         }
-        let count = len.min(size - offset) as usize;
+        let count = file.len.min(size - file.offset) as usize;
         if count > 0 {
             let content = found.node.content;
             let part = &mut buffer[..count];
-            self.rooms.read_content(memory, map, content, offset, part);
+            self.rooms
+                .read_content(memory, map, content, file.offset, part);
         }
         Ok(count)
     }

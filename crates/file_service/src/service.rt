@@ -16,7 +16,7 @@ ghost use Rattle.file_service.specs.SessionHeaps.{stock_of, AreSoundHeaps, Keeps
 ghost use Rattle.file_service.specs.SessionBuffer.{buffer_key};
 ghost use Rattle.file_service.specs.Session.{HasFiles, IsReady, IsAnswered, IsTold, Serves, done_reply, counted_reply, lent_reply, lent_effect, gone_effect, served_in, session_served};
 
-use crate::session::FileSession;
+use crate::session::{FileRange, FileSession};
 use crate::session_heaps::SessionHeaps;
 use core_calls::{Quotas, Reply};
 use dataspace_core::Memory;
@@ -115,22 +115,27 @@ fn answer(
 {
     match FileRequest::read(request) {
         None => FileReply::Refused(FileError::BadRequest).write(reply),
-        Some(FileRequest::Create(name)) => tell_done(session.create(memory, map, name), reply),
+        Some(FileRequest::Create(name)) => reply_done(session.create(memory, map, name), reply),
         Some(FileRequest::Write { file, offset, hex }) => {
-            tell_count(write(session, memory, map, file, offset, hex), reply);
+            reply_count(write(session, memory, map, file, offset, hex), reply);
         }
         Some(FileRequest::Read { file, offset, len }) => {
-            tell_read(session, memory, map, file, offset, len, reply);
+            let range = FileRange {
+                name: file,
+                offset,
+                len,
+            };
+            answer_read(session, memory, map, &range, reply);
         }
-        Some(FileRequest::Size(name)) => tell_count(session.size(memory, map, name), reply),
-        Some(FileRequest::Clear(name)) => tell_done(session.clear(memory, map, name), reply),
-        Some(FileRequest::Drop(name)) => tell_done(session.remove(memory, map, name), reply),
-        Some(FileRequest::Name(place)) => tell_name(session, memory, map, place, reply),
-        Some(FileRequest::Stat) => session.rooms.tell_shares(memory, reply),
+        Some(FileRequest::Size(name)) => reply_count(session.size(memory, map, name), reply),
+        Some(FileRequest::Clear(name)) => reply_done(session.clear(memory, map, name), reply),
+        Some(FileRequest::Drop(name)) => reply_done(session.remove(memory, map, name), reply),
+        Some(FileRequest::Name(place)) => answer_name(session, memory, map, place, reply),
+        Some(FileRequest::Stat) => session.rooms.answer_stat(memory, reply),
         Some(FileRequest::Buffer(bytes)) => {
-            return tell_lent(session.lend(memory, map, bytes), reply);
+            return reply_lent(session.lend(memory, map, bytes), reply);
         }
-        Some(FileRequest::Unbuffer) => return tell_gone(session.take_back(memory, map), reply),
+        Some(FileRequest::Unbuffer) => return reply_gone(session.take_back(memory, map), reply),
         Some(
             FileRequest::Put {
                 file,
@@ -138,7 +143,14 @@ fn answer(
                 place,
                 len,
             },
-        ) => tell_count(session.put(memory, map, file, offset, place, len), reply),
+        ) => {
+            let range = FileRange {
+                name: file,
+                offset,
+                len,
+            };
+            reply_count(session.put(memory, map, &range, place), reply);
+        }
         Some(
             FileRequest::Get {
                 file,
@@ -146,59 +158,62 @@ fn answer(
                 place,
                 len,
             },
-        ) => tell_count(session.get(memory, map, file, offset, place, len), reply),
+        ) => {
+            let range = FileRange {
+                name: file,
+                offset,
+                len,
+            };
+            reply_count(session.get(memory, map, &range, place), reply);
+        }
     }
     Effect::Nothing
 }
 
-/// Writes the reply with at most `len` bytes of a file from an offset on, or with the error.
-fn tell_read(
+/// Writes the reply with the bytes that a file has in a range, or with the error.
+fn answer_read(
     session: &FileSession,
     memory: &mut Memory,
     map: &RegionMap,
-    file: &[u8],
-    offset: u64,
-    len: u64,
+    file: &FileRange<'_>,
     reply: &mut Reply,
 )
     requires furnished { AreSoundHeaps session.now.rooms memory.old map.now }
     requires files { HasFiles session.now (stock_of session.now.rooms memory.old map.now) }
     ensures told { (answer : Answered)
-        × ((IsTold (Read file.now offset len) answer session.now
+        × ((IsTold (Read file.now.name.now file.now.offset file.now.len) answer session.now
         (stock_of session.now.rooms memory.old map.now))
         × (reply.new ≡ record reply.old { text = file_reply answer })) }
     ensures memory { memory.new ≡ memory.old }
 {
-    if len <= FEW_READ as u64 {
-        tell_read_by::<FEW_READ>(session, memory, map, file, offset, len, reply);
+    if file.len <= FEW_READ as u64 {
+        answer_read_by::<FEW_READ>(session, memory, map, file, reply);
     } else {
-        tell_read_by::<MOST_READ>(session, memory, map, file, offset, len, reply);
+        answer_read_by::<MOST_READ>(session, memory, map, file, reply);
     }
 }
 
 /// Writes the same reply through a buffer of `N` bytes. It is not inlined, because each request would clear its buffer.
 #[inline(never)]
-fn tell_read_by<const N: usize>(
+fn answer_read_by<const N: usize>(
     session: &FileSession,
     memory: &mut Memory,
     map: &RegionMap,
-    file: &[u8],
-    offset: u64,
-    len: u64,
+    file: &FileRange<'_>,
     reply: &mut Reply,
 )
-    requires few { len ≤ MOST_READ → len ≤ N }
+    requires few { file.now.len ≤ MOST_READ → file.now.len ≤ N }
     requires small { N ≤ MOST_READ }
     requires furnished { AreSoundHeaps session.now.rooms memory.old map.now }
     requires files { HasFiles session.now (stock_of session.now.rooms memory.old map.now) }
     ensures told { (answer : Answered)
-        × ((IsTold (Read file.now offset len) answer session.now
+        × ((IsTold (Read file.now.name.now file.now.offset file.now.len) answer session.now
         (stock_of session.now.rooms memory.old map.now))
         × (reply.new ≡ record reply.old { text = file_reply answer })) }
     ensures memory { memory.new ≡ memory.old }
 {
     let mut buffer = [0; N];
-    match session.read(memory, map, file, offset, len, &mut buffer) {
+    match session.read(memory, map, file, &mut buffer) {
         Ok(count) => FileReply::Bytes(&buffer[..count]).write(reply),
         Err(error) => FileReply::Refused(error).write(reply),
     }
@@ -265,7 +280,7 @@ fn write_by<const N: usize>(
 }
 
 /// Writes the reply with the name of the file at a place in the order of creation, or that there are no more.
-fn tell_name(
+fn answer_name(
     session: &FileSession,
     memory: &mut Memory,
     map: &RegionMap,
@@ -289,7 +304,7 @@ fn tell_name(
 
 impl SessionHeaps {
     /// Writes the reply with use and limits of the session's account.
-    fn tell_shares(&self, memory: &Memory, reply: &mut Reply)
+    fn answer_stat(&self, memory: &Memory, reply: &mut Reply)
         requires open { IsOpenIn memory.now (payer_of self.now.contents) }
         ensures { reply.new ≡ record reply.old {
           text = file_reply (model.FileReply.Quotas
@@ -310,7 +325,7 @@ impl SessionHeaps {
 }
 
 /// Writes the reply of a request that is done or refused.
-fn tell_done(outcome: Result<(), FileError>, reply: &mut Reply)
+fn reply_done(outcome: Result<(), FileError>, reply: &mut Reply)
     ensures { reply.new ≡ record reply.old {
       text = file_reply (done_reply outcome);
     } }
@@ -322,7 +337,7 @@ fn tell_done(outcome: Result<(), FileError>, reply: &mut Reply)
 }
 
 /// Writes the reply with a count, or with the error.
-fn tell_count(outcome: Result<u64, FileError>, reply: &mut Reply)
+fn reply_count(outcome: Result<u64, FileError>, reply: &mut Reply)
     ensures { reply.new ≡ record reply.old {
       text = file_reply (counted_reply outcome);
     } }
@@ -334,7 +349,7 @@ fn tell_count(outcome: Result<u64, FileError>, reply: &mut Reply)
 }
 
 /// Writes the reply of a created buffer, or the error, and returns the effect on the buffer. The selector is appended later.
-fn tell_lent(outcome: Result<DsId, FileError>, reply: &mut Reply) -> Effect
+fn reply_lent(outcome: Result<DsId, FileError>, reply: &mut Reply) -> Effect
     ensures told { reply.new ≡ record reply.old {
       text = file_reply (lent_reply outcome);
     } }
@@ -353,7 +368,7 @@ fn tell_lent(outcome: Result<DsId, FileError>, reply: &mut Reply) -> Effect
 }
 
 /// Writes the reply of a freed buffer, or the error, and returns the effect on the buffer.
-fn tell_gone(outcome: Result<DsId, FileError>, reply: &mut Reply) -> Effect
+fn reply_gone(outcome: Result<DsId, FileError>, reply: &mut Reply) -> Effect
     ensures told { reply.new ≡ record reply.old {
       text = file_reply (done_reply outcome);
     } }

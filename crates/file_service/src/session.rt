@@ -32,6 +32,14 @@ pub(crate) struct SessionBuffer {
     pub(crate) start: u64,
 }
 
+/// A range of a file, as a request gives it: the file's name, the offset of the first byte, and the number of bytes.
+#[derive(Clone, Copy)]
+pub(crate) struct FileRange<'a> {
+    pub(crate) name: &'a [u8],
+    pub(crate) offset: u64,
+    pub(crate) len: u64,
+}
+
 /// A file that is found, with the address of its node.
 #[derive(Drop)]
 pub(crate) struct FoundFile {

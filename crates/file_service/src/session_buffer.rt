@@ -12,6 +12,7 @@ ghost use Rattle.file_service.specs.SoundHeaps.{lent_regions};
 ghost use Rattle.file_service.specs.SessionHeaps.{stock_of, AreSoundHeaps, StaySoundHeaps};
 ghost use Rattle.file_service.specs.SessionBuffer.{IsBufferAt, HasBuffer, TakesBuffer, GivesBuffer, FillsBuffer, KeepsLimits};
 
+use crate::contents::ContentRange;
 use crate::session::SessionBuffer;
 use crate::session_heaps::SessionHeaps;
 use dataspace_core::Memory;
@@ -63,34 +64,33 @@ impl SessionHeaps {
         memory.free(lent.space);
     }
 
-    /// Copies `count` bytes of a content from an offset on into the buffer from `place` on.
+    /// Copies a range of a content into the buffer from `place` on.
     pub(crate) fn fill_buffer(
         &self,
         memory: &mut Memory,
         map: &RegionMap,
         lent: SessionBuffer,
         place: u64,
-        address: u64,
-        offset: u64,
-        count: u64,
+        range: ContentRange,
     )
         requires furnished { AreSoundHeaps self.now memory.old map.now }
         requires lent { IsBufferAt lent (holding_of self.now.contents memory.old map.now) }
-        requires some { 1 ≤ count }
-        requires there { HasBytes
-            (stock_of self.now memory.old map.now).contents address offset count }
-        requires room { place + count ≤ length (space_at memory.old lent.space.0).bytes }
+        requires some { 1 ≤ range.count }
+        requires there { HasBytes (stock_of self.now memory.old map.now).contents
+            range.address range.offset range.count }
+        requires room { place + range.count ≤ length (space_at memory.old lent.space.0).bytes }
         ensures filled { let content = payload_in
-            (stock_of self.now memory.old map.now).contents address in
-            FillsBuffer lent place (slice_range content offset (offset + count))
+            (stock_of self.now memory.old map.now).contents range.address in
+            FillsBuffer lent place
+            (slice_range content range.offset (range.offset + range.count))
             (stock_of self.now memory.old map.now)
             (stock_of self.now memory.new map.now)
             (holding_of self.now.contents memory.new map.now) memory.old memory.new }
         ensures stays { StaySoundHeaps self.now self.now
             memory.old memory.new map.now map.now }
     {
-        let (ds, at) = self.find_content(memory, map, address, offset, count);
-        memory.copy(ds, at, lent.space, place, count);
+        let (ds, at) = self.find_content(memory, map, range);
+        memory.copy(ds, at, lent.space, place, range.count);
     }
 
     /// Frees the buffer of a session, if it has one.

@@ -7,6 +7,7 @@ ghost use Rattle.file_service.specs.Calls.{content_written, HasBytes};
 ghost use Rattle.file_service.specs.SessionHeaps.{stock_of, AreSoundHeaps, KeepsRooms};
 ghost use Rattle.file_service.specs.Source.{bytes_from, HasSource};
 
+use crate::contents::ContentRange;
 use crate::session::SessionBuffer;
 use crate::session_heaps::SessionHeaps;
 use dataspace_core::Memory;
@@ -60,9 +61,14 @@ impl SessionHeaps {
     {
         match source {
             WriteSource::Bytes(bytes) => { self.write_content(memory, map, address, offset, bytes) }
-            WriteSource::Buffer { lent, place, count } => self.fill_content(
-                memory, map, address, offset, lent.space, place, count,
-            ),
+            WriteSource::Buffer { lent, place, count } => {
+                let range = ContentRange {
+                    address,
+                    offset,
+                    count,
+                };
+                self.fill_content(memory, map, range, lent.space, place);
+            }
         }
     }
 }

@@ -14,6 +14,6 @@ pub enter-requires-clause-unnamed : goal.enter-requires-clause-unnamed
 enter-requires-clause-unnamed g c =
     let q = c.requires.unnamed in (
       q.0,
-      subst (λ m. CanEnter c.args.root q.0 c.args.address (rank_by (slice_index c.of.result.words)) (stock_of c.args.self.now m c.args.map.now).nodes) (sym c.over-counted.ensures.memory)
-          (subst (λ r. CanEnter c.args.root q.0 c.args.address r (stock_of c.args.self.now c.args.memory.now c.args.map.now).nodes) (sym c.of.ensures) q.1),
+      subst (λ m. CanEnter c.args.root q.0 c.args.node.now.address (rank_by (slice_index c.of.result.words)) (stock_of c.args.self.now m c.args.map.now).nodes) (sym c.over-counted.ensures.memory)
+          (subst (λ r. CanEnter c.args.root q.0 c.args.node.now.address r (stock_of c.args.self.now c.args.memory.now c.args.map.now).nodes) (sym c.of.ensures) q.1),
     )

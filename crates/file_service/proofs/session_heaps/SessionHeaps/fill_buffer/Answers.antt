@@ -21,16 +21,16 @@ returns-clause-filled c =
     let a = c.args in
     let f = c.requires.furnished in
     let found = c.find_content-at.ensures in
-    let part = slice_range (space_at a.memory.now c.find_content-at.result.0.0).bytes c.find_content-at.result.1 (c.find_content-at.result.1 + a.count) in
-    let long = length-slice_range (space_at a.memory.now c.find_content-at.result.0.0).bytes c.find_content-at.result.1 a.count found.there.within in
+    let part = slice_range (space_at a.memory.now c.find_content-at.result.0.0).bytes c.find_content-at.result.1 (c.find_content-at.result.1 + a.range.count) in
+    let long = length-slice_range (space_at a.memory.now c.find_content-at.result.0.0).bytes c.find_content-at.result.1 a.range.count found.there.within in
     subst (λ bytes. FillsBuffer a.lent a.place bytes (stock_of a.self.now a.memory.now a.map.now) (stock_of a.self.now c.copy.new.self a.map.now) (holding_of a.self.now.contents c.copy.new.self a.map.now) a.memory.now c.copy.new.self)
-    (content_read f a.address a.offset a.count _ _ c.requires.there c.requires.some found)
+    (content_read f a.range.address a.range.offset a.range.count _ _ c.requires.there c.requires.some found)
     (filled_buffer f a.lent c.requires.lent a.place part (omega (arith, long, c.requires.room)) c.copy.ensures.part)
 
 pub returns-clause-stays : goal.returns-clause-stays
 returns-clause-stays c =
     let a = c.args in
     let found = c.find_content-at.ensures in
-    let part = slice_range (space_at a.memory.now c.find_content-at.result.0.0).bytes c.find_content-at.result.1 (c.find_content-at.result.1 + a.count) in
-    let long = length-slice_range (space_at a.memory.now c.find_content-at.result.0.0).bytes c.find_content-at.result.1 a.count found.there.within in
+    let part = slice_range (space_at a.memory.now c.find_content-at.result.0.0).bytes c.find_content-at.result.1 (c.find_content-at.result.1 + a.range.count) in
+    let long = length-slice_range (space_at a.memory.now c.find_content-at.result.0.0).bytes c.find_content-at.result.1 a.range.count found.there.within in
     filled_furnished c.requires.furnished a.lent c.requires.lent a.place part (omega (arith, long, c.requires.room)) c.copy.ensures.part

@@ -13,20 +13,20 @@ pub returns-then-count-eq0-clause-written : goal.returns-then-count-eq0-clause-w
 returns-then-count-eq0-clause-written c =
     let a = c.args in
     let was = stock_of a.self.now a.memory.now a.map.now in
-    let long = length-slice_range (space_at a.memory.now a.source.0).bytes a.place a.count c.requires.source.within in
-    nothing_written was a.address a.offset (slice_range (space_at a.memory.now a.source.0).bytes a.place (a.place + a.count)) (omega (arith, long))
-    (subst (HasBytes was.contents a.address a.offset) (sym long) c.requires.there)
+    let long = length-slice_range (space_at a.memory.now a.source.0).bytes a.place a.range.count c.requires.source.within in
+    nothing_written was a.range.address a.range.offset (slice_range (space_at a.memory.now a.source.0).bytes a.place (a.place + a.range.count)) (omega (arith, long))
+    (subst (HasBytes was.contents a.range.address a.range.offset) (sym long) c.requires.there)
 
 pub copy-requires-clause-apart : goal.copy-requires-clause-apart
 copy-requires-clause-apart c =
-    let a = c.args in elsewhere_apart c.requires.furnished a.address a.offset a.count a.source.0 _ _ c.requires.apart c.find_content-at.ensures
+    let a = c.args in elsewhere_apart c.requires.furnished a.range.address a.range.offset a.range.count a.source.0 _ _ c.requires.apart c.find_content-at.ensures
 
 pub returns-clause-written : goal.returns-clause-written
 returns-clause-written c =
     let a = c.args in
-    filled_written c.requires.furnished a.address a.offset a.source.0 a.place a.count _ _ c.requires.there (omega arith) c.requires.source c.find_content-at.ensures c.copy.ensures.part
+    filled_written c.requires.furnished a.range.address a.range.offset a.source.0 a.place a.range.count _ _ c.requires.there (omega arith) c.requires.source c.find_content-at.ensures c.copy.ensures.part
 
 pub returns-clause-keeps : goal.returns-clause-keeps
 returns-clause-keeps c =
     let a = c.args in
-    filled_keeps c.requires.furnished a.address a.offset a.source.0 a.place a.count _ _ c.requires.there (omega arith) c.requires.source c.find_content-at.ensures c.copy.ensures.part
+    filled_keeps c.requires.furnished a.range.address a.range.offset a.source.0 a.place a.range.count _ _ c.requires.there (omega arith) c.requires.source c.find_content-at.ensures c.copy.ensures.part

@@ -1,7 +1,7 @@
 -- The session stays, and the name is told.
 use Rattle.std.proofs.Common.{ap, ◌∙◌, Some, None}
 use Rattle.file_service.proofs.RequestLemmas.{name_reply, named_served}
-use Rattle.file_service.proofs.service.tell_name.Goals as goal
+use Rattle.file_service.proofs.service.answer_name.Goals as goal
 
 pub returns-in-Some-clause-told : goal.returns-in-Some-clause-told
 returns-in-Some-clause-told c =
