@@ -10,7 +10,7 @@ use Rattle.own_model.specs.Region.{Region}
 use Rattle.own_model.proofs.RegionApartLemmas.{LieApart-fewer}
 use Rattle.own_model.proofs.NatMapLemmas.{before_remove, get-remove_same, get-remove_other, value_at}
 use Rattle.own_model.proofs.Totals.{len-remove_at}
-use Rattle.dataspace_core.specs.Store.{Store, Part, part, account_in, space_at, IsOpenIn, PartBecomes, part_without_space, ram_limits_in}
+use Rattle.dataspace_core.specs.Store.{Store, Part, part, account_in, space_at, IsOpenIn, PartBecomes, part_without_space, ram_limits_in, OtherSpacesStay}
 use Rattle.dataspace_core.specs.Share.{Share, share, share_in, IsWindowOf, KeepsShares}
 use Rattle.dataspace_core.proofs.PartLaws.{IsPaidBy, paid_in_part, becomes_paid, account_of-part}
 use Rattle.dataspace_core.proofs.ShareLaws.{share_detached, share_detached_other}
@@ -50,7 +50,7 @@ module _ (account start ds size : ℕ) (old new : Store) (pages most : ℕ) (hea
     gone_becomes = becomes_paid (λ p. part_without_space p ds) gone_paid freed
 
     -- the account's other dataspaces stay
-    pub gone_others : (k : ℕ) → k ≢ ds → get (part account new).spaces k ≡ get (part account old).spaces k
+    pub gone_others : OtherSpacesStay account ds old new
     gone_others k apart = ap (λ (p : Part). get p.spaces k) gone_becomes.own ∙ get-remove_other (part account old).spaces ds k apart
 
     -- they are one less

@@ -11,10 +11,11 @@ use Rattle.own_model.specs.NatMap.{NatMap, total}
 use Rattle.own_model.proofs.NatMapLemmas.{same, value_at, apart_from_free, before_remove, get-insert_same, get-insert_other, get-remove_same, get-remove_other}
 use Rattle.own_model.proofs.Totals.{total-insert_new, total-insert_at, total-insert_same, total-remove, total-zero, total_same, total_parted}
 use Rattle.own_model.proofs.NatMapSums.{measured, measured_or, total-taken, total_keys_le}
-use Rattle.dataspace_core.specs.Store.{Store, Part, part, parted_part, raised_part, closed_part, accounts_in, parents_in, room_in, account_in, IsOpenIn, IsChildIn, caps_limits_in, ClosesPart}
+use Rattle.dataspace_core.specs.Store.{Store, Part, part, parted_part, raised_part, closed_part, accounts_in, parents_in, room_in, account_in, IsOpenIn, IsChildIn, caps_limits_in, ClosesPart, OtherPartsStay}
 use Rattle.dataspace_core.specs.Room.{inner_weight, inner_accounts, IsOuter, HasRoom, RoomAtFirst, RoomForOneMore, RoomStays, OpensBelow, RoomIsTaken, RoomUnderHead, RoomIsRaised, RoomIsShifted, RoomIsGivenBack, RoomAfterExit}
 use Rattle.dataspace_core.proofs.PartLaws.{account_of-part}
 use Rattle.dataspace_core.proofs.LimitLaws.{accounts_after}
+use Rattle.dataspace_core.proofs.WindowLaws.{own_account}
 
 -- ---- accounts and their parts
 
@@ -34,18 +35,13 @@ account_there account store opens =
     let has = value_at (accounts_in store) account opens in
     has.1 ∙ ap Some (sym (ap (λ (o : Option Account). unwrap_or o (opened 0 0)) has.1))
 
--- so does the part
-part_there : (account : ℕ) (store : Store) → IsOpenIn store account → (part account store).account ≡ Some (account_in store account)
-unfolding part
-part_there account store opens = account_there account store opens
-
 -- a closed part has none
 closed_account : (account : ℕ) (store : Store) → part account store ≡ closed_part → get (accounts_in store) account ≡ None
 unfolding part
 closed_account account store is = ap (λ (p : Part). p.account) is
 
 -- two accounts change and the others stay
-accounts_moved : (from to : ℕ) (x y : Account) (old new : Store) → (part from new).account ≡ Some x → (part to new).account ≡ Some y → ((other : ℕ) → other ≢ from → other ≢ to → part other new ≡ part other old) → from ≢ to →
+accounts_moved : (from to : ℕ) (x y : Account) (old new : Store) → (part from new).account ≡ Some x → (part to new).account ≡ Some y → OtherPartsStay from to old new → from ≢ to →
     accounts_in new ≡ insert (insert (accounts_in old) from x) to y
 accounts_moved from to x y old new first second others apart = same _ _ (λ k. elim (cases_eq k to) [
   | inl here ↦ ap (get (accounts_in new)) here ∙ account_in_part to new y second ∙ sym (get-insert_same (insert (accounts_in old) from x) to y k here)
@@ -312,7 +308,7 @@ room_is_given_back heads account parent old new closes opens outer kin apart no_
     let more : (part parent new).account ≡ Some (raised (account_in old parent) (account_in old account).ram_limit (account_in old account).caps_limit) =
     account_raised parent _ _ old new closes.raised_one ∙ ap (λ (a : Account). Some (raised (account_in old parent) a.ram_limit a.caps_limit)) limits_of in
     let less = inner_closed heads closes kin in
-    let limits = limits_opened (λ x. x.caps_limit) parent account (account_in old parent) (account_in old account) new old (part_there parent old opens) (part_there account old (room.there account parent kin))
+    let limits = limits_opened (λ x. x.caps_limit) parent account (account_in old parent) (account_in old account) new old (own_account parent old opens) (own_account account old (room.there account parent kin))
     (λ other not_parent not_account. sym (closes.others other not_account not_parent)) gone (open_on new parent _ more)
     (sym (ap (λ (o : Option Account). (unwrap_or o (opened 0 0)).caps_limit) (account_in_part parent new _ more))) in
     room_closed heads closes room (omega (arith, less, weighs_one heads parent no_head, limits, closes.room, room.counted))

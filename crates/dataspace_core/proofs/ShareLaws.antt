@@ -10,7 +10,7 @@ use Rattle.own_model.specs.NatMap.{NatMap, picked}
 use Rattle.own_model.specs.Region.{Region}
 use Rattle.own_model.proofs.NatMapLemmas.{same, natmaps, get-picked, and_then_from, and_then_alike, get-remove_other, picked-insert_hidden, picked-insert_some, picked-remove, picked-remove_hidden}
 use Rattle.dataspace_core.specs.Store.{Part}
-use Rattle.dataspace_core.specs.Share.{Share, shown, share_in, tags_of}
+use Rattle.dataspace_core.specs.Share.{Share, shown, share_in, tags_of, IsShownByNone}
 
 -- the number that is kept with a region, if it is one of these
 pub get-tags_of : (heap : NatMap Region) (tags : NatMap ℕ) (q : ℕ) → get (tags_of heap tags) q ≡ cond (is_some (get heap q)) (get tags q) None
@@ -20,6 +20,10 @@ get-tags_of heap tags q = get-retain_keys tags (λ start. is_some (get heap star
 -- shares are equal where their fields are
 same_share : (part : Part) (heap kept : NatMap Region) (tags numbers : NatMap ℕ) → heap ≡ kept → tags ≡ numbers → ◌≡◌ {A = Share} (record { part = part; heap = heap; tags = tags }) (record { part = part; heap = kept; tags = numbers })
 same_share part heap kept tags numbers p q = λ i. record { part = part; heap = p i; tags = q i }
+
+-- a part has the dataspaces of another one, and one more
+abbrev pub HasOneMore : Part → Part → ℕ → Type 0
+HasOneMore p q ds = (k : ℕ) → is_some (get q.spaces k) ≡ (eqb k ds || is_some (get p.spaces k))
 
 -- what two maps of dataspaces show of a region that may be there is the same where both have its dataspace or neither
 pub each_shown : (p q : NatMap (List ℕ)) (o : Option Region) → ((r : Region) → o ≡ Some r → is_some (get q r.of) ≡ is_some (get p r.of)) → option_and_then (shown q) o ≡ option_and_then (shown p) o
@@ -75,7 +79,7 @@ module _ (heap : NatMap Region) (tags : NatMap ℕ) (start : ℕ) (region : Regi
       ∙ sym (get-tags_of (picked (shown p.spaces) heap) tags s))))
 
   -- the part that has it, and whose dataspace no other region shows, shows one region more
-  pub share_attached : (p q : Part) → ((k : ℕ) → is_some (get q.spaces k) ≡ (eqb k region.of || is_some (get p.spaces k))) → ((s : ℕ) (r : Region) → get heap s ≡ Some r → r.of ≢ region.of) → share_in q (insert heap start region) (insert tags start tag) ≡ record { part = q; heap = insert (picked (shown p.spaces) heap) start region; tags = insert (tags_of (picked (shown p.spaces) heap) tags) start tag }
+  pub share_attached : (p q : Part) → HasOneMore p q region.of → IsShownByNone heap region.of → share_in q (insert heap start region) (insert tags start tag) ≡ record { part = q; heap = insert (picked (shown p.spaces) heap) start region; tags = insert (tags_of (picked (shown p.spaces) heap) tags) start tag }
   unfolding share_in
   share_attached p q more apart =
       let h = more region.of in

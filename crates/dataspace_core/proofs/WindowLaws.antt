@@ -1,5 +1,5 @@
 -- Laws for callers: a heap window of the memory, and the shares in it, after calls for one account.
-use Rattle.std.proofs.Common.{◌≡◌, ◌≢◌, ◌≤◌, ◌<◌, ◌+◌, ◌*◌, ◌/◌, ◌||◌, ℕ, eqb, List, length, Some, is_some, refl, sym, ap, subst, ◌∙◌, ⊎_elim, unwrap_or, arith, rules}
+use Rattle.std.proofs.Common.{◌≡◌, ◌≢◌, ◌≤◌, ◌<◌, ◌+◌, ◌*◌, ◌/◌, ℕ, List, length, Some, is_some, refl, sym, ap, subst, ◌∙◌, ⊎_elim, unwrap_or, arith, rules}
 use Rattle.std.proofs.lemmas.Bool.{cases_eq}
 use Rattle.std.proofs.lemmas.Bool.Decides.{nat_tests}
 use Rattle.std.proofs.lemmas.Option.{none-some, same_Some}
@@ -16,12 +16,12 @@ use Rattle.own_model.proofs.RegionApartLemmas.{LieApart-insert}
 use Rattle.own_model.proofs.ByteLemmas.{length-zeros}
 use Rattle.own_model.proofs.NatMapLemmas.{none_if, value_at, get-insert_same, get-insert_other}
 use Rattle.own_model.proofs.Totals.{total-insert_new, len-insert_new}
-use Rattle.dataspace_core.specs.Store.{Store, Space, space_at, Part, part, account_in, IsOpenIn, PartBecomes, ram_limits_in, part_with_space, with_space}
-use Rattle.dataspace_core.specs.Share.{share, share_in, IsShown, IsWindowOf, KeepsShares}
+use Rattle.dataspace_core.specs.Store.{Store, Space, space_at, Part, part, account_in, IsOpenIn, PartBecomes, ram_limits_in, part_with_space, with_space, OtherSpacesStay}
+use Rattle.dataspace_core.specs.Share.{share, share_in, IsShown, IsWindowOf, KeepsShares, IsShownByNone}
 use Rattle.dataspace_core.proofs.LimitLaws.{limits_after, pages_held, regions_within_pages}
 use Rattle.dataspace_core.proofs.PartLaws.{paid_in_part, part_of_payer, open_after, account_of-part}
 use Rattle.dataspace_core.proofs.PartLemmas.{space_at-some, part-fresh}
-use Rattle.dataspace_core.proofs.ShareLaws.{share_attached, share_attached_other}
+use Rattle.dataspace_core.proofs.ShareLaws.{share_attached, share_attached_other, HasOneMore}
 
 -- what has a length is there
 pub length_some : (o : Option (List ℕ)) (n : ℕ) → option_map length o ≡ Some n → (bytes : List ℕ) × (o ≡ Some bytes) × (length bytes ≡ n)
@@ -45,7 +45,7 @@ pub in_none : (account ds : ℕ) (store : Store) → get store.spaces ds ≡ Non
 in_none account ds store free = none_if _ (λ b there. let mine = in_memory account ds b store there in none-some mine.0 (sym free ∙ mine.1))
 
 -- no region shows a dataspace that isn't there
-pub unshown_free : (store : Store) (heap : NatMap Region) (ds : ℕ) → ((s : ℕ) (r : Region) → get heap s ≡ Some r → IsShown store.spaces r) → get store.spaces ds ≡ None → (s : ℕ) (r : Region) → get heap s ≡ Some r → r.of ≢ ds
+pub unshown_free : (store : Store) (heap : NatMap Region) (ds : ℕ) → ((s : ℕ) (r : Region) → get heap s ≡ Some r → IsShown store.spaces r) → get store.spaces ds ≡ None → IsShownByNone heap ds
 unshown_free store heap ds shows fresh s r h e = let shown = shows s r h in none-some shown.space (sym fresh ∙ ap (get store.spaces) (sym e) ∙ shown.there)
 
 -- a region shows what a part has whole
@@ -95,7 +95,7 @@ module _ (account ds size tag start : ℕ) (old new : Store) (pages most : ℕ) 
   region = record { of = ds; pages = page_of size / 4096 }
 
   -- no region shows it yet
-  pub unshown : (s : ℕ) (r : Region) → get heap s ≡ Some r → r.of ≢ ds
+  pub unshown : IsShownByNone heap ds
   unshown = unshown_free old heap ds window.shown_whole fresh
 
   -- it is all zero
@@ -103,7 +103,7 @@ module _ (account ds size tag start : ℕ) (old new : Store) (pages most : ℕ) 
   new_there = ap (λ (p : Part). get p.spaces ds) becomes.own ∙ get-insert_same (part account old).spaces ds _ ds refl
 
   -- the account's other dataspaces stay
-  pub others_there : (k : ℕ) → k ≢ ds → get (part account new).spaces k ≡ get (part account old).spaces k
+  pub others_there : OtherSpacesStay account ds old new
   others_there k apart = ap (λ (p : Part). get p.spaces k) becomes.own ∙ get-insert_other (part account old).spaces ds _ k apart
 
   -- they are one more
@@ -114,7 +114,7 @@ module _ (account ds size tag start : ℕ) (old new : Store) (pages most : ℕ) 
   pub charge_then : (part account new).account ≡ Some (charged (account_in old account) (page_of size) 1)
   charge_then = ap (λ (p : Part). p.account) becomes.own ∙ ap (λ (a : Account). Some (charged a (page_of size) 1)) (account_of-part account old)
 
-  keys : (k : ℕ) → is_some (get (part account new).spaces k) ≡ (eqb k ds || is_some (get (part account old).spaces k))
+  keys : HasOneMore (part account old) (part account new) ds
   keys k = search (rules, new_there, nat_tests, others_there, cases_eq)
 
   -- the account's share has the region more

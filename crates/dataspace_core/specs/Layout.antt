@@ -50,11 +50,15 @@ pub record IsNewRun (pages : List (Option (List ℕ))) (table : List PageNo) (ne
   pub kept : (page : ℕ) → is_taken pages page ≡ true → slice_index_or new_pages page None ≡ slice_index_or pages page None
   pub entries : (index : ℕ) → index < length table → page_in new_table index ≡ page_in table index
 
+-- the pages outside a run stay
+abbrev pub OtherPagesStay : List PageNo → ℕ → ℕ → List (Option (List ℕ)) → List (Option (List ℕ)) → Type 0
+OtherPagesStay table start count pages new_pages = (page : ℕ) → IsOutside table start count page → slice_index_or new_pages page None ≡ slice_index_or pages page None
+
 -- the pages of a run were given back, and no other
 pub record IsGiven (pages new_pages : List (Option (List ℕ))) (table : List PageNo) (start count : ℕ) : Type 0 where
   pub size : length new_pages ≡ length pages
   pub given : free_count new_pages ≡ free_count pages + count
-  pub others : (page : ℕ) → IsOutside table start count page → slice_index_or new_pages page None ≡ slice_index_or pages page None
+  pub others : OtherPagesStay table start count pages new_pages
 
 -- where an entry was before a run was removed from the table
 abbrev pub before_gap : ℕ → ℕ → ℕ → ℕ
@@ -96,7 +100,7 @@ pub record IsWritten (pages new_pages : List (Option (List ℕ))) (table : List 
   pub taken : free_count new_pages ≡ free_count pages
   pub held : (i : ℕ) → i < count → length (page_bytes new_pages (page_in table (start + i))) ≡ 4096
   pub bytes : run_bytes new_pages table start count ≡ with_bytes (run_bytes pages table start count) offset part
-  pub others : (page : ℕ) → IsOutside table start count page → slice_index_or new_pages page None ≡ slice_index_or pages page None
+  pub others : OtherPagesStay table start count pages new_pages
 
 -- each dataspace's run lies in the table, and each of its pages has all its bytes and is in one place of one dataspace
 pub record IsLaidOut (pages : List (Option (List ℕ))) (table : List PageNo) (spaces : Slab Dataspace) : Type 0 where

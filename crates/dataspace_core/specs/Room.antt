@@ -4,7 +4,7 @@ use Rattle.std.specs.Prelude.{◌≡◌, ◌≢◌, ℕ, ◌+◌, ◌*◌, ◌<�
 use Rattle.std.specs.FinMap.{get, insert}
 use Rattle.own_model.specs.Account.{Account, Fits}
 use Rattle.own_model.specs.NatMap.{total}
-use Rattle.dataspace_core.specs.Store.{Store, Part, part, parted_part, accounts_in, parents_in, root_in, room_in, caps_limits_in, account_in, IsOpenIn, IsChildIn, PartBecomes, RaisesPart, ShiftsPart, ClosesPart}
+use Rattle.dataspace_core.specs.Store.{Store, Part, part, parted_part, accounts_in, parents_in, root_in, room_in, caps_limits_in, account_in, IsOpenIn, IsChildIn, PartBecomes, RaisesPart, ShiftsPart, ClosesPart, OtherPartsStay}
 
 -- an account counts that was opened under one that is no head
 abbrev pub inner_weight : (ℕ → Bool) → ℕ → ℕ
@@ -52,7 +52,7 @@ pub record OpensBelow (parent child ram caps : ℕ) (a : Account) (old new : Sto
   pub own : (part child new).account ≡ Some a
   pub limit : a.caps_limit ≡ caps
   pub parted : part parent new ≡ parted_part (part parent old) ram caps
-  pub others : (other : ℕ) → other ≢ parent → other ≢ child → part other new ≡ part other old
+  pub others : OtherPartsStay parent child old new
   pub root : root_in new ≡ root_in old
   pub parents : parents_in new ≡ insert (parents_in old) child parent
   pub room : room_in new + 1 ≡ room_in old

@@ -11,6 +11,10 @@ use Rattle.dataspace_core.specs.Store.{Store, Space, Part, part, root_in, parent
 abbrev pub shown : NatMap (List ℕ) → Region → Option Region
 shown spaces region = if is_some (get spaces region.of) then Some region else None
 
+-- none of these regions shows a dataspace
+abbrev pub IsShownByNone : NatMap Region → ℕ → Type 0
+IsShownByNone heap ds = (s : ℕ) (r : Region) → get heap s ≡ Some r → r.of ≢ ds
+
 -- an account's part of the memory, the heap regions that show its dataspaces, and the numbers that are kept with these
 pub record Share : Type 0 where
   pub part : Part

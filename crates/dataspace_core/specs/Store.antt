@@ -1,6 +1,6 @@
 -- What a contract sees of the memory.
 use Rattle.std.specs.Prelude.{◌≡◌, ◌≢◌, ℕ, ◌+◌, ◌*◌, ◌==◌, List, [], length, Option, Some, None, IsSome, if◌then◌else◌, refl}
-use Rattle.std.specs.Option.{unwrap_or}
+use Rattle.std.specs.Option.{unwrap_or, option_map}
 use Rattle.std.specs.Coded.{Coded, code_by, coded×, coded_ℕ, coded_list}
 use Rattle.std.specs.FinMap as map
 use Rattle.std.specs.FinMap.{get, insert, remove, empty}
@@ -214,6 +214,18 @@ opened_part ram caps = record { account = Some (opened ram caps); spaces = empty
 abbrev pub closed_part : Part
 closed_part = record { account = None; spaces = empty }
 
+-- the parts of all accounts other than two stay
+abbrev pub OtherPartsStay : ℕ → ℕ → Store → Store → Type 0
+OtherPartsStay one two old new = (other : ℕ) → other ≢ one → other ≢ two → part other new ≡ part other old
+
+-- the dataspaces of an account stay, all but one of them
+abbrev pub OtherSpacesStay : ℕ → ℕ → Store → Store → Type 0
+OtherSpacesStay account ds old new = (k : ℕ) → k ≢ ds → get (part account new).spaces k ≡ get (part account old).spaces k
+
+-- the dataspaces of an account stay as long as they were
+abbrev pub LengthsStay : ℕ → Store → Store → Type 0
+LengthsStay account old new = (k : ℕ) → option_map length (get (part account new).spaces k) ≡ option_map length (get (part account old).spaces k)
+
 -- an account's part becomes this one; every other account's part stays, and so do the root's key, who is whose parent, and
 -- the places for accounts
 pub record PartBecomes (account : ℕ) (after : Part) (old new : Store) : Type 0 where
@@ -228,7 +240,7 @@ pub record PartBecomes (account : ℕ) (after : Part) (old new : Store) : Type 0
 pub record OpensPart (parent child ram caps : ℕ) (old new : Store) : Type 0 where
   pub opened_one : part child new ≡ opened_part ram caps
   pub parted_one : part parent new ≡ parted_part (part parent old) ram caps
-  pub others : (other : ℕ) → other ≢ parent → other ≢ child → part other new ≡ part other old
+  pub others : OtherPartsStay parent child old new
   pub root : root_in new ≡ root_in old
   pub parents : parents_in new ≡ insert (parents_in old) child parent
   pub room : room_in new + 1 ≡ room_in old
@@ -238,7 +250,7 @@ pub record OpensPart (parent child ram caps : ℕ) (old new : Store) : Type 0 wh
 pub record RaisesPart (parent child ram caps : ℕ) (old new : Store) : Type 0 where
   pub raised_one : part child new ≡ raised_part (part child old) ram caps
   pub parted_one : part parent new ≡ parted_part (part parent old) ram caps
-  pub others : (other : ℕ) → other ≢ parent → other ≢ child → part other new ≡ part other old
+  pub others : OtherPartsStay parent child old new
   pub root : root_in new ≡ root_in old
   pub parents : parents_in new ≡ parents_in old
   pub room : room_in new ≡ room_in old
@@ -253,7 +265,7 @@ pub record ClosesPart (account parent : ℕ) (old new : Store) : Type 0 where
   pub closed_one : part account new ≡ closed_part
   pub raised_one : let limits = account_of (part account old) in
       part parent new ≡ raised_part (part parent old) limits.ram_limit limits.caps_limit
-  pub others : (other : ℕ) → other ≢ account → other ≢ parent → part other new ≡ part other old
+  pub others : OtherPartsStay account parent old new
   pub root : root_in new ≡ root_in old
   pub parents : parents_in new ≡ remove (parents_in old) account
   pub room : room_in new ≡ room_in old + 1

@@ -17,7 +17,8 @@ ghost use Rattle.dataspace_core.specs.Store.{credited_part, PartBecomes, OpensPa
 
 use crate::dataspace::{Dataspace, size_of, space_under};
 use crate::page_runs::{
-    close_gap, copy_piece, give_run, load_run, no_pages, read_run, store_run, take_run, write_run,
+    RunPlace, close_gap, copy_piece, give_run, load_run, no_pages, read_run, store_run, take_run,
+    write_run,
 };
 use crate::spaces::Spaces;
 use page_pool::{PageNo, Pool};
@@ -206,15 +207,15 @@ impl Memory {
     {
         let source = space_under(&self.spaces, from).run;
         let target = space_under(&self.spaces, to).run;
-        copy_piece(
-            &mut self.pool,
-            &self.table,
-            source,
-            from_offset as usize,
-            target,
-            to_offset as usize,
-            count as usize,
-        );
+        let source = RunPlace {
+            run: source,
+            offset: from_offset as usize,
+        };
+        let target = RunPlace {
+            run: target,
+            offset: to_offset as usize,
+        };
+        copy_piece(&mut self.pool, &self.table, source, target, count as usize);
     }
 
     /// Loads the little-endian word of 8 bytes at `offset` of a dataspace. `offset` is a multiple of 8.

@@ -18,6 +18,13 @@ pub(crate) struct PageRun {
     pub(crate) count: usize,
 }
 
+/// A place in a run: the offset of a byte from the run's start.
+#[derive(Clone, Copy)]
+pub(crate) struct RunPlace {
+    pub(crate) run: PageRun,
+    pub(crate) offset: usize,
+}
+
 /// Creates an empty table with space for `pages` page numbers, or fails with `NoMemory`.
 pub(crate) fn no_pages(alloc: Global, pages: usize) -> Result<Vec<PageNo>, NoMemory>
     ensures none { IfOk result (λ table. table.items ≡ []) }
@@ -112,28 +119,26 @@ pub(crate) fn write_run(
 pub(crate) fn copy_piece(
     pool: &mut Pool,
     table: &Vec<PageNo>,
-    from: PageRun,
-    from_offset: usize,
-    to: PageRun,
-    to_offset: usize,
+    from: RunPlace,
+    to: RunPlace,
     count: usize,
 )
-    requires source { IsRun pool.old table.now.items from.start from.count }
-    requires target { IsRun pool.old table.now.items to.start to.count }
-    requires apart { AreApart table.now.items from.start from.count to.start to.count }
-    requires there { IsPieceIn from.count from_offset count }
-    requires room { IsPieceIn to.count to_offset count }
-    ensures { let bytes = run_bytes pool.old table.now.items from.start from.count in
-        let part = slice_range bytes from_offset (from_offset + count) in
-        IsWritten pool.old pool.new table.now.items to.start to.count to_offset part }
+    requires source { IsRun pool.old table.now.items from.run.start from.run.count }
+    requires target { IsRun pool.old table.now.items to.run.start to.run.count }
+    requires apart { AreApart table.now.items from.run.start from.run.count to.run.start to.run.count }
+    requires there { IsPieceIn from.run.count from.offset count }
+    requires room { IsPieceIn to.run.count to.offset count }
+    ensures { let bytes = run_bytes pool.old table.now.items from.run.start from.run.count in
+        let part = slice_range bytes from.offset (from.offset + count) in
+        IsWritten pool.old pool.new table.now.items to.run.start to.run.count to.offset part }
 {
-    let source = table[from.start + from_offset / PAGE_BYTES];
-    let target = table[to.start + to_offset / PAGE_BYTES];
+    let source = table[from.run.start + from.offset / PAGE_BYTES];
+    let target = table[to.run.start + to.offset / PAGE_BYTES];
     pool.copy(
         source,
-        from_offset % PAGE_BYTES,
+        from.offset % PAGE_BYTES,
         target,
-        to_offset % PAGE_BYTES,
+        to.offset % PAGE_BYTES,
         count,
     );
 }

@@ -1,5 +1,5 @@
 -- A dataspace is allocated for a block, and can then be entered.
-use Rattle.std.proofs.Common.{◌≡◌, ◌≢◌, ◌≤◌, ◌+◌, ◌-◌, ◌/◌, ℕ, List, [], drop, length, Some, refl, sym, ap, ◌∙◌, unwrap_or, arith}
+use Rattle.std.proofs.Common.{◌≡◌, ◌≤◌, ◌+◌, ◌-◌, ◌/◌, ℕ, List, [], drop, length, Some, refl, sym, ap, ◌∙◌, unwrap_or, arith}
 use Rattle.std.proofs.lemmas.List.{drop-replicate}
 use Rattle.std.specs.Prelude.{Option, None}
 use Rattle.std.specs.Option.{option_map}
@@ -24,6 +24,7 @@ use Rattle.sliced_heap.specs.Heap.{payer_of, blocks_at, MapsMemory, IsSound, Can
 use Rattle.sliced_heap.specs.Theorems.{HeapStays}
 use Rattle.sliced_heap.proofs.ShareLemmas.{shown_block}
 use Rattle.sliced_heap.proofs.HeapLaws.{map_stays_for_payer, heap_stays}
+use Rattle.dataspace_core.specs.Share.{IsShownByNone}
 
 -- so many fewer zeros are left
 drop-zeros : (m n : ℕ) → drop m (zeros n) ≡ zeros (n - m)
@@ -40,7 +41,7 @@ module _ (heap : SlicedHeap) (ds size : ℕ) (old new : Store) (regions : Region
   before = part account old
 
   -- no region shows the new dataspace yet
-  unshown : (s : ℕ) (r : Region) → get regions.heap s ≡ Some r → r.of ≢ ds
+  unshown : IsShownByNone regions.heap ds
   unshown = unshown_free old regions.heap ds sound.maps.shown fresh
 
   -- the new one is all zero

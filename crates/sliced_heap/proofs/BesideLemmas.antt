@@ -1,8 +1,8 @@
 -- The heap and the sliced heap of one account on one map: what each leaves of the other.
-use Rattle.std.proofs.Common.{◌≡◌, ℕ, ◌≤◌, Bool, true, false, cond, eqb-true, ◌==◌, List, Some, is_some, IsSome, refl, sym, ap, ◌∙◌, true≢false, inl, inr}
+use Rattle.std.proofs.Common.{◌≡◌, ℕ, ◌≤◌, true, false, cond, eqb-true, ◌==◌, List, Some, is_some, IsSome, refl, sym, ap, ◌∙◌, true≢false, inl, inr}
 use Rattle.std.proofs.lemmas.Bool.{cases_eq}
-use Rattle.std.proofs.lemmas.Option.{none-some, same_Some}
-use Rattle.std.specs.Prelude.{◌⊎◌, Option, None, nat_le, if◌then◌else◌}
+use Rattle.std.proofs.lemmas.Option.{none-some}
+use Rattle.std.specs.Prelude.{◌⊎◌, Option, None}
 use Rattle.std.specs.Option.{option_map, option_and_then, option_or}
 use Rattle.std.specs.FinMap.{get, insert, remove}
 use Rattle.own_model.specs.HeapWindow.{heap_low, heap_high, heap_gap, largest_machine}

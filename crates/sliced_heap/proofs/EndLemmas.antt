@@ -3,7 +3,7 @@ use Rattle.own_model.proofs.AccountLemmas.{credit_nothing, credit_twice}
 use Rattle.std.proofs.Common.{◌≡◌, ◌+◌, ℕ, true, List, [], ◌∷◌, Some, refl, sym, ap, subst, ◌∙◌, true≢false, unwrap_or, arith, rules}
 use Rattle.std.proofs.lemmas.Bool.{cases_eq}
 use Rattle.std.proofs.lemmas.Option.{none-some}
-use Rattle.std.specs.Prelude.{Option, None}
+use Rattle.std.specs.Prelude.{Option}
 use Rattle.std.specs.FinMap as map
 use Rattle.std.specs.FinMap.{get, remove, empty, len}
 use Rattle.std.specs.Ordering.{nat_cmp}
@@ -22,7 +22,7 @@ use Rattle.dataspace_core.proofs.PartLaws.{account_of-part}
 use Rattle.sliced_heap.specs.declared.heap.SlicedHeap.{SlicedHeap}
 use Rattle.sliced_heap.specs.Chain.{link_to, is_listed, Linked}
 use Rattle.sliced_heap.specs.Sliced.{block_regions, payload_of, sliced_of, start_in, HasHeader}
-use Rattle.sliced_heap.specs.Heap.{payer_of, share_at, blocks_at, IsSound, HasNoBlocks, IsBlockAt, KeepsOthers, GivesBlock, GivesAll}
+use Rattle.sliced_heap.specs.Heap.{payer_of, share_at, blocks_at, IsSound, HasNoBlocks, IsBlockAt, KeepsOthers, GivesBlock, GivesAll, OtherRegionsStay, BlocksAreDetached}
 use Rattle.sliced_heap.proofs.LinkedLemmas.{first_is_listed, stands_header}
 use Rattle.sliced_heap.proofs.BlockLemmas.{is_of}
 use Rattle.dataspace_core.proofs.WindowLaws.{own_account}
@@ -119,11 +119,11 @@ module _ (heap : SlicedHeap) (address : ℕ) (old mid : Store) (regions between 
     account_mid = sym (account_of-part account mid) ∙ ap (λ (o : Option Account). unwrap_or o (opened 0 0)) one.charge
 
     -- what isn't a block stays
-    kept_at : (s : ℕ) → get (block_regions (share_at account old regions)) s ≡ None → (get after.heap s ≡ get regions.heap s) × (get after.tags s ≡ get regions.tags s)
+    kept_at : OtherRegionsStay account old regions after
     kept_at s none = search (rules, none-some, block_there, left_at, get-remove_other)
 
     -- and each block goes
-    gone_at : (s : ℕ) (r : Region) → get (block_regions (share_at account old regions)) s ≡ Some r → get after.heap s ≡ None
+    gone_at : BlocksAreDetached account old regions after
     gone_at s r h = search (rules, left_at, get-remove_same, get-remove_other, cases_eq)
 
     pub gives_then : GivesAll account old new regions after

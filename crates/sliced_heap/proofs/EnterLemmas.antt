@@ -1,5 +1,5 @@
 -- A dataspace is entered as the first block.
-use Rattle.std.proofs.Common.{◌≡◌, ◌≢◌, ◌<◌, ◌+◌, ◌^◌, ℕ, true, false, eqb, ◌||◌, List, [], ◌∷◌, drop, length, Some, is_some, refl, sym, ap, ◌∙◌, true≢false, unwrap_or, arith, rules}
+use Rattle.std.proofs.Common.{◌≡◌, ◌≢◌, ◌<◌, ◌+◌, ◌^◌, ℕ, true, false, List, [], ◌∷◌, drop, length, Some, is_some, refl, sym, ap, ◌∙◌, true≢false, unwrap_or, arith, rules}
 use Rattle.std.proofs.lemmas.Bool.{cases_eq}
 use Rattle.std.proofs.lemmas.Bool.Decides.{nat_tests}
 use Rattle.std.specs.Prelude.{Option, None}
@@ -14,7 +14,7 @@ use Rattle.own_model.proofs.RegionLemmas.{first_gap_least}
 use Rattle.region_map.specs.Regions.{Regions, heap_attached}
 use Rattle.dataspace_core.specs.Store.{Store, part, account_in, IsOpenIn, PartBecomes}
 use Rattle.dataspace_core.specs.Share.{Share, IsShown, share_in}
-use Rattle.dataspace_core.proofs.ShareLaws.{share_attached, share_attached_other, nothing_shown, some_alike}
+use Rattle.dataspace_core.proofs.ShareLaws.{share_attached, share_attached_other, nothing_shown, some_alike, HasOneMore}
 use Rattle.dataspace_core.proofs.PartLaws.{open_in_part}
 use Rattle.sliced_heap.specs.declared.heap.SlicedHeap.{SlicedHeap}
 use Rattle.sliced_heap.specs.Chain.{link_to, is_listed}
@@ -76,7 +76,7 @@ module _ (heap : SlicedHeap) (ds pages : ℕ) (old : Store) (regions : Regions) 
     region = record { of = ds; pages = pages }
 
     -- the same dataspaces are there
-    keys : (k : ℕ) → is_some (get (part account new).spaces k) ≡ (eqb k ds || is_some (get (part account old).spaces k))
+    keys : HasOneMore (part account old) (part account new) ds
     keys k = search (rules, some_alike, nat_tests, cases_eq)
 
     -- the share then

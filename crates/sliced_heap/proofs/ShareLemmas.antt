@@ -1,15 +1,15 @@
 -- What a share shows of a map: its regions, the numbers kept with them, and whose blocks they are.
-use Rattle.std.proofs.Common.{◌≡◌, ℕ, ◌≤◌, ◌==◌, Bool, true, false, cond, eqb-true, List, Some, IsSome, is_some, refl, sym, ap, subst, ◌∙◌, true≢false, arith}
+use Rattle.std.proofs.Common.{◌≡◌, ℕ, ◌≤◌, ◌==◌, Bool, true, false, cond, eqb-true, List, Some, IsSome, is_some, refl, sym, ap, ◌∙◌, true≢false, arith}
 use Rattle.std.proofs.lemmas.Bool.Decides.{nat_tests}
 use Rattle.std.proofs.lemmas.Option.{none-some, same_Some}
 use Rattle.std.specs.Prelude.{Option, None, nat_le}
 use Rattle.std.specs.Option.{option_map, option_and_then}
 use Rattle.std.specs.FinMap.{get, insert, remove, get-retain_keys, nat_cmp-IsAntisymmetric}
-use Rattle.own_model.specs.NatMap.{NatMap, picked}
+use Rattle.own_model.specs.NatMap.{NatMap}
 use Rattle.own_model.specs.Region.{Region}
 use Rattle.own_model.proofs.NatMapLemmas.{same, natmaps, get-picked, and_then_from, some_of}
 use Rattle.region_map.specs.Regions.{Regions}
-use Rattle.dataspace_core.specs.Store.{Store, Part, part}
+use Rattle.dataspace_core.specs.Store.{Store, part}
 use Rattle.dataspace_core.specs.Share.{Share, share_in, shown}
 use Rattle.dataspace_core.proofs.ShareLaws.{get-tags_of, under_test, in_share}
 use Rattle.sliced_heap.specs.Window.{share_at, numbered, sliced_tag, is_sliced_tag, sliced_regions, block_regions, large_tag, is_large_tag, large_regions, low_region, block_region}

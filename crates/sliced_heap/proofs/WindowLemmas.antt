@@ -1,16 +1,16 @@
 -- What a heap window shows of an account's blocks, of either heap, when regions come and go.
-use Rattle.std.proofs.Common.{◌≡◌, ◌≢◌, ◌⊎◌, ℕ, ◌+◌, ◌≤◌, ◌==◌, true, false, cond, nat_le, List, length, Some, is_some, IsSome, refl, sym, ap, subst, ◌∙◌, arith, inl, inr}
+use Rattle.std.proofs.Common.{◌≡◌, ◌≢◌, ◌⊎◌, ℕ, ◌+◌, ◌≤◌, ◌==◌, false, cond, List, length, Some, is_some, IsSome, refl, sym, ap, subst, ◌∙◌, arith, inl, inr}
 use Rattle.std.proofs.lemmas.Bool.{cases_eq}
 use Rattle.std.proofs.lemmas.Bool.Decides.{nat_tests}
 use Rattle.std.proofs.lemmas.Option.{same_Some}
 use Rattle.std.specs.Prelude.{Option, None}
-use Rattle.std.specs.Option.{option_map, option_and_then}
-use Rattle.std.specs.FinMap.{get, insert, remove}
+use Rattle.std.specs.Option.{option_and_then}
+use Rattle.std.specs.FinMap.{get}
 use Rattle.own_model.specs.NatMap.{NatMap}
 use Rattle.own_model.specs.Region.{Region}
-use Rattle.own_model.proofs.NatMapLemmas.{same, natmaps, get-picked, get-insert_same, get-insert_other, get-remove_same, get-remove_other, some_of}
+use Rattle.own_model.proofs.NatMapLemmas.{same, natmaps, get-picked, some_of}
 use Rattle.region_map.specs.Regions.{Regions, heap_attached, heap_detached}
-use Rattle.dataspace_core.specs.Store.{Store, Part, part, part_with_bytes, PartBecomes}
+use Rattle.dataspace_core.specs.Store.{Store, Part, part, part_with_bytes, PartBecomes, OtherSpacesStay}
 use Rattle.dataspace_core.specs.Share.{Share, share_in, shown}
 use Rattle.dataspace_core.proofs.PokedLaws.{poked_length, poked_other}
 use Rattle.dataspace_core.proofs.ShareLaws.{get-tags_of, each_shown, some_alike}
@@ -46,7 +46,7 @@ block_is account store regions s =
 -- an account's dataspaces are as many as before, and others than one stay
 pub record IsPut (account ds : ℕ) (old new : Store) : Type 0 where
   pub alike : (k : ℕ) → is_some (get (part account new).spaces k) ≡ is_some (get (part account old).spaces k)
-  pub others : (k : ℕ) → k ≢ ds → get (part account new).spaces k ≡ get (part account old).spaces k
+  pub others : OtherSpacesStay account ds old new
 
 -- so they are where bytes were put over those of that one
 pub is_put : (account ds offset : ℕ) (put bytes : List ℕ) {old new : Store} → get (part account old).spaces ds ≡ Some bytes → offset + length put ≤ length bytes →

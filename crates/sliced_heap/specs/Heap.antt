@@ -11,7 +11,7 @@ use Rattle.own_model.specs.Region.{Region}
 use Rattle.own_model.specs.Sliced.{sliced_header as header, sliced_size, block_size, block_pages, block_found}
 use Rattle.region_map.specs.Regions.{Regions, heap_attached, heap_detached}
 use Rattle.dataspace_core.specs.Store.{Store, part, bytes_of, account_in, root_in, parents_in, room_in, IsOpenIn}
-use Rattle.dataspace_core.specs.Share.{Share, share}
+use Rattle.dataspace_core.specs.Share.{Share, share, IsShownByNone}
 pub use Rattle.sliced_heap.specs.Window.{share_at, MapsMemory}
 use Rattle.sliced_heap.specs.declared.heap.SlicedHeap.{SlicedHeap}
 use Rattle.sliced_heap.specs.Sliced.{sliced_tag, block_regions, sliced_of, IsLinked}
@@ -38,6 +38,22 @@ HasNoBlocks share = (s : ℕ) → get (block_regions share) s ≡ None
 abbrev pub IsNoBlock : Share → ℕ → Type 0
 IsNoBlock share ds = (s : ℕ) (r : Region) → get (block_regions share) s ≡ Some r → r.of ≢ ds
 
+-- an account's dataspaces that are none of its blocks stay
+abbrev pub NonBlocksStay : ℕ → Store → Store → Regions → Type 0
+NonBlocksStay account old new regions = (k : ℕ) → IsNoBlock (share_at account old regions) k → get (part account new).spaces k ≡ get (part account old).spaces k
+
+-- they stay, all but one
+abbrev pub OtherNonBlocksStay : ℕ → ℕ → Store → Store → Regions → Type 0
+OtherNonBlocksStay account ds old new regions = (k : ℕ) → k ≢ ds → IsNoBlock (share_at account old regions) k → get (part account new).spaces k ≡ get (part account old).spaces k
+
+-- the regions of a map that are none of an account's blocks stay
+abbrev pub OtherRegionsStay : ℕ → Store → Regions → Regions → Type 0
+OtherRegionsStay account old regions after = (s : ℕ) → get (block_regions (share_at account old regions)) s ≡ None → (get after.heap s ≡ get regions.heap s) × (get after.tags s ≡ get regions.tags s)
+
+-- the regions of an account's blocks are detached
+abbrev pub BlocksAreDetached : ℕ → Store → Regions → Regions → Type 0
+BlocksAreDetached account old regions after = (s : ℕ) (r : Region) → get (block_regions (share_at account old regions)) s ≡ Some r → get after.heap s ≡ None
+
 -- what a call for an account leaves as it was: every other account's share, the root's key, who is whose parent, the places
 -- for accounts, and what of the map is no heap region
 pub record KeepsOthers (account : ℕ) (old new : Store) (regions after : Regions) : Type 0 where
@@ -63,7 +79,7 @@ pub record Enters (account ds pages address : ℕ) (old new : Store) (regions af
   pub charge : (part account new).account ≡ (part account old).account
   pub blocks : blocks_at account new after ≡ insert (blocks_at account old regions) address (drop header (bytes_of (part account old) ds))
   pub stands : block_regions (share_at account new after) ≡ insert (block_regions (share_at account old regions)) start (record { of = ds; pages = pages })
-  pub dataspaces : (k : ℕ) → k ≢ ds → IsNoBlock (share_at account old regions) k → get (part account new).spaces k ≡ get (part account old).spaces k
+  pub dataspaces : OtherNonBlocksStay account ds old new regions
   pub count : len (part account new).spaces ≡ len (part account old).spaces
 
 -- a dataspace of the account that can be entered: no region shows it, and there is room for one of as many pages
@@ -72,7 +88,7 @@ pub record CanEnter (account ds pages : ℕ) (store : Store) (regions : Regions)
   pub there : get (part account store).spaces ds ≡ Some bytes
   pub some : 1 ≤ pages
   pub whole : length bytes ≡ pages * 4096
-  pub unshown : (s : ℕ) (r : Region) → get regions.heap s ≡ Some r → r.of ≢ ds
+  pub unshown : IsShownByNone regions.heap ds
   pub room : len regions.heap < regions.heap_most
   pub fits : pages_of_all regions.heap + pages ≤ regions.pages
 
@@ -88,7 +104,7 @@ pub record TakesBlock (account n address : ℕ) (old new : Store) (regions after
   pub charge : (part account new).account ≡ Some (charged (account_in old account) (sliced_size n) 1)
   pub blocks : blocks_at account new after ≡ insert (blocks_at account old regions) address (zeros (sliced_size n - header))
   pub stands : block_regions (share_at account new after) ≡ insert (block_regions (share_at account old regions)) start (record { of = ds; pages = sliced_size n / 4096 })
-  pub dataspaces : (k : ℕ) → k ≢ ds → IsNoBlock (share_at account old regions) k → get (part account new).spaces k ≡ get (part account old).spaces k
+  pub dataspaces : OtherNonBlocksStay account ds old new regions
   pub count : len (part account new).spaces ≡ len (part account old).spaces + 1
 
 -- why a block isn't given back: no payload starts at the address
@@ -107,7 +123,7 @@ pub record GivesBlock (account address : ℕ) (old new : Store) (regions after :
   pub charge : (part account new).account ≡ Some (credited (account_in old account) (block_size payload) 1)
   pub blocks : blocks_at account new after ≡ remove (blocks_at account old regions) address
   pub left : block_regions (share_at account new after) ≡ remove (block_regions (share_at account old regions)) start
-  pub dataspaces : (k : ℕ) → IsNoBlock (share_at account old regions) k → get (part account new).spaces k ≡ get (part account old).spaces k
+  pub dataspaces : NonBlocksStay account old new regions
   pub count : len (part account new).spaces + 1 ≡ len (part account old).spaces
 
 -- all blocks of an account are given back: its other dataspaces stay, and the regions that aren't its blocks'
@@ -116,10 +132,10 @@ pub record GivesAll (account : ℕ) (old new : Store) (regions after : Regions) 
   pub none : HasNoBlocks (share_at account new after)
   pub charge : let blocks = blocks_at account old regions in
       (part account new).account ≡ Some (credited (account_in old account) (total block_size blocks) (len blocks))
-  pub dataspaces : (k : ℕ) → IsNoBlock (share_at account old regions) k → get (part account new).spaces k ≡ get (part account old).spaces k
+  pub dataspaces : NonBlocksStay account old new regions
   pub count : len (part account new).spaces + len (blocks_at account old regions) ≡ len (part account old).spaces
-  pub kept : (s : ℕ) → get (block_regions (share_at account old regions)) s ≡ None → (get after.heap s ≡ get regions.heap s) × (get after.tags s ≡ get regions.tags s)
-  pub gone : (s : ℕ) (r : Region) → get (block_regions (share_at account old regions)) s ≡ Some r → get after.heap s ≡ None
+  pub kept : OtherRegionsStay account old regions after
+  pub gone : BlocksAreDetached account old regions after
 
 -- ---- which block holds an address
 

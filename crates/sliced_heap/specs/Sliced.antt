@@ -92,15 +92,19 @@ pub record IsStored (ds offset word : ℕ) (old new : Part) : Type 0 where
   pub others : (other b : ℕ) → b ≢ ds → word_at new other b ≡ word_at old other b
   pub headers : HeadersChange (ds ∷ []) old new
 
+-- the blocks' regions start as their headers said before
+abbrev pub StartsStay : Part → Part → Type 0
+StartsStay old new = (b : ℕ) → start_in new b ≡ start_in old b
+
 -- the block to which a link leads, if there is one, is linked back by another link
 pub record LinkedBack (link back : ℕ) (old new : Part) : Type 0 where
-  pub starts : (b : ℕ) → start_in new b ≡ start_in old b
+  pub starts : StartsStay old new
   pub nexts : (b : ℕ) → next_in new b ≡ next_in old b
   pub previouses : (b : ℕ) → previous_in new b ≡ cond (link_to b == link) back (previous_in old b)
 
 -- the block to which a link leads, if there is one, is linked to the block after it by another link
 pub record LinkedAhead (link ahead : ℕ) (old new : Part) : Type 0 where
-  pub starts : (b : ℕ) → start_in new b ≡ start_in old b
+  pub starts : StartsStay old new
   pub nexts : (b : ℕ) → next_in new b ≡ cond (link_to b == link) ahead (next_in old b)
   pub previouses : (b : ℕ) → previous_in new b ≡ previous_in old b
 
@@ -115,6 +119,6 @@ pub record PutFirst (first ds start : ℕ) (old new : Part) : Type 0 where
 
 -- the blocks before and after a block are linked to each other in its place
 pub record TakenOut (ds : ℕ) (old new : Part) : Type 0 where
-  pub others_start : (b : ℕ) → start_in new b ≡ start_in old b
+  pub others_start : StartsStay old new
   pub others_next : (b : ℕ) → b ≢ ds → next_in new b ≡ cond (link_to b == previous_in old ds) (next_in old ds) (next_in old b)
   pub others_previous : (b : ℕ) → b ≢ ds → previous_in new b ≡ cond (link_to b == next_in old ds) (previous_in old ds) (previous_in old b)

@@ -11,36 +11,36 @@ use Rattle.dataspace_core.proofs.page_runs.copy_piece.Goals as goal
 
 pub copy-requires-clause-source : goal.copy-requires-clause-source
 copy-requires-clause-source c =
-    let here = piece_in_page c.args.from.count c.args.from_offset c.args.count c.requires.there in
-    rw (page_in_read c.args.table.now.items c.args.from.start c.args.from.count _ c.index-source.result.now c.requires.source.within here.below c.index-source.ensures)
+    let here = piece_in_page c.args.from.run.count c.args.from.offset c.args.count c.requires.there in
+    rw (page_in_read c.args.table.now.items c.args.from.run.start c.args.from.run.count _ c.index-source.result.now c.requires.source.within here.below c.index-source.ensures)
     (is_taken-held c.args.pool.now _ (c.requires.source.held _ here.below))
 
 pub copy-requires-clause-target : goal.copy-requires-clause-target
 copy-requires-clause-target c =
-    let here = piece_in_page c.args.to.count c.args.to_offset c.args.count c.requires.room in
-    rw (page_in_read c.args.table.now.items c.args.to.start c.args.to.count _ c.index-target.result.now c.requires.target.within here.below c.index-target.ensures)
+    let here = piece_in_page c.args.to.run.count c.args.to.offset c.args.count c.requires.room in
+    rw (page_in_read c.args.table.now.items c.args.to.run.start c.args.to.run.count _ c.index-target.result.now c.requires.target.within here.below c.index-target.ensures)
     (is_taken-held c.args.pool.now _ (c.requires.target.held _ here.below))
 
 pub copy-requires-clause-apart : goal.copy-requires-clause-apart
 copy-requires-clause-apart c =
-    let there = piece_in_page c.args.from.count c.args.from_offset c.args.count c.requires.there in
-    let here = piece_in_page c.args.to.count c.args.to_offset c.args.count c.requires.room in
+    let there = piece_in_page c.args.from.run.count c.args.from.offset c.args.count c.requires.there in
+    let here = piece_in_page c.args.to.run.count c.args.to.offset c.args.count c.requires.room in
     rw (
-      page_in_read c.args.table.now.items c.args.from.start c.args.from.count _ c.index-source.result.now c.requires.source.within there.below c.index-source.ensures,
-      page_in_read c.args.table.now.items c.args.to.start c.args.to.count _ c.index-target.result.now c.requires.target.within here.below c.index-target.ensures,
+      page_in_read c.args.table.now.items c.args.from.run.start c.args.from.run.count _ c.index-source.result.now c.requires.source.within there.below c.index-source.ensures,
+      page_in_read c.args.table.now.items c.args.to.run.start c.args.to.run.count _ c.index-target.result.now c.requires.target.within here.below c.index-target.ensures,
     )
     (c.requires.apart _ _ there.below here.below)
 
 pub returns : goal.returns
 returns c =
     let a = c.args in
-    let there = piece_in_page a.from.count a.from_offset a.count c.requires.there in
-    let here = piece_in_page a.to.count a.to_offset a.count c.requires.room in
-    let bytes = run_bytes a.pool.now a.table.now.items a.from.start a.from.count in
-    let size = length-run_bytes a.pool.now a.table.now.items a.from.start a.from.count c.requires.source.held in
-    let long : length (slice_range bytes a.from_offset (a.from_offset + a.count)) ≡ a.count = length-slice_range bytes a.from_offset a.count (omega (arith, size, c.requires.there.within)) in
-    let source = page_in_read a.table.now.items a.from.start a.from.count _ c.index-source.result.now c.requires.source.within there.below c.index-source.ensures in
-    let target = page_in_read a.table.now.items a.to.start a.to.count _ c.index-target.result.now c.requires.target.within here.below c.index-target.ensures in
-    let copied = rw (source, target, run_range a.pool.now a.table.now.items a.from.start a.from.count a.from_offset a.count c.requires.source there) at c.copy.ensures.copied in
+    let there = piece_in_page a.from.run.count a.from.offset a.count c.requires.there in
+    let here = piece_in_page a.to.run.count a.to.offset a.count c.requires.room in
+    let bytes = run_bytes a.pool.now a.table.now.items a.from.run.start a.from.run.count in
+    let size = length-run_bytes a.pool.now a.table.now.items a.from.run.start a.from.run.count c.requires.source.held in
+    let long : length (slice_range bytes a.from.offset (a.from.offset + a.count)) ≡ a.count = length-slice_range bytes a.from.offset a.count (omega (arith, size, c.requires.there.within)) in
+    let source = page_in_read a.table.now.items a.from.run.start a.from.run.count _ c.index-source.result.now c.requires.source.within there.below c.index-source.ensures in
+    let target = page_in_read a.table.now.items a.to.run.start a.to.run.count _ c.index-target.result.now c.requires.target.within here.below c.index-target.ensures in
+    let copied = rw (source, target, run_range a.pool.now a.table.now.items a.from.run.start a.from.run.count a.from.offset a.count c.requires.source there) at c.copy.ensures.copied in
     let count = rw copied at c.copy.ensures.count in
-    rw copied (IsWritten-part a.pool.now a.table.now.items a.to.start a.to.count a.to_offset (slice_range bytes a.from_offset (a.from_offset + a.count)) c.requires.target (rw long here) count)
+    rw copied (IsWritten-part a.pool.now a.table.now.items a.to.run.start a.to.run.count a.to.offset (slice_range bytes a.from.offset (a.from.offset + a.count)) c.requires.target (rw long here) count)
