@@ -7,7 +7,7 @@ use Rattle.std.specs.Option.{option_map, option_and_then}
 use Rattle.std.specs.FinMap.{get}
 use Rattle.own_model.proofs.ByteLemmas.{length-zeros}
 use Rattle.own_model.proofs.NatMapLemmas.{same, get-picked}
-use Rattle.dataspace_core.specs.Store.{Store, Space, part, bytes_of, bytes_paid_by, PartBecomes, root_in, parents_in, room_in}
+use Rattle.dataspace_core.specs.Store.{Store, Space, part, bytes_of, bytes_paid_by, PartBecomes, root_in, parents_in, room_in, LengthsStay}
 use Rattle.dataspace_core.proofs.PartLaws.{paid_in_part, bytes_of-paid}
 use Rattle.heap_core.specs.Words.{Around, around, spaces_but, blank_if, is_among, bytes_in_store, words_of, word_in}
 use Rattle.heap_core.proofs.StandLemmas.{words_same}
@@ -84,7 +84,7 @@ module _ (keys : List ℕ) (account : ℕ) (old new : Store) (kept : around keys
   whole_kept k none = sym (same_blank (get new.spaces k)) ∙ subst (λ b. option_map (blank_if b) (get new.spaces k) ≡ option_map (blank_if b) (get old.spaces k)) none (space_kept k) ∙ same_blank (get old.spaces k)
 
   -- of the account's part each length stays, and what is no chunk's
-  pub part_lengths : (k : ℕ) → option_map length (get (part account new).spaces k) ≡ option_map length (get (part account old).spaces k)
+  pub part_lengths : LengthsStay account old new
   part_lengths k = ap (option_map length) (get-part account new k) ∙ lengths_alike account (get new.spaces k) (get old.spaces k) (payer_kept k) (length_kept k) ∙ ap (option_map length) (sym (get-part account old k))
 
   pub part_others : (k : ℕ) → is_among keys k ≡ false → get (part account new).spaces k ≡ get (part account old).spaces k

@@ -10,7 +10,7 @@ use Rattle.avl_alloc.specs.declared.best_fit.BestFit.{BestFit}
 use Rattle.avl_alloc.specs.Layout as avl
 use Rattle.avl_alloc.specs.Layout.{sizes_of}
 use Rattle.region_map.specs.Regions.{Regions}
-use Rattle.dataspace_core.specs.Store.{Store, part, bytes_of, PartBecomes, IsOpenIn}
+use Rattle.dataspace_core.specs.Store.{Store, part, bytes_of, PartBecomes, IsOpenIn, LengthsStay}
 use Rattle.dataspace_core.specs.Share.{Share, share_in, IsWindowOf, KeepsShares}
 use Rattle.dataspace_core.proofs.PartLaws.{open_in_part}
 use Rattle.dataspace_core.proofs.ShareLaws.{share_alike, some_alike, in_share}
@@ -59,7 +59,7 @@ module _ (heap : Heap) (fit : BestFit) (old new : Store) (regions : Regions) (so
         absurd (omega (arith, e2, few, low))
   ] refl
 
-  lengths : (k : ℕ) → option_map length (get (part account new).spaces k) ≡ option_map length (get (part account old).spaces k)
+  lengths : LengthsStay account old new
   lengths = part_lengths (keys_in heap) account old new kept (chunk_paid heap old regions sound)
 
   pub becomes : PartBecomes account (part account new) old new

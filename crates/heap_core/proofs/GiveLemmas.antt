@@ -50,15 +50,16 @@ joined-remove_first m n k free = search (rules, same, get-joined, get-remove, eq
 
 -- ---- where a block of a chunk stands, as the model has it
 
+-- a chunk of the list starts where it does
+pub start_is : (heap : Heap) (k : ℕ) → k < length heap.chunks.items → get_or (starts_in heap) k 0 ≡ (chunk_at heap k).start
+start_is heap k in_heap = get_or-map (λ (x : Chunk). x.start) heap.chunks.items k no_chunk 0 in_heap
+
 module _ (heap : Heap) (store : Store) (regions : Regions) (sound : IsSound heap store regions) (c offset : ℕ) (there : c < length heap.chunks.items) (inside : offset < avl.bytes_of heap.fit c) where
   abbrev place : Share
   place = share_at (payer_of heap) store regions
 
   abbrev at_start : ℕ
   at_start = (chunk_at heap c).start + offset
-
-  start_is : (k : ℕ) → k < length heap.chunks.items → get_or (starts_in heap) k 0 ≡ (chunk_at heap k).start
-  start_is k in_heap = get_or-map (λ (x : Chunk). x.start) heap.chunks.items k no_chunk 0 in_heap
 
   lies_chunk : (k : ℕ) → k < length heap.chunks.items → Lies (starts_in heap) (blocks heap place sound.laid) k at_start → k ≡ c
   lies_chunk k in_heap lies = grind (arith, nat_tests, start_is, chunk_total, one_chunk)
@@ -68,7 +69,7 @@ module _ (heap : Heap) (store : Store) (regions : Regions) (sound : IsSound heap
   is_in_chunk =
       let count = count_blocks heap place sound.laid in
       let starts = length-map heap.chunks.items (λ (x : Chunk). x.start) in
-      let start = start_is c there in
+      let start = start_is heap c there in
       let total = chunk_total heap place sound.laid c there in
       let e = chunk_from_is 0 (starts_in heap) (blocks heap place sound.laid) c at_start (starts ∙ sym count) (subst (λ m. c < m) (sym count) there)
       (record { low = omega (arith, start); high = omega (arith, start, total, inside) })
@@ -77,7 +78,7 @@ module _ (heap : Heap) (store : Store) (regions : Regions) (sound : IsSound heap
 
   is_at_offset : offset_of (heap_in heap place) at_start ≡ offset
   unfolding heap_in
-  is_at_offset = ap (λ k. at_start - start_of (heap_in heap place) k) is_in_chunk ∙ (let s = start_is c there in omega (arith, s))
+  is_at_offset = ap (λ k. at_start - start_of (heap_in heap place) k) is_in_chunk ∙ (let s = start_is heap c there in omega (arith, s))
 
   -- a block is given back by its payload's address
   pub without_it : (hv : OwnHeap) → hv ≡ heap_in heap place → without_block (at_start + 16) hv ≡ record hv { shape = shape_given c offset hv.shape; payloads = remove hv.payloads (at_start + 16) }

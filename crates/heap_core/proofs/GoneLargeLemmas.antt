@@ -20,7 +20,7 @@ use Rattle.own_model.proofs.NatMapLemmas.{same, get-remove, get-remove_same, get
 use Rattle.own_model.proofs.Totals.{len-remove_at}
 use Rattle.avl_alloc.specs.Layout as avl
 use Rattle.region_map.specs.Regions.{Regions, heap_detached}
-use Rattle.dataspace_core.specs.Store.{Store, part, space_at, PartBecomes, part_without_space}
+use Rattle.dataspace_core.specs.Store.{Store, part, space_at, PartBecomes, part_without_space, OtherSpacesStay}
 use Rattle.dataspace_core.specs.Share.{Share, share_in, KeepsShares}
 use Rattle.heap_core.specs.declared.heap.Heap.{Heap}
 use Rattle.heap_core.specs.Calls.{GivesLarge}
@@ -76,7 +76,7 @@ module _ (heap : Heap) (start ds : ℕ) (old new : Store) (regions : Regions) (s
     now : share_at account new after ≡ smaller
     now = gone_share account start ds block.pages old new regions.pages regions.heap_most regions.heap regions.tags sound.opens sound.window shown_there freed
 
-    others : (k : ℕ) → k ≢ ds → get (part account new).spaces k ≡ get (part account old).spaces k
+    others : OtherSpacesStay account ds old new
     others = gone_others account start ds block.pages old new regions.pages regions.heap_most regions.heap regions.tags sound.opens sound.window shown_there freed
 
     -- a region elsewhere is of another dataspace

@@ -18,7 +18,7 @@ use Rattle.avl_alloc.specs.Layout as avl
 use Rattle.dataspace_core.specs.Store.{Part}
 use Rattle.dataspace_core.specs.Share.{Share}
 use Rattle.heap_core.specs.declared.heap.Heap.{Heap}
-use Rattle.heap_core.specs.Heap.{large_tag, is_large_tag, large_regions, bytes_shown, heap_in, IsLaid, IsLargeAt, chunk_at, payloads_of, times_in}
+use Rattle.heap_core.specs.Heap.{large_tag, is_large_tag, large_regions, bytes_shown, heap_in, IsLaid, IsLargeAt, chunk_at, payloads_of, times_in, HasLargeBlocks}
 use Rattle.heap_core.proofs.PayloadLemmas.{payloads-none, entries_of}
 use Rattle.sliced_heap.proofs.ShareLemmas.{large_there, numbered-insert, numbered_free}
 use Rattle.heap_core.proofs.StandLemmas.{blocks, no_blocks, not_in_chunk, SameChunks, words_kept, stands_kept, payloads_kept}
@@ -58,7 +58,7 @@ module _ (heap : Heap) (share : Share) (part : Part) (start : ℕ) (region : Reg
   is_region : (s : ℕ) (r : Region) → get (large_regions share) s ≡ Some r → get share.heap s ≡ Some r
   is_region s r h = large_there share s r h
 
-  stands : (s : ℕ) (r : Region) → get (large_regions larger) s ≡ Some r → IsLargeAt larger r
+  stands : HasLargeBlocks larger
   stands s r h = ⊎_elim
       (λ (here : s ≡ start).
       let e = same_Some region r (sym (get-insert_same (large_regions share) start region s here) ∙ ap (λ (m : NatMap Region). get m s) (sym more) ∙ h) in

@@ -24,7 +24,7 @@ use Rattle.own_model.proofs.NatMapLemmas.{same, and_then_alike, and_then_from, g
 use Rattle.avl_alloc.specs.Layout as avl
 use Rattle.avl_alloc.specs.Layout.{heap_of}
 use Rattle.region_map.specs.Regions.{Regions}
-use Rattle.dataspace_core.specs.Store.{Store, Space, Part, part, bytes_of, PartBecomes, part_with_bytes, with_bytes_at}
+use Rattle.dataspace_core.specs.Store.{Store, Space, Part, part, bytes_of, PartBecomes, part_with_bytes, with_bytes_at, LengthsStay}
 use Rattle.dataspace_core.specs.Share.{Share, share_in, IsWindowOf}
 use Rattle.dataspace_core.proofs.PartLaws.{becomes_paid, open_after, paid_in_part, part_open}
 use Rattle.dataspace_core.proofs.PartLemmas.{becomes-with_bytes_at}
@@ -187,7 +187,7 @@ module _ (heap : Heap) (ds offset address : ℕ) (bytes : List ℕ) (old new : S
   lengths : (k : ℕ) → option_map length (get (part_with_bytes (part account old) ds offset bytes).spaces k) ≡ option_map length (get (part account old).spaces k)
   lengths = poked_length (part account old) ds offset bytes held.bytes held.there fits
 
-  lengths_now : (k : ℕ) → option_map length (get (part account new).spaces k) ≡ option_map length (get (part account old).spaces k)
+  lengths_now : LengthsStay account old new
   lengths_now k = ap (λ (p : Part). option_map length (get p.spaces k)) becomes.own ∙ lengths k
 
   stand : (s : ℕ) → block_region T s ≡ block_region S s

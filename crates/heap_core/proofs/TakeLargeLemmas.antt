@@ -13,7 +13,7 @@ use Rattle.own_model.proofs.ByteLemmas.{length-zeros}
 use Rattle.own_model.proofs.RegionLemmas.{first_gap_least}
 use Rattle.avl_alloc.specs.Layout as avl
 use Rattle.region_map.specs.Regions.{Regions, heap_attached}
-use Rattle.dataspace_core.specs.Store.{Store, part, PartBecomes, part_with_space}
+use Rattle.dataspace_core.specs.Store.{Store, part, PartBecomes, part_with_space, OtherSpacesStay}
 use Rattle.dataspace_core.specs.Share.{Share, share_in}
 use Rattle.dataspace_core.proofs.ShareLaws.{nothing_shown, in_share}
 use Rattle.dataspace_core.proofs.WindowLaws.{share_then, shares_then, window_then, open_then, unshown, others_there, new_there, count_then, charge_then}
@@ -76,7 +76,7 @@ module _ (heap : Heap) (vec : ArrayVec ℕ) (n ds pages start : ℕ) (old new : 
   there : get (part account new).spaces ds ≡ Some (zeros (page_of n))
   there = new_there account ds n large_tag start old new regions.pages regions.heap_most regions.heap regions.tags sound.opens sound.window fresh becomes free
 
-  others : (k : ℕ) → k ≢ ds → get (part account new).spaces k ≡ get (part account old).spaces k
+  others : OtherSpacesStay account ds old new
   others = others_there account ds n large_tag start old new regions.pages regions.heap_most regions.heap regions.tags sound.opens sound.window fresh becomes free
 
   keeps : (s : ℕ) (r : Region) → get S.heap s ≡ Some r → get (part account new).spaces r.of ≡ get S.part.spaces r.of

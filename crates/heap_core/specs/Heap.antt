@@ -107,6 +107,10 @@ HasNoBlocks share = (start k : ℕ) (region : Region) → get share.heap start �
 abbrev pub times_in : List ℕ → ℕ → ℕ
 times_in numbers n = sum_by (λ x. cond (x == n) 1 0) numbers
 
+-- each region of a large block is one
+abbrev pub HasLargeBlocks : Share → Type 0
+HasLargeBlocks share = (start : ℕ) (region : Region) → get (large_regions share) start ≡ Some region → IsLargeAt share region
+
 -- a heap's chunks and large blocks are in its account's share, and no other region keeps such a number
 pub record IsLaid (heap : Heap) (share : Share) : Type 0 where
   pub fit : avl.IsSound heap.fit (words_in heap share.part)
@@ -116,7 +120,7 @@ pub record IsLaid (heap : Heap) (share : Share) : Type 0 where
   pub all : (start k : ℕ) (region : Region) → get share.heap start ≡ Some region → get share.tags start ≡ Some k → k < large_tag → (k < length heap.chunks.items) × ((chunk_at heap k).start ≡ start)
   pub large : (start : ℕ) → times_in heap.large.items start ≡ cond (is_some (get (large_regions share) start)) 1 0
   pub large_count : length heap.large.items ≡ len (large_regions share)
-  pub large_stands : (start : ℕ) (region : Region) → get (large_regions share) start ≡ Some region → IsLargeAt share region
+  pub large_stands : HasLargeBlocks share
   pub growth_some : 1 ≤ heap.growth
   pub growth_most : heap.growth ≤ most_growth
 
