@@ -11,7 +11,7 @@ use Rattle.dataspace_core.specs.Room.{HasRoom}
 use Rattle.dataspace_core.specs.Store.{Store, Part, part, part_with_bytes, ram_limits_in, caps_limits_in, space_at, Exists, PartBecomes}
 use Rattle.dataspace_core.proofs.PartLaws.{paid_in_part}
 use Rattle.server_frame.specs.Frame.{Row}
-use Rattle.server_frame.specs.Laws.{WritesLent as WritesRow}
+use Rattle.server_frame.specs.Theorems.{WritesLent as WritesRow}
 use Rattle.server_frame.proofs.FrameLaws.{stays_of_others}
 use Rattle.server_kinds.proofs.HostLaws.{written as host_written}
 use Rattle.pd_core.specs.Component.{Pays, reserve_in, caps_in, rows_in, Works, IsSoundRole}

@@ -19,7 +19,7 @@ use Rattle.server_frame.specs.Session.{holding, PaysFor}
 use Rattle.server_frame.specs.Frame.{row_of, sessions_of, Holds, IsServer, ClosesSession}
 use Rattle.server_frame.specs.declared.server.Session.{Session}
 use Rattle.server_frame.proofs.HoldingLemmas.{same_part}
-use Rattle.server_frame.proofs.FrameLemmas.{Stays, row_stays, map_of-emptied, server_without}
+use Rattle.server_frame.proofs.FrameLemmas.{Stays, row_stays, map_of-emptied, server_without, OthersStay, other_account, other_client}
 
 module _ {T V : Type 0} (kept : T → ℕ → Share → Type 0) (value : T → Share → V) (buffer : T → Option ℕ) (payer : T → ℕ) (sessions now : Slab (Session T)) (old mid : Store) (regions between : Regions) (server : IsServer kept sessions old regions) (id : ℕ) (session : Session T) (there : slab.get sessions id ≡ Some session)
     (removed : Updates sessions now id None) (pays : PaysFor kept payer) (heap : SlicedHeap) (same : payer_of heap ≡ payer session.state) (others_by : KeepsOthers (payer session.state) old mid regions between)
@@ -46,12 +46,6 @@ module _ {T V : Type 0} (kept : T → ℕ → Share → Type 0) (value : T → S
   pub leaf : IsLeafIn mid session.account.0
   leaf k is = holds.leaf k (ap (λ (m : NatMap ℕ). get m k) (sym others.parents) ∙ is)
 
-  other_account : (k : ℕ) (s : Session T) → k ≢ id → slab.get sessions k ≡ Some s → s.account.0 ≢ session.account.0
-  other_account k s other found e = other (server.apart k id s session found there e)
-
-  other_client : (k : ℕ) (s : Session T) → slab.get sessions k ≡ Some s → s.account.0 ≢ session.client.0
-  other_client k s found e = (server.each k s found).leaf session.account.0 (holds.child ∙ ap Some (sym e))
-
   client_apart : session.client.0 ≢ session.account.0
   client_apart e = holds.leaf session.account.0 (holds.child ∙ ap Some e)
 
@@ -67,11 +61,11 @@ module _ {T V : Type 0} (kept : T → ℕ → Share → Type 0) (value : T → S
     closes : ClosesPart session.account.0 session.client.0 mid new
     closes = subst (λ p. ClosesPart session.account.0 p mid new) (ap (λ o. unwrap_or o (root_in mid)) child) closes_by
 
-    stays : (k : ℕ) (s : Session T) → k ≢ id → slab.get sessions k ≡ Some s → Stays s.account.0 old new regions after
+    stays : OthersStay sessions id old new regions after
     stays k s other found =
-        let apart = other_account k s other found in
+        let apart = other_account kept sessions old regions server id session there k s other found in
         record {
-          own = closes.others s.account.0 apart (other_client k s found) ∙ same_part s.account.0 old mid regions between (others.shares s.account.0 apart);
+          own = closes.others s.account.0 apart (other_client kept sessions old regions server id session there k s found) ∙ same_part s.account.0 old mid regions between (others.shares s.account.0 apart);
           held = holdings s.account.0 apart ∙ ap holding (others.shares s.account.0 apart);
           parent = ap (λ (m : NatMap ℕ). get m s.account.0) closes.parents ∙ get-remove_other (parents_in mid) session.account.0 s.account.0 apart ∙ ap (λ (m : NatMap ℕ). get m s.account.0) others.parents;
           leaf = λ leaf q is. leaf q (ap (λ (m : NatMap ℕ). get m q) (sym others.parents) ∙ before_remove (parents_in mid) session.account.0 q s.account.0 (ap (λ (m : NatMap ℕ). get m q) (sym closes.parents) ∙ is));

@@ -106,9 +106,23 @@ region_was account old new regions after maps start r there pays held =
 
 -- ---- all sessions
 
+-- the sessions under other keys stay
+abbrev pub OthersStay : {T : Type 0} → Slab (Session T) → ℕ → Store → Store → Regions → Regions → Type 0
+OthersStay {T} sessions id old new regions after = (k : ℕ) (s : Session T) → k ≢ id → slab.get sessions k ≡ Some s → Stays s.account.0 old new regions after
+
+-- a session under another key has another account
+pub other_account : {T : Type 0} (kept : T → ℕ → Share → Type 0) (sessions : Slab (Session T)) (store : Store) (regions : Regions) → IsServer kept sessions store regions → (id : ℕ) (session : Session T) → slab.get sessions id ≡ Some session →
+    (k : ℕ) (s : Session T) → k ≢ id → slab.get sessions k ≡ Some s → s.account.0 ≢ session.account.0
+other_account kept sessions store regions server id session there k s other found e = other (server.apart k id s session found there e)
+
+-- no session's account is a client's
+pub other_client : {T : Type 0} (kept : T → ℕ → Share → Type 0) (sessions : Slab (Session T)) (store : Store) (regions : Regions) → IsServer kept sessions store regions → (id : ℕ) (session : Session T) → slab.get sessions id ≡ Some session →
+    (k : ℕ) (s : Session T) → slab.get sessions k ≡ Some s → s.account.0 ≢ session.client.0
+other_client kept sessions store regions server id session there k s found e = (server.each k s found).leaf session.account.0 ((server.each id session there).child ∙ ap Some (sym e))
+
 module _ {T : Type 0} (kept : T → ℕ → Share → Type 0) (sessions now : Slab (Session T)) (old new : Store) (regions after : Regions) (server : IsServer kept sessions old regions) (maps : MapsMemory new after) (id account : ℕ)
     (holdings : (other : ℕ) → other ≢ account → holding (share_at other new after) ≡ holding (share_at other old regions))
-    (stays : (k : ℕ) (s : Session T) → k ≢ id → slab.get sessions k ≡ Some s → Stays s.account.0 old new regions after)
+    (stays : OthersStay sessions id old new regions after)
     (one : (s : Session T) → slab.get sessions id ≡ Some s → s.account.0 ≡ account) where
   -- a region that shows no dataspace of the account shows one of another session
   module _ (slot : Option (Session T)) (updates : Updates sessions now id slot) where

@@ -13,7 +13,7 @@ use Rattle.own_model.proofs.NatMapLemmas.{get-empty, apart_from_free}
 use Rattle.own_model.proofs.Totals.{len-insert_new}
 use Rattle.own_model.specs.OwnState.{zeros}
 use Rattle.region_map.specs.Regions.{Regions}
-use Rattle.dataspace_core.specs.Store.{Store, Part, part, parted_part, raised_part, charged_part, credited_part, account_of, accounts_in, account_in, parents_in, parent_in, root_in, room_in, IsOpenIn, IsLeafIn, with_child_in, with_account_in, without_account_in, AreRelatedIn, ram_limits_in, PartBecomes, OpensPart, ClosesPart}
+use Rattle.dataspace_core.specs.Store.{Store, Part, part, parted_part, raised_part, charged_part, credited_part, account_of, accounts_in, account_in, parents_in, parent_in, root_in, room_in, IsOpenIn, IsLeafIn, with_child_in, with_account_in, without_account_in, AreRelatedIn, ram_limits_in, PartBecomes, OpensPart, ClosesPart, OtherPartsStay}
 use Rattle.dataspace_core.specs.Share.{share_in}
 use Rattle.dataspace_core.proofs.PartLaws.{account_of-part, open_in_part, account_by}
 use Rattle.dataspace_core.proofs.LimitLaws.{limits_after}
@@ -41,7 +41,7 @@ pub record IsCharged (client account ram caps : ℕ) (old new : Store) (regions 
   pub maps : MapsMemory new regions
   pub holdings : (other : ℕ) → holding (share_at other new regions) ≡ holding (share_at other old regions)
   pub parted : part client new ≡ parted_part (part client old) ram caps
-  pub parts : (other : ℕ) → other ≢ client → other ≢ account → part other new ≡ part other old
+  pub parts : OtherPartsStay client account old new
   pub leaf : IsLeafIn new account
   pub root : root_in new ≡ root_in old
   pub parents : parents_in new ≡ insert (parents_in old) account client

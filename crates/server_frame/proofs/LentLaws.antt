@@ -27,10 +27,10 @@ use Rattle.sliced_heap.proofs.HeapLaws.{map_stays_for_payer}
 use Rattle.server_frame.specs.SessionBuffer.{AllLendAside, LendsAside, share_with}
 use Rattle.server_frame.specs.Session.{IsSessionAccount, holding, holding_at}
 use Rattle.server_frame.specs.Frame.{Row, row_of, sessions_of, Holds, IsServer}
-use Rattle.server_frame.specs.Laws.{LentArePaid, WritesLent, WritesLeaveSessions}
+use Rattle.server_frame.specs.Theorems.{LentArePaid, WritesLent, WritesLeaveSessions}
 use Rattle.server_frame.specs.declared.server.Session.{Session}
 use Rattle.server_frame.proofs.FrameLaws.{stays_of_others}
-use Rattle.server_frame.proofs.FrameLemmas.{Stays, read_alike, row_stays, server_with}
+use Rattle.server_frame.proofs.FrameLemmas.{Stays, read_alike, row_stays, server_with, OthersStay, other_account}
 use Rattle.server_frame.proofs.RowLaws.{read_from}
 
 -- a service that lends nothing
@@ -143,18 +143,15 @@ module _ {T V : Type 0} (kept : T → ℕ → Share → Type 0) (value : T → S
       λ i. record { client = session.client.0; key = session.account.0; account = account_is i; value = same_value i; buffer = buffer session.state }
 
   -- the others see nothing of it
-  other_account : (k : ℕ) (s : Session T) → k ≢ id → slab.get sessions k ≡ Some s → s.account.0 ≢ payer
-  other_account k s other found e = other (server.apart k id s session found there e)
-
-  stays : (k : ℕ) (s : Session T) → k ≢ id → slab.get sessions k ≡ Some s → Stays s.account.0 old new regions regions
-  stays k s other found = stays_of_others payer s.account.0 written old new regions becomes (other_account k s other found)
+  stays : OthersStay sessions id old new regions regions
+  stays k s other found = stays_of_others payer s.account.0 written old new regions becomes (other_account kept sessions old regions server id session there k s other found)
 
   pub server_written : IsServer kept sessions new regions
   server_written =
       server_with kept sessions sessions old new regions regions server maps id payer
       (λ other apart. (stays_of_others payer other written old new regions becomes apart).held) stays
       (λ s found. ap (λ (x : Session T). x.account.0) (same_Some _ _ (sym found ∙ there)))
-      session (record { changed = there; others = λ other apart. refl }) refl other_account holds_still
+      session (record { changed = there; others = λ other apart. refl }) refl (other_account kept sessions old regions server id session there) holds_still
 
   pub rows_written : sessions_of value buffer sessions new regions ≡ sessions_of value buffer sessions old regions
   rows_written = same _ _ (λ q.

@@ -19,7 +19,7 @@ use Rattle.sliced_heap.specs.declared.heap.SlicedHeap.{SlicedHeap}
 use Rattle.server_frame.specs.Session.{holding, holding_at, holding_of, HasBlocksAlone, IsSessionAccount}
 use Rattle.server_frame.specs.Frame.{row_of, new_row, sessions_of, Holds, IsServer, IsNoSession, OpensChargedAccount, OpensSession}
 use Rattle.server_frame.specs.declared.server.Session.{Session}
-use Rattle.server_frame.proofs.FrameLemmas.{Stays, row_stays, map_of-written, server_with}
+use Rattle.server_frame.proofs.FrameLemmas.{Stays, row_stays, map_of-written, server_with, OthersStay}
 use Rattle.server_frame.proofs.HoldingLemmas.{heap_account, heap_linked}
 
 module _ {T V : Type 0} (kept : T → ℕ → Share → Type 0) (value : T → Share → V) (buffer : T → Option ℕ) (sessions now : Slab (Session T)) (old new : Store) (regions after : Regions) (server : IsServer kept sessions old regions) (id : ℕ) (vacant : slab.get sessions id ≡ None)
@@ -35,7 +35,7 @@ module _ {T V : Type 0} (kept : T → ℕ → Share → Type 0) (value : T → S
       let holds = server.each k s found in
       apart_from_free (accounts_in old) session.account.0 s.account.0 furnishes.fresh holds.account.opens
 
-  stays : (k : ℕ) (s : Session T) → k ≢ id → slab.get sessions k ≡ Some s → Stays s.account.0 old new regions after
+  stays : OthersStay sessions id old new regions after
   stays k s other found = record {
     own = furnishes.parts s.account.0 (no_session.none k s found) (other_account k s found);
     held = furnishes.holdings s.account.0 (other_account k s found);

@@ -18,7 +18,7 @@ use Rattle.dataspace_core.specs.Store.{Store, account_in, accounts_in, IsOpenIn}
 use Rattle.dataspace_core.specs.Room.{HasRoom}
 use Rattle.dataspace_core.specs.Share.{Share}
 use Rattle.server_frame.specs.Frame.{IsServer, IsNoSession}
-use Rattle.server_frame.specs.Laws.{HasClients, TableHasPlace, OpensAnAccount}
+use Rattle.server_frame.specs.Theorems.{HasClients, TableHasPlace, OpensAnAccount}
 use Rattle.server_frame.specs.declared.server.Session.{Session}
 
 module _ {T : Type 0} (kept : T → ℕ → Share → Type 0) (heads : ℕ → Bool) (sessions : Slab (Session T)) (store : Store) (regions : Regions) (server : IsServer kept sessions store regions) (clients : HasClients heads sessions) (room : HasRoom heads store) where

@@ -22,7 +22,7 @@ use Rattle.server_frame.specs.SessionBuffer.{IsEffect, bytes_lent}
 use Rattle.server_frame.specs.declared.effect.Effect.{Effect}
 use Rattle.server_frame.specs.declared.server.Session.{Session}
 use Rattle.server_frame.proofs.HoldingLemmas.{same_part, held_by, maps_books, account_held}
-use Rattle.server_frame.proofs.FrameLemmas.{Stays, row_stays, map_of-written, server_with}
+use Rattle.server_frame.proofs.FrameLemmas.{Stays, row_stays, map_of-written, server_with, OthersStay, other_account, other_client}
 
 -- a session on another account stays while a call for one account keeps the others
 stays_by : (account other : ℕ) (old new : Store) (regions after : Regions) → KeepsOthers account old new regions after → other ≢ account → Stays other old new regions after
@@ -51,14 +51,6 @@ module _ {T V : Type 0} (kept : T → ℕ → Share → Type 0) (value : T → S
   pub row_there : (row : Row V) → get (sessions_of value buffer sessions old regions) id ≡ Some row → row_of value buffer old regions session ≡ row
   row_there row is = same_Some _ _ (sym (get-map_of_at (row_of value buffer old regions) sessions id session there) ∙ is)
 
-  -- another session has another account
-  other_account : (k : ℕ) (s : Session T) → k ≢ id → slab.get sessions k ≡ Some s → s.account.0 ≢ session.account.0
-  other_account k s other found e = other (server.apart k id s session found there e)
-
-  -- no session's account is the client
-  other_client : (k : ℕ) (s : Session T) → slab.get sessions k ≡ Some s → s.account.0 ≢ session.client.0
-  other_client k s found e = (server.each k s found).leaf session.account.0 (holds.child ∙ ap Some (sym e))
-
   -- ---- a request is served
 
   module _ (payer : T → ℕ) (pays : PaysFor kept payer) (new : Store) (after : Regions) (state : T) (account_after : IsSessionAccount (payer state) new after) (state_kept : kept state (payer state) (holding_at (payer state) new after)) (same : payer state ≡ payer session.state) (others_by : KeepsOthers (payer session.state) old new regions after) where
@@ -72,8 +64,8 @@ module _ {T V : Type 0} (kept : T → ℕ → Share → Type 0) (value : T → S
     others : KeepsOthers session.account.0 old new regions after
     others = subst (λ k. KeepsOthers k old new regions after) own others_by
 
-    stays : (k : ℕ) (s : Session T) → k ≢ id → slab.get sessions k ≡ Some s → Stays s.account.0 old new regions after
-    stays k s other found = stays_by session.account.0 s.account.0 old new regions after others (other_account k s other found)
+    stays : OthersStay sessions id old new regions after
+    stays k s other found = stays_by session.account.0 s.account.0 old new regions after others (other_account kept sessions old regions server id session there k s other found)
 
     next_holds : Holds kept next new after
     next_holds = record {
@@ -91,7 +83,7 @@ module _ {T V : Type 0} (kept : T → ℕ → Share → Type 0) (value : T → S
         server_with kept sessions (with_value sessions id next) old new regions after server account_after.maps id session.account.0
         (λ other apart. ap holding (others.shares other apart)) stays
         (λ s found. ap (λ (x : Session T). x.account.0) (same_Some _ _ (sym found ∙ there)))
-        next written refl other_account next_holds
+        next written refl (other_account kept sessions old regions server id session there) next_holds
 
     rows_serve : sessions_of value buffer (with_value sessions id next) new after ≡ insert (sessions_of value buffer sessions old regions) id (row_of value buffer new after next)
     rows_serve = map_of-written (row_of value buffer old regions) (row_of value buffer new after) sessions (with_value sessions id next) id (λ q x other found. row_stays old new regions after x value buffer (stays q x other found)) next written
@@ -135,9 +127,9 @@ module _ {T V : Type 0} (kept : T → ℕ → Share → Type 0) (value : T → S
     maps_raised : MapsMemory new regions
     maps_raised = maps_books old new _ regions is ram_moved server.maps
 
-    stays_raised : (k : ℕ) (s : Session T) → k ≢ id → slab.get sessions k ≡ Some s → Stays s.account.0 old new regions regions
+    stays_raised : OthersStay sessions id old new regions regions
     stays_raised k s other found = record {
-      own = raises.others s.account.0 (other_client k s found) (other_account k s other found);
+      own = raises.others s.account.0 (other_client kept sessions old regions server id session there k s found) (other_account kept sessions old regions server id session there k s other found);
       held = held_by old new _ is s.account.0 regions;
       parent = ap (λ (m : NatMap ℕ). get m s.account.0) raises.parents;
       leaf = λ leaf q e. leaf q (ap (λ (m : NatMap ℕ). get m q) (sym raises.parents) ∙ e);
@@ -164,7 +156,7 @@ module _ {T V : Type 0} (kept : T → ℕ → Share → Type 0) (value : T → S
         server_with kept sessions sessions old new regions regions server maps_raised id session.account.0
         (λ other apart. held_by old new _ is other regions) stays_raised
         (λ s found. ap (λ (x : Session T). x.account.0) (same_Some _ _ (sym found ∙ there)))
-        session as_it_was refl other_account raised_holds
+        session as_it_was refl (other_account kept sessions old regions server id session there) raised_holds
 
     rows_raise : sessions_of value buffer sessions new regions ≡ insert (sessions_of value buffer sessions old regions) id (record (row_of value buffer old regions session) { account = raised (account_in old session.account.0) ram caps })
     rows_raise =

@@ -9,7 +9,7 @@ use Rattle.own_model.specs.Region.{Region}
 use Rattle.own_model.specs.Session.{session_account}
 use Rattle.quota_core.specs.SlabMap.{map_of}
 use Rattle.region_map.specs.Regions.{Regions}
-use Rattle.dataspace_core.specs.Store.{Store, part, parted_part, space_at, accounts_in, account_in, root_in, room_in, parents_in, IsOpenIn, IsChildIn, IsLeafIn, ClosesPart}
+use Rattle.dataspace_core.specs.Store.{Store, part, parted_part, space_at, accounts_in, account_in, root_in, room_in, parents_in, IsOpenIn, IsChildIn, IsLeafIn, ClosesPart, OtherPartsStay}
 use Rattle.dataspace_core.specs.Share.{Share}
 use Rattle.sliced_heap.specs.Heap.{payer_of, MapsMemory}
 use Rattle.sliced_heap.specs.declared.heap.SlicedHeap.{SlicedHeap}
@@ -100,7 +100,7 @@ pub record OpensChargedAccount (client ram caps account : ℕ) (taken : SlicedHe
   pub leaf : IsLeafIn new account
   pub charge : (part account new).account ≡ Some (session_account ram caps)
   pub parted : part client new ≡ parted_part (part client old) ram caps
-  pub parts : (other : ℕ) → other ≢ client → other ≢ account → part other new ≡ part other old
+  pub parts : OtherPartsStay client account old new
   pub holdings : (other : ℕ) → other ≢ account → holding_at other new after ≡ holding_at other old regions
   pub root : root_in new ≡ root_in old
   pub parents : parents_in new ≡ insert (parents_in old) account client

@@ -1,4 +1,4 @@
 pub mod SessionBuffer
 pub mod Session
 pub mod Frame
-pub mod Laws
+pub mod Theorems

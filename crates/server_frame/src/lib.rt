@@ -3,13 +3,13 @@
 #![tactic(auto)]
 
 mod effect;
-mod laws;
 mod server;
 mod service;
 mod session_account;
+mod theorems;
 
 pub use core_calls::{LONGEST_LABEL, MOST_LINES, Quotas, Reply};
 pub use effect::Effect;
-pub use laws::{lent_bytes_are_the_clients, sessions_find_places};
 pub use server::Server;
 pub use service::Service;
+pub use theorems::{lent_bytes_are_the_clients, sessions_find_places};

@@ -16,7 +16,7 @@ use Rattle.server_frame.specs.Frame.{Row, row_of, IsNoSession}
 use Rattle.server_frame.specs.declared.server.Session.{Session}
 use Rattle.server_frame.proofs.FrameLaws.{server_at_first, server_stays}
 use Rattle.server_frame.proofs.FrameLemmas.{Stays, row_stays, read_alike}
-use Rattle.server_frame.specs.Laws.{WritesLent}
+use Rattle.server_frame.specs.Theorems.{WritesLent}
 use Rattle.server_frame.proofs.LentLaws.{lent_are_paid, writes_leave_sessions}
 use Rattle.server_frame.proofs.PlaceLaws.{table_has_place}
 use Rattle.server_frame.proofs.RowLaws.{IsNoRows, read_from, no_session_by_rows}

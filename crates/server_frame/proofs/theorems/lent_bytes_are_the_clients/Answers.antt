@@ -1,6 +1,6 @@
 -- Each law is a lemma that callers cite as well, of a service whose sessions lend what stands aside.
 use Rattle.server_frame.proofs.LentLaws.{lent_are_paid, writes_leave_sessions}
-use Rattle.server_frame.proofs.laws.lent_bytes_are_the_clients.Goals as goal
+use Rattle.server_frame.proofs.theorems.lent_bytes_are_the_clients.Goals as goal
 
 pub returns-clause-paid : goal.returns-clause-paid
 returns-clause-paid g c = lent_are_paid g.S.Service.IsKept g.S.Service.value g.S.Service.buffer g.met.S.Service.lends_aside

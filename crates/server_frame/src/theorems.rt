@@ -1,6 +1,6 @@
 //! Theorems for callers: a server has a place for each session that its client covers, and a client's writes to a buffer
 //! leave all else as it was. The functions do nothing at run time.
-ghost use Rattle.server_frame.specs.Laws.{TableHasPlace, OpensAnAccount, LentArePaid, WritesLeaveSessions};
+ghost use Rattle.server_frame.specs.Theorems.{TableHasPlace, OpensAnAccount, LentArePaid, WritesLeaveSessions};
 
 use crate::service::Service;
 

@@ -1,6 +1,6 @@
 -- Each law is a lemma that callers cite as well.
 use Rattle.server_frame.proofs.PlaceLaws.{table_has_place, opens_an_account}
-use Rattle.server_frame.proofs.laws.sessions_find_places.Goals as goal
+use Rattle.server_frame.proofs.theorems.sessions_find_places.Goals as goal
 
 pub returns-clause-table : goal.returns-clause-table
 returns-clause-table g c = table_has_place g.S.Service.IsKept
