@@ -7,15 +7,15 @@ mod account;
 mod budget;
 mod file_sizes;
 mod growth;
-mod laws;
 mod meter;
 mod needed_amounts;
 mod outcomes;
 mod session;
+mod theorems;
 
 pub use account::AccountMeter;
 pub use budget::{Budget, Bytes};
-pub use laws::session_runs_are_exact;
 pub use meter::Meter;
 pub use needed_amounts::{call_amounts, named_by};
 pub use session::SessionMeter;
+pub use theorems::session_runs_are_exact;

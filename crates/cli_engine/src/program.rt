@@ -164,7 +164,8 @@ fn do_task<R: Router + Drop, S: Source, K: Sink>(
         },
         Task::Run { accounts, only } => {
             let mut reply = Reply::boot(alloc)?;
-            match answer_scenario(core, list, &mut reply, accounts, only, reader, writer) {
+            let run = LineDispatcher { list, only };
+            match answer_scenario(&run, core, &mut reply, accounts, reader, writer) {
                 Ok(summary) => Ok(summary),
                 Err(fault) => Err(TaskFailure::Run(fault)),
             }
@@ -175,35 +176,29 @@ fn do_task<R: Router + Drop, S: Source, K: Sink>(
 // Answers a scenario, and then writes the account list if `accounts` is set.
 #[tactic(auto, using(crate::proofs::TaskLemmas::scenarios))]
 fn answer_scenario<R: Router + Drop, S: Source, K: Sink>(
+    run: &LineDispatcher<'_>,
     core: &mut Core<R>,
-    list: &StartList,
     reply: &mut Reply,
     accounts: bool,
-    only: Option<&[u8]>,
     reader: &mut S,
     writer: &mut K,
 ) -> Result<RunSummary, RunFault>
-    requires listed { core.old.entries ≡ entries_of (start_list_of list.now) }
+    requires listed { core.old.entries ≡ entries_of (start_list_of run.now.list.now) }
     ensures few { IfOk result (λ summary. summary.lines ≤ MAX_LINES) }
     ensures told { IfOk result (λ summary. IfSome (S.remaining reader.old) (λ input.
-        IsAnswered (scenario_text accounts (option_copied only.entry) list.now core.old input)
+        IsAnswered
+        (scenario_text accounts (option_copied run.now.only) run.now.list.now core.old input)
         input summary.lines (K.contents writer.old) (K.contents writer.new))) }
     ensures stops { IfErr result (λ fault. IfSome (S.remaining reader.old) (λ input.
-        StopsScenario accounts (option_copied only.entry) fault MAX_LINES list.now core.old input
+        StopsScenario accounts (option_copied run.now.only) fault MAX_LINES run.now.list.now
+        core.old input
         (S.remaining reader.new) (S.has_failed reader.new)
         (K.contents writer.old) (K.contents writer.new))) }
     ensures writing { K.has_failed writer.new ≡ is_write_fault result }
 {
-    match run_selected(
-        &LineDispatcher { list, only },
-        core,
-        reply,
-        reader,
-        writer,
-        MAX_LINES,
-    ) {
+    match run_selected(run, core, reply, reader, writer, MAX_LINES) {
         Ok(summary) => if accounts {
-            match write_accounts(core, list, writer) {
+            match write_accounts(core, run.list, writer) {
                 Ok(()) => Ok(summary),
                 Err(fault) => Err(fault),
             }

@@ -16,7 +16,7 @@ use Rattle.file_service.specs.Node.{FileNode, node_of}
 use Rattle.file_service.specs.Session.{LinksTo, KeepsFile, IsFresh}
 use Rattle.file_service.proofs.FileListLemmas.{append_map}
 use Rattle.file_service.proofs.NodeKeptLemmas.{place_same}
-use Rattle.file_service.proofs.KeptLemmas.{Stays, stand_appended, files_kept, files_are, blocks_are}
+use Rattle.file_service.proofs.KeptLemmas.{Stays, stand_appended, files_kept, files_are, blocks_are, ChunksStay, OffsetsStay, AllStay}
 use Rattle.file_service.proofs.LinkLemmas.{listed_first, listed_later, last_listed, unlisted}
 use Rattle.file_service.proofs.SearchLemmas.{link_some}
 
@@ -90,16 +90,16 @@ module _ (first last : ℕ) (nodes mid later : OwnHeap) (contents : NatMap (List
   rest : later ≡ record nodes { payloads = later.payloads }
   rest = links.rest ∙ ap (λ (n : OwnHeap). record n { payloads = later.payloads }) (stored_rest nodes mid block payload stored)
 
-  chunk_same : (a : ℕ) → chunk_with later a ≡ chunk_with nodes a
+  chunk_same : ChunksStay nodes later
   chunk_same a = ap (λ n. chunk_with n a) rest
 
-  offset_same : (a : ℕ) → offset_of later a ≡ offset_of nodes a
+  offset_same : OffsetsStay nodes later
   offset_same a = ap (λ n. offset_of n a) rest
 
   count_same : length later.shape.chunks ≡ length nodes.shape.chunks
   count_same = ap (λ (n : OwnHeap). length n.shape.chunks) rest
 
-  stays : (b : ℕ) → is_listed blocks b ≡ true → Stays nodes later contents contents b
+  stays : AllStay nodes later contents contents blocks
   stays b t =
       let other = other_block b (listed_later 0 b blocks t) in
       let one = stored_node nodes mid block payload stored b other in

@@ -26,7 +26,7 @@ use Rattle.sliced_heap.proofs.ShareLemmas.{get-sliced_regions, in_numbered}
 use Rattle.dataspace_core.proofs.ShareLaws.{in_share}
 use Rattle.server_frame.specs.Session.{IsSessionHeap, HasBlocksAlone, holding_of}
 use Rattle.file_service.specs.SoundHeaps.{IsShare, KeepsNodes, is_lent_tag, lent_regions}
-use Rattle.file_service.proofs.LentLemmas.{lent_number}
+use Rattle.file_service.specs.SeparateBuffer.{lent_number}
 
 -- a session's share of a map is one that a map can have
 pub session_share : (sliced : SlicedHeap) (store : Store) (regions : Regions) → IsSessionHeap sliced store regions → IsShare (holding_of sliced store regions)

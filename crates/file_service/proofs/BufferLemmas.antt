@@ -147,6 +147,10 @@ module _ {heap : Heap} {sliced : SlicedHeap} {store : Store} {regions : Regions}
     pub lent_had : get (part (payer_of sliced) store).spaces lent.space.0 ≡ Some (space_at store lent.space.0).bytes
     lent_had = part_paid lent_paid
 
+    -- the dataspaces of regions of other numbers stay
+    abbrev OthersStay : Store → Type 0
+    OthersStay new = (s k : ℕ) (r : Region) → get regions.heap s ≡ Some r → get regions.tags s ≡ Some k → (k == of_no_heap) ≡ false → get (part (payer_of sliced) new).spaces r.of ≡ get (part (payer_of sliced) store).spaces r.of
+
     -- no region of another number shows its dataspace
     pub apart : (s k : ℕ) (r : Region) → get regions.heap s ≡ Some r → get regions.tags s ≡ Some k → (k == of_no_heap) ≡ false → r.of ≢ lent.space.0
     apart s k r there tag other e =
@@ -166,7 +170,7 @@ module _ {heap : Heap} {sliced : SlicedHeap} {store : Store} {regions : Regions}
       abbrev less : Regions
       less = heap_detached regions lent.start
 
-      others_left : (s k : ℕ) (r : Region) → get regions.heap s ≡ Some r → get regions.tags s ≡ Some k → (k == of_no_heap) ≡ false → get (part (payer_of sliced) new).spaces r.of ≡ get (part (payer_of sliced) store).spaces r.of
+      others_left : OthersStay new
       others_left s k r there tag other =
           gone.gone_others (payer_of sliced) lent.start lent.space.0 stands.pages store new regions.pages regions.heap_most regions.heap regions.tags f.session.sound.opens f.sound.window is_shown.shared freed r.of
           (apart s k r there tag other)
@@ -239,7 +243,7 @@ module _ {heap : Heap} {sliced : SlicedHeap} {store : Store} {regions : Regions}
       is_filled : IsPut (payer_of sliced) lent.space.0 store new
       is_filled = is_put (payer_of sliced) lent.space.0 place bytes _ lent_had room becomes
 
-      filled_same : (s k : ℕ) (r : Region) → get regions.heap s ≡ Some r → get regions.tags s ≡ Some k → (k == of_no_heap) ≡ false → get (part (payer_of sliced) new).spaces r.of ≡ get (part (payer_of sliced) store).spaces r.of
+      filled_same : OthersStay new
       filled_same s k r there tag other = is_filled.others r.of (apart s k r there tag other)
 
       filled_account : account_in new (payer_of sliced) ≡ account_in store (payer_of sliced)

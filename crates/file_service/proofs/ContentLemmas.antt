@@ -17,7 +17,7 @@ use Rattle.own_model.proofs.NatMapLemmas.{get-picked, get-insert_same, get-inser
 use Rattle.own_model.proofs.Totals.{len-insert_new, len-insert_at, len-remove_at}
 use Rattle.region_map.specs.Regions.{Regions, of_no_heap, heap_attached, heap_detached}
 use Rattle.dataspace_core.specs.Store.{Store, Part, part, account_in, account_of, bytes_of, part_with_bytes, PartBecomes}
-use Rattle.dataspace_core.specs.Share.{Share, share_in, shown}
+use Rattle.dataspace_core.specs.Share.{Share, share_in, shown, IsShownByNone}
 use Rattle.dataspace_core.proofs.WindowLaws.{unshown_free}
 use Rattle.dataspace_core.proofs.PartLaws.{account_by, account_of-part}
 use Rattle.dataspace_core.proofs.ShareLaws.{get-tags_of, in_share}
@@ -91,6 +91,14 @@ module _ {heap : Heap} {sliced : SlicedHeap} {store : Store} {regions : Regions}
   other_no_sliced : (s k : ℕ) (r : Region) → get regions.heap s ≡ Some r → get regions.tags s ≡ Some k → k ≤ of_no_heap → IsNoBlock S r.of
   other_no_sliced s k r there tag low t q block e = let one = shown_block (payer_of sliced) store regions t q block in grind (arith, nat_tests, one, f.sound.window.once t s q r one.there there e)
 
+  -- the dataspaces of regions that are no sliced blocks stay
+  abbrev NonBlocksStay : Store → Type 0
+  NonBlocksStay new = (s k : ℕ) (r : Region) → get regions.heap s ≡ Some r → get regions.tags s ≡ Some k → k ≤ of_no_heap → get (part (payer_of sliced) new).spaces r.of ≡ get p.spaces r.of
+
+  -- the regions of the heap's blocks stay
+  abbrev BlocksStay : Store → Regions → Type 0
+  BlocksStay new after = (s : ℕ) → block_region (share_at (payer_of sliced) new after) s ≡ block_region S s
+
   -- a chunk's region is the map's
   pub chunk_in_map : (s k : ℕ) (r : Region) → block_region S s ≡ Some (r, k) → (get regions.heap s ≡ Some r) × (get regions.tags s ≡ Some k) × (k ≤ large_tag)
   chunk_in_map s k r is =
@@ -160,13 +168,13 @@ module _ {heap : Heap} {sliced : SlicedHeap} {store : Store} {regions : Regions}
     more_free = gap_is_free regions.pages regions.heap (sliced_size n / 4096) takes.start (new_page n) f.sound.window.lie takes.gap
 
     -- no region shows the new dataspace
-    more_unshown : (s : ℕ) (r : Region) → get regions.heap s ≡ Some r → r.of ≢ takes.ds
+    more_unshown : IsShownByNone regions.heap takes.ds
     more_unshown = unshown_free store regions.heap takes.ds f.sound.window.shown_whole takes.fresh
 
-    more_same : (s k : ℕ) (r : Region) → get regions.heap s ≡ Some r → get regions.tags s ≡ Some k → k ≤ of_no_heap → get (part (payer_of sliced) new).spaces r.of ≡ get p.spaces r.of
+    more_same : NonBlocksStay new
     more_same s k r there tag low = takes.dataspaces r.of (more_unshown s r there) (other_no_sliced s k r there tag low)
 
-    more_stands : (s : ℕ) → block_region (share_at (payer_of sliced) new after) s ≡ block_region S s
+    more_stands : BlocksStay new after
     more_stands s =
         subst (λ m. block_region (share_at (payer_of sliced) new m) s ≡ block_region S s) (sym takes.attached)
         (stands_more new takes.ds (sliced_size n / 4096) sliced_tag takes.start refl more_free (λ t k r there tag low. more_same t k r there tag (omega (arith, low))) s)
@@ -218,10 +226,10 @@ module _ {heap : Heap} {sliced : SlicedHeap} {store : Store} {regions : Regions}
         let same : block.start ≡ gives.start = omega (arith, block.at, gives.at) in
         ap (get regions.tags) (sym same) ∙ (shown_block (payer_of sliced) store regions block.start block.region block.there).tag
 
-    less_same : (s k : ℕ) (r : Region) → get regions.heap s ≡ Some r → get regions.tags s ≡ Some k → k ≤ of_no_heap → get (part (payer_of sliced) new).spaces r.of ≡ get p.spaces r.of
+    less_same : NonBlocksStay new
     less_same s k r there tag low = gives.dataspaces r.of (other_no_sliced s k r there tag low)
 
-    less_stands : (s : ℕ) → block_region (share_at (payer_of sliced) new after) s ≡ block_region S s
+    less_stands : BlocksStay new after
     less_stands s =
         subst (λ m. block_region (share_at (payer_of sliced) new m) s ≡ block_region S s) (sym gives.detached)
         (stands_less new gives.start sliced_tag less_tag refl (λ t k r there tag low. less_same t k r there tag (omega (arith, low))) s)
@@ -258,7 +266,7 @@ module _ {heap : Heap} {sliced : SlicedHeap} {store : Store} {regions : Regions}
     put : IsPut (payer_of sliced) ds store new
     put = is_put (payer_of sliced) ds offset bytes held.bytes there_now held.within becomes
 
-    poke_same : (s k : ℕ) (r : Region) → get regions.heap s ≡ Some r → get regions.tags s ≡ Some k → k ≤ of_no_heap → get (part (payer_of sliced) new).spaces r.of ≡ get p.spaces r.of
+    poke_same : NonBlocksStay new
     poke_same s k r there tag low = put.others r.of (λ e. other_no_sliced s k r there tag low held.start _ held.region (sym e))
 
     pub poke_account : account_in new (payer_of sliced) ≡ account_in store (payer_of sliced)

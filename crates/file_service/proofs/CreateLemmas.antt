@@ -23,7 +23,7 @@ use Rattle.file_service.specs.Files.{node_at, file_at, StandAt}
 use Rattle.file_service.specs.SoundHeaps.{Stock}
 use Rattle.file_service.specs.Session.{IsFresh}
 use Rattle.file_service.specs.Node.{FileNode, node_of}
-use Rattle.file_service.proofs.KeptLemmas.{Stays, stand_kept, files_kept, blocks_are}
+use Rattle.file_service.proofs.KeptLemmas.{Stays, stand_kept, files_kept, blocks_are, AllStay}
 use Rattle.file_service.proofs.PlaceLemmas.{HasPlaces, chunk_taken, offset_taken, count_taken, chunk_grown, offset_grown, placed_in_hole, placed_in_chunk, starts_at}
 
 -- what a taken block leaves and where it stands
@@ -54,7 +54,7 @@ module _ (first last : ℕ) (nodes later : OwnHeap) (contents : NatMap (List ℕ
   same_node : (b : ℕ) → is_listed blocks b ≡ true → node_at later b ≡ node_at nodes b
   same_node b t = ap (λ o. node_of (unwrap_or o [])) (same_payload b t)
 
-  taken_stays : (b : ℕ) → is_listed blocks b ≡ true → Stays nodes later contents contents b
+  taken_stays : AllStay nodes later contents contents blocks
   taken_stays b t = grind (arith, nat_tests, same_node, same_payload)
 
   pub stand_taken : StandAt first last later contents blocks

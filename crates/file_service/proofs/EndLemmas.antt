@@ -23,7 +23,7 @@ use Rattle.sliced_heap.specs.Sliced.{sliced_tag, is_sliced_tag, block_regions}
 use Rattle.server_frame.specs.Session.{HasBlocksAlone, holding_of}
 use Rattle.file_service.specs.SoundHeaps.{HasSoundHeaps, KeepsSession, lent_regions}
 use Rattle.file_service.proofs.LentLemmas.{lent_places, lent_elsewhere}
-use Rattle.file_service.proofs.FurnishedLemmas.{ChangesNodes, nodes_are, nodes_kept}
+use Rattle.file_service.proofs.FurnishedLemmas.{ChangesNodes, nodes_are, nodes_kept, lent_no_chunk}
 use Rattle.dataspace_core.proofs.PartLaws.{account_by}
 use Rattle.sliced_heap.specs.Window.{IsNoHeapBlock}
 use Rattle.sliced_heap.proofs.WindowLemmas.{block_is, shown_block_at}
@@ -66,11 +66,8 @@ module _ {heap later : Heap} {sliced : SlicedHeap} {store new : Store} {regions 
   stands = blocks_kept (heap_payer heap) store new regions after given.kept (λ s r there tag. ap is_some (given.spaces r.of (no_block r.of (sliced_alone s r there tag))))
 
   -- and what is lent
-  lent_alone : (s : ℕ) (r : Region) → get regions.heap s ≡ Some r → get regions.tags s ≡ Some of_no_heap → IsNoHeapBlock regions r.of
-  lent_alone s r there tag t k q other number low e = grind (arith, nat_tests, same_Some)
-
   lent : lent_regions (share_at (heap_payer heap) new after) ≡ lent_regions (share_at (heap_payer heap) store regions)
-  lent = lent_places (heap_payer heap) store new regions after (lent_elsewhere regions after given.kept) (λ s r there tag. ap is_some (given.spaces r.of (no_block r.of (lent_alone s r there tag))))
+  lent = lent_places (heap_payer heap) store new regions after (lent_elsewhere regions after given.kept) (λ s r there tag. ap is_some (given.spaces r.of (no_block r.of (lent_no_chunk f s r there tag))))
 
   -- there was no large block
   none_large : (heap_at heap store regions).large ≡ empty

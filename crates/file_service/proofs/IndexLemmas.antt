@@ -16,7 +16,7 @@ use Rattle.own_model.proofs.NatMapLemmas.{get-empty, get-insert, get-insert_same
 use Rattle.own_model.proofs.Totals.{len-insert_new}
 use Rattle.sliced_heap.specs.Chain.{is_listed, has_no_repeat}
 use Rattle.file_service.specs.Files.{node_at}
-use Rattle.file_service.specs.Index.{links_at, names_in, names_of, name_plan, IsPadded, IsNamed, CanEnter}
+use Rattle.file_service.specs.Index.{links_at, names_in, names_of, name_plan, IsPadded, IsNamed, CanEnter, KeepsPadding}
 use Rattle.file_service.specs.Node.{rank_of}
 use Rattle.file_service.proofs.KeptLemmas.{few_keys}
 use Rattle.file_service.proofs.LinkLemmas.{listed_append, once_apart}
@@ -79,7 +79,7 @@ module _ {root : ℕ} {nodes : OwnHeap} {blocks : List ℕ} (n : IsNamed root no
 -- what links of a tree's nodes leave
 pub record KeepsNodes (nodes later : OwnHeap) (block : ℕ) : Type 0 where
   pub name : (node_at later block).name ≡ (node_at nodes block).name
-  pub padded : IsPadded nodes block → IsPadded later block
+  pub padded : KeepsPadding nodes later block
 
 pub named_kept : (root : ℕ) (nodes later : OwnHeap) (blocks : List ℕ) → ((b : ℕ) → is_listed blocks b ≡ true → KeepsNodes nodes later b) →
     ((b : ℕ) → is_listed blocks b ≡ true → links_at later b ≡ links_at nodes b) → IsNamed root nodes blocks → IsNamed root later blocks

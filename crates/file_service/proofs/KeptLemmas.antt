@@ -62,6 +62,22 @@ pub record Stays (nodes later : OwnHeap) (contents after : NatMap (List ℕ)) (b
   pub offset : offset_of later (b - 16) ≡ offset_of nodes (b - 16)
   pub bytes : 0 < (node_at nodes b).size → get after (node_at nodes b).content ≡ get contents (node_at nodes b).content
 
+-- the files of these blocks stay
+abbrev pub AllStay : OwnHeap → OwnHeap → NatMap (List ℕ) → NatMap (List ℕ) → List ℕ → Type 0
+AllStay nodes later contents after blocks = (b : ℕ) → is_listed blocks b ≡ true → Stays nodes later contents after b
+
+-- they stay, all but that of one block
+abbrev pub OthersStay : OwnHeap → OwnHeap → NatMap (List ℕ) → NatMap (List ℕ) → List ℕ → ℕ → Type 0
+OthersStay nodes later contents after blocks x = (b : ℕ) → is_listed blocks b ≡ true → b ≢ x → Stays nodes later contents after b
+
+-- the chunks in which addresses lie stay
+abbrev pub ChunksStay : OwnHeap → OwnHeap → Type 0
+ChunksStay nodes later = (a : ℕ) → chunk_with later a ≡ chunk_with nodes a
+
+-- the offsets of addresses in their chunks stay
+abbrev pub OffsetsStay : OwnHeap → OwnHeap → Type 0
+OffsetsStay nodes later = (a : ℕ) → offset_of later a ≡ offset_of nodes a
+
 module _ (nodes later : OwnHeap) (contents after : NatMap (List ℕ)) (b : ℕ) (stays : Stays nodes later contents after b) where
   same_bytes : bytes_at after (node_at later b) ≡ bytes_at contents (node_at nodes b)
   same_bytes = search (rules, bytes_by)
@@ -96,15 +112,15 @@ module _ (first last : ℕ) (nodes later : OwnHeap) (contents after : NatMap (Li
   apart_stays a b one other in_a in_b some_a some_b same = search rules
 
   -- all stay, and the links among them
-  pub stand_kept : ((b : ℕ) → is_listed blocks b ≡ true → Stays nodes later contents after b) →
+  pub stand_kept : AllStay nodes later contents after blocks →
       ((b : ℕ) → is_listed blocks b ≡ true → (node_at later b).next ≡ (node_at nodes b).next) → StandAt first last later after blocks
   stand_kept stays links = search (rules, leads_kept, is_file, apart_stays)
 
-  pub files_kept : ((b : ℕ) → is_listed blocks b ≡ true → Stays nodes later contents after b) → map (file_at later after) blocks ≡ map (file_at nodes contents) blocks
+  pub files_kept : AllStay nodes later contents after blocks → map (file_at later after) blocks ≡ map (file_at nodes contents) blocks
   files_kept stays = map_kept (file_at nodes contents) (file_at later after) blocks (λ b t. same_file nodes later contents after b (stays b t))
 
   -- one block's file is another, with a content of its own, and the others and all links stay
-  module _ (x : ℕ) (in_x : is_listed blocks x ≡ true) (stays : (b : ℕ) → is_listed blocks b ≡ true → b ≢ x → Stays nodes later contents after b)
+  module _ (x : ℕ) (in_x : is_listed blocks x ≡ true) (stays : OthersStay nodes later contents after blocks x)
       (links : (b : ℕ) → is_listed blocks b ≡ true → (node_at later b).next ≡ (node_at nodes b).next) (file : IsFile later after x)
       (own : (b : ℕ) → is_listed blocks b ≡ true → b ≢ x → 0 < (node_at later x).size → 0 < (node_at nodes b).size → (node_at later x).content ≢ (node_at nodes b).content) where
     own_later : (b : ℕ) → is_listed blocks b ≡ true → b ≢ x → 0 < (node_at later x).size → 0 < (node_at later b).size → (node_at later x).content ≢ (node_at later b).content
@@ -117,7 +133,7 @@ module _ (first last : ℕ) (nodes later : OwnHeap) (contents after : NatMap (Li
     stand_set = search (rules, leads_kept, is_file, cases_eq, apart_set)
 
   -- a block more, of an empty file, behind the last one
-  module _ (first_later a : ℕ) (stays : (b : ℕ) → is_listed blocks b ≡ true → Stays nodes later contents after b)
+  module _ (first_later a : ℕ) (stays : AllStay nodes later contents after blocks)
       (links : (b : ℕ) → is_listed (0 ∷ blocks) b ≡ true → b ≢ last → link_in first_later later b ≡ link_in first nodes b)
       (linked : link_in first_later later last ≡ a) (end : link_in first_later later a ≡ 0) (fresh : is_listed (0 ∷ blocks) a ≡ false)
       (file : IsFile later after a) (empty : (node_at later a).size ≡ 0) where
@@ -129,7 +145,7 @@ module _ (first last : ℕ) (nodes later : OwnHeap) (contents after : NatMap (Li
 
   -- a block less
   module _ (first_later last_later x : ℕ) (before behind : List ℕ) (is : blocks ≡ before ++ x ∷ behind)
-      (stays : (b : ℕ) → is_listed blocks b ≡ true → b ≢ x → Stays nodes later contents after b)
+      (stays : OthersStay nodes later contents after blocks x)
       (links : (b : ℕ) → is_listed (0 ∷ blocks) b ≡ true → b ≢ x → b ≢ last_of 0 before → link_in first_later later b ≡ link_in first nodes b)
       (linked : link_in first_later later (last_of 0 before) ≡ (node_at nodes x).next)
       (last_is : last_later ≡ cond (eqb last x) (last_of 0 before) last) where

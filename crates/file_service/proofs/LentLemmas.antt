@@ -16,15 +16,11 @@ use Rattle.heap_core.specs.Calls.{KeepsElsewhere}
 use Rattle.sliced_heap.specs.Window.{share_at, numbered}
 use Rattle.sliced_heap.proofs.ShareLemmas.{IsShownAs, get-numbered, in_numbered, kept_tag, numbered-insert_other}
 use Rattle.file_service.specs.SoundHeaps.{is_lent_tag, lent_regions, KeepsLent}
+use Rattle.file_service.specs.SeparateBuffer.{lent_number}
 
 -- the regions of no heap in a map
 abbrev pub lent_in : Regions → NatMap Region
 lent_in regions = numbered is_lent_tag regions.heap regions.tags
-
--- the one number that passes
-pub lent_number : (o : Option ℕ) → is_lent_tag o ≡ true → o ≡ Some of_no_heap
-lent_number None h = absurd (true≢false (sym h))
-lent_number (Some n) h = ap Some (eqb-true n of_no_heap h)
 
 -- ---- those of an account
 

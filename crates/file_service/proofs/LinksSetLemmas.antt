@@ -17,7 +17,7 @@ use Rattle.file_service.specs.Calls.{node_stored}
 use Rattle.file_service.specs.SoundHeaps.{KeepsSession, Stock, stock}
 use Rattle.file_service.specs.Index.{ChangesTree, IsNameNode, IsPadded, KeepsNames, links_at, names_in, name_plan}
 use Rattle.file_service.specs.Node.{FileNode, node_of, rank_of, word_from}
-use Rattle.file_service.proofs.TailLemmas.{tail_node, tail_others, tail_padded, tails_stored, word_behind, word_put}
+use Rattle.file_service.proofs.TailLemmas.{tail_node, tail_others, tail_padded, tails_stored, word_behind, word_put, OtherPayloadsStay}
 
 -- the bytes of links
 abbrev pub bytes_by : Links → List ℕ
@@ -47,7 +47,7 @@ module _ (block : ℕ) (links : Links) (store now : Store) (old new : Stock) (pa
   room : 64 + length (bytes_by links) ≤ 96
   room = omega (arith, long links)
 
-  others : (b : ℕ) → b ≢ block → get new.nodes.payloads b ≡ get old.nodes.payloads b
+  others : OtherPayloadsStay block old new
   others b other = tail_others old new block 64 (bytes_by links) (omega arith) room padded.there stored b other
 
   -- a node apart is another one

@@ -24,6 +24,7 @@ use Rattle.heap_core.proofs.StandLemmas.{blocks, chunk_total, count_blocks}
 use Rattle.server_frame.specs.Session.{holding}
 use Rattle.sliced_heap.specs.declared.heap.SlicedHeap.{SlicedHeap}
 use Rattle.file_service.specs.SoundHeaps.{HasSoundHeaps, stock}
+use Rattle.heap_core.proofs.GiveLemmas.{start_is}
 
 -- chunks are made of blocks, and each address in one is that chunk's
 pub record HasPlaces (nodes : OwnHeap) : Type 0 where
@@ -35,9 +36,6 @@ pub record HasPlaces (nodes : OwnHeap) : Type 0 where
 module _ (heap : Heap) (store : Store) (regions : Regions) (sound : IsSound heap store regions) where
   count : length (starts_in heap) ≡ length (blocks heap (share_at (payer_of heap) store regions) sound.laid)
   count = length-map heap.chunks.items (λ (x : Chunk). x.start) ∙ sym (count_blocks heap (share_at (payer_of heap) store regions) sound.laid)
-
-  start_is : (k : ℕ) → k < length heap.chunks.items → get_or (starts_in heap) k 0 ≡ (chunk_at heap k).start
-  start_is k within = get_or-map (λ (x : Chunk). x.start) heap.chunks.items k _ 0 within
 
   lies_chunk : (c k address : ℕ) → c < length heap.chunks.items → k < length heap.chunks.items →
       Lies (starts_in heap) (blocks heap (share_at (payer_of heap) store regions) sound.laid) c address →

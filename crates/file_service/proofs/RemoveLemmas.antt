@@ -15,10 +15,10 @@ use Rattle.file_service.specs.Links.{last_of}
 use Rattle.file_service.specs.Node.{FileNode, node_of}
 use Rattle.file_service.specs.Session.{IsFound, LinksTo}
 use Rattle.file_service.proofs.FileListLemmas.{append_map, without_behind}
-use Rattle.file_service.proofs.KeptLemmas.{Stays, same_file, stand_without, files_are, listed_nonzero}
+use Rattle.file_service.proofs.KeptLemmas.{Stays, same_file, stand_without, files_are, listed_nonzero, OthersStay, ChunksStay, OffsetsStay}
 use Rattle.file_service.proofs.LinkLemmas.{map_kept, listed_append, last_listed, once_later, once_apart, unlisted}
 use Rattle.file_service.proofs.PlaceLemmas.{chunk_given, offset_given, count_given}
-use Rattle.file_service.proofs.SearchLemmas.{files_around, in_blocks}
+use Rattle.file_service.proofs.SearchLemmas.{files_around, in_blocks, not_old}
 
 module _ (first last : ℕ) (nodes mid later : OwnHeap) (contents after : NatMap (List ℕ)) (name : List ℕ) (previous address : ℕ) (node : FileNode)
     (found : IsFound first last nodes contents name previous address node)
@@ -28,10 +28,10 @@ module _ (first last : ℕ) (nodes mid later : OwnHeap) (contents after : NatMap
   abbrev all : List ℕ
   all = found.before ++ address ∷ found.behind
 
-  chunk_same : (a : ℕ) → chunk_with later a ≡ chunk_with nodes a
+  chunk_same : ChunksStay nodes later
   chunk_same a = ap (λ n. chunk_with n a) given ∙ chunk_given mid address a ∙ ap (λ n. chunk_with n a) links.rest
 
-  offset_same : (a : ℕ) → offset_of later a ≡ offset_of nodes a
+  offset_same : OffsetsStay nodes later
   offset_same a = ap (λ n. offset_of n a) given ∙ offset_given mid address a ∙ ap (λ n. offset_of n a) links.rest
 
   count_same : length later.shape.chunks ≡ length nodes.shape.chunks
@@ -40,9 +40,6 @@ module _ (first last : ℕ) (nodes mid later : OwnHeap) (contents after : NatMap
   in_all : is_listed all address ≡ true
   in_all = in_blocks first last nodes contents name previous address node found
 
-  not_old : (b : ℕ) → is_listed all b ≡ true → b ≢ address → 0 < (node_at nodes b).size → 0 < node.size → (node_at nodes b).content ≢ node.content
-  not_old b t other some_b some e = search (rules, in_all)
-
   -- other blocks stay when one is given back
   left_payload : (b : ℕ) → b ≢ address → get later.payloads b ≡ get mid.payloads b
   left_payload b other = grind (arith, nat_tests, get-remove)
@@ -50,8 +47,8 @@ module _ (first last : ℕ) (nodes mid later : OwnHeap) (contents after : NatMap
   left_node : (b : ℕ) → b ≢ address → node_at later b ≡ node_at mid b
   left_node b other = ap (λ o. node_of (unwrap_or o [])) (left_payload b other)
 
-  left_stays : (b : ℕ) → is_listed all b ≡ true → b ≢ address → Stays nodes later contents after b
-  left_stays b t other = grind (arith, nat_tests, left_node, left_payload, chunk_same, offset_same, not_old)
+  left_stays : OthersStay nodes later contents after all address
+  left_stays b t other = let apart = not_old first last nodes contents name previous address node found b t other in grind (arith, nat_tests, left_node, left_payload, chunk_same, offset_same, apart)
 
   left_link : (b : ℕ) → b ≢ address → link_in first_later later b ≡ link_in first_later mid b
   left_link b other = ap (λ (n : FileNode). cond (eqb b 0) first_later n.next) (left_node b other)

@@ -44,6 +44,10 @@ module _ (first last : ℕ) (nodes : OwnHeap) (contents : NatMap (List ℕ)) (na
   pub in_blocks : is_listed (found.before ++ address ∷ found.behind) address ≡ true
   in_blocks = let l = listed_append found.before (address ∷ found.behind) address in grind (arith, nat_tests)
 
+  -- no other file has its content
+  pub not_old : (b : ℕ) → is_listed (found.before ++ address ∷ found.behind) b ≡ true → b ≢ address → 0 < (node_at nodes b).size → 0 < node.size → (node_at nodes b).content ≢ node.content
+  not_old b t other some_b some e = search (rules, in_blocks)
+
   pub found_file : IsFile nodes contents address
   found_file = found.stand.each address in_blocks
 

@@ -13,9 +13,9 @@ use Rattle.file_service.specs.Node.{FileNode}
 use Rattle.file_service.specs.Session.{IsFound}
 use Rattle.file_service.proofs.AppendLemmas.{stored_node, stored_there, stored_rest}
 use Rattle.file_service.proofs.FileListLemmas.{append_map, rewritten_behind}
-use Rattle.file_service.proofs.KeptLemmas.{Stays, same_file, stand_set, files_are, blocks_are}
+use Rattle.file_service.proofs.KeptLemmas.{Stays, same_file, stand_set, files_are, blocks_are, OthersStay, ChunksStay, OffsetsStay}
 use Rattle.file_service.proofs.LinkLemmas.{map_kept, listed_append, once_later, once_apart, unlisted}
-use Rattle.file_service.proofs.SearchLemmas.{files_around, in_blocks}
+use Rattle.file_service.proofs.SearchLemmas.{files_around, in_blocks, not_old}
 
 module _ (first last : ℕ) (nodes later : OwnHeap) (contents after : NatMap (List ℕ)) (name : List ℕ) (previous address : ℕ) (node : FileNode)
     (found : IsFound first last nodes contents name previous address node)
@@ -26,10 +26,10 @@ module _ (first last : ℕ) (nodes later : OwnHeap) (contents after : NatMap (Li
   abbrev all : List ℕ
   all = found.before ++ address ∷ found.behind
 
-  chunk_same : (a : ℕ) → chunk_with later a ≡ chunk_with nodes a
+  chunk_same : ChunksStay nodes later
   chunk_same a = ap (λ n. chunk_with n a) (stored_rest nodes later address payload stored)
 
-  offset_same : (a : ℕ) → offset_of later a ≡ offset_of nodes a
+  offset_same : OffsetsStay nodes later
   offset_same a = ap (λ n. offset_of n a) (stored_rest nodes later address payload stored)
 
   count_same : length later.shape.chunks ≡ length nodes.shape.chunks
@@ -38,11 +38,7 @@ module _ (first last : ℕ) (nodes later : OwnHeap) (contents after : NatMap (Li
   in_all : is_listed all address ≡ true
   in_all = in_blocks first last nodes contents name previous address node found
 
-  -- the others' contents aren't the old one
-  not_old : (b : ℕ) → is_listed all b ≡ true → b ≢ address → 0 < (node_at nodes b).size → 0 < node.size → (node_at nodes b).content ≢ node.content
-  not_old b t other some_b some e = search (rules, in_all)
-
-  set_stays : (b : ℕ) → is_listed all b ≡ true → b ≢ address → Stays nodes later contents after b
+  set_stays : OthersStay nodes later contents after all address
   set_stays b t other =
       let same = stored_node nodes later address payload stored b other in
       record {
@@ -52,7 +48,7 @@ module _ (first last : ℕ) (nodes later : OwnHeap) (contents after : NatMap (Li
         there = stored_there nodes later address payload stored b other (found.stand.each b t).there;
         chunk = chunk_same (b - 16);
         offset = offset_same (b - 16);
-        bytes = λ some_b. gone (node_at nodes b).content (λ some. not_old b t other some_b some);
+        bytes = λ some_b. gone (node_at nodes b).content (λ some. not_old first last nodes contents name previous address node found b t other some_b some);
       }
 
   set_links : (b : ℕ) → is_listed all b ≡ true → (node_at later b).next ≡ (node_at nodes b).next

@@ -13,7 +13,7 @@ use Rattle.file_service.specs.Index.{ChangesTails}
 use Rattle.file_service.specs.Links.{Leads}
 use Rattle.file_service.specs.Node.{FileNode}
 use Rattle.file_service.specs.Session.{IsFound}
-use Rattle.file_service.proofs.KeptLemmas.{Stays, files_are, listed_nonzero, same_file, stand_kept}
+use Rattle.file_service.proofs.KeptLemmas.{Stays, files_are, listed_nonzero, same_file, stand_kept, AllStay}
 use Rattle.file_service.proofs.LinkLemmas.{listed_append, listed_first, listed_later, map_kept}
 use Rattle.file_service.proofs.SearchLemmas.{link_some}
 use Rattle.file_service.proofs.TailLemmas.{tail_node, tail_there}
@@ -31,7 +31,7 @@ module _ (first last : ℕ) (old new : Stock) (tails : ChangesTails old new) (bl
   pub node_same : (b : ℕ) → is_listed blocks b ≡ true → node_at new.nodes b ≡ node_at old.nodes b
   node_same b t = tail_node old.nodes new.nodes b (tails.fronts b) (stand.each b t).there
 
-  stays : (b : ℕ) → is_listed blocks b ≡ true → Stays old.nodes new.nodes old.contents old.contents b
+  stays : AllStay old.nodes new.nodes old.contents old.contents blocks
   stays b t =
       let same = node_same b t in
       record {

@@ -16,7 +16,7 @@ use Rattle.heap_core.specs.Words.{are_bytes}
 use Rattle.file_service.specs.Calls.{HasBytes, payload_in, node_stored}
 use Rattle.file_service.specs.Files.{node_at}
 use Rattle.file_service.specs.SoundHeaps.{Stock}
-use Rattle.file_service.specs.Index.{ChangesTails, KeepsFront, IsPadded}
+use Rattle.file_service.specs.Index.{ChangesTails, KeepsFront, IsPadded, KeepsFronts}
 use Rattle.file_service.specs.Node.{FileNode, node_of, bytes_of, word_from}
 use Rattle.file_service.proofs.NodeLemmas.{node_front, word_mid}
 
@@ -43,6 +43,10 @@ tail_padded nodes later block keeps is =
 
 -- ---- bytes put over the tail of a payload
 
+-- the payloads of all blocks but one stay
+abbrev pub OtherPayloadsStay : ℕ → Stock → Stock → Type 0
+OtherPayloadsStay block old new = (b : ℕ) → b ≢ block → get new.nodes.payloads b ≡ get old.nodes.payloads b
+
 module _ (old new : Stock) (block offset : ℕ) (bytes : List ℕ) (far : 64 ≤ offset) (fits : offset + length bytes ≤ 96) (has : HasBytes old.nodes.payloads block 0 96)
     (stored : new ≡ node_stored block offset bytes old) where
   abbrev p : List ℕ
@@ -57,10 +61,10 @@ module _ (old new : Stock) (block offset : ℕ) (bytes : List ℕ) (far : 64 ≤
   pub tail_payload : payload_in new.nodes.payloads block ≡ with_bytes p offset bytes
   tail_payload = ap (λ o. unwrap_or o []) here ∙ with_part-within p offset bytes (omega (arith, fits, has.within))
 
-  pub tail_others : (b : ℕ) → b ≢ block → get new.nodes.payloads b ≡ get old.nodes.payloads b
+  pub tail_others : OtherPayloadsStay block old new
   tail_others b other = ap (λ m. get m b) payloads ∙ get-insert old.nodes.payloads block (with_part p offset bytes) b ∙ grind (arith, nat_tests)
 
-  fronts : (b : ℕ) → KeepsFront old.nodes new.nodes b
+  fronts : KeepsFronts old.nodes new.nodes
   fronts b = elim (cases_eq b block) [
     | inl at ↦ subst (KeepsFront old.nodes new.nodes) (sym at) (record {
       there = ap is_some here ∙ sym has.there;

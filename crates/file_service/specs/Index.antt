@@ -94,12 +94,16 @@ abbrev pub LoadsFew : ℕ → OwnHeap → ℕ → ℕ → ℕ → Type 0
 LoadsFew root nodes most old new =
     (blocks : List ℕ) → IsNamed root nodes blocks → (n : ℕ) → length blocks < 2 ^ n → new ≤ old + most * (2 * n + 1)
 
+-- a padded payload stays padded
+abbrev pub KeepsPadding : OwnHeap → OwnHeap → ℕ → Type 0
+KeepsPadding nodes later block = IsPadded nodes block → IsPadded later block
+
 -- what a block's node has of the tree and of the link back is as it was
 pub record KeepsPlace (nodes later : OwnHeap) (block : ℕ) : Type 0 where
   pub name : (node_at later block).name ≡ (node_at nodes block).name
   pub links : links_at later block ≡ links_at nodes block
   pub previous : previous_at later block ≡ previous_at nodes block
-  pub padded : IsPadded nodes block → IsPadded later block
+  pub padded : KeepsPadding nodes later block
 
 -- nothing of a block's payload has changed except its tail: the links of the tree, or the link to the previous node
 pub record KeepsFront (nodes later : OwnHeap) (block : ℕ) : Type 0 where
@@ -107,10 +111,14 @@ pub record KeepsFront (nodes later : OwnHeap) (block : ℕ) : Type 0 where
   pub long : length (payload_in later.payloads block) ≡ length (payload_in nodes.payloads block)
   pub front : take 64 (payload_in later.payloads block) ≡ take 64 (payload_in nodes.payloads block)
 
+-- nothing of any payload has changed except its tail
+abbrev pub KeepsFronts : OwnHeap → OwnHeap → Type 0
+KeepsFronts nodes later = (b : ℕ) → KeepsFront nodes later b
+
 -- nothing of a session has changed except tails of its nodes' payloads
 pub record ChangesTails (old new : Stock) : Type 0 where
   pub rest : new ≡ record old { nodes = record old.nodes { payloads = new.nodes.payloads } }
-  pub fronts : (b : ℕ) → KeepsFront old.nodes new.nodes b
+  pub fronts : KeepsFronts old.nodes new.nodes
 
 -- a node, if there is one, has been linked back to another one
 pub record LinksBack (block previous : ℕ) (old new : Stock) : Type 0 where

@@ -19,7 +19,7 @@ use Rattle.heap_core.specs.Heap.{heap_in}
 use Rattle.heap_core.proofs.StayLemmas.{laid_same, value_same}
 use Rattle.sliced_heap.specs.Window.{block_region}
 use Rattle.sliced_heap.proofs.LinkedLemmas.{alike_linked}
-use Rattle.sliced_heap.proofs.ShareLemmas.{in_numbered, told_region}
+use Rattle.sliced_heap.proofs.ShareLemmas.{in_numbered, told_region, sliced_number}
 use Rattle.sliced_heap.specs.Heap.{IsNoBlock}
 use Rattle.sliced_heap.specs.Sliced.{sliced_of, sliced_tag, is_sliced_tag, block_regions, payload_of}
 use Rattle.server_frame.specs.SessionBuffer.{LendsAside, AllLendAside, share_with}
@@ -33,14 +33,10 @@ use Rattle.file_service.specs.Session.{IsSession, value_of}
 use Rattle.file_service.specs.declared.session.FileSession.{FileSession}
 use Rattle.file_service.specs.declared.session.SessionBuffer.{SessionBuffer}
 
--- what passes for a number is that number
-lent_is : (o : Option ℕ) → is_lent_tag o ≡ true → o ≡ Some of_no_heap
-lent_is None e = absurd (true≢false (sym e))
-lent_is (Some k) e = ap Some (eqb-true k of_no_heap e)
-
-sliced_is : (o : Option ℕ) → is_sliced_tag o ≡ true → o ≡ Some sliced_tag
-sliced_is None e = absurd (true≢false (sym e))
-sliced_is (Some k) e = ap Some (eqb-true k sliced_tag e)
+-- what passes for the number of a lent dataspace is that number
+pub lent_number : (o : Option ℕ) → is_lent_tag o ≡ true → o ≡ Some of_no_heap
+lent_number None e = absurd (true≢false (sym e))
+lent_number (Some k) e = ap Some (eqb-true k of_no_heap e)
 
 module _ (session : FileSession) (lent : SessionBuffer) (account : ℕ) (share : Share) (is : IsSession session account share) (stands : IsBufferAt lent share) (same : session.buffer ≡ Some lent) where
   abbrev region : Region
@@ -59,11 +55,11 @@ module _ (session : FileSession) (lent : SessionBuffer) (account : ℕ) (share :
   apart : (s k : ℕ) (r : Region) → get share.heap s ≡ Some r → get share.tags s ≡ Some k → (k == of_no_heap) ≡ false → r.of ≢ lent.space.0
   apart s k r at tag other e =
       let here = stands.possible.once s lent.start r region at in_lent.1 e in
-      let same_tag = same_Some k of_no_heap (sym tag ∙ ap (get share.tags) here ∙ lent_is _ in_lent.0) in
+      let same_tag = same_Some k of_no_heap (sym tag ∙ ap (get share.tags) here ∙ lent_number _ in_lent.0) in
       grind (arith, nat_tests)
 
   no_block : IsNoBlock share lent.space.0
-  no_block s r block = let at = in_numbered is_sliced_tag share.heap share.tags s r block in apart s sliced_tag r at.1 (sliced_is _ at.0) refl
+  no_block s r block = let at = in_numbered is_sliced_tag share.heap share.tags s r block in apart s sliced_tag r at.1 (sliced_number _ at.0) refl
 
   -- with other bytes in it
   module _ (bytes : List ℕ) where

@@ -8,7 +8,7 @@ use Rattle.std.proofs.lemmas.Option.{none-some, same_Some}
 use Rattle.own_model.proofs.StartLemmas.{length-with_started}
 use Rattle.own_model.specs.Account.{Account, parted_with}
 use Rattle.own_model.specs.StartList.{AllCovered, IsCovered, StartEntry, budget, init_account, init_at, inits_at_first, inits_keep, no_account, with_started}
-use Rattle.list_parser.specs.ListLaws.{InitsGiveTheirOwn, caps_given, ram_given}
+use Rattle.list_parser.specs.ListTheorems.{InitsGiveTheirOwn, caps_given, ram_given}
 
 -- ---- one entry
 

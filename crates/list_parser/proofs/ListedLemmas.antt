@@ -4,7 +4,7 @@ use Rattle.std.specs.Prelude.{if◌then◌else◌, codes, Result, IfOk}
 use Rattle.serde_json.specs.Data.{Data}
 use Rattle.own_model.specs.Listed.{Listed}
 use Rattle.list_parser.specs.Entries.{◌>>=◌, Misread, SoFar, entries_read, outermost, own_of, read_within, value_or}
-use Rattle.list_parser.specs.ListLaws.{IsListed, ListsAreListed}
+use Rattle.list_parser.specs.ListTheorems.{IsListed, ListsAreListed}
 use Rattle.list_parser.specs.Members.{whole_at}
 use Rattle.list_parser.specs.StartText.{fault_of, json_in, list_of, machine_of}
 use Rattle.list_parser.specs.declared.fault.BootFault.{BootFault}

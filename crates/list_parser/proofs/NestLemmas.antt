@@ -12,7 +12,7 @@ use Rattle.serde_json.specs.Data.{Data}
 use Rattle.own_model.specs.Listed.{ListedEntry}
 use Rattle.list_parser.specs.Depth.{HaveParentInits, is_init, is_list}
 use Rattle.list_parser.specs.Entries.{EntryHead, Misread, ListPlace, Reads, SoFar, all_read, at_entry, behind, head_of, outermost, place_within, read_own, read_within, then_read, with_head}
-use Rattle.list_parser.specs.ListLaws.{AreListed, HasJoinedNames, is_within}
+use Rattle.list_parser.specs.ListTheorems.{AreListed, HasJoinedNames, is_within}
 use Rattle.list_parser.specs.declared.fault.BootFault.{BootFault}
 use Rattle.list_parser.proofs.DepthLemmas.{grow_by, last_list, last_there, no_homes}
 use Rattle.list_parser.proofs.HeadLemmas.{IsHead, StartsOthers, head_is}

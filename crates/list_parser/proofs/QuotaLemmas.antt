@@ -11,7 +11,7 @@ use Rattle.own_model.specs.Listed.{Listed, ListedEntry, start_of, start_list_of}
 use Rattle.own_model.specs.StartList.{AllCovered, StartEntry, StartList, budget, init_at, inits_at_first, inits_keep, with_started}
 use Rattle.own_model.proofs.StepLemmas.{covers}
 use Rattle.list_parser.specs.Quota.{first_or, first_uncovered}
-use Rattle.list_parser.specs.ListLaws.{FaultsAreOfLacks, FaultsNameTheFirst, IsFirstLack}
+use Rattle.list_parser.specs.ListTheorems.{FaultsAreOfLacks, FaultsNameTheFirst, IsFirstLack}
 use Rattle.list_parser.specs.declared.fault.BootFault.TheVariants.{QuotaExceeded}
 use Rattle.list_parser.proofs.ListedLemmas.{lists_are_listed}
 

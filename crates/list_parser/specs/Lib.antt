@@ -10,5 +10,5 @@ pub mod Range
 pub mod Quota
 pub mod FaultPlace
 pub mod HeadParts
-pub mod ListLaws
+pub mod ListTheorems
 pub mod Budgets

@@ -10,7 +10,7 @@ ghost use Rattle.own_model.specs.StartList.{entries_of};
 ghost use Rattle.own_model.specs.Transcript.{entry_at};
 ghost use Rattle.list_parser.specs.Depth.{IsParentInit, is_init};
 ghost use Rattle.list_parser.specs.Entries.{entries_read};
-ghost use Rattle.list_parser.specs.ListLaws.{IsListed};
+ghost use Rattle.list_parser.specs.ListTheorems.{IsListed};
 ghost use Rattle.list_parser.specs.FaultPlace.{entry_at_fault, place_of_fault, starts_of};
 ghost use Rattle.list_parser.specs.StartText.{json_in, list_in, list_of, machine_of};
 ghost use Rattle.list_parser.specs.declared.fault.BootFault.TheVariants.{NoMemory, BadConfig, BadJson};

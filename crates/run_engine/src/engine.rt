@@ -35,8 +35,8 @@ pub struct RunSummary {
 /// fault: `ReadFault` if a read fails or a line is too long, `WriteFault` if a write fails, `TooManyLines` if a line follows
 /// the last one allowed.
 ///
-/// The output is the transcript: each call is answered as its caller's own run on its own earlier calls answers it, whatever
-/// other components called. At a fault the same holds for the lines answered by then; after a write that failed, a part of
+/// The output is the transcript: each call is answered as its caller's own run on its own earlier calls answers it, for any calls
+/// of other components. At a fault the same holds for the lines answered by then; after a write that failed, a part of
 /// their transcript is written.
 pub fn run<R: Router + Drop, S: Source, K: Sink>(
     core: &mut Core<R>,

@@ -34,6 +34,11 @@ pub writes_or_stops : {T : Type 0} (r : Result T LineFault) (w w' : Option (List
 writes_or_stops (Ok x) w w' g g' xs tells = record { out = tells.out; grows = tells.grows }
 writes_or_stops (Err fault) w w' g g' xs tells = writes_at fault w w' g xs tells
 
+-- what holds for every text holds for one that may be there
+always : (o : Option (List ℕ)) {P : List ℕ → Type 0} → ((text : List ℕ) → P text) → IfSome o P
+always None p = tt
+always (Some text) p = p text
+
 module _ {w w' w'' : Option (List ℕ)} {g g' : List ℕ} where
   -- what was gathered before a write and is written after it
   flushed_after : Tells w g w' g' [] → IsFlushed g' w' w'' → IsFlushed g w w''
@@ -121,10 +126,6 @@ module _ (come : Option (List ℕ)) (g : List ℕ) (w rest : Option (List ℕ)) 
   behind_passed n m come' le passes told first more read =
       behind_more (λ _. longest_ahead + m) (λ _. longest_ahead) come' m passes told (always come (λ text. omega arith))
       (behind_wider (λ _. longest_ahead + n) (λ _. longest_ahead + m) _ _ (always come (λ text. omega (arith, le))) first) more read
-    where
-      always : (o : Option (List ℕ)) {P : List ℕ → Type 0} → ((text : List ℕ) → P text) → IfSome o P
-      always None p = tt
-      always (Some text) p = p text
 
   -- after a block, what a long line takes
   pub behind_long : (come' : Option (List ℕ)) {g' : List ℕ} {w' w'' rest' rest'' : Option (List ℕ)} →
@@ -132,10 +133,6 @@ module _ (come : Option (List ℕ)) (g : List ℕ) (w rest : Option (List ℕ)) 
       ReadsBehind reach come' g' w' rest' w'' rest'' → ReadsBehind reach come g w rest w'' rest''
   behind_long come' passes told first more read =
       behind_more reach reach come' 0 passes told (always come (λ text. omega arith)) (behind_wider (λ _. longest_ahead) reach _ _ (always come (λ text. omega arith)) first) more read
-    where
-      always : (o : Option (List ℕ)) {P : List ℕ → Type 0} → ((text : List ℕ) → P text) → IfSome o P
-      always None p = tt
-      always (Some text) p = p text
 
 -- a block is within reach
 pub block_within : (come : Option (List ℕ)) → IfSome come (λ text. longest_ahead ≤ reach text)

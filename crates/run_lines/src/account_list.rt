@@ -241,9 +241,20 @@ fn put_sessions_of<R: Router + Drop, C: Columns, K: Sink>(
     ensures failing { K.has_failed sink.new ≡ is_err result }
 {
     for selector in 0..=core.last_selector(component) {
-        put_selected(core, list, columns, component, selector, gathered, sink)?;
+        let named = ComponentSelector {
+            component,
+            selector,
+        };
+        put_selected(core, list, columns, named, gathered, sink)?;
     }
     Ok(())
+}
+
+// A selector of the component at a place of the list.
+#[derive(Clone, Copy)]
+struct ComponentSelector {
+    component: usize,
+    selector: u64,
 }
 
 // Gathers the line of the object that a selector names, if it is a session.
@@ -251,21 +262,24 @@ fn put_selected<R: Router + Drop, C: Columns, K: Sink>(
     core: &Core<R>,
     list: &StartList,
     columns: &C,
-    component: usize,
-    selector: u64,
+    named: ComponentSelector,
     gathered: &mut WriteBuffer,
     sink: &mut K,
 ) -> Result<(), DeviceFault>
     requires listed { core.now.entries ≡ entries_of (start_list_of list.now) }
-    requires component { component < length core.now.entries }
+    requires component { named.component < length core.now.entries }
     requires writes { K.has_failed sink.old ≡ false }
     ensures told { OutputsUnless result (K.contents sink.old) gathered.old
         (K.contents sink.new) gathered.new
-        (selected_line (listed_at list.now component).path
-        (λ q. C.beside columns.now list.now (OfSession component q))
-        (state_at core.now.states component) selector) }
+        (selected_line (listed_at list.now named.component).path
+        (λ q. C.beside columns.now list.now (OfSession named.component q))
+        (state_at core.now.states named.component) named.selector) }
     ensures failing { K.has_failed sink.new ≡ is_err result }
 {
+    let ComponentSelector {
+        component,
+        selector,
+    } = named;
     let Some(account) = core.session_account(component, selector) else {
         return Ok(());
     };

@@ -1,5 +1,5 @@
 //! Theorems of start lists: what is true of each text that is one, and which fault a boot reports.
-ghost use Rattle.list_parser.specs.ListLaws.{FaultsAreOfLacks, FaultsNameTheFirst, InitsGiveTheirOwn, ListsAreListed};
+ghost use Rattle.list_parser.specs.ListTheorems.{FaultsAreOfLacks, FaultsNameTheFirst, InitsGiveTheirOwn, ListsAreListed};
 
 /// States that all lists together have at most 32 entries and nest at most three inits deep. A path and a label are the
 /// joined names of the inits above and the entry's own. The names of one list differ, and each init is directly before its
