@@ -1,5 +1,5 @@
 //! Sets of labels as documents for programs.
-use list_reach::{LabelSet, Pattern, Shape};
+use list_labels::{LabelSet, Pattern, Shape};
 use std::alloc::{AllocError, Global};
 use view_json::{JsonField, ObjectList, ObjectListBuilder};
 

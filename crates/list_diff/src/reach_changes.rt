@@ -1,8 +1,9 @@
 //! Which labels of a script's requests are routed to a server after a change and weren't before, or were before and aren't after.
 ghost use Rattle.std.specs.Prelude.{◌<◌, length, IfSome};
 
+use list_labels::SessionRequests;
 use list_parser::{Binary, ListEntry, StartList};
-use list_reach::{Reach, ReachCell, RouteComparison, SessionRequests, WitnessedSet};
+use list_reach::{Reach, ReachCell, RouteComparison, WitnessedSet};
 use std::alloc::{AllocError, Global};
 
 /// A start list with the cells of its table.

@@ -5,19 +5,19 @@ use Rattle.serde_json.specs.Data.{Data}
 use Rattle.serde_json.specs.Find.{as_object}
 use Rattle.serde_json.specs.View.{members_view}
 use Rattle.serde_json.specs.declared.value.Value.{Value}
-use Rattle.list_findings.specs.Findings.{told}
+use Rattle.list_findings.specs.Findings.{finding_on}
 use Rattle.list_findings.specs.Unread.{names_of, unread, unread_in}
 use Rattle.list_findings.specs.declared.finding.Finding.{Finding}
 use Rattle.list_findings.specs.declared.members.ObjectKind.{ObjectKind}
 use Rattle.list_parts.specs.declared.list_part.ListPart.{ListPart}
 
--- what is told of each name
-told_each : (f : List ℕ → List Finding) (entries : List (String Global × Value))
+-- the findings on each name
+findings_each : (f : List ℕ → List Finding) (entries : List (String Global × Value))
     → flat_map (λ key. f (string_bytes key)) (map (λ e. e.0) entries) ≡ flat_map f (names_of (members_view entries))
-told_each f [] = refl
-told_each f (e ∷ entries) = ap (λ rest. f (string_bytes e.0) ++ rest) (told_each f entries)
+findings_each f [] = refl
+findings_each f (e ∷ entries) = ap (λ rest. f (string_bytes e.0) ++ rest) (findings_each f entries)
 
-pub told_members : (kind : ObjectKind) (part : ListPart) (d : Option Data) (entries : List (String Global × Value))
+pub findings_members : (kind : ObjectKind) (part : ListPart) (d : Option Data) (entries : List (String Global × Value))
     → Some (members_view entries) ≡ option_and_then as_object d
-    → flat_map (λ key. told part (unread kind (string_bytes key))) (map (λ e. e.0) entries) ≡ unread_in kind part d
-told_members kind part d entries is = told_each (λ name. told part (unread kind name)) entries ∙ rw (← is) refl
+    → flat_map (λ key. finding_on part (unread kind (string_bytes key))) (map (λ e. e.0) entries) ≡ unread_in kind part d
+findings_members kind part d entries is = findings_each (λ name. finding_on part (unread kind name)) entries ∙ rw (← is) refl

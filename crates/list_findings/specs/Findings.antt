@@ -26,9 +26,9 @@ use Rattle.list_parts.specs.declared.list_part.ListPart.{ListPart}
 use Rattle.list_parts.specs.declared.list_part.PartId.TheVariants as about
 
 -- the finding on a part, if there is a remark
-abbrev pub told : ListPart → Option Remark → List Finding
-told part None = []
-told part (Some remark) = record { part = part; remark = remark } ∷ []
+abbrev pub finding_on : ListPart → Option Remark → List Finding
+finding_on part None = []
+finding_on part (Some remark) = record { part = part; remark = remark } ∷ []
 
 -- ---- of a rule
 
@@ -79,23 +79,23 @@ strays_if_provided entries init before rule service =
 
 -- the findings for one of all services
 abbrev pub strays_of : List ListedEntry → ℕ → ListPart → List ListedRule → ListedRule → Service → List Finding
-strays_of entries init part before rule service = told part (strays_if_provided entries init before rule (service_name service))
+strays_of entries init part before rule service = finding_on part (strays_if_provided entries init before rule (service_name service))
 
 -- the findings for the service that a rule asks for, or for each
 abbrev pub stray_findings : List ListedEntry → ℕ → ListPart → List ListedRule → ListedRule → Option (List ℕ) → List Finding
-stray_findings entries init part before rule (Some service) = told part (strays entries init before rule service)
+stray_findings entries init part before rule (Some service) = finding_on part (strays entries init before rule service)
 stray_findings entries init part before rule None =
     flat_map (strays_of entries init part before rule) services
 
 -- the finding that its child isn't there, or else the findings for which services it routes to no child
 abbrev pub target_findings : List ListedEntry → ℕ → ListPart → List ListedRule → ListedRule → Option Remark → List Finding
-target_findings entries init part before rule (Some remark) = told part (Some remark)
+target_findings entries init part before rule (Some remark) = finding_on part (Some remark)
 target_findings entries init part before rule None = stray_findings entries init part before rule rule.service
 
 -- the findings on the service and the target of a rule of an init's list, which is this part, after the earlier rules
 abbrev pub rule_findings : List ListedEntry → ℕ → ListPart → List ListedRule → ListedRule → List Finding
 rule_findings entries init part before rule =
-    told part (other_case rule.service) ++ target_findings entries init part before rule (no_child entries init rule.target)
+    finding_on part (other_case rule.service) ++ target_findings entries init part before rule (no_child entries init rule.target)
 
 -- the first of two that there is
 abbrev pub or_else : Option Remark → Option Remark → Option Remark
@@ -110,8 +110,8 @@ useless list owner outer before rule =
 -- the findings on a rule's label, by its place in an owner's list, with the first init that asks the list, if one does
 abbrev pub label_findings : Listed → ListPart → RuleOwner → Option ListedEntry → List ListedRule → ℕ × ListedRule → List Finding
 label_findings list part owner init before rule =
-    told part (useless list owner (is_some init) before rule)
-    ++ (told part (wide_front list.entries init rule.1.label_prefix) ++ told part (chosen_end (is_some init) rule.1))
+    finding_on part (useless list owner (is_some init) before rule)
+    ++ (finding_on part (wide_front list.entries init rule.1.label_prefix) ++ finding_on part (chosen_end (is_some init) rule.1))
 
 -- ---- of a list of rules
 
@@ -135,7 +135,7 @@ abbrev pub part_reserve : ListedEntry → Option Remark
 part_reserve entry = if (reserve_of entry).ram % 4096 == 0 then None else Some (PartReserve (reserve_of entry).ram)
 
 abbrev pub pages_findings : ListPart → ListedEntry → List Finding
-pages_findings part entry = told part (part_pages entry) ++ told part (part_reserve entry)
+pages_findings part entry = finding_on part (part_pages entry) ++ finding_on part (part_reserve entry)
 
 -- some request of a client is routed to a server, and its RAM, with that of its reserve, is insufficient for a session
 abbrev pub low_ram : Listed → ℕ × ListedEntry → Option Remark
@@ -160,8 +160,8 @@ missed list service entry =
 
 -- the findings on a script's budget, or on whether a server is reached
 abbrev pub use_findings : Listed → ListPart → ℕ × ListedEntry → Binary → List Finding
-use_findings list part entry Script = told part (low_ram list entry) ++ told part (low_caps list entry)
-use_findings list part entry (Server service) = told part (missed list service entry)
+use_findings list part entry Script = finding_on part (low_ram list entry) ++ finding_on part (low_caps list entry)
+use_findings list part entry (Server service) = finding_on part (missed list service entry)
 use_findings list part entry Init = []
 
 -- the findings on the rules of an entry's own route, if it has one

@@ -2,7 +2,8 @@
 use Rattle.std.specs.Prelude.{ℕ, ◌+◌, ◌==◌, ◌&&◌, ◌||◌, zero, suc, Bool, false, not, List, [], ◌∷◌, is_some}
 use Rattle.std.specs.List.{list_any, slice_get}
 use Rattle.own_model.specs.Listed.{Listed, ListedEntry}
-use Rattle.list_reach.specs.Deciding.{for_some_label, decision_of}
+use Rattle.list_reach.specs.Deciding.{for_some_label}
+use Rattle.list_labels.specs.DecidingRules.{decision_of}
 use Rattle.list_findings.specs.Views.{Asking, askings}
 use Rattle.list_findings.specs.RuleTargets.{of_init}
 use Rattle.list_parts.specs.declared.list_part.RuleOwner.{RuleOwner}

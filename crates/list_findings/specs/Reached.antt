@@ -3,7 +3,7 @@ use Rattle.std.specs.Prelude.{ℕ, ◌==◌, ◌&&◌, Bool, false, true, Option
 use Rattle.std.specs.List.{list_any}
 use Rattle.own_model.specs.Listed.{Listed}
 use Rattle.list_reach.specs.Deciding.{for_some_label}
-use Rattle.list_reach.specs.Reach.{leads_to}
+use Rattle.list_labels.specs.GivenLabels.{leads_to}
 use Rattle.list_findings.specs.Views.{Asking, askings}
 
 -- a child is the one that is looked for, or any child if none is named

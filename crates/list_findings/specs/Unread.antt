@@ -5,7 +5,7 @@ use Rattle.std.specs.Option.{option_and_then, option_map, unwrap_or}
 use Rattle.std.specs.Str.{bytes_eq}
 use Rattle.serde_json.specs.Data.{Data, Members, no_members, member}
 use Rattle.serde_json.specs.Find.{as_object, get}
-use Rattle.list_findings.specs.Findings.{told}
+use Rattle.list_findings.specs.Findings.{finding_on}
 use Rattle.text_near_words.specs.Near.{nearest}
 use Rattle.list_parts.specs.Steps.{rule_at}
 use Rattle.list_faults.specs.Values.{EntryValue, elements_in, found_in, runs}
@@ -63,7 +63,7 @@ abbrev pub names_in : Option Data → List (List ℕ)
 names_in d = unwrap_or (option_map names_of (option_and_then as_object d)) []
 
 abbrev pub unread_in : ObjectKind → ListPart → Option Data → List Finding
-unread_in kind part d = flat_map (λ name. told part (unread kind name)) (names_in d)
+unread_in kind part d = flat_map (λ name. finding_on part (unread kind name)) (names_in d)
 
 -- ---- of a list
 

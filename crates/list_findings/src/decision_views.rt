@@ -8,8 +8,9 @@ ghost use Rattle.list_findings.specs.Views.{IsShown, ShowAll, Shows, asking_by, 
 
 use crate::finding::FindingText;
 use crate::rule_targets::is_script;
+use list_labels::SessionRequests;
 use list_parser::{ListEntry, Name, Rule, StartList};
-use list_reach::{RouteDecisions, SessionRequests};
+use list_reach::RouteDecisions;
 use std::alloc::{AllocError, Global};
 use std::marker::Model;
 use trade_base::SERVICES;
@@ -34,6 +35,15 @@ impl Model for DecisionView {
       service = view.service;
       trails = view.trails;
     } };
+}
+
+/// A start list with the route decisions on the requests of all its scripts.
+#[derive(Clone, Copy)]
+pub(crate) struct DecidedList<'a> {
+    /// The start list.
+    pub(crate) list: &'a StartList,
+    /// The decisions, service by service.
+    pub(crate) views: &'a [DecisionView],
 }
 
 /// Returns the decisions on the requests of all scripts of a list, service by service. Fails if the host is out of memory.

@@ -1,19 +1,20 @@
 //! The findings of a start list in the order of its parts. The first parts are the rules of the machine's default route. Each
 //! entry follows with its own route and the default route of what it starts.
-ghost use Rattle.std.specs.Prelude.{◌≡◌, ◌<◌, ◌++◌, is_some, take, OnOk};
+ghost use Rattle.std.specs.Prelude.{◌≡◌, ◌<◌, ◌++◌, is_some, OnOk};
 ghost use Rattle.std.specs.Option.{option_copied};
-ghost use Rattle.list_findings.specs.Findings.{entry_findings, findings_of, hidden, label_findings, low_caps, low_ram, missed, pages_findings, part_pages, part_reserve, route_findings, rule_findings, rules_findings, told, unreached, use_findings, useless};
+ghost use Rattle.list_findings.specs.Findings.{entry_findings, finding_on, findings_of, hidden, label_findings, low_caps, low_ram, missed, pages_findings, part_pages, part_reserve, route_findings, rule_findings, rules_findings, unreached, use_findings, useless};
 ghost use Rattle.list_findings.specs.Outer.{chosen_end, outer_init, wide_front};
 ghost use Rattle.list_parts.specs.Steps.{part_of};
 ghost use Rattle.list_findings.specs.Views.{ShowAll};
 ghost use Rattle.list_parts.specs.declared.list_part.PartId.TheVariants as about;
 
-use crate::decision_views::{DecisionView, views_of};
+use crate::decision_views::{DecidedList, views_of};
 use crate::finding::{Finding, Remark, StaticName};
 use crate::idle_rules::is_idle;
-use crate::missing_targets::add_target_finding;
+use crate::missing_targets::add_target_findings;
 use crate::near::other_case;
 use crate::outer_lists::{chosen_end, idle_remark, outer_init, wide_front};
+use crate::placed_rule::PlacedRule;
 use crate::reached::{is_routed_at_all, is_routed_to};
 use crate::rule_targets::before;
 use crate::unreachable_rules::hidden_by;
@@ -37,82 +38,71 @@ pub fn add_findings(
     ensures { OnOk result (found.new.items ≡ found.old.items ++ findings_of list.now) }
 {
     let views = views_of(alloc, list)?;
-    let views = views.as_slice();
-    tell_rules(
-        found,
-        alloc,
+    let decided = DecidedList {
         list,
-        views,
-        0,
-        RuleOwner::Default,
-        list.default_route(),
-    )?;
+        views: views.as_slice(),
+    };
+    let rules = list.default_route();
+    add_rules_findings(found, alloc, decided, 0, RuleOwner::Default, rules)?;
     let entries = list.entries();
     let count = list.count();
     prove!(count <= 32);
     for (number, entry) in entries.iter().enumerate() {
-        tell_entry(found, alloc, list, views, number, entry)?;
+        add_entry_findings(found, alloc, decided, number, entry)?;
     }
     Ok(())
 }
 
 // Adds the findings of an entry, of its own route, and of the default route of what it starts.
-fn tell_entry(
+fn add_entry_findings(
     found: &mut Vec<Finding>,
     alloc: Global,
-    list: &StartList,
-    views: &[DecisionView],
+    decided: DecidedList<'_>,
     number: usize,
     entry: &ListEntry,
 ) -> Result<(), AllocError>
     requires number { number < 32 }
-    requires views { ShowAll list.now views.now }
+    requires views { ShowAll decided.list.now decided.views.now }
     ensures { OnOk result
-        (found.new.items ≡ found.old.items ++ entry_findings list.now (number, entry.now)) }
+        (found.new.items ≡ found.old.items ++ entry_findings decided.entry.list.now (number, entry.now)) }
 {
-    tell_pages(found, alloc, list, number, entry)?;
-    tell_use(found, alloc, list, views, number, entry)?;
-    tell_route(found, alloc, list, views, number, entry)?;
-    tell_rules(
+    add_pages_findings(found, alloc, decided.list, number, entry)?;
+    add_use_findings(found, alloc, decided, number, entry)?;
+    add_route_findings(found, alloc, decided, number, entry)?;
+    let owner = RuleOwner::Inner(number);
+    add_rules_findings(
         found,
         alloc,
-        list,
-        views,
+        decided,
         number + 1,
-        RuleOwner::Inner(number),
+        owner,
         entry.inner_route(),
     )
 }
 
 // Adds the findings of an entry's own route, if it has one.
-fn tell_route(
+fn add_route_findings(
     found: &mut Vec<Finding>,
     alloc: Global,
-    list: &StartList,
-    views: &[DecisionView],
+    decided: DecidedList<'_>,
     number: usize,
     entry: &ListEntry,
 ) -> Result<(), AllocError>
-    requires views { ShowAll list.now views.now }
+    requires views { ShowAll decided.list.now decided.views.now }
     ensures { OnOk result (found.new.items
-        ≡ found.old.items ++ route_findings list.now (number, entry.now) entry.now.route) }
+        ≡ found.old.items ++ route_findings decided.entry.list.now (number, entry.now) entry.now.route) }
 {
     match entry.route() {
-        Some(rules) => tell_rules(
-            found,
-            alloc,
-            list,
-            views,
-            entry.home(),
-            RuleOwner::Entry(number),
-            rules,
-        ),
+        Some(rules) => {
+            let owner = RuleOwner::Entry(number);
+            add_rules_findings(found, alloc, decided, entry.home(), owner, rules)
+        }
         None => Ok(()),
     }
 }
 
 // Adds the finding that an entry's RAM, or its reserve's, isn't whole pages.
-fn tell_pages(
+fn add_pages_findings(
     found: &mut Vec<Finding>,
     alloc: Global,
     list: &StartList,
@@ -123,45 +113,34 @@ fn tell_pages(
         ++ pages_findings (part_of list.now.entries (about.Entry number)) entry.now) }
 {
     let about = PartId::Entry(number);
-    tell(found, alloc, list, about, part_pages(entry))?;
-    tell(found, alloc, list, about, part_reserve(entry))
+    add_remark(found, alloc, list, about, part_pages(entry))?;
+    add_remark(found, alloc, list, about, part_reserve(entry))
 }
 
 // Adds the findings on a script's budget, or the finding that a server isn't reached.
-fn tell_use(
+fn add_use_findings(
     found: &mut Vec<Finding>,
     alloc: Global,
-    list: &StartList,
-    views: &[DecisionView],
+    decided: DecidedList<'_>,
     number: usize,
     entry: &ListEntry,
 ) -> Result<(), AllocError>
-    requires views { ShowAll list.now views.now }
+    requires views { ShowAll decided.list.now decided.views.now }
     ensures { OnOk result (found.new.items ≡ found.old.items
-        ++ use_findings list.now (part_of list.now.entries (about.Entry number))
+        ++ use_findings decided.entry.list.now
+        (part_of decided.entry.list.now.entries (about.Entry number))
         (number, entry.now) entry.now.binary) }
 {
     let about = PartId::Entry(number);
+    let list = decided.list;
     match entry.binary() {
         Binary::Script => {
-            tell(
-                found,
-                alloc,
-                list,
-                about,
-                low_ram(list, views, number, entry),
-            )?;
-            tell(
-                found,
-                alloc,
-                list,
-                about,
-                low_caps(list, views, number, entry),
-            )
+            add_remark(found, alloc, list, about, low_ram(decided, number, entry))?;
+            add_remark(found, alloc, list, about, low_caps(decided, number, entry))
         }
         Binary::Server(service) => {
-            let remark = missed(list, views, service, number, entry);
-            tell(found, alloc, list, about, remark)
+            let remark = missed(decided, service, number, entry);
+            add_remark(found, alloc, list, about, remark)
         }
         Binary::Init => Ok(()),
     }
@@ -192,17 +171,12 @@ fn part_reserve(entry: &ListEntry) -> Option<Remark>
 
 // The remark that a client whose requests are routed to a server has insufficient RAM for a session, in its account and its
 // reserve together.
-fn low_ram(
-    list: &StartList,
-    views: &[DecisionView],
-    number: usize,
-    entry: &ListEntry,
-) -> Option<Remark>
-    requires views { ShowAll list.now views.now }
-    ensures { result ≡ low_ram list.now (number, entry.now) }
+fn low_ram(decided: DecidedList<'_>, number: usize, entry: &ListEntry) -> Option<Remark>
+    requires views { ShowAll decided.list.now decided.views.now }
+    ensures { result ≡ low_ram decided.entry.list.now (number, entry.now) }
 {
     let kept = entry.reserve_at_start().ram.0;
-    if is_routed_at_all(views, number) && entry.ram().saturating_add(kept) < SESSION_RAM {
+    if is_routed_at_all(decided.views, number) && entry.ram().saturating_add(kept) < SESSION_RAM {
         Some(Remark::LowRam(entry.ram(), kept))
     } else {
         None
@@ -210,17 +184,12 @@ fn low_ram(
 }
 
 // The same for capabilities.
-fn low_caps(
-    list: &StartList,
-    views: &[DecisionView],
-    number: usize,
-    entry: &ListEntry,
-) -> Option<Remark>
-    requires views { ShowAll list.now views.now }
-    ensures { result ≡ low_caps list.now (number, entry.now) }
+fn low_caps(decided: DecidedList<'_>, number: usize, entry: &ListEntry) -> Option<Remark>
+    requires views { ShowAll decided.list.now decided.views.now }
+    ensures { result ≡ low_caps decided.entry.list.now (number, entry.now) }
 {
     let kept = entry.reserve_at_start().caps.0;
-    if is_routed_at_all(views, number) && entry.caps().saturating_add(kept) < SESSION_CAPS {
+    if is_routed_at_all(decided.views, number) && entry.caps().saturating_add(kept) < SESSION_CAPS {
         Some(Remark::LowCaps(entry.caps(), kept))
     } else {
         None
@@ -229,28 +198,27 @@ fn low_caps(
 
 // Whether a server doesn't provide its service, or isn't reached.
 fn missed(
-    list: &StartList,
-    views: &[DecisionView],
+    decided: DecidedList<'_>,
     service: Service,
     number: usize,
     entry: &ListEntry,
 ) -> Option<Remark>
-    requires views { ShowAll list.now views.now }
-    ensures { result ≡ missed list.now service (number, entry.now) }
+    requires views { ShowAll decided.list.now decided.views.now }
+    ensures { result ≡ missed decided.entry.list.now service (number, entry.now) }
 {
     if entry.provides() {
-        unreached(list, views, number)
+        unreached(decided, number)
     } else {
         Some(Remark::NotProviding(StaticName(service.name())))
     }
 }
 
 // The remark that no script's request is routed to a server.
-fn unreached(list: &StartList, views: &[DecisionView], number: usize) -> Option<Remark>
-    requires views { ShowAll list.now views.now }
-    ensures { result ≡ unreached list.now number }
+fn unreached(decided: DecidedList<'_>, number: usize) -> Option<Remark>
+    requires views { ShowAll decided.list.now decided.views.now }
+    ensures { result ≡ unreached decided.entry.list.now number }
 {
-    if is_routed_to(views, number) {
+    if is_routed_to(decided.views, number) {
         None
     } else {
         Some(Remark::Unreached)
@@ -258,115 +226,112 @@ fn unreached(list: &StartList, views: &[DecisionView], number: usize) -> Option<
 }
 
 // Adds the findings of an owner's rules, which belong to an init's list.
-fn tell_rules(
+fn add_rules_findings(
     found: &mut Vec<Finding>,
     alloc: Global,
-    list: &StartList,
-    views: &[DecisionView],
+    decided: DecidedList<'_>,
     init: usize,
     owner: RuleOwner,
     rules: &[Rule],
 ) -> Result<(), AllocError>
-    requires views { ShowAll list.now views.now }
-    ensures { OnOk result
-        (found.new.items ≡ found.old.items ++ rules_findings list.now init owner rules.now) }
+    requires views { ShowAll decided.list.now decided.views.now }
+    ensures { OnOk result (found.new.items
+        ≡ found.old.items ++ rules_findings decided.entry.list.now init owner rules.now) }
 {
     for (place, rule) in rules.iter().enumerate() {
-        let about = PartId::Rule(owner, place);
-        tell_labels(found, alloc, list, views, owner, rules, place, rule)?;
-        tell_rule(found, alloc, list, init, about, before(rules, place), rule)?;
+        let placed = PlacedRule {
+            init,
+            owner,
+            place,
+            earlier: before(rules, place),
+            rule,
+        };
+        add_label_findings(found, alloc, decided, placed)?;
+        add_rule_findings(found, alloc, decided.list, placed)?;
     }
     Ok(())
 }
 
-// Adds the findings on the label of a rule, at its place in an owner's list.
-fn tell_labels(
+// Adds the findings on the label of a rule.
+fn add_label_findings(
     found: &mut Vec<Finding>,
     alloc: Global,
-    list: &StartList,
-    views: &[DecisionView],
-    owner: RuleOwner,
-    rules: &[Rule],
-    place: usize,
-    rule: &Rule,
+    decided: DecidedList<'_>,
+    placed: PlacedRule<'_>,
 ) -> Result<(), AllocError>
-    requires views { ShowAll list.now views.now }
+    requires views { ShowAll decided.list.now decided.views.now }
     ensures { OnOk result (found.new.items ≡ found.old.items
-        ++ label_findings list.now (part_of list.now.entries (about.Rule owner place)) owner
-        (outer_init list.now owner) (take place rules.now) (place, rule.now)) }
+        ++ label_findings decided.entry.list.now
+        (part_of decided.entry.list.now.entries (about.Rule placed.entry.owner placed.entry.place))
+        placed.entry.owner (outer_init decided.entry.list.now placed.entry.owner)
+        placed.entry.earlier.now (placed.entry.place, placed.entry.rule.now)) }
 {
-    let about = PartId::Rule(owner, place);
-    let init = outer_init(list, owner);
-    let remark = useless(
-        list,
-        views,
-        owner,
-        init.is_some(),
-        before(rules, place),
-        place,
-        rule,
-    );
-    tell(found, alloc, list, about, remark)?;
-    tell_outer(found, alloc, list, about, init, rule)
+    let init = outer_init(decided.list, placed.owner);
+    let remark = useless(decided, init.is_some(), placed);
+    add_remark(found, alloc, decided.list, placed.part(), remark)?;
+    add_text_findings(found, alloc, decided.list, init, placed)
 }
 
 // Adds the findings on labels that a rule's texts match unintentionally. `init` is the first init that asks the rule, if one
 // does.
-fn tell_outer(
+fn add_text_findings(
     found: &mut Vec<Finding>,
     alloc: Global,
     list: &StartList,
-    about: PartId,
     init: Option<&ListEntry>,
-    rule: &Rule,
+    placed: PlacedRule<'_>,
 ) -> Result<(), AllocError>
     ensures { OnOk result (found.new.items ≡ found.old.items
-        ++ (told (part_of list.now.entries about)
-        (wide_front list.now.entries (option_copied init.entry) rule.now.label_prefix)
-        ++ told (part_of list.now.entries about)
-        (chosen_end (is_some (option_copied init.entry)) rule.now))) }
+        ++ (finding_on
+        (part_of list.now.entries (about.Rule placed.entry.owner placed.entry.place))
+        (wide_front list.now.entries (option_copied init.entry)
+        placed.entry.rule.now.label_prefix)
+        ++ finding_on
+        (part_of list.now.entries (about.Rule placed.entry.owner placed.entry.place))
+        (chosen_end (is_some (option_copied init.entry)) placed.entry.rule.now))) }
 {
+    let rule = placed.rule;
     let remark = wide_front(alloc, list.entries(), init, rule.label_prefix())?;
-    tell(found, alloc, list, about, remark)?;
-    tell(found, alloc, list, about, chosen_end(init.is_some(), rule))
+    add_remark(found, alloc, list, placed.part(), remark)?;
+    add_remark(
+        found,
+        alloc,
+        list,
+        placed.part(),
+        chosen_end(init.is_some(), rule),
+    )
 }
 
-// Why a rule decides nothing, if it does.
-fn useless(
-    list: &StartList,
-    views: &[DecisionView],
-    owner: RuleOwner,
-    outer: bool,
-    earlier: &[Rule],
-    place: usize,
-    rule: &Rule,
-) -> Option<Remark>
-    requires views { ShowAll list.now views.now }
-    ensures { result ≡ useless list.now owner outer earlier.now (place, rule.now) }
+// Why a rule decides nothing, if it does. `outer` is whether an init asks it.
+fn useless(decided: DecidedList<'_>, outer: bool, placed: PlacedRule<'_>) -> Option<Remark>
+    requires views { ShowAll decided.list.now decided.views.now }
+    ensures { result ≡ useless decided.entry.list.now placed.entry.owner outer
+        placed.entry.earlier.now (placed.entry.place, placed.entry.rule.now) }
 {
-    match hidden(earlier, rule) {
+    match hidden(placed.earlier, placed.rule) {
         Some(remark) => Some(remark),
-        None if is_idle(list, views, owner, place) => Some(idle_remark(outer, rule)),
+        None if is_idle(decided, placed.owner, placed.place) => {
+            Some(idle_remark(outer, placed.rule))
+        }
         None => None,
     }
 }
 
-// Adds the findings on the service and the target of a rule, which is after the earlier rules.
-fn tell_rule(
+// Adds the findings on the service and the target of a rule.
+fn add_rule_findings(
     found: &mut Vec<Finding>,
     alloc: Global,
     list: &StartList,
-    init: usize,
-    about: PartId,
-    earlier: &[Rule],
-    rule: &Rule,
+    placed: PlacedRule<'_>,
 ) -> Result<(), AllocError>
     ensures { OnOk result (found.new.items
-        ≡ found.old.items ++ rule_findings list.now.entries init
-        (part_of list.now.entries about) earlier.now rule.now) }
+        ≡ found.old.items ++ rule_findings list.now.entries placed.entry.init
+        (part_of list.now.entries (about.Rule placed.entry.owner placed.entry.place))
+        placed.entry.earlier.now placed.entry.rule.now) }
 {
-    tell(found, alloc, list, about, other_case(rule.service()))?;
-    add_target_finding(found, alloc, list, init, about, earlier, rule)
+    let remark = other_case(placed.rule.service());
+    add_remark(found, alloc, list, placed.part(), remark)?;
+    add_target_findings(found, alloc, list, placed)
 }
 
 // The remark that an earlier rule makes a rule unreachable.
@@ -380,7 +345,7 @@ fn hidden(earlier: &[Rule], rule: &Rule) -> Option<Remark>
 }
 
 /// Adds a remark on a part, if there is one. Fails if the host is out of memory.
-pub(crate) fn tell(
+pub(crate) fn add_remark(
     found: &mut Vec<Finding>,
     alloc: Global,
     list: &StartList,
@@ -388,7 +353,7 @@ pub(crate) fn tell(
     remark: Option<Remark>,
 ) -> Result<(), AllocError>
     ensures { OnOk result
-        (found.new.items ≡ found.old.items ++ told (part_of list.now.entries about) remark) }
+        (found.new.items ≡ found.old.items ++ finding_on (part_of list.now.entries about) remark) }
 {
     if let Some(remark) = remark {
         let part = about.part(alloc, list)?;

@@ -6,21 +6,16 @@ ghost use Rattle.list_reach.specs.Deciding.{DecisionAt};
 ghost use Rattle.list_findings.specs.Idle.{is_among, is_idle, is_of};
 ghost use Rattle.list_findings.specs.Views.{ShowAll, ViewOf};
 
-use crate::decision_views::DecisionView;
+use crate::decision_views::{DecidedList, DecisionView};
 use list_parser::{ListEntry, StartList};
 use list_parts::RuleOwner;
 
 /// Returns whether the rule at a place of an owner's list decides no request of any script, for any service and with any label.
-pub(crate) fn is_idle(
-    list: &StartList,
-    views: &[DecisionView],
-    owner: RuleOwner,
-    place: usize,
-) -> bool
-    requires views { ShowAll list.now views.now }
-    ensures { result ≡ is_idle list.now owner place }
+pub(crate) fn is_idle(decided: DecidedList<'_>, owner: RuleOwner, place: usize) -> bool
+    requires views { ShowAll decided.list.now decided.views.now }
+    ensures { result ≡ is_idle decided.entry.list.now owner place }
 {
-    !any_decides(list, views, owner, place)
+    !any_decides(decided.list, decided.views, owner, place)
 }
 
 // Whether it decides some requests of some view.

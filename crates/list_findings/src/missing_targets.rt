@@ -4,36 +4,36 @@ ghost use Rattle.trade_base.specs.Service.{service_name};
 ghost use Rattle.list_parser.specs.View.{model_target};
 ghost use Rattle.list_findings.specs.Findings.{has_name, misled, no_child, stray_findings, strays, strays_if_provided, target_findings};
 ghost use Rattle.list_parts.specs.Steps.{part_of};
+ghost use Rattle.list_parts.specs.declared.list_part.PartId.TheVariants as about;
 
 use crate::finding::{Finding, Remark};
-use crate::findings::tell;
+use crate::findings::add_remark;
 use crate::near::near_name;
+use crate::placed_rule::PlacedRule;
 use crate::rule_targets::is_provided;
 use crate::unreachable_rules::decides_some;
-use list_parser::{ListEntry, Name, Rule, StartList, Target};
-use list_parts::PartId;
+use list_parser::{ListEntry, Name, StartList, Target};
 use list_routes::target_child;
 use std::alloc::{AllocError, Global};
 use trade_base::{SERVICES, Service};
 
 /// Adds the finding that the child of a rule of an init's list isn't there. If it is there, adds the findings for which services
-/// the rule routes to no child. The rule is after the earlier rules. Fails if the host is out of memory.
-pub(crate) fn add_target_finding(
+/// the rule routes to no child. Fails if the host is out of memory.
+pub(crate) fn add_target_findings(
     found: &mut Vec<Finding>,
     alloc: Global,
     list: &StartList,
-    init: usize,
-    about: PartId,
-    earlier: &[Rule],
-    rule: &Rule,
+    placed: PlacedRule<'_>,
 ) -> Result<(), AllocError>
     ensures { OnOk result (found.new.items ≡ found.old.items
-        ++ target_findings list.now.entries init (part_of list.now.entries about) earlier.now
-        rule.now (no_child list.now.entries init rule.now.target)) }
+        ++ target_findings list.now.entries placed.entry.init
+        (part_of list.now.entries (about.Rule placed.entry.owner placed.entry.place))
+        placed.entry.earlier.now placed.entry.rule.now
+        (no_child list.now.entries placed.entry.init placed.entry.rule.now.target)) }
 {
-    match no_child(alloc, list, init, rule.target())? {
-        Some(remark) => tell(found, alloc, list, about, Some(remark)),
-        None => tell_strays(found, alloc, list, init, about, earlier, rule),
+    match no_child(alloc, list, placed.init, placed.rule.target())? {
+        Some(remark) => add_remark(found, alloc, list, placed.part(), Some(remark)),
+        None => add_stray_findings(found, alloc, list, placed),
     }
 }
 
@@ -68,85 +68,71 @@ fn has_name(entries: &[ListEntry], init: usize, name: &[u8]) -> bool
 }
 
 // Adds the findings for which services a rule routes to no child.
-fn tell_strays(
+fn add_stray_findings(
     found: &mut Vec<Finding>,
     alloc: Global,
     list: &StartList,
-    init: usize,
-    about: PartId,
-    earlier: &[Rule],
-    rule: &Rule,
+    placed: PlacedRule<'_>,
 ) -> Result<(), AllocError>
     ensures { OnOk result (found.new.items
-        ≡ found.old.items ++ stray_findings list.now.entries init
-        (part_of list.now.entries about) earlier.now rule.now rule.now.service) }
+        ≡ found.old.items ++ stray_findings list.now.entries placed.entry.init
+        (part_of list.now.entries (about.Rule placed.entry.owner placed.entry.place))
+        placed.entry.earlier.now placed.entry.rule.now placed.entry.rule.now.service) }
 {
-    match rule.service() {
+    match placed.rule.service() {
         Some(service) => {
-            let remark = strays(list, init, earlier, rule, service);
-            tell(found, alloc, list, about, remark)
+            let remark = strays(list, placed, service);
+            add_remark(found, alloc, list, placed.part(), remark)
         }
-        None => tell_all_strays(found, alloc, list, init, about, earlier, rule),
+        None => add_all_stray_findings(found, alloc, list, placed),
     }
 }
 
 // Adds the findings for which of all services a rule of any service routes to no child.
-fn tell_all_strays(
+fn add_all_stray_findings(
     found: &mut Vec<Finding>,
     alloc: Global,
     list: &StartList,
-    init: usize,
-    about: PartId,
-    earlier: &[Rule],
-    rule: &Rule,
+    placed: PlacedRule<'_>,
 ) -> Result<(), AllocError>
     ensures { OnOk result (found.new.items
-        ≡ found.old.items ++ stray_findings list.now.entries init
-        (part_of list.now.entries about) earlier.now rule.now None) }
+        ≡ found.old.items ++ stray_findings list.now.entries placed.entry.init
+        (part_of list.now.entries (about.Rule placed.entry.owner placed.entry.place))
+        placed.entry.earlier.now placed.entry.rule.now None) }
 {
     let services = SERVICES.as_slice();
     for place in 0..services.len() {
-        let remark = strays_if_provided(list, init, earlier, rule, services[place]);
-        tell(found, alloc, list, about, remark)?;
+        let remark = strays_if_provided(list, placed, services[place]);
+        add_remark(found, alloc, list, placed.part(), remark)?;
     }
     Ok(())
 }
 
 // The remark that a rule of any service routes to no child for a service that some entry of its list provides.
 #[tactic(auto, using(crate::proofs::ServiceNames::service_is_named))]
-fn strays_if_provided(
-    list: &StartList,
-    init: usize,
-    earlier: &[Rule],
-    rule: &Rule,
-    service: Service,
-) -> Option<Remark>
-    ensures { result
-        ≡ strays_if_provided list.now.entries init earlier.now rule.now (service_name service) }
+fn strays_if_provided(list: &StartList, placed: PlacedRule<'_>, service: Service) -> Option<Remark>
+    ensures { result ≡ strays_if_provided list.now.entries placed.entry.init
+        placed.entry.earlier.now placed.entry.rule.now (service_name service) }
 {
     match Name::read(service.name()) {
-        Some(name) if is_provided(list, init, name.as_bytes()) => {
-            strays(list, init, earlier, rule, &name)
+        Some(name) if is_provided(list, placed.init, name.as_bytes()) => {
+            strays(list, placed, &name)
         }
         _ => None,
     }
 }
 
 // The remark that a rule decides some requests for a service, and routes them to no child.
-fn strays(
-    list: &StartList,
-    init: usize,
-    earlier: &[Rule],
-    rule: &Rule,
-    service: &Name,
-) -> Option<Remark>
-    ensures { result ≡ strays list.now.entries init earlier.now rule.now service.now }
+fn strays(list: &StartList, placed: PlacedRule<'_>, service: &Name) -> Option<Remark>
+    ensures { result ≡ strays list.now.entries placed.entry.init placed.entry.earlier.now
+        placed.entry.rule.now service.now }
 {
     let asked = service.as_bytes();
-    if decides_some(earlier, rule, asked)
-        && target_child(list, init, rule.target(), asked).is_none()
+    let target = placed.rule.target();
+    if decides_some(placed.earlier, placed.rule, asked)
+        && target_child(list, placed.init, target, asked).is_none()
     {
-        misled(list, init, rule.target(), service)
+        misled(list, placed.init, target, service)
     } else {
         None
     }

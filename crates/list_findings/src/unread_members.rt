@@ -3,7 +3,7 @@ ghost use Rattle.std.specs.Prelude.{◌≡◌, ◌++◌, [], OnOk, Some};
 ghost use Rattle.std.specs.Option.{option_and_then, option_map};
 ghost use Rattle.serde_json.specs.Find.{as_object};
 ghost use Rattle.serde_json.specs.View.{members_view, view};
-ghost use Rattle.list_findings.specs.Findings.{told};
+ghost use Rattle.list_findings.specs.Findings.{finding_on};
 ghost use Rattle.list_findings.specs.Unread.{unread_in, unread_in_config, unread_in_entry, unread_in_rules, unread_of};
 ghost use Rattle.list_faults.specs.Values.{seen};
 
@@ -16,12 +16,12 @@ use std::alloc::{AllocError, Global};
 
 /// Adds a finding for each member that nothing reads of the value of a start list, in the order of the list's parts. Fails if the
 /// host is out of memory.
-pub fn tell_unread(found: &mut Vec<Finding>, alloc: Global, list: &Value) -> Result<(), AllocError>
+pub fn add_unread(found: &mut Vec<Finding>, alloc: Global, list: &Value) -> Result<(), AllocError>
     ensures { OnOk result (found.new.items ≡ found.old.items ++ unread_of (view list.now)) }
 {
-    tell_members(found, alloc, ObjectKind::List, &ListPart::List, Some(list))?;
+    add_members(found, alloc, ObjectKind::List, &ListPart::List, Some(list))?;
     let machine = list.get("machine");
-    tell_members(
+    add_members(
         found,
         alloc,
         ObjectKind::Machine,
@@ -29,7 +29,7 @@ pub fn tell_unread(found: &mut Vec<Finding>, alloc: Global, list: &Value) -> Res
         machine,
     )?;
     let rules = list.get("default-route");
-    tell_rules(
+    add_rules(
         found,
         alloc,
         RuleOwner::Default,
@@ -38,13 +38,13 @@ pub fn tell_unread(found: &mut Vec<Finding>, alloc: Global, list: &Value) -> Res
     )?;
     let entries = find_entries(alloc, list)?;
     for (number, entry) in entries.iter().enumerate() {
-        tell_entry(found, alloc, number, entry)?;
+        add_entry(found, alloc, number, entry)?;
     }
     Ok(())
 }
 
 // Adds the findings of an entry, of its own route, and of what it starts if it is an init.
-fn tell_entry(
+fn add_entry(
     found: &mut Vec<Finding>,
     alloc: Global,
     number: usize,
@@ -59,11 +59,11 @@ fn tell_entry(
     } else {
         ObjectKind::Entry
     };
-    tell_own(found, alloc, number, entry, table)?;
+    add_own(found, alloc, number, entry, table)?;
     let rules = entry.value.get("route");
-    tell_rules(found, alloc, RuleOwner::Entry(number), &entry.steps, rules)?;
+    add_rules(found, alloc, RuleOwner::Entry(number), &entry.steps, rules)?;
     if is_init {
-        tell_config(
+        add_config(
             found,
             alloc,
             number,
@@ -76,7 +76,7 @@ fn tell_entry(
 }
 
 // Adds the findings of an entry itself.
-fn tell_own(
+fn add_own(
     found: &mut Vec<Finding>,
     alloc: Global,
     number: usize,
@@ -87,11 +87,11 @@ fn tell_own(
         ++ unread_in table (ListPart.Entry number entry.now.steps) (Some (view entry.now.value.now))) }
 {
     let part = ListPart::Entry(number, entry.steps.copy(alloc)?);
-    tell_members(found, alloc, table, &part, Some(entry.value))
+    add_members(found, alloc, table, &part, Some(entry.value))
 }
 
 // Adds the findings of what an init starts, except those of its entries.
-fn tell_config(
+fn add_config(
     found: &mut Vec<Finding>,
     alloc: Global,
     number: usize,
@@ -102,13 +102,13 @@ fn tell_config(
         ++ unread_in_config number steps.now (option_map (λ value. view value.now) config.entry)) }
 {
     let part = ListPart::Config(number, steps.copy(alloc)?);
-    tell_members(found, alloc, ObjectKind::Config, &part, config)?;
+    add_members(found, alloc, ObjectKind::Config, &part, config)?;
     let rules = member(config, "default-route");
-    tell_rules(found, alloc, RuleOwner::Inner(number), steps, rules)
+    add_rules(found, alloc, RuleOwner::Inner(number), steps, rules)
 }
 
 // Adds the findings of an owner's rules, with the steps to the owner's entry.
-fn tell_rules(
+fn add_rules(
     found: &mut Vec<Finding>,
     alloc: Global,
     owner: RuleOwner,
@@ -120,13 +120,13 @@ fn tell_rules(
 {
     for (place, rule) in elements(rules).iter().enumerate() {
         let part = rule_at(alloc, owner, steps, place)?;
-        tell_members(found, alloc, ObjectKind::Rule, &part, Some(rule))?;
+        add_members(found, alloc, ObjectKind::Rule, &part, Some(rule))?;
     }
     Ok(())
 }
 
 // Adds the findings of the members of an object that nothing reads.
-fn tell_members(
+fn add_members(
     found: &mut Vec<Finding>,
     alloc: Global,
     table: ObjectKind,
@@ -141,7 +141,7 @@ fn tell_members(
     };
     for key in members.keys() {
         let remark = table.unread(alloc, key.as_str())?;
-        tell(found, alloc, part, remark)?;
+        add_remark(found, alloc, part, remark)?;
     }
     Ok(())
 }
@@ -155,13 +155,13 @@ fn object_of(value: Option<&Value>) -> Option<&Map<String, Value>>
 }
 
 // Adds a remark on a part, if there is one.
-fn tell(
+fn add_remark(
     found: &mut Vec<Finding>,
     alloc: Global,
     part: &ListPart,
     remark: Option<Remark>,
 ) -> Result<(), AllocError>
-    ensures { OnOk result (found.new.items ≡ found.old.items ++ told part.now remark) }
+    ensures { OnOk result (found.new.items ≡ found.old.items ++ finding_on part.now remark) }
 {
     if let Some(remark) = remark {
         found.push(Finding {

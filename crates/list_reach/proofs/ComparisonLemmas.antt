@@ -5,9 +5,9 @@ use Rattle.std.proofs.lemmas.Bool.{false≢true}
 use Rattle.std.proofs.lemmas.List.{get_or_default}
 use Rattle.std.proofs.lemmas.List.Elements.{All-contains, All-push}
 use Rattle.list_reach.specs.Comparisons.{IsMoved, IsMovedAt, IsRouted, MovesBy, RoutedLabel, is_moved, is_moved_by, is_to, routed_on}
-use Rattle.list_reach.specs.Reach.{IsGiven}
+use Rattle.list_labels.specs.GivenLabels.{IsGiven}
 use Rattle.list_reach.specs.declared.comparison.LabelMove.{LabelMove}
-use Rattle.list_reach.specs.declared.session_requests.SessionRequests.{SessionRequests}
+use Rattle.list_labels.specs.declared.session_requests.SessionRequests.{SessionRequests}
 
 -- one label more
 pub routed_more : (before after : Option SessionRequests) (routed : List RoutedLabel) (one : RoutedLabel)

@@ -13,24 +13,20 @@ use Rattle.std.proofs.lemmas.List.Quantifiers.{Any-push}
 use Rattle.std.proofs.lemmas.Bool.{and_from, and_parts, or_left, or_right, or_cases}
 use Rattle.own_model.specs.Listed.{Listed}
 use Rattle.own_model.specs.SessionArgs.{is_quotable}
-use Rattle.list_reach.specs.Closure.{KeptLabel}
-use Rattle.list_reach.specs.Deciding.{AreDecisions, HasDecision, IsDecision, KeepsDecision, DecisionAt, for_some_label, is_same, same_child, some_byte, some_label, decision_of}
-use Rattle.list_reach.specs.Reach.{IsGiven, leads_to}
+use Rattle.list_labels.specs.Closure.{KeptLabel}
+use Rattle.list_reach.specs.Deciding.{AreDecisions, HasDecision, IsDecision, KeepsDecision, DecisionAt, for_some_label, is_same, some_byte, some_label}
+use Rattle.list_labels.specs.DecidingRules.{same_child, decision_of}
+use Rattle.list_labels.specs.GivenLabels.{IsGiven, leads_to}
 use Rattle.list_reach.specs.DecisionOrder.{AreSeen}
-use Rattle.list_reach.specs.ClientReach.{GoesAlike, IsTold, RepresentAll}
-use Rattle.list_reach.proofs.ClosureLemmas.{below_or_at, quotable_within}
-use Rattle.list_reach.proofs.KeyLemmas.{same_tests}
+use Rattle.list_labels.specs.Representatives.{GoesAlike, IsTold, RepresentAll}
+use Rattle.list_labels.proofs.CandidateLemmas.{same_end}
+use Rattle.list_labels.proofs.ClosureLemmas.{below_or_at, quotable_within}
+use Rattle.list_labels.proofs.KeyLemmas.{same_tests}
 
 -- ---- one trail
 
 at_most : (m n : ℕ) → nat_le m n ≡ true → m ≤ n
 at_most m n is = grind (arith, nat_tests)
-
-pub same_end : (child other : Option ℕ) → same_child child other ≡ true → child ≡ other
-same_end None None is = refl
-same_end None (Some other) is = cc
-same_end (Some child) None is = cc
-same_end (Some child) (Some other) is = let same : child ≡ other = grind (arith, nat_tests) in ap Some same
 
 pub keeps_known : (list : Listed) (client : ℕ) (service rules : List ℕ) (one : KeptLabel) (trails : List DecisionAt)
     → IsTold list client service one → All (IsDecision list client service) trails → rules ≡ decision_of list client service one.label

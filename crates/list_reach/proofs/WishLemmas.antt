@@ -19,7 +19,7 @@ use Rattle.own_model.specs.Routes.{ServerAt, label_with, provider}
 use Rattle.own_model.specs.Session.{donation_refusal, too_small, wish, resolved_request, routed_request}
 use Rattle.own_model.specs.SessionArgs.{Arguments}
 use Rattle.own_model.proofs.StartListedLemmas.{routes_lead}
-use Rattle.list_reach.specs.Reach.{leads_to}
+use Rattle.list_labels.specs.GivenLabels.{leads_to}
 use Rattle.list_reach.specs.RequestTheorems.{Asks, RequestsAreDenied, RequestsAreOpened}
 
 -- ---- who is led to serves

@@ -1,32 +1,17 @@
 -- To which entries a client's requests for a service are routed, for every given label.
 use Rattle.std.specs.Prelude.{◌≡◌, ℕ, ◌<◌, ◌≤◌, ◌==◌, Bool, true, false, List, length, nat_lt, slice_index_or, Option, Some, None, All, Any}
 use Rattle.own_model.specs.Listed.{Listed}
-use Rattle.list_reach.specs.Deciding.{decision_of}
-use Rattle.list_reach.specs.Reach.{IsGiven, IsShortest, AllRouted, NoneRouted, SomeNotRouted, leads_to}
-use Rattle.list_reach.specs.Closure.{KeptLabel}
+use Rattle.list_labels.specs.GivenLabels.{IsGiven, leads_to}
+use Rattle.list_reach.specs.Reach.{IsShortest, AllRouted, NoneRouted, SomeNotRouted}
+use Rattle.list_labels.specs.Closure.{KeptLabel}
+use Rattle.list_labels.specs.Representatives.{IsTold}
 use Rattle.list_reach.specs.declared.client_reach.Reach.{Reach}
 use Rattle.list_reach.specs.declared.client_reach.Reach.TheVariants.{Always, By, Never}
 
--- a kept label is given, and is routed to the entry that is kept with it
-pub record IsTold (list : Listed) (client : ℕ) (service : List ℕ) (kept : KeptLabel) : Type 0 where
-  pub given : IsGiven kept.label
-  pub leads : kept.child ≡ leads_to list client service kept.label
-
--- it is routed as another one is, and is no longer
+-- a kept label is routed as another one is, and is no longer
 pub record LeadsAlike (list : Listed) (client : ℕ) (service label : List ℕ) (kept : KeptLabel) : Type 0 where
   pub short : length kept.label ≤ length label
   pub alike : kept.child ≡ leads_to list client service label
-
--- it is routed as another one is by the same rules, and is no longer
-pub record GoesAlike (list : Listed) (client : ℕ) (service label : List ℕ) (kept : KeptLabel) : Type 0 where
-  pub short : length kept.label ≤ length label
-  pub alike : kept.child ≡ leads_to list client service label
-  pub decided : decision_of list client service kept.label ≡ decision_of list client service label
-
--- the kept labels represent all given ones
-pub record RepresentAll (list : Listed) (client : ℕ) (service : List ℕ) (kept : List KeptLabel) : Type 0 where
-  pub told : All (IsTold list client service) kept
-  pub covers : (label : List ℕ) → IsGiven label → Any (GoesAlike list client service label) kept
 
 -- the kept labels show to which entries all given ones are routed
 pub record AreRoutes (list : Listed) (client : ℕ) (service : List ℕ) (kept : List KeptLabel) : Type 0 where

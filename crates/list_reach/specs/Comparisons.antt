@@ -1,8 +1,8 @@
 -- Labels whose requests are routed to a server on one of two start lists alone.
 use Rattle.std.specs.Prelude.{◌≡◌, ℕ, ◌<◌, ◌==◌, ◌&&◌, not, Bool, true, false, List, length, slice_index_or, Option, Some, None}
-use Rattle.list_reach.specs.Reach.{IsGiven, leads_to}
+use Rattle.list_labels.specs.GivenLabels.{IsGiven, leads_to}
 use Rattle.list_reach.specs.declared.comparison.LabelMove.{LabelMove}
-use Rattle.list_reach.specs.declared.session_requests.SessionRequests.{SessionRequests}
+use Rattle.list_labels.specs.declared.session_requests.SessionRequests.{SessionRequests}
 
 -- the entry to which requests with a label are routed, if the client is there
 abbrev pub routed_on : Option SessionRequests → List ℕ → Option ℕ

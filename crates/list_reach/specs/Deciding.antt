@@ -1,20 +1,10 @@
 -- Which rules decide a client's requests for a service, list by list outward, for every given label.
-use Rattle.std.specs.Prelude.{◌≡◌, ℕ, ◌≤◌, ◌==◌, ◌&&◌, ◌||◌, zero, suc, Bool, true, false, List, [], ◌∷◌, flat_map, length, nat_le, Option, Some, None, All, Any}
+use Rattle.std.specs.Prelude.{◌≡◌, ℕ, ◌≤◌, ◌&&◌, ◌||◌, zero, suc, Bool, false, List, [], ◌∷◌, length, nat_le, Option, All, Any}
 use Rattle.std.specs.Str.{bytes_eq}
 use Rattle.own_model.specs.Listed.{Listed}
 use Rattle.own_model.specs.SessionArgs.{is_quotable}
-use Rattle.list_reach.specs.RouteSteps.{RouteStepAt, route_steps_of}
-use Rattle.list_reach.specs.Reach.{IsGiven, leads_to}
-
--- a rule's place, if a rule decides
-abbrev pub decided : Option ℕ → List ℕ
-decided None = []
-decided (Some place) = place ∷ []
-
--- the places of the rules that decide a client's request, list by list outward. If the last of them routes outward to a list
--- without a matching rule, that list has no place here.
-unfoldable pub decision_of : Listed → ℕ → List ℕ → List ℕ → List ℕ
-decision_of list client service label = flat_map (λ (hop : RouteStepAt). decided hop.rule) (route_steps_of list client service label)
+use Rattle.list_labels.specs.DecidingRules.{decision_of, same_child}
+use Rattle.list_labels.specs.GivenLabels.{IsGiven, leads_to}
 
 -- a label, the rules that decide its request, and the entry to which they route it
 pub record DecisionAt : Type 0 where
@@ -38,13 +28,6 @@ pub record HasDecision (list : Listed) (client : ℕ) (service label : List ℕ)
 pub record AreDecisions (list : Listed) (client : ℕ) (service : List ℕ) (trails : List DecisionAt) : Type 0 where
   pub told : All (IsDecision list client service) trails
   pub covers : (label : List ℕ) → IsGiven label → Any (HasDecision list client service label) trails
-
--- two targets are the same
-abbrev pub same_child : Option ℕ → Option ℕ → Bool
-same_child None None = true
-same_child None (Some other) = false
-same_child (Some child) None = false
-same_child (Some child) (Some other) = child == other
 
 -- a decision is by these rules, with a label that is no longer
 abbrev pub is_same : List ℕ → List ℕ → Option ℕ → DecisionAt → Bool

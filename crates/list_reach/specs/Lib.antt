@@ -1,13 +1,8 @@
 pub mod Reach
-pub mod Keys
-pub mod Closure
 pub mod ClientReach
-pub mod RouteSteps
 pub mod Table
-pub mod Asked
 pub mod Paths
 pub mod RequestTheorems
 pub mod Deciding
 pub mod DecisionOrder
-pub mod LabelSets
 pub mod Comparisons

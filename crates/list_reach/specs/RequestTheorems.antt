@@ -11,7 +11,7 @@ use Rattle.own_model.specs.OwnState.{OwnState}
 use Rattle.own_model.specs.OwnStep.{own_step, refused, session_opened}
 use Rattle.own_model.specs.Routes.{label_with}
 use Rattle.own_model.specs.SessionArgs.{Arguments, arguments_of}
-use Rattle.list_reach.specs.Reach.{leads_to}
+use Rattle.list_labels.specs.GivenLabels.{leads_to}
 
 -- the entry of a script that hasn't exited asks for a session with arguments in the grammar
 pub record Asks (list : Listed) (client : ℕ) (entry : ListedEntry) (text : List ℕ) (arguments : Arguments) (s : OwnState) : Type 0 where

@@ -1,8 +1,8 @@
 -- What a table and a list of paths state of scripts and servers.
 use Rattle.std.specs.Prelude.{◌≡◌, Some}
 use Rattle.own_model.specs.Listed.{Listed}
-use Rattle.list_reach.specs.RouteSteps.{route_steps_of}
-use Rattle.list_reach.specs.Reach.{IsGiven, leads_to}
+use Rattle.list_labels.specs.RouteSteps.{route_steps_of}
+use Rattle.list_labels.specs.GivenLabels.{IsGiven, leads_to}
 use Rattle.list_reach.specs.ClientReach.{DescribesReach}
 use Rattle.list_reach.specs.declared.reach_table.ReachCell.{ReachCell}
 use Rattle.list_reach.specs.declared.reach_path_list.ReachPath.{ReachPath}

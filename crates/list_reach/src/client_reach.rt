@@ -4,10 +4,7 @@ ghost use Rattle.std.specs.List.{list_all};
 ghost use Rattle.own_model.specs.Listed.{Listed};
 ghost use Rattle.list_reach.specs.ClientReach.{AreRoutes, IsBest, DescribesReach, is_shorter, leads};
 
-use crate::keyed_labels::KeyedLabel;
-use crate::label::ClientLabel;
-use crate::representatives::standing;
-use crate::session_requests::SessionRequests;
+use list_labels::{ClientLabel, KeyedLabel, SessionRequests, representatives_of};
 use std::alloc::{AllocError, Global};
 use std::marker::Model;
 
@@ -30,7 +27,7 @@ pub struct ClientReach {
 
 impl Model for ClientReach {
     ghost use Rattle.std.specs.Prelude.{List};
-    ghost use Rattle.list_reach.specs.Closure.{KeptLabel};
+    ghost use Rattle.list_labels.specs.Closure.{KeptLabel};
 
     ghost Value = { List KeptLabel };
 
@@ -45,7 +42,7 @@ impl ClientReach {
             AreRoutes wishes.entry.list.now wishes.entry.client wishes.entry.service.now ways) }
     {
         Ok(ClientReach {
-            kept: standing(alloc, wishes)?,
+            kept: representatives_of(alloc, wishes)?,
         })
     }
 

@@ -1,14 +1,10 @@
 //! Which labels of a client's requests for a service are routed to a server on one of two start lists alone.
 ghost use Rattle.std.specs.Prelude.{◌≡◌, ◌<◌, ℕ, length, slice_index_or, All, Option, IfOk, IfSome, OnOk};
-ghost use Rattle.list_reach.specs.Asked.{is_given};
+ghost use Rattle.list_labels.specs.Asked.{is_given};
 ghost use Rattle.list_reach.specs.Comparisons.{IsMoved, IsMovedAt, IsRouted, MovesBy, is_moved, is_to, routed_on};
-ghost use Rattle.list_reach.specs.declared.session_requests.SessionRequests.{SessionRequests as WishesOf};
+ghost use Rattle.list_labels.specs.declared.session_requests.SessionRequests.{SessionRequests as WishesOf};
 
-use crate::description::described;
-use crate::label::ClientLabel;
-use crate::label_classes::{LabelClass, LabelClasses};
-use crate::pattern::LabelSet;
-use crate::session_requests::SessionRequests;
+use list_labels::{ClientLabel, LabelClass, LabelClasses, LabelSet, SessionRequests, described};
 use list_routes::route;
 use std::alloc::{AllocError, Global};
 use std::marker::Model;
@@ -142,7 +138,7 @@ impl RouteComparison {
 }
 
 // Adds the label of a class, with the components to which its requests are routed.
-#[tactic(auto, using(crate::proofs::ComparisonLemmas::routed_more, crate::proofs::AskedLemmas::is_given_then))]
+#[tactic(auto, using(crate::proofs::ComparisonLemmas::routed_more, list_labels::proofs::AskedLemmas::is_given_then))]
 fn add_routed(
     routed: &mut Vec<LabelRoutes>,
     before: Option<SessionRequests<'_>>,

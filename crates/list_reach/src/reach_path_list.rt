@@ -3,13 +3,12 @@ ghost use Rattle.std.specs.Prelude.{◌≡◌, ◌<◌, length, All, IfOk, IfSom
 ghost use Rattle.list_reach.specs.Deciding.{AreDecisions, IsDecision};
 ghost use Rattle.list_reach.specs.Table.{IsReachPath};
 
-use crate::label::ClientLabel;
 use crate::reach_filter::ReachFilter;
 use crate::route_decisions::{RouteDecision, RouteDecisions};
 use crate::route_path::RoutePath;
 use crate::route_summary::RouteSummary;
-use crate::session_requests::SessionRequests;
 use crate::texts::PathText;
+use list_labels::{ClientLabel, SessionRequests};
 use list_parser::{Binary, StartList};
 use std::alloc::{AllocError, Global};
 use std::fmt;

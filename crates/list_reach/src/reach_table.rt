@@ -5,11 +5,9 @@ ghost use Rattle.list_reach.specs.ClientReach.{AreRoutes};
 
 use crate::client_reach::{ClientReach, Reach};
 use crate::comparison::RouteComparison;
-use crate::label::ClientLabel;
-use crate::pattern::LabelSet;
 use crate::reach_filter::ReachFilter;
-use crate::session_requests::SessionRequests;
 use crate::texts::PathText;
+use list_labels::{ClientLabel, LabelSet, SessionRequests};
 use list_parser::{Binary, StartList};
 use std::alloc::{AllocError, Global};
 use std::fmt;
@@ -63,10 +61,13 @@ struct NamedLabelSet {
     text: String,
 }
 
-// The reach of a client's requests for a service to all servers.
+// The reach of a client's requests for a service to all servers of a start list.
 #[derive(Drop)]
-struct ServiceReach {
+struct ServiceReach<'a> {
     alloc: Global,
+    list: &'a StartList,
+    client: usize,
+    service: &'static str,
     ways: ClientReach,
     sets: RouteComparison,
 }
@@ -153,27 +154,28 @@ fn add_service(
     };
     let found = ServiceReach {
         alloc,
+        list,
+        client,
+        service,
         ways: ClientReach::of(alloc, wishes)?,
         sets: RouteComparison::of(alloc, None, Some(wishes))?,
     };
-    add_cells(cells, list, chosen, client, service, &found)
+    add_cells(cells, chosen, &found)
 }
 
 // The cells of a client for one service, by the reach of its requests.
 fn add_cells(
     cells: &mut Vec<ReachCell>,
-    list: &StartList,
     chosen: &ReachFilter,
-    client: usize,
-    service: &'static str,
-    found: &ServiceReach,
+    found: &ServiceReach<'_>,
 ) -> Result<(), AllocError>
-    requires ways { AreRoutes list.now client service.now found.now.ways }
-    requires cells { All (IsTrue list.now) cells.old.items }
-    ensures { OnOk result (All (IsTrue list.now) cells.new.items) }
+    requires ways { AreRoutes found.now.list.now found.now.client found.now.service.now
+        found.now.ways }
+    requires cells { All (IsTrue found.now.list.now) cells.old.items }
+    ensures { OnOk result (All (IsTrue found.now.list.now) cells.new.items) }
 {
-    for server in 0..list.entries().len() {
-        add_cell(cells, list, chosen, client, service, found, server)?;
+    for server in 0..found.list.entries().len() {
+        add_cell(cells, chosen, found, server)?;
     }
     Ok(())
 }
@@ -181,20 +183,18 @@ fn add_cells(
 // The cell of a client and a server, if the server is selected and provides the service.
 fn add_cell(
     cells: &mut Vec<ReachCell>,
-    list: &StartList,
     chosen: &ReachFilter,
-    client: usize,
-    service: &'static str,
-    found: &ServiceReach,
+    found: &ServiceReach<'_>,
     server: usize,
 ) -> Result<(), AllocError>
-    requires server { server < length list.now.entries }
-    requires ways { AreRoutes list.now client service.now found.now.ways }
-    requires cells { All (IsTrue list.now) cells.old.items }
-    ensures { OnOk result (All (IsTrue list.now) cells.new.items) }
+    requires server { server < length found.now.list.now.entries }
+    requires ways { AreRoutes found.now.list.now found.now.client found.now.service.now
+        found.now.ways }
+    requires cells { All (IsTrue found.now.list.now) cells.old.items }
+    ensures { OnOk result (All (IsTrue found.now.list.now) cells.new.items) }
 {
-    let entry = &list.entries()[server];
-    if !chosen.has_server(server) || !entry.offers(entry.home(), service.as_bytes()) {
+    let entry = &found.list.entries()[server];
+    if !chosen.has_server(server) || !entry.offers(entry.home(), found.service.as_bytes()) {
         return Ok(());
     }
     let alloc = found.alloc;
@@ -203,8 +203,8 @@ fn add_cell(
     let words = labels.to_string(alloc)?;
     let shown = shown_of(alloc, &reach, &labels, words.as_str())?;
     cells.push(ReachCell {
-        client,
-        service,
+        client: found.client,
+        service: found.service,
         server,
         reach,
         labels,

@@ -3,13 +3,12 @@ ghost use Rattle.std.specs.Prelude.{◌≡◌, ◌+◌, ◌<◌, length, All, If
 ghost use Rattle.std.specs.List.{list_any};
 ghost use Rattle.list_reach.specs.Deciding.{AreDecisions, IsDecision, KeepsDecision, is_same};
 ghost use Rattle.list_reach.specs.DecisionOrder.{AreSeen};
-ghost use Rattle.list_reach.specs.ClientReach.{IsTold, RepresentAll};
+ghost use Rattle.list_labels.specs.Representatives.{IsTold, RepresentAll};
 
-use crate::keyed_labels::KeyedLabel;
-use crate::label::{ClientLabel, LONGEST_GIVEN};
-use crate::representatives::standing;
-use crate::rules::{rules_for, same_child};
-use crate::session_requests::SessionRequests;
+use list_labels::{
+    ClientLabel, KeyedLabel, LONGEST_GIVEN, SessionRequests, representatives_of, rules_for,
+    same_child,
+};
 use std::alloc::{AllocError, Global};
 use std::marker::Model;
 
@@ -79,7 +78,7 @@ impl RouteDecisions {
         ensures { IfOk result (λ trails.
             AreDecisions wishes.entry.list.now wishes.entry.client wishes.entry.service.now trails) }
     {
-        let kept = standing(alloc, wishes)?;
+        let kept = representatives_of(alloc, wishes)?;
         let mut trails = Vec::new(alloc);
         for size in 0..LONGEST_GIVEN + 1 {
             keep_all_of(alloc, &mut trails, wishes, kept.as_slice(), size)?;

@@ -1,48 +1,15 @@
 //! The route path of one session request: which rules decide it, list by list outward, and the server to which they route it.
-ghost use Rattle.std.specs.Prelude.{◌≡◌, ◌+◌, ◌*◌, ◌<◌, ◌≤◌, ◌++◌, length, position, IfOk, OnOk};
-ghost use Rattle.own_model.specs.Listed.{asks_for};
-ghost use Rattle.list_reach.specs.RouteSteps.{route_steps_of, route_steps_within, leads_out};
-ghost use Rattle.list_reach.specs.Reach.{leads_to};
+ghost use Rattle.std.specs.Prelude.{◌≡◌, ◌<◌, ◌≤◌, length, IfOk};
+ghost use Rattle.list_labels.specs.RouteSteps.{route_steps_of};
+ghost use Rattle.list_labels.specs.GivenLabels.{leads_to};
 
-use crate::key::MOST_LISTS;
-use crate::label::{LONGEST_GIVEN, LONGEST_SEEN, label_with};
-use crate::texts::{ByteText, EntryRuleText, PathText};
-use arrayvec::ArrayVec;
+use crate::texts::{EntryRuleText, PathText};
+use list_labels::{ByteText, LONGEST_GIVEN, RouteStep, route_steps_of};
 use list_parser::{Binary, ListEntry, Rule, StartList, Target};
 use list_routes::route;
 use session_proto::SessionArgs;
 use std::alloc::{AllocError, Global};
 use std::fmt;
-use std::marker::Model;
-
-/// A step of a route path: the label as one list sees it, and the rule of the list that decides the request.
-#[derive(Drop)]
-pub struct RouteStep {
-    seen: ArrayVec<u8, LONGEST_SEEN>,
-    rule: Option<usize>,
-}
-
-impl Model for RouteStep {
-    ghost use Rattle.list_reach.specs.RouteSteps.{RouteStepAt};
-
-    ghost Value = { RouteStepAt };
-
-    ghost view = { λ hop. record {
-      seen = hop.seen.items;
-      rule = hop.rule;
-    } };
-}
-
-impl RouteStep {
-    ghost use Rattle.std.specs.Prelude.{◌≡◌};
-
-    /// Returns the place of the rule that decides, from 0 on, or none if no rule matches.
-    pub fn rule(&self) -> Option<usize>
-        ensures { result ≡ self.now.rule }
-    {
-        self.rule
-    }
-}
 
 /// The route path of a session request: its steps from the client's own list outward, and the component to which it is routed.
 #[derive(Drop)]
@@ -56,7 +23,7 @@ pub struct RoutePath<'a> {
 impl<'a> RoutePath<'a> {
     /// Returns the route path of a client's request for a service with a label of at most 64 bytes. Fails if the host is out of
     /// memory.
-    #[tactic(auto, unfolding(crate::specs::Reach::leads_to))]
+    #[tactic(auto, unfolding(list_labels::specs::GivenLabels::leads_to))]
     pub fn of(
         alloc: Global,
         list: &'a StartList,
@@ -74,7 +41,7 @@ impl<'a> RoutePath<'a> {
         Ok(RoutePath {
             list,
             client,
-            hops: hops(alloc, list, client, service, label)?,
+            hops: route_steps_of(alloc, list, client, service, label)?,
             child: route(list, client, service, label),
         })
     }
@@ -154,90 +121,6 @@ fn label_in(args: &[u8]) -> Result<&[u8], RoutePathFault>
     }
 }
 
-// What each list decides.
-#[tactic(auto, unfolding(crate::specs::RouteSteps::route_steps_of))]
-fn hops(
-    alloc: Global,
-    list: &StartList,
-    client: usize,
-    service: &[u8],
-    label: &[u8],
-) -> Result<Vec<RouteStep>, AllocError>
-    requires label { length label.now ≤ 64 }
-    ensures { IfOk result (λ hops. hops.items
-        ≡ route_steps_of list.now client service.now label.now) }
-{
-    let mut hops = Vec::new(alloc);
-    if let Some(entry) = list.entries().get(client) {
-        add_hops(&mut hops, list, MOST_LISTS, entry, service, label)?;
-    }
-    Ok(hops)
-}
-
-// The decisions of the rules for an entry and, if these route outward, of the rules for the inits above it.
-fn add_hops(
-    hops: &mut Vec<RouteStep>,
-    list: &StartList,
-    lists: usize,
-    entry: &ListEntry,
-    service: &[u8],
-    seen: &[u8],
-) -> Result<(), AllocError>
-    requires seen { length seen.now + lists * 36 ≤ 208 }
-    ensures { OnOk result (hops.new.items
-        ≡ hops.old.items ++ route_steps_within lists list.now entry.now service.now seen.now) }
-{
-    if lists == 0 {
-        return Ok(());
-    }
-    let rules = list.rules_of(entry);
-    let rule = first_match(rules, service, seen);
-    hops.push(RouteStep {
-        seen: copied(seen),
-        rule,
-    })?;
-    if !leads_out(rules, rule) {
-        return Ok(());
-    }
-    match list.init_entry(entry.home()) {
-        Some(init) => {
-            let outer = label_with(entry.name(), seen);
-            add_hops(hops, list, lists - 1, init, service, outer.as_slice())
-        }
-        None => Ok(()),
-    }
-}
-
-// The place of the first rule that matches.
-fn first_match(rules: &[Rule], service: &[u8], seen: &[u8]) -> Option<usize>
-    ensures { result ≡ position (λ rule. asks_for rule service.now seen.now) rules.now }
-{
-    rules.iter().position(|rule| rule.matches(service, seen))
-}
-
-// Whether the rule at a place routes outward.
-fn leads_out(rules: &[Rule], place: Option<usize>) -> bool
-    ensures { result ≡ leads_out rules.now place }
-{
-    let Some(place) = place else {
-        return false;
-    };
-    match rules.get(place) {
-        Some(rule) => rule.target().is_parent(),
-        None => false,
-    }
-}
-
-// A copy of the bytes of a label.
-fn copied(seen: &[u8]) -> ArrayVec<u8, LONGEST_SEEN>
-    requires { length seen.now ≤ 208 }
-    ensures { result.items ≡ seen.now }
-{
-    let mut text = ArrayVec::<u8, LONGEST_SEEN>::new();
-    let _ = text.try_extend_from_slice(seen);
-    text
-}
-
 /// Writes a line for each list, and then the component to which the request is routed, or the rule by which it is denied.
 impl fmt::Display for RoutePath<'_> {
     fn fmt<W: fmt::Write>(&self, f: &mut fmt::Formatter<W>) -> fmt::Result {
@@ -247,7 +130,7 @@ impl fmt::Display for RoutePath<'_> {
         for hop in self.hops.as_slice() {
             if let Some(entry) = asks {
                 show_hop(f, list, entry, hop)?;
-                last = Some(EntryRuleText::of(entry, hop.rule));
+                last = Some(EntryRuleText::of(entry, hop.rule()));
                 asks = list.init_entry(entry.home());
             }
         }
@@ -277,10 +160,10 @@ fn show_hop<W: fmt::Write>(
     entry: &ListEntry,
     hop: &RouteStep,
 ) -> fmt::Result {
-    let rule = EntryRuleText::of(entry, hop.rule);
-    let seen = ByteText::of(hop.seen.as_slice());
+    let rule = EntryRuleText::of(entry, hop.rule());
+    let seen = ByteText::of(hop.seen());
     write!(f, "{rule}, where the label is \"{seen}\"")?;
-    show_target(f, target_at(list.rules_of(entry), hop.rule))
+    show_target(f, target_at(list.rules_of(entry), hop.rule()))
 }
 
 // The target of the rule at a place, if there is one.

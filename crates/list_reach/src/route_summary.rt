@@ -1,6 +1,7 @@
 //! The rules of a route path, on one line.
-use crate::route_path::{RoutePath, RouteStep};
+use crate::route_path::RoutePath;
 use crate::texts::{EntryRuleText, RuleText};
+use list_labels::RouteStep;
 use list_parser::ListEntry;
 use std::fmt::{self, Display};
 

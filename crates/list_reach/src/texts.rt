@@ -1,4 +1,4 @@
-//! Pieces of lines: components by their paths, rules by their places, and bytes as characters.
+//! Pieces of lines: components by their paths, and rules by their places.
 use list_parser::{ListEntry, StartList};
 use std::fmt::{self, Display};
 
@@ -66,27 +66,5 @@ impl<'a> EntryRuleText<'a> {
 impl fmt::Display for EntryRuleText<'_> {
     fn fmt<W: fmt::Write>(&self, f: &mut fmt::Formatter<W>) -> fmt::Result {
         write!(f, "{} for {}", self.rule, self.rule.entry.to_path())
-    }
-}
-
-/// Bytes as text, each a character that can be printed.
-#[derive(Clone, Copy)]
-pub(crate) struct ByteText<'a> {
-    bytes: &'a [u8],
-}
-
-impl<'a> ByteText<'a> {
-    /// Returns the bytes of a text as characters.
-    pub(crate) fn of(bytes: &'a [u8]) -> ByteText<'a> {
-        ByteText { bytes }
-    }
-}
-
-impl fmt::Display for ByteText<'_> {
-    fn fmt<W: fmt::Write>(&self, f: &mut fmt::Formatter<W>) -> fmt::Result {
-        for byte in self.bytes {
-            f.write_char(char::from(*byte))?;
-        }
-        Ok(())
     }
 }

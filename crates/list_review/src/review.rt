@@ -13,7 +13,7 @@ ghost use Rattle.list_findings.specs.Unread.{unread_of};
 
 use list_faults::{FaultPlace, JsonReason, ListFault, ValueFlaw};
 use list_findings::{
-    Advice, Finding, UnusedBudget, add_duplicates, add_findings, spare_of, tell_unread,
+    Advice, Finding, UnusedBudget, add_duplicates, add_findings, add_unread, spare_of,
 };
 use list_parser::{BootFault, ConfigField, StartList};
 use list_parts::first_shortfall;
@@ -163,7 +163,7 @@ fn findings_in(
 {
     let mut findings = Vec::new(alloc);
     add_duplicates(&mut findings, alloc, text)?;
-    tell_unread(&mut findings, alloc, value)?;
+    add_unread(&mut findings, alloc, value)?;
     add_findings(&mut findings, alloc, list)?;
     Ok(findings)
 }

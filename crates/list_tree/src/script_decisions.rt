@@ -1,9 +1,10 @@
 //! Which rules decide a script's session requests for a service, list by list outward.
 ghost use Rattle.std.specs.Prelude.{◌<◌, length};
 
+use list_labels::{ClientLabel, SessionRequests};
 use list_parser::{Binary, ListEntry, Rule, StartList};
 use list_parts::QuotedText;
-use list_reach::{ClientLabel, RouteDecision, RouteDecisions, SessionRequests};
+use list_reach::{RouteDecision, RouteDecisions};
 use std::alloc::{AllocError, Global};
 use std::fmt;
 use trade_base::SERVICES;

@@ -1,8 +1,8 @@
 -- By where the label is routed.
 use Rattle.std.proofs.Common.{◌∙◌, ℕ, List, Option, ap, sym}
 use Rattle.list_reach.specs.Comparisons.{routed_on}
-use Rattle.list_reach.specs.Reach.{leads_to}
-use Rattle.list_reach.specs.declared.session_requests.SessionRequests.{SessionRequests}
+use Rattle.list_labels.specs.GivenLabels.{leads_to}
+use Rattle.list_labels.specs.declared.session_requests.SessionRequests.{SessionRequests}
 use Rattle.list_reach.proofs.comparison.child_of.Goals as goal
 
 pub returns-in-Some : goal.returns-in-Some

@@ -1,7 +1,8 @@
 -- A trail that isn't there yet.
 use Rattle.std.proofs.Common.{◌≡◌, ◌∙◌, ap, subst, sym}
-use Rattle.list_reach.specs.Closure.{KeptLabel}
-use Rattle.list_reach.specs.Deciding.{KeepsDecision, DecisionAt, decision_of}
+use Rattle.list_labels.specs.Closure.{KeptLabel}
+use Rattle.list_reach.specs.Deciding.{KeepsDecision, DecisionAt}
+use Rattle.list_labels.specs.DecidingRules.{decision_of}
 use Rattle.list_reach.proofs.TrailLemmas.{keeps_new}
 use Rattle.list_reach.proofs.route_decisions.keep.Goals as goal
 

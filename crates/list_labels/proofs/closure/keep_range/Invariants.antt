@@ -1,0 +1,11 @@
+use Rattle.std.proofs.Common.{◌+◌, length}
+use Rattle.std.specs.Prelude.{All}
+use Rattle.list_labels.specs.Closure.{IsGrown, IsKept, IsLengthened}
+use Rattle.list_labels.proofs.closure.keep_range.Given as goal
+
+abbrev pub invariant-loop-byte : goal.invariant-loop-byte
+invariant-loop-byte l = record {
+  sound : All (IsKept l.stem.wishes.list.now l.stem.wishes.client l.stem.wishes.service.now (length l.stem.label.now + 1)) l.kept;
+  grown : IsGrown l.initial.kept l.kept;
+  longer : IsLengthened l.stem.wishes.list.now l.stem.wishes.client l.stem.wishes.service.now l.stem.label.now l.from l.byte l.kept;
+}

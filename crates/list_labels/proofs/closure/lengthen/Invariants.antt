@@ -1,0 +1,12 @@
+use Rattle.std.proofs.Common.{ℕ, ◌+◌, ◌<◌}
+use Rattle.std.specs.Prelude.{All}
+use Rattle.list_labels.specs.Closure.{IsGrown, IsKept, IsLengthenedAt}
+use Rattle.list_labels.proofs.closure.lengthen.Given as goal
+
+abbrev pub invariant-loop-place : goal.invariant-loop-place
+invariant-loop-place l = record {
+  sound : All (IsKept l.wishes.list.now l.wishes.client l.wishes.service.now (l.size + 1)) l.kept;
+  grown : IsGrown l.initial.kept l.kept;
+  longer : (k : ℕ) → k < l.place
+      → IsLengthenedAt l.wishes.list.now l.wishes.client l.wishes.service.now l.size l.initial.kept k l.kept;
+}

@@ -1,0 +1,254 @@
+//! The conditions of a client's rules on a label that isn't empty.
+ghost use Rattle.std.specs.Prelude.{◌≡◌, ◌+◌, ◌*◌, ◌≤◌, ◌++◌, [], ◌∷◌, length, drop, if◌then◌else◌, Some, None, IfOk, OnOk};
+ghost use Rattle.std.specs.Option.{option_copied};
+ghost use Rattle.std.specs.List.{list_all};
+ghost use Rattle.list_labels.specs.Asked.{agrees, agrees_within, asked_by, asked_of, asked_of_rule, asked_texts, asked_within, asks_nothing, behind, is_open, rule_agrees, text_of};
+
+use crate::key::MOST_LISTS;
+use crate::label::{ClientLabel, behind};
+use crate::session_requests::SessionRequests;
+use list_parser::{ListEntry, Rule, StartList};
+use std::alloc::{AllocError, Global};
+use std::marker::Model;
+
+/// A condition on a label: the text with which it has to begin, and the text with which it has to end.
+#[derive(Drop)]
+pub(crate) struct LabelCondition {
+    pub(crate) front: ClientLabel,
+    pub(crate) end: ClientLabel,
+}
+
+impl Model for LabelCondition {
+    ghost use Rattle.list_labels.specs.Asked.{AskedLabel};
+
+    ghost Value = { AskedLabel };
+
+    ghost view = { λ asked. record {
+      front = asked.front;
+      end = asked.end;
+    } };
+}
+
+impl LabelCondition {
+    /// Returns a copy of the condition, with the same texts.
+    pub(crate) fn copy(&self) -> LabelCondition
+        ensures { result ≡ self.now }
+    {
+        LabelCondition {
+            front: self.front.copy(),
+            end: self.end.copy(),
+        }
+    }
+}
+
+/// Returns the conditions of the rules that match a label by how it begins and ends, after an empty condition. Fails if the host
+/// is out of memory.
+#[tactic(auto, unfolding(crate::specs::Asked::asked_of))]
+pub(crate) fn asked_of(
+    alloc: Global,
+    wishes: SessionRequests<'_>,
+) -> Result<Vec<LabelCondition>, AllocError>
+    ensures { IfOk result (λ asked. asked.items
+        ≡ asked_of wishes.entry.list.now wishes.entry.client wishes.entry.service.now) }
+{
+    let mut asked = Vec::new(alloc);
+    asked.push(LabelCondition {
+        front: ClientLabel::empty(),
+        end: ClientLabel::empty(),
+    })?;
+    if let Some(entry) = wishes.list.entries().get(wishes.client) {
+        add_asked(
+            &mut asked,
+            wishes.list,
+            MOST_LISTS,
+            entry,
+            wishes.service,
+            &[],
+        )?;
+    }
+    Ok(asked)
+}
+
+// The conditions of the rules for an entry and, through at most so many lists outward, of the rules for the inits above it.
+fn add_asked(
+    asked: &mut Vec<LabelCondition>,
+    list: &StartList,
+    lists: usize,
+    entry: &ListEntry,
+    service: &[u8],
+    before: &[u8],
+) -> Result<(), AllocError>
+    requires before { length before.now + lists * 36 ≤ 208 }
+    ensures { OnOk result (asked.new.items
+        ≡ asked.old.items ++ asked_within lists list.now entry.now service.now before.now) }
+{
+    if lists == 0 {
+        return Ok(());
+    }
+    add_by(asked, list.rules_of(entry), service, before.len())?;
+    match list.init_entry(entry.home()) {
+        Some(init) => {
+            let outer = behind(entry.name(), before);
+            add_asked(asked, list, lists - 1, init, service, outer.as_slice())
+        }
+        None => Ok(()),
+    }
+}
+
+// The conditions of the rules of a list on a label after so many bytes.
+fn add_by(
+    asked: &mut Vec<LabelCondition>,
+    rules: &[Rule],
+    service: &[u8],
+    before: usize,
+) -> Result<(), AllocError>
+    ensures { OnOk result (asked.new.items
+        ≡ asked.old.items ++ asked_by service.now before rules.now) }
+{
+    for rule in rules {
+        add_rule(asked, rule, service, before)?;
+    }
+    Ok(())
+}
+
+// The condition of a rule on a label after so many bytes.
+fn add_rule(
+    asked: &mut Vec<LabelCondition>,
+    rule: &Rule,
+    service: &[u8],
+    before: usize,
+) -> Result<(), AllocError>
+    ensures { OnOk result (asked.new.items
+        ≡ asked.old.items ++ asked_of_rule service.now before rule.now) }
+{
+    if rule.asks_service(service) && asks_nothing(rule.label()) {
+        let front = text_of(rule.label_prefix());
+        let end = text_of(rule.label_suffix());
+        return add_texts(asked, text_behind(front, before), end);
+    }
+    Ok(())
+}
+
+// Both texts, if a given label can begin and end so.
+fn add_texts(asked: &mut Vec<LabelCondition>, front: &[u8], end: &[u8]) -> Result<(), AllocError>
+    ensures { OnOk result (asked.new.items
+        ≡ asked.old.items ++ asked_texts front.now end.now) }
+{
+    if let (Some(front), Some(end)) = (ClientLabel::read(front), ClientLabel::read(end)) {
+        asked.push(LabelCondition { front, end })?;
+    }
+    Ok(())
+}
+
+// Whether no text is asked.
+fn asks_nothing(asked: Option<&str>) -> bool
+    ensures { result ≡ asks_nothing (option_copied asked.entry) }
+{
+    match asked {
+        Some(_) => false,
+        None => true,
+    }
+}
+
+// The text that is asked, or the empty one.
+fn text_of(asked: Option<&str>) -> &[u8]
+    ensures { result.now ≡ text_of (option_copied asked.entry) }
+{
+    match asked {
+        Some(asked) => asked.as_bytes(),
+        None => &[],
+    }
+}
+
+/// Returns the bytes of a text after so many bytes, or no bytes if the text is shorter.
+pub(crate) fn text_behind(text: &[u8], before: usize) -> &[u8]
+    ensures { result.now ≡ drop before text.now }
+{
+    if before < text.len() {
+        &text[before..]
+    } else {
+        &[]
+    }
+}
+
+/// Returns whether each rule that is asked matches a label just if it matches all long enough labels that begin and end so.
+#[tactic(auto, unfolding(crate::specs::Asked::agrees))]
+pub(crate) fn agrees(wishes: SessionRequests<'_>, front: &[u8], label: &[u8], end: &[u8]) -> bool
+    requires front { length front.now ≤ 64 }
+    requires label { length label.now ≤ 64 }
+    ensures { result ≡ agrees wishes.entry.list.now wishes.entry.client wishes.entry.service.now
+        front.now label.now end.now }
+{
+    match wishes.list.entries().get(wishes.client) {
+        Some(entry) => agrees_within(wishes, MOST_LISTS, entry, front, label, end),
+        None => true,
+    }
+}
+
+// The same for the rules for an entry and, through at most so many lists outward, for the inits above it.
+fn agrees_within(
+    wishes: SessionRequests<'_>,
+    lists: usize,
+    entry: &ListEntry,
+    opened: &[u8],
+    seen: &[u8],
+    end: &[u8],
+) -> bool
+    requires opened { length opened.now + lists * 36 ≤ 208 }
+    requires seen { length seen.now + lists * 36 ≤ 208 }
+    ensures { result ≡ agrees_within lists wishes.entry.list.now entry.now
+        wishes.entry.service.now opened.now seen.now end.now }
+{
+    if lists == 0 {
+        return true;
+    }
+    let rules = wishes.list.rules_of(entry);
+    if !agrees_by(rules, wishes.service, opened, seen, end) {
+        return false;
+    }
+    match wishes.list.init_entry(entry.home()) {
+        Some(init) => {
+            let opened = behind(entry.name(), opened);
+            let seen = behind(entry.name(), seen);
+            agrees_within(
+                wishes,
+                lists - 1,
+                init,
+                opened.as_slice(),
+                seen.as_slice(),
+                end,
+            )
+        }
+        None => true,
+    }
+}
+
+// The same for the rules of a list.
+fn agrees_by(rules: &[Rule], service: &[u8], opened: &[u8], seen: &[u8], end: &[u8]) -> bool
+    ensures { result ≡ list_all (rule_agrees service.now opened.now seen.now end.now) rules.now }
+{
+    rules
+        .iter()
+        .all(|rule| rule_agrees(rule, service, opened, seen, end))
+}
+
+// The same for a rule.
+fn rule_agrees(rule: &Rule, service: &[u8], opened: &[u8], seen: &[u8], end: &[u8]) -> bool
+    ensures { result ≡ rule_agrees service.now opened.now seen.now end.now rule.now }
+{
+    if rule.matches(service, seen) {
+        is_open(rule, service, opened, end)
+    } else {
+        !is_open(rule, service, opened, end)
+    }
+}
+
+// Whether a rule matches each long enough label that begins and ends so.
+fn is_open(rule: &Rule, service: &[u8], opened: &[u8], end: &[u8]) -> bool
+    ensures { result ≡ is_open rule.now service.now opened.now end.now }
+{
+    rule.asks_service(service)
+        && asks_nothing(rule.label())
+        && rule.labels().begins(opened)
+        && rule.labels().ends(end)
+}

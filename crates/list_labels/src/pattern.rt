@@ -1,0 +1,162 @@
+//! Patterns of labels: one label, or all labels with a beginning and an ending.
+ghost use Rattle.std.specs.Prelude.{◌≡◌};
+ghost use Rattle.std.specs.List.{list_any};
+ghost use Rattle.list_labels.specs.LabelSets.{has_label, is_in, set_has};
+
+use crate::label::ClientLabel;
+use std::fmt::{self, Display};
+
+/// A pattern of labels.
+#[derive(Drop)]
+pub enum Pattern {
+    /// This label alone.
+    Exactly(ClientLabel),
+    /// All labels that begin with the first text and end with the second one; an empty text excludes no label.
+    Between(ClientLabel, ClientLabel),
+}
+
+impl Pattern {
+    /// Returns whether the bytes of a label match the pattern.
+    pub fn has(&self, label: &[u8]) -> bool
+        ensures { result ≡ has_label label.now self.now }
+    {
+        match self {
+            Pattern::Exactly(one) => one.as_bytes() == label,
+            Pattern::Between(front, end) => {
+                label.starts_with(front.as_bytes()) && label.ends_with(end.as_bytes())
+            }
+        }
+    }
+}
+
+/// `all`, `exactly "L"`, `beginning "L"`, `ending "L"` or `beginning "L" and ending "L"`.
+impl fmt::Display for Pattern {
+    fn fmt<W: fmt::Write>(&self, f: &mut fmt::Formatter<W>) -> fmt::Result {
+        match self {
+            Pattern::Exactly(one) => write!(f, "exactly \"{one}\""),
+            Pattern::Between(front, end) => show_between(f, front, end),
+        }
+    }
+}
+
+// A beginning and an ending; an empty one isn't shown.
+fn show_between<W: fmt::Write>(
+    f: &mut fmt::Formatter<W>,
+    front: &ClientLabel,
+    end: &ClientLabel,
+) -> fmt::Result {
+    match (front.as_bytes().is_empty(), end.as_bytes().is_empty()) {
+        (true, true) => f.write_str("all"),
+        (false, true) => write!(f, "beginning \"{front}\""),
+        (true, false) => write!(f, "ending \"{end}\""),
+        (false, false) => write!(f, "beginning \"{front}\" and ending \"{end}\""),
+    }
+}
+
+/// The labels of a pattern, without those of other patterns.
+#[derive(Drop)]
+pub struct Shape {
+    pub(crate) pattern: Pattern,
+    pub(crate) except: Vec<Pattern>,
+}
+
+impl Shape {
+    /// Returns the pattern that the labels of the shape have.
+    pub fn pattern(&self) -> &Pattern
+        ensures { result.now ≡ self.now.pattern }
+    {
+        &self.pattern
+    }
+
+    /// Returns the patterns whose labels aren't of the shape.
+    pub fn except(&self) -> &[Pattern]
+        ensures { result.now ≡ self.now.except.items }
+    {
+        self.except.as_slice()
+    }
+
+    /// Returns whether a label is of the shape.
+    pub fn has(&self, label: &[u8]) -> bool
+        ensures { result ≡ is_in label.now self.now }
+    {
+        self.pattern.has(label) && !has_any(self.except.as_slice(), label)
+    }
+}
+
+// Whether a label has one of these patterns.
+fn has_any(patterns: &[Pattern], label: &[u8]) -> bool
+    ensures { result ≡ list_any (has_label label.now) patterns.now }
+{
+    patterns.iter().any(|pattern| pattern.has(label))
+}
+
+/// The pattern, and after `but` or `but not` the exceptions.
+impl fmt::Display for Shape {
+    fn fmt<W: fmt::Write>(&self, f: &mut fmt::Formatter<W>) -> fmt::Result {
+        self.pattern.fmt(f)?;
+        let mut before = if self.is_wide() { " but " } else { " but not " };
+        for pattern in self.except.as_slice() {
+            write!(f, "{before}{pattern}")?;
+            before = ", ";
+        }
+        Ok(())
+    }
+}
+
+impl Shape {
+    // Whether the pattern is the one of all labels.
+    fn is_wide(&self) -> bool {
+        match &self.pattern {
+            Pattern::Exactly(_) => false,
+            Pattern::Between(front, end) => {
+                front.as_bytes().is_empty() && end.as_bytes().is_empty()
+            }
+        }
+    }
+}
+
+/// A set of labels: those of some shapes.
+#[derive(Drop)]
+pub struct LabelSet {
+    pub(crate) shapes: Vec<Shape>,
+}
+
+impl LabelSet {
+    /// Returns the shapes whose labels the set has, in order.
+    pub fn shapes(&self) -> &[Shape]
+        ensures { result.now ≡ self.now.shapes.items }
+    {
+        self.shapes.as_slice()
+    }
+
+    /// Returns whether the label is in one of the set's shapes.
+    pub fn contains(&self, label: &[u8]) -> bool
+        ensures { result ≡ set_has self.now label.now }
+    {
+        let shapes = self.shapes.as_slice();
+        shapes.iter().any(|shape| shape.has(label))
+    }
+
+    /// Returns whether the set is shown as one label.
+    pub fn is_one(&self) -> bool {
+        match self.shapes.as_slice() {
+            [shape] => match &shape.pattern {
+                Pattern::Exactly(_) => true,
+                Pattern::Between(_, _) => false,
+            },
+            _ => false,
+        }
+    }
+}
+
+/// The shapes with `; ` between two of them, and `none` if there is no shape.
+impl fmt::Display for LabelSet {
+    fn fmt<W: fmt::Write>(&self, f: &mut fmt::Formatter<W>) -> fmt::Result {
+        let mut before = "";
+        for shape in self.shapes.as_slice() {
+            write!(f, "{before}{shape}")?;
+            before = "; ";
+        }
+        f.write_str(if self.shapes.is_empty() { "none" } else { "" })
+    }
+}

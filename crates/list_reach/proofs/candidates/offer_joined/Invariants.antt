@@ -1,9 +1,0 @@
-use Rattle.std.proofs.Common.{ℕ, ◌<◌}
-use Rattle.list_reach.specs.Asked.{Adds, IsCut}
-use Rattle.list_reach.proofs.candidates.offer_joined.Given as goal
-
-abbrev pub invariant-loop-cut : goal.invariant-loop-cut
-invariant-loop-cut l = record {
-  adds : Adds l.wishes.list.now l.wishes.client l.wishes.service.now l.initial.kept.items l.kept.items;
-  held : (n : ℕ) → n < l.cut → IsCut l.wishes.list.now l.wishes.client l.wishes.service.now l.before l.front l.end n l.kept.items;
-}

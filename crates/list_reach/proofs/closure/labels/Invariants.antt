@@ -1,5 +1,0 @@
-use Rattle.list_reach.specs.Closure.{AreKept}
-use Rattle.list_reach.proofs.closure.labels.Given as goal
-
-abbrev pub invariant-loop-size : goal.invariant-loop-size
-invariant-loop-size l = AreKept l.wishes.list.now l.wishes.client l.wishes.service.now l.size l.kept

@@ -1,4 +1,0 @@
-use Rattle.list_reach.proofs.known_labels.+add_within.Given as goal
-
-abbrev pub decreases-add_within : goal.decreases-add_within
-decreases-add_within l = l.lists

@@ -1,4 +1,0 @@
-use Rattle.list_reach.proofs.label_condition.+add_asked.Given as goal
-
-abbrev pub decreases-add_asked : goal.decreases-add_asked
-decreases-add_asked l = l.lists

@@ -1,7 +1,0 @@
--- One of each key stands for all.
-use Rattle.list_reach.proofs.WaysLemmas.{stand_kept}
-use Rattle.list_reach.proofs.representatives.standing.Goals as goal
-
-pub returns : goal.returns
-returns c =
-    stand_kept c.args.wishes.list.now c.args.wishes.client c.args.wishes.service.now c.in_ok-kept-2.kept.items c.in_ok-kept-2.ensures

@@ -1,4 +1,0 @@
-use Rattle.list_reach.proofs.route_path.+add_hops.Given as goal
-
-abbrev pub decreases-add_hops : goal.decreases-add_hops
-decreases-add_hops l = l.lists
