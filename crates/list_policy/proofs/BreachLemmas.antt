@@ -1,10 +1,11 @@
 -- What the reach of a server says of a demand.
 use Rattle.std.proofs.Common.{◌≡◌, ℕ, ◌+◌, suc, List, [], ◌++◌, Option, refl, sym, subst, arith}
 use Rattle.own_model.specs.Listed.{Listed}
-use Rattle.list_reach.specs.Reach.{AllRouted, IsGiven, IsShortest}
+use Rattle.list_reach.specs.Reach.{AllRouted, IsShortest}
+use Rattle.list_labels.specs.GivenLabels.{IsGiven}
 use Rattle.std.specs.Option.{option_to_list}
 use Rattle.list_policy.specs.Demand.{FindsAt, FindsBelow, FindsFor, FindsOne, IsRoutedThere}
-use Rattle.list_policy.specs.Reading.{LineAt}
+use Rattle.list_policy.specs.Line.{LineAt}
 use Rattle.list_policy.specs.declared.breach.Breach.{Breach}
 
 given_nothing : IsGiven []

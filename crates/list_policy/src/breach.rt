@@ -4,19 +4,30 @@ ghost use Rattle.std.specs.Option.{option_to_list};
 ghost use Rattle.own_model.specs.Listed.{Listed};
 ghost use Rattle.list_reach.specs.Reach.{NoneRouted};
 ghost use Rattle.list_reach.specs.ClientReach.{DescribesReach};
-ghost use Rattle.list_policy.specs.Demand.{AreBreaches, FindsAt, FindsFor, IsBroken, IsKept, IsRoutedThere, leads_there, service_at};
-ghost use Rattle.list_policy.specs.Reading.{line_at};
+ghost use Rattle.list_policy.specs.Demand.{AreBreaches, FindsAt, FindsBudget, FindsFor, FindsReach, IsBroken, IsKept, IsRoutedIn, IsRoutedThere, NoneRoutedIn, leads_there, named_label, service_at};
+ghost use Rattle.list_policy.specs.Line.{line_at};
 
-use crate::demand::{Demand, PolicyLine, concerns};
+use crate::budget::excess_at;
+use crate::demand::{BudgetLimit, Demand, LabelRange, PolicyLine, concerns};
+use list_labels::{ClientLabel, SessionRequests};
 use list_parser::{Binary, StartList};
-use list_reach::{ClientLabel, ClientReach, Reach, SessionRequests};
+use list_reach::{ClientReach, Reach};
 use list_routes::route;
 use std::alloc::{AllocError, Global};
 
-/// A breach of a line: a client and a server whose reach isn't as the line demands. Its label is routed to the server and mustn't
-/// be, or isn't and must be. It has no label if no label at all is routed there.
+/// A breach of a line.
 #[derive(Drop)]
-pub struct Breach {
+pub enum Breach {
+    /// The reach of a client to a server isn't as the line demands.
+    Reach(ReachBreach),
+    /// The component of this number has a larger budget than the line demands.
+    Excess(usize),
+}
+
+/// A client and a server whose reach isn't as a line demands. The label is routed to the server and mustn't be, or isn't and must
+/// be. There is no label if no label of the line's range is routed there.
+#[derive(Drop)]
+pub struct ReachBreach {
     /// The number of the client.
     pub client: usize,
     /// The number of the server.
@@ -26,19 +37,54 @@ pub struct Breach {
 }
 
 impl PolicyLine {
-    /// Returns the breaches of the line by a start list, client by client and server by server. Fails if the host is out of
-    /// memory.
+    /// Returns the breaches of the line by a start list, component by component and, for requests, server by server. Fails if the
+    /// host is out of memory.
     #[tactic(auto, using(crate::proofs::BreachLemmas::client_more))]
     pub fn breaches(&self, alloc: Global, list: &StartList) -> Result<Vec<Breach>, AllocError>
         ensures { IfOk result (λ found. AreBreaches list.now (line_at self.now) found.items) }
     {
         let mut found = Vec::new(alloc);
         for client in 0..list.entries().len() {
-            let mut more = client_breaches(alloc, list, self, client)?;
+            let mut more = breaches_by(alloc, list, self, client)?;
             found.append(&mut more)?;
         }
         Ok(found)
     }
+}
+
+// The breaches of a line by a component.
+fn breaches_by(
+    alloc: Global,
+    list: &StartList,
+    line: &PolicyLine,
+    client: usize,
+) -> Result<Vec<Breach>, AllocError>
+    requires client { client < length list.now.entries }
+    ensures { IfOk result (λ found. FindsFor list.now (line_at line.now) client found.items) }
+{
+    match &line.demand {
+        Demand::AtMost(limit) => excesses(alloc, list, line, *limit, client),
+        Demand::Deny(_) | Demand::Allow(_) | Demand::Only(_) | Demand::Isolate => {
+            client_breaches(alloc, list, line, client)
+        }
+    }
+}
+
+// The excess of a component over a limit, if the line names it.
+fn excesses(
+    alloc: Global,
+    list: &StartList,
+    line: &PolicyLine,
+    limit: BudgetLimit,
+    number: usize,
+) -> Result<Vec<Breach>, AllocError>
+    ensures { IfOk result (λ found. FindsBudget list.now (line_at line.now) limit number found.items) }
+{
+    let mut found = Vec::new(alloc);
+    if excess_at(list, line, limit, number) {
+        found.push(Breach::Excess(number))?;
+    }
+    Ok(found)
 }
 
 // The breaches of a line by a client, server by server.
@@ -50,7 +96,7 @@ fn client_breaches(
     client: usize,
 ) -> Result<Vec<Breach>, AllocError>
     requires client { client < length list.now.entries }
-    ensures { IfOk result (λ found. FindsFor list.now (line_at line.now) client found.items) }
+    ensures { IfOk result (λ found. FindsReach list.now (line_at line.now) client found.items) }
 {
     let mut found = Vec::new(alloc);
     for server in 0..list.entries().len() {
@@ -85,11 +131,11 @@ fn breach_if(
         return Ok(None);
     }
     match label_against(alloc, list, &line.demand, client, server)? {
-        Some(label) => Ok(Some(Breach {
+        Some(label) => Ok(Some(Breach::Reach(ReachBreach {
             client,
             server,
             label,
-        })),
+        }))),
         None => Ok(None),
     }
 }
@@ -108,26 +154,31 @@ fn label_against(
         (IsBroken list.now demand.now client (service_at list.now server) server)) }
 {
     match demand {
-        Demand::Deny | Demand::Only => match label_there(alloc, list, client, server)? {
+        Demand::Deny(range) | Demand::Only(range) => {
+            match label_in(alloc, list, client, server, range)? {
+                Some(label) => Ok(Some(Some(label))),
+                None => Ok(None),
+            }
+        }
+        Demand::Isolate => match label_there(alloc, list, client, server)? {
             Some(label) => Ok(Some(Some(label))),
             None => Ok(None),
         },
-        Demand::DenyWith(label) => {
-            if leads_there(list, client, server, label) {
-                return Ok(Some(Some(label.copy())));
-            }
-            Ok(None)
-        }
-        Demand::Allow => match label_there(alloc, list, client, server)? {
+        Demand::Allow(range) => match label_in(alloc, list, client, server, range)? {
             Some(_) => Ok(None),
-            None => Ok(Some(None)),
+            None => Ok(Some(named_label(range))),
         },
-        Demand::AllowWith(label) => {
-            if leads_there(list, client, server, label) {
-                return Ok(None);
-            }
-            Ok(Some(Some(label.copy())))
-        }
+        Demand::AtMost(_) => Ok(None),
+    }
+}
+
+// The label of a range that has one label alone.
+fn named_label(range: &LabelRange) -> Option<ClientLabel>
+    ensures { result ≡ named_label range.now }
+{
+    match range {
+        LabelRange::Exactly(label) => Some(label.copy()),
+        LabelRange::All => None,
     }
 }
 
@@ -149,6 +200,31 @@ pub(crate) fn leads_there(
     ) {
         Some(child) => child == server,
         None => false,
+    }
+}
+
+// A label of a range that is routed from a client to a server, if there is one.
+fn label_in(
+    alloc: Global,
+    list: &StartList,
+    client: usize,
+    server: usize,
+    range: &LabelRange,
+) -> Result<Option<ClientLabel>, AllocError>
+    requires client { client < length list.now.entries }
+    ensures { IfOk result (λ found. MatchOption found
+        (NoneRoutedIn list.now client (service_at list.now server) server range.now)
+        (IsRoutedIn list.now client (service_at list.now server) server range.now)) }
+{
+    match range {
+        LabelRange::All => label_there(alloc, list, client, server),
+        LabelRange::Exactly(label) => {
+            if leads_there(list, client, server, label) {
+                Ok(Some(label.copy()))
+            } else {
+                Ok(None)
+            }
+        }
     }
 }
 

@@ -1,45 +1,69 @@
 //! The text of a breach, as commands print it.
 ghost use Rattle.std.specs.Prelude.{◌≡◌, ◌<◌, Some, length, IfOk};
 ghost use Rattle.std.specs.Option.{option_map};
-ghost use Rattle.list_policy.specs.Claims.{claim_at, claim_of, claim_text, claims, path_at, verb_of};
+ghost use Rattle.list_policy.specs.Claims.{claim_at, claim_by, claim_of, claim_text, claims, path_at, verb_of};
 
-use crate::breach::{Breach, leads_there, service_at};
-use list_parser::{Path, StartList};
-use list_reach::{ClientLabel, RoutePath, RouteSummary};
+use crate::breach::{Breach, ReachBreach, leads_there, service_at};
+use crate::demand::{BudgetLimit, Demand, PolicyLine};
+use list_labels::ClientLabel;
+use list_parser::{ListEntry, Path, StartList};
+use list_reach::{RoutePath, RouteSummary};
 use std::alloc::{AllocError, Global};
 use std::fmt;
 
-/// A breach as text: which client reaches which server, by which label and by which rules, or that a client doesn't reach a
-/// server.
+/// A breach as text: which client reaches which server, by which label and by which rules; that a client doesn't reach a server; or
+/// which component has a larger budget than demanded.
 #[derive(Drop)]
 pub struct BreachText<'a> {
     claim: Option<ReachClaim>,
     label: Option<&'a ClientLabel>,
     course: Option<RoutePath<'a>>,
+    excess: Option<Excess>,
 }
 
 impl<'a> BreachText<'a> {
-    /// Returns the text of a breach of a start list. Fails if the host is out of memory.
+    /// Returns the text of a breach of a line by a start list. Fails if the host is out of memory.
     pub fn of(
         alloc: Global,
         list: &'a StartList,
+        line: &PolicyLine,
         breach: &'a Breach,
     ) -> Result<BreachText<'a>, AllocError>
         ensures { IfOk result (λ told. option_map claim_at told.claim ≡ claim_of list.now breach.now) }
     {
-        Ok(BreachText {
-            claim: claim_of(list, breach),
-            label: breach.label.as_ref(),
-            course: course_of(alloc, list, breach)?,
-        })
+        match breach {
+            Breach::Reach(breach) => reach_text(alloc, list, breach),
+            Breach::Excess(number) => Ok(BreachText {
+                claim: None,
+                label: None,
+                course: None,
+                excess: excess_of(list, line, *number),
+            }),
+        }
     }
+}
+
+// The text of a client and a server.
+fn reach_text<'a>(
+    alloc: Global,
+    list: &'a StartList,
+    breach: &'a ReachBreach,
+) -> Result<BreachText<'a>, AllocError>
+    ensures { IfOk result (λ told. option_map claim_at told.claim ≡ claim_by list.now breach.now) }
+{
+    Ok(BreachText {
+        claim: claim_by(list, breach),
+        label: breach.label.as_ref(),
+        course: course_of(alloc, list, breach)?,
+        excess: None,
+    })
 }
 
 // The rules by which the label of a breach is routed, if it has one.
 fn course_of<'a>(
     alloc: Global,
     list: &'a StartList,
-    breach: &'a Breach,
+    breach: &'a ReachBreach,
 ) -> Result<Option<RoutePath<'a>>, AllocError> {
     match &breach.label {
         Some(label) if breach.client < list.entries().len() => {
@@ -52,8 +76,8 @@ fn course_of<'a>(
 }
 
 // The claim of a breach, if its client and its server are components of the list.
-fn claim_of(list: &StartList, breach: &Breach) -> Option<ReachClaim>
-    ensures { option_map claim_at result ≡ claim_of list.now breach.now }
+fn claim_by(list: &StartList, breach: &ReachBreach) -> Option<ReachClaim>
+    ensures { option_map claim_at result ≡ claim_by list.now breach.now }
 {
     let client = path_at(list, breach.client)?;
     let server = path_at(list, breach.server)?;
@@ -75,7 +99,7 @@ fn path_at(list: &StartList, number: usize) -> Option<Path>
 }
 
 // Whether the label of a breach is routed from its client to its server.
-fn claims(list: &StartList, breach: &Breach) -> bool
+fn claims(list: &StartList, breach: &ReachBreach) -> bool
     ensures { result ≡ claims list.now breach.now }
 {
     match &breach.label {
@@ -116,8 +140,52 @@ fn verb_of(reaches: bool) -> &'static str
     }
 }
 
+// A component's budget, together with its reserve, and the limit that is exceeded.
+#[derive(Drop)]
+struct Excess {
+    component: Path,
+    ram: u128,
+    caps: u64,
+    limit: BudgetLimit,
+}
+
+// The excess of the component of a number over the limit of a line, if the list has the component and the line a limit.
+fn excess_of(list: &StartList, line: &PolicyLine, number: usize) -> Option<Excess> {
+    let entry = list.entries().get(number)?;
+    match &line.demand {
+        Demand::AtMost(limit) => Some(excess_over(entry, *limit)),
+        _ => None,
+    }
+}
+
+// The excess of an entry over a limit.
+fn excess_over(entry: &ListEntry, limit: BudgetLimit) -> Excess {
+    let reserve = entry.reserve_at_start();
+    Excess {
+        component: entry.to_path(),
+        ram: u128::from(entry.ram()) + u128::from(reserve.ram.0),
+        caps: u64::from(entry.caps()) + u64::from(reserve.caps.0),
+        limit,
+    }
+}
+
+impl fmt::Display for Excess {
+    fn fmt<W: fmt::Write>(&self, f: &mut fmt::Formatter<W>) -> fmt::Result {
+        let (ram, caps) = (self.ram, self.caps);
+        let limit = self.limit;
+        write!(
+            f,
+            "expected at most {} bytes of RAM and {} capabilities for {}, found {ram} and {caps}",
+            limit.ram, limit.caps, self.component
+        )
+    }
+}
+
 impl fmt::Display for BreachText<'_> {
     fn fmt<W: fmt::Write>(&self, f: &mut fmt::Formatter<W>) -> fmt::Result {
+        if let Some(excess) = &self.excess {
+            return excess.fmt(f);
+        }
         let Some(claim) = &self.claim else {
             return Ok(());
         };

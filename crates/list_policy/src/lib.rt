@@ -5,14 +5,18 @@
 
 mod breach;
 mod breach_text;
+mod budget;
+mod components;
+mod cuts;
 mod demand;
 mod fault;
 mod policy_text;
+mod statement;
 mod status;
 
-pub use breach::Breach;
+pub use breach::{Breach, ReachBreach};
 pub use breach_text::BreachText;
-pub use demand::{Demand, PolicyLine};
+pub use demand::{BudgetLimit, Demand, LabelRange, PolicyLine};
 pub use fault::{PolicyFault, PolicyFlaw};
 pub use policy_text::Policy;
 pub use status::exit_status;

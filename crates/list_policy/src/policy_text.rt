@@ -1,16 +1,20 @@
 //! The text of a policy, line by line.
-ghost use Rattle.std.specs.Prelude.{◌≡◌, ◌+◌, ◌++◌, map, Err, IsSome, IfOk, OnOk};
-ghost use Rattle.std.specs.Option.{option_copied};
+ghost use Rattle.std.specs.Prelude.{◌≡◌, ◌++◌, map, IfOk, OnOk};
+ghost use Rattle.std.specs.Option.{option_copied, option_map};
 ghost use Rattle.std.specs.Result.{result_map_both};
-ghost use Rattle.list_reach.specs.Paths.{fault_of};
-ghost use Rattle.list_policy.specs.Reading.{HasBadPath, Reads, before_end, demand_of, denied, allowed, ending_at, ending_of, fault_at, faults_in_line, flaw_at, front, head_of, label_of, line_at, line_from, line_of, lines_in_line, only_allowed, parts_at, parts_of, quoted_of, rest, said};
+ghost use Rattle.list_policy.specs.Components.{fault_at};
+ghost use Rattle.list_policy.specs.Line.{line_at};
+ghost use Rattle.list_policy.specs.Reading.{Reads, apart_or, faults_in_line, from_kind, head_of, isolates, line_from, line_of, lines_in_line, one_flaw, path_place, quoted_of, said, target_faults, targets_in};
+ghost use Rattle.list_policy.specs.Statement.{flaw_at, path_at, statement_at};
 
-use crate::demand::{Demand, PolicyLine};
+use crate::components::{NamedKind, TextPlace, components};
+use crate::cuts::{blanks, cut, plus};
+use crate::demand::{Demand, PolicyLine, are_separate};
 use crate::fault::{PolicyFault, PolicyFlaw};
+use crate::statement::{PathText, Statement, statement_of};
 use list_parser::StartList;
-use list_reach::{ClientLabel, ComponentKind, Unnamed, numbers, pieces, trimmed};
+use list_reach::{pieces, trimmed};
 use std::alloc::{AllocError, Global};
-use text_codec::find_byte;
 
 /// A policy: its lines in order, and what is wrong with its other lines.
 #[derive(Drop)]
@@ -60,84 +64,160 @@ impl<'a> Policy<'a> {
         ensures lines { OnOk result (map line_at self.new.lines.items
             ≡ map line_at self.old.lines.items ++ lines_in_line (said list.now number text.now)) }
         ensures faults { OnOk result (map fault_at self.new.faults.items
-            ≡ map fault_at self.old.faults.items ++ faults_in_line number (said list.now number text.now)) }
+            ≡ map fault_at self.old.faults.items ++ faults_in_line (said list.now number text.now)) }
     {
         let (head, quoted) = parted(text);
         if head.is_empty() && quoted.is_none() {
             return Ok(());
         }
-        match read_line(alloc, list, number, head, quoted)? {
+        let place = TextPlace {
+            line: number,
+            column: plus(blanks(text), 1),
+        };
+        match read_line(alloc, list, place, head, quoted)? {
             Ok(line) => self.lines.push(line)?,
-            Err(flaw) => self.faults.push(PolicyFault { line: number, flaw })?,
+            Err(mut faults) => self.faults.append(&mut faults)?,
         }
         Ok(())
     }
 }
 
-// What is demanded, and the paths of scripts and servers.
-#[derive(Drop)]
-struct PolicyParts<'a> {
-    demand: Demand,
-    from: &'a [u8],
-    to: &'a [u8],
-}
+// A line, or what is wrong with it.
+type LineRead<'a> = Result<PolicyLine, Vec<PolicyFault<'a>>>;
 
-// The line of a head and the text after its quote.
+// The line at a place, of a head and the text after its quote.
 fn read_line<'a>(
     alloc: Global,
     list: &StartList,
-    number: usize,
+    place: TextPlace,
     head: &'a [u8],
     quoted: Option<&'a [u8]>,
-) -> Result<Result<PolicyLine, PolicyFlaw<'a>>, AllocError>
-    ensures { IfOk result (λ read. result_map_both line_at flaw_at read
-        ≡ line_from list.now number head.now (option_copied quoted.entry)) }
+) -> Result<LineRead<'a>, AllocError>
+    ensures { IfOk result (λ read.
+        result_map_both line_at (λ faults. map fault_at faults.items) read
+        ≡ line_from list.now place head.now (option_copied quoted.entry)) }
 {
-    match parts_of(head, quoted) {
-        Ok(parts) => line_of(alloc, list, number, parts),
-        Err(flaw) => Ok(Err(flaw)),
+    match statement_of(head, quoted) {
+        Ok(statement) => line_of(alloc, list, place, statement),
+        Err(flaw) => faulty(alloc, place, flaw),
     }
 }
 
-// The line of parts, with the numbers of all that their paths denote.
-#[tactic(auto, using(crate::proofs::ReadingLemmas::path_flaw))]
+// A line with one flaw.
+fn faulty<'a>(
+    alloc: Global,
+    place: TextPlace,
+    flaw: PolicyFlaw<'a>,
+) -> Result<LineRead<'a>, AllocError>
+    ensures { IfOk result (λ read.
+        result_map_both line_at (λ faults. map fault_at faults.items) read
+        ≡ one_flaw place (flaw_at flaw.entry)) }
+{
+    let mut faults = Vec::new(alloc);
+    faults.push(place.fault(flaw))?;
+    Ok(Err(faults))
+}
+
+// The line of a statement, with the numbers of all that its paths denote.
+#[tactic(auto, using(crate::proofs::ReadingLemmas::none_found, crate::proofs::ReadingLemmas::some_found))]
 fn line_of<'a>(
     alloc: Global,
     list: &StartList,
-    number: usize,
-    parts: PolicyParts<'a>,
-) -> Result<Result<PolicyLine, PolicyFlaw<'a>>, AllocError>
-    ensures { IfOk result (λ read. result_map_both line_at flaw_at read
-        ≡ line_of list.now number (parts_at parts.entry)) }
+    place: TextPlace,
+    statement: Statement<'a>,
+) -> Result<LineRead<'a>, AllocError>
+    ensures { IfOk result (λ read.
+        result_map_both line_at (λ faults. map fault_at faults.items) read
+        ≡ line_of list.now place (statement_at statement.entry)) }
 {
-    let PolicyParts { demand, from, to } = parts;
-    let from = match numbers(alloc, list, from, ComponentKind::Script) {
-        Ok(from) => from,
-        Err(fault) => return bad_path(fault),
-    };
-    let to = match numbers(alloc, list, to, ComponentKind::Server) {
-        Ok(to) => to,
-        Err(fault) => return bad_path(fault),
-    };
-    Ok(Ok(PolicyLine {
-        number,
+    let Statement { demand, from, to } = statement;
+    let mut faults = Vec::new(alloc);
+    let kind = from_kind(&demand);
+    let from_place = path_place(place, from);
+    let from = components(alloc, list, &mut faults, kind, from_place, from.text)?;
+    let to = targets(alloc, list, &mut faults, place, to)?;
+    if !faults.is_empty() {
+        return Ok(Err(faults));
+    }
+    let line = PolicyLine {
+        number: place.line,
+        column: place.column,
         demand,
         from,
         to,
-    }))
+    };
+    apart_or(alloc, list, place, line)
 }
 
-// The flaw of a path that denotes nobody, unless the host is out of memory.
-fn bad_path<'a>(fault: Unnamed<'a>) -> Result<Result<PolicyLine, PolicyFlaw<'a>>, AllocError>
-    ensures path { IfOk result (λ _. IsSome (fault_of fault.entry)) }
-    ensures flaw { IfOk result (λ read. result_map_both line_at flaw_at read
-        ≡ Err (HasBadPath (fault_of fault.entry))) }
+// The numbers of the servers that paths after an arrow denote, if there is one.
+fn targets<'a>(
+    alloc: Global,
+    list: &StartList,
+    faults: &mut Vec<PolicyFault<'a>>,
+    place: TextPlace,
+    to: Option<PathText<'a>>,
+) -> Result<Vec<usize>, AllocError>
+    ensures found { IfOk result (λ found. found.items ≡ targets_in list.now (option_map path_at to.entry)) }
+    ensures faults { OnOk result (map fault_at faults.new.items ≡ map fault_at faults.old.items
+        ++ target_faults list.now place (option_map path_at to.entry)) }
 {
-    match fault {
-        Unnamed::NoMemory => Err(AllocError),
-        Unnamed::Nobody(path, near) => Ok(Err(PolicyFlaw::Unnamed(Unnamed::Nobody(path, near)))),
-        Unnamed::NoScript(path) => Ok(Err(PolicyFlaw::Unnamed(Unnamed::NoScript(path)))),
-        Unnamed::NoServer(path) => Ok(Err(PolicyFlaw::Unnamed(Unnamed::NoServer(path)))),
+    match to {
+        Some(to) => components(
+            alloc,
+            list,
+            faults,
+            NamedKind::Servers,
+            path_place(place, to),
+            to.text,
+        ),
+        None => Ok(Vec::new(alloc)),
+    }
+}
+
+// The place of paths in a line that begins at a place.
+fn path_place(place: TextPlace, paths: PathText<'_>) -> TextPlace
+    ensures { result ≡ path_place place (path_at paths.entry) }
+{
+    TextPlace {
+        line: place.line,
+        column: plus(place.column, paths.at),
+    }
+}
+
+// The kind of the components that a line names before its arrow, or if it has none.
+fn from_kind(demand: &Demand) -> NamedKind
+    ensures { result ≡ from_kind demand.now }
+{
+    match demand {
+        Demand::Deny(_) | Demand::Allow(_) | Demand::Only(_) => NamedKind::Scripts,
+        Demand::Isolate | Demand::AtMost(_) => NamedKind::Any,
+    }
+}
+
+// A line, unless its components are to be isolated and aren't separate.
+fn apart_or<'a>(
+    alloc: Global,
+    list: &StartList,
+    place: TextPlace,
+    line: PolicyLine,
+) -> Result<LineRead<'a>, AllocError>
+    ensures { IfOk result (λ read.
+        result_map_both line_at (λ faults. map fault_at faults.items) read
+        ≡ apart_or list.now place (line_at line)) }
+{
+    if isolates(&line.demand) && !are_separate(list, line.from.as_slice()) {
+        return faulty(alloc, place, PolicyFlaw::NotApart);
+    }
+    Ok(Ok(line))
+}
+
+// Whether a demand is that components are isolated.
+fn isolates(demand: &Demand) -> bool
+    ensures { result ≡ isolates demand.now }
+{
+    match demand {
+        Demand::Deny(_) | Demand::Allow(_) | Demand::Only(_) | Demand::AtMost(_) => false,
+        Demand::Isolate => true,
     }
 }
 
@@ -151,128 +231,5 @@ fn parted(line: &[u8]) -> (&[u8], Option<&[u8]>)
     match comment {
         Some(_) => (trimmed(head), None),
         None => (trimmed(head), quoted),
-    }
-}
-
-// The demand and the paths of a head and the text after its quote.
-fn parts_of<'a>(head: &'a [u8], quoted: Option<&'a [u8]>) -> Result<PolicyParts<'a>, PolicyFlaw<'a>>
-    ensures { result_map_both parts_at flaw_at result ≡ parts_of head.now (option_copied quoted.entry) }
-{
-    let (verb, Some(paths)) = cut(b' ', head) else {
-        return Err(PolicyFlaw::NoDemand);
-    };
-    let (from, Some(to)) = cut(b'>', paths) else {
-        return Err(PolicyFlaw::NoArrow);
-    };
-    let Some(from) = before_end(b"-", from) else {
-        return Err(PolicyFlaw::NoArrow);
-    };
-    let PolicyTarget { to, label } = ending_of(to, quoted)?;
-    let demand = demand_of(verb, label)?;
-    Ok(PolicyParts { demand, from, to })
-}
-
-// The paths of servers, and the label, if there is one.
-#[derive(Drop)]
-struct PolicyTarget<'a> {
-    to: &'a [u8],
-    label: Option<ClientLabel>,
-}
-
-// The text after an arrow: paths, and then, if there is a quote, a label.
-fn ending_of<'a>(to: &'a [u8], quoted: Option<&'a [u8]>) -> Result<PolicyTarget<'a>, PolicyFlaw<'a>>
-    ensures { result_map_both ending_at flaw_at result ≡ ending_of to.now (option_copied quoted.entry) }
-{
-    let Some(quoted) = quoted else {
-        return Ok(PolicyTarget { to, label: None });
-    };
-    let Some(to) = before_end(b" with label", to) else {
-        return Err(PolicyFlaw::TooMuch);
-    };
-    let label = Some(label_of(quoted)?);
-    Ok(PolicyTarget { to, label })
-}
-
-// The label up to a second quote, if only a comment follows.
-fn label_of<'a>(quoted: &'a [u8]) -> Result<ClientLabel, PolicyFlaw<'a>>
-    ensures { result_map_both (λ label. label) flaw_at result ≡ label_of quoted.now }
-{
-    let (text, Some(behind)) = cut(b'"', quoted) else {
-        return Err(PolicyFlaw::BadLabel);
-    };
-    let (behind, _) = cut(b'#', behind);
-    if !trimmed(behind).is_empty() {
-        return Err(PolicyFlaw::BadLabel);
-    }
-    match ClientLabel::read(text) {
-        Some(label) => Ok(label),
-        None => Err(PolicyFlaw::BadLabel),
-    }
-}
-
-// The demand of a verb, with a label, if there is one.
-fn demand_of<'a>(verb: &[u8], label: Option<ClientLabel>) -> Result<Demand, PolicyFlaw<'a>>
-    ensures { result_map_both (λ demand. demand) flaw_at result ≡ demand_of verb.now label }
-{
-    if verb == b"deny".as_slice() {
-        Ok(denied(label))
-    } else if verb == b"allow".as_slice() {
-        Ok(allowed(label))
-    } else if verb == b"only".as_slice() {
-        only_allowed(label)
-    } else {
-        Err(PolicyFlaw::NoDemand)
-    }
-}
-
-// The demand that no label is routed there, or that this one isn't.
-fn denied(label: Option<ClientLabel>) -> Demand
-    ensures { result ≡ denied label }
-{
-    match label {
-        Some(label) => Demand::DenyWith(label),
-        None => Demand::Deny,
-    }
-}
-
-// The demand that some label is routed there, or that this one is.
-fn allowed(label: Option<ClientLabel>) -> Demand
-    ensures { result ≡ allowed label }
-{
-    match label {
-        Some(label) => Demand::AllowWith(label),
-        None => Demand::Allow,
-    }
-}
-
-// The demand that no other script's label is routed there, unless a label is named.
-fn only_allowed<'a>(label: Option<ClientLabel>) -> Result<Demand, PolicyFlaw<'a>>
-    ensures { result_map_both (λ demand. demand) flaw_at result ≡ only_allowed label }
-{
-    match label {
-        Some(_) => Err(PolicyFlaw::TooMuch),
-        None => Ok(Demand::Only),
-    }
-}
-
-// The text before the first byte of a value, or all of it if there is none, and the text after that byte.
-fn cut(byte: u8, text: &[u8]) -> (&[u8], Option<&[u8]>)
-    ensures before { result.0.now ≡ front byte text.now }
-    ensures after { option_copied result.1 ≡ rest byte text.now }
-{
-    match find_byte(byte, text) {
-        Some(at) => (&text[..at], Some(&text[at + 1..])),
-        None => (text, None),
-    }
-}
-
-// A text without its end, if it ends so.
-fn before_end<'a>(end: &[u8], text: &'a [u8]) -> Option<&'a [u8]>
-    ensures { option_copied result ≡ before_end end.now text.now }
-{
-    if text.ends_with(end) {
-        Some(&text[..text.len() - end.len()])
-    } else {
-        None
     }
 }

@@ -1,5 +1,5 @@
 -- One server more.
-use Rattle.list_policy.specs.Reading.{line_at}
+use Rattle.list_policy.specs.Line.{line_at}
 use Rattle.list_policy.proofs.BreachLemmas.{pair_more}
 use Rattle.list_policy.proofs.breach.client_breaches.Goals as goal
 

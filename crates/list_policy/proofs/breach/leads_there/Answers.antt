@@ -1,6 +1,6 @@
 -- By where the label leads.
 use Rattle.std.proofs.Common.{◌∙◌, ℕ, List, Option, ap}
-use Rattle.list_reach.specs.Reach.{leads_to}
+use Rattle.list_labels.specs.GivenLabels.{leads_to}
 use Rattle.list_reach.specs.ClientReach.{is_child}
 use Rattle.list_policy.specs.Demand.{service_at}
 use Rattle.list_policy.proofs.breach.leads_there.Goals as goal

@@ -1,5 +1,5 @@
 use Rattle.list_policy.specs.Demand.{FindsBelow, FindsFor}
-use Rattle.list_policy.specs.Reading.{line_at}
+use Rattle.list_policy.specs.Line.{line_at}
 use Rattle.list_policy.proofs.demand.PolicyLine.breaches.Given as goal
 
 abbrev pub invariant-loop-client : goal.invariant-loop-client

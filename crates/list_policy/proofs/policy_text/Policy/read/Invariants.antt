@@ -1,5 +1,7 @@
 use Rattle.std.proofs.Common.{◌≡◌, ◌+◌, ◌++◌, drop, map}
-use Rattle.list_policy.specs.Reading.{fault_at, faults_from, line_at, lines_from}
+use Rattle.list_policy.specs.Components.{fault_at}
+use Rattle.list_policy.specs.Line.{line_at}
+use Rattle.list_policy.specs.Reading.{faults_from, lines_from}
 use Rattle.list_policy.proofs.policy_text.Policy.read.Given as goal
 
 -- what was read so far and what the texts that are left say
