@@ -3,14 +3,15 @@
 use core_calls::{Call, Reply};
 use line_names::FilledLine;
 use line_steps::RunPosition;
-use list_parser::BootFault;
+use list_parser::{BootFault, StartList};
 use pd_core::{Core, Router};
 use std::alloc::Global;
 
-/// A machine on which all lines are answered in order, and the position of the run in its scenario.
+/// The machine of a list on which all lines are answered in order, and the position of the run in its scenario.
 #[derive(Drop)]
 pub(crate) struct BindingRun<'a, 'm, R: Router + Drop> {
-    pub(crate) stand: RunPosition<'m>,
+    pub(crate) list: &'a StartList,
+    pub(crate) position: RunPosition<'m>,
     core: &'a mut Core<R>,
     reply: Reply,
     /// Whether replies may bind names; if not, no line has to be answered.
@@ -23,12 +24,14 @@ impl<'a, 'm, R: Router + Drop> BindingRun<'a, 'm, R> {
     /// Returns a machine that has answered nothing yet. The error is that the host is out of memory.
     pub(crate) fn new(
         alloc: Global,
+        list: &'a StartList,
         core: &'a mut Core<R>,
-        stand: RunPosition<'m>,
+        position: RunPosition<'m>,
         binds: bool,
     ) -> Result<BindingRun<'a, 'm, R>, BootFault> {
         Ok(BindingRun {
-            stand,
+            list,
+            position,
             core,
             reply: Reply::boot(alloc)?,
             binds,
@@ -46,7 +49,7 @@ impl<'a, 'm, R: Router + Drop> BindingRun<'a, 'm, R> {
     {
         if self.binds && component < self.core.count() {
             self.core.step(component, call, &mut self.reply);
-            self.stand.learn(filled, self.reply.text())?;
+            self.position.learn(filled, self.reply.text())?;
         }
         Ok(())
     }

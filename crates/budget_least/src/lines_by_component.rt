@@ -1,15 +1,17 @@
 //! The lines of a scenario, component by component.
 ghost use Rattle.std.specs.Prelude.{◌≡◌, Some};
 ghost use Rattle.core_calls.specs.Call.{model_call, IsWellFormed};
+ghost use Rattle.line_grammar.specs.Read.{IsReadAs};
+ghost use Rattle.line_steps.specs.ResolvedViews.{HasParsedCall};
 ghost use Rattle.budget_least.specs.Steps.{with_args};
 
 use crate::binding_run::BindingRun;
 use core_calls::Call;
 use init_core::boot;
-use line_friendly::{FriendlyFault, FriendlyLine, LineBuffer, meets, read_friendly};
-use line_grammar::{LONGEST_LINE, read_line};
-use line_names::{FilledLine, NameFault, directive_of, fill, source_column};
-use line_steps::RunPosition;
+use line_friendly::{FriendlyFault, meets};
+use line_grammar::read_line;
+use line_names::NameFault;
+use line_steps::{LineBuffers, ResolvedLine, RunPosition, ScenarioCall, resolve};
 use list_parser::{BootFault, StartList};
 use pd_core::{Core, Router};
 use std::alloc::{AllocError, Global};
@@ -140,13 +142,6 @@ pub(crate) struct LinesByComponent {
     pub(crate) misread: Vec<MisreadLine>,
 }
 
-// Buffers for a line that is filled, and for one that is parsed.
-#[derive(Drop)]
-struct ReadBuffers {
-    filled: LineBuffer,
-    read: LineBuffer,
-}
-
 impl LinesByComponent {
     /// Reads the unfolded text of a scenario, by the components of a list, and fills its lines with what the run on the machine
     /// binds. The error is that of the boot, or that the host is out of memory.
@@ -169,20 +164,10 @@ impl LinesByComponent {
         start: RunPosition<'_>,
     ) -> Result<LinesByComponent, BootFault> {
         let binds = find_byte(b'$', text).is_some();
-        let mut stage = BindingRun::new(alloc, core, start, binds)?;
-        LinesByComponent::in_turn(alloc, list, &mut stage, text)
-    }
-
-    // Reads the lines, answering each one.
-    fn in_turn<R: Router + Drop>(
-        alloc: Global,
-        list: &StartList,
-        stage: &mut BindingRun<'_, '_, R>,
-        text: &[u8],
-    ) -> Result<LinesByComponent, BootFault> {
-        let mut scene = LinesByComponent::empty(alloc, list.count())?;
-        scene.add_all(alloc, list, stage, text)?;
-        Ok(scene)
+        let mut run = BindingRun::new(alloc, list, core, start, binds)?;
+        let mut lines = LinesByComponent::empty(alloc, list.count())?;
+        lines.add_all(alloc, &mut run, text)?;
+        Ok(lines)
     }
 
     // Returns no lines for this number of components.
@@ -201,20 +186,15 @@ impl LinesByComponent {
     fn add_all<R: Router + Drop>(
         &mut self,
         alloc: Global,
-        list: &StartList,
-        stage: &mut BindingRun<'_, '_, R>,
+        run: &mut BindingRun<'_, '_, R>,
         text: &[u8],
     ) -> Result<(), BootFault> {
-        let mut rooms = ReadBuffers {
-            filled: LineBuffer::new(),
-            read: LineBuffer::new(),
-        };
+        let mut buffers = LineBuffers::new();
         for line in text.split(|byte| *byte == b'\n') {
-            let number = stage.stand.pass();
-            if line.len() <= LONGEST_LINE {
-                self.add(alloc, list, stage, number, line, &mut rooms)?;
-            }
-            stage.stand.arrive()?;
+            let number = run.position.pass();
+            let resolved = resolve(None, run.position.known(), line, &mut buffers);
+            self.add(alloc, run, number, resolved)?;
+            run.position.arrive()?;
         }
         Ok(())
     }
@@ -223,36 +203,25 @@ impl LinesByComponent {
     fn add<R: Router + Drop>(
         &mut self,
         alloc: Global,
-        list: &StartList,
-        stage: &mut BindingRun<'_, '_, R>,
+        run: &mut BindingRun<'_, '_, R>,
         number: u64,
-        line: &[u8],
-        rooms: &mut ReadBuffers,
-    ) -> Result<(), BootFault> {
-        let filled = match fill(line, stage.stand.known(), &mut rooms.filled) {
-            Ok(filled) => filled,
-            Err(fault) => return self.misread_at(number, MisreadReason::Name(fault)),
-        };
-        if let Some(directive) = directive_of(filled.line) {
-            stage.stand.follow(directive)?;
-            return Ok(());
-        }
-        match read_friendly(filled.line, &mut rooms.read) {
-            Ok(
-                FriendlyLine::Call {
-                    line: call,
-                    reply,
-                    ..
-                },
-            ) => self.add_call(alloc, list, stage, number, call, reply, &filled),
-            Ok(_) => Ok(()),
-            Err(fault) => {
-                let column = source_column(line, stage.stand.known(), fault.column);
-                self.misread_at(
-                    number,
-                    MisreadReason::Line(FriendlyFault { column, ..fault }),
-                )
+        resolved: ResolvedLine<'_>,
+    ) -> Result<(), BootFault>
+        requires { HasParsedCall resolved }
+    {
+        match resolved {
+            ResolvedLine::BadName(fault) => self.misread_at(number, MisreadReason::Name(fault)),
+            ResolvedLine::Directive(directive) => {
+                run.position.follow(directive)?;
+                Ok(())
             }
+            ResolvedLine::Call(call) => self.add_call(alloc, run, number, &call),
+            ResolvedLine::BadLine(fault) => self.misread_at(number, MisreadReason::Line(fault)),
+            ResolvedLine::TooLong
+            | ResolvedLine::Skipped
+            | ResolvedLine::Misplaced(..)
+            | ResolvedLine::Nothing
+            | ResolvedLine::Log(_) => Ok(()),
         }
     }
 
@@ -266,26 +235,25 @@ impl LinesByComponent {
     fn add_call<R: Router + Drop>(
         &mut self,
         alloc: Global,
-        list: &StartList,
-        stage: &mut BindingRun<'_, '_, R>,
+        run: &mut BindingRun<'_, '_, R>,
         number: u64,
-        line: &[u8],
-        reply: Option<&[u8]>,
-        filled: &FilledLine<'_>,
-    ) -> Result<(), BootFault> {
-        let Ok((name, call)) = read_line(line) else {
+        call: &ScenarioCall<'_>,
+    ) -> Result<(), BootFault>
+        requires { IsReadAs call.now.line.now call.now.call }
+    {
+        let Some(said) = call.call else {
             return Ok(());
         };
-        let Some(component) = list.find(name) else {
+        let Some(component) = run.list.find(said.name) else {
             return Ok(());
         };
-        stage.answer(component, call, filled)?;
+        run.answer(component, said.call, &call.filled)?;
         let mut kept = Vec::new(alloc);
-        kept.extend_from_slice(line)?;
+        kept.extend_from_slice(call.line)?;
         if let Some(steps) = self.steps.get_mut(component) {
             steps.push(ComponentLine {
                 number,
-                is_left_out: expects_refusal(reply),
+                is_left_out: expects_refusal(call.reply),
                 line: kept,
                 args: None,
             })?;

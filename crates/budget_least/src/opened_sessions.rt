@@ -64,7 +64,7 @@ impl OpenedSessions {
     ) -> Result<OpenedSessions, BootFault> {
         let mut reply = Reply::boot(alloc)?;
         let mut sessions = OpenedSessions::none(alloc)?;
-        let mut client = Client {
+        let mut client = AmpleClient {
             core,
             component,
             reply: &mut reply,
@@ -85,7 +85,7 @@ impl OpenedSessions {
     fn follow<R: Router + Drop>(
         &mut self,
         alloc: Global,
-        client: &mut Client<'_, R>,
+        client: &mut AmpleClient<'_, R>,
         steps: &[ComponentLine],
     ) -> Result<(), BootFault> {
         for (place, step) in steps.iter().enumerate() {
@@ -108,7 +108,7 @@ impl OpenedSessions {
     fn go_on<R: Router + Drop>(
         &mut self,
         alloc: Global,
-        client: &mut Client<'_, R>,
+        client: &mut AmpleClient<'_, R>,
         call: Call<'_>,
         place: usize,
     ) -> Result<(), BootFault>
@@ -154,7 +154,7 @@ impl OpenedSessions {
     fn open<R: Router + Drop>(
         &mut self,
         alloc: Global,
-        client: &mut Client<'_, R>,
+        client: &mut AmpleClient<'_, R>,
         service: &[u8],
         args: &[u8],
         step: usize,
@@ -226,13 +226,13 @@ impl OpenedSessions {
 
 // A component with an ample account.
 #[derive(Drop)]
-struct Client<'a, R: Router + Drop> {
+struct AmpleClient<'a, R: Router + Drop> {
     core: &'a mut Core<R>,
     component: usize,
     reply: &'a mut Reply,
 }
 
-impl<R: Router + Drop> Client<'_, R> {
+impl<R: Router + Drop> AmpleClient<'_, R> {
     ghost use Rattle.core_calls.specs.Call.{IsWellFormed};
 
     // Makes a call.

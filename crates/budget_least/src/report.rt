@@ -196,8 +196,9 @@ fn add_component(
             list,
             component,
             given,
+            as_donated,
         };
-        return script.add(alloc, steps, as_donated, accounts);
+        return script.add(alloc, steps, accounts);
     }
     let nothing = Some(Budget { ram: 0, caps: 0 });
     accounts.push(AccountBudgets::idle(alloc, component, given, nothing)?)?;

@@ -8,7 +8,7 @@ use crate::lines_by_component::ComponentLine;
 use crate::opened_sessions::{OpenedSession, OpenedSessions};
 use crate::own_trials::{funded_trial, own_rows};
 use crate::session_intervals::session_rows;
-use crate::session_trial::{Client, SessionLines};
+use crate::session_trial::{SessionClient, SessionLines};
 use crate::trial::BudgetTrial;
 use budget_meter::Budget;
 use core_calls::Call;
@@ -25,6 +25,8 @@ pub(crate) struct ScriptSearch<'a> {
     pub(crate) component: usize,
     /// The budget that the list gives it.
     pub(crate) given: Budget,
+    /// Whether its lines donate what they say, and not the least.
+    pub(crate) as_donated: bool,
     ghost there: { component < length list.now.entries },
     ghost few: { given.caps < 2 ^ 32 },
 }
@@ -41,11 +43,10 @@ impl ScriptSearch<'_> {
         &self,
         alloc: Global,
         steps: &mut [ComponentLine],
-        as_donated: bool,
         accounts: &mut Vec<AccountBudgets>,
     ) -> Result<(), BootFault> {
         let given = funded_trial(alloc, self.list, self.component, steps, self.given)?;
-        self.add_sessions(alloc, steps, as_donated, accounts)?;
+        self.add_sessions(alloc, steps, accounts)?;
         let own = self.own(alloc, steps, given)?;
         accounts.push(own)?;
         Ok(())
@@ -56,21 +57,13 @@ impl ScriptSearch<'_> {
         &self,
         alloc: Global,
         steps: &mut [ComponentLine],
-        as_donated: bool,
         accounts: &mut Vec<AccountBudgets>,
     ) -> Result<(), BootFault> {
         let most = most_beside(reserve_of(self.list, self.component));
         let ample = funded(alloc, self.list, self.component, most)?;
         let sessions = OpenedSessions::of(alloc, &ample, self.component, steps)?;
         let core = boot(alloc, &ample)?;
-        self.add_opened(
-            alloc,
-            core,
-            steps,
-            sessions.opened.as_slice(),
-            as_donated,
-            accounts,
-        )
+        self.add_opened(alloc, core, steps, sessions.opened.as_slice(), accounts)
     }
 
     // Adds the needs of the sessions that it opens on a machine where every account is ample.
@@ -80,12 +73,11 @@ impl ScriptSearch<'_> {
         core: Core<R>,
         steps: &mut [ComponentLine],
         sessions: &[OpenedSession],
-        as_donated: bool,
         accounts: &mut Vec<AccountBudgets>,
     ) -> Result<(), BootFault> {
-        let mut client = Client::new(alloc, core, self.component)?;
+        let mut client = SessionClient::new(alloc, core, self.component)?;
         for opened in sessions {
-            self.add_session(alloc, &mut client, steps, opened, as_donated, accounts)?;
+            self.add_session(alloc, &mut client, steps, opened, accounts)?;
         }
         Ok(())
     }
@@ -94,14 +86,13 @@ impl ScriptSearch<'_> {
     fn add_session<R: Router + Drop>(
         &self,
         alloc: Global,
-        client: &mut Client<R>,
+        client: &mut SessionClient<R>,
         steps: &mut [ComponentLine],
         opened: &OpenedSession,
-        as_donated: bool,
         accounts: &mut Vec<AccountBudgets>,
     ) -> Result<(), BootFault> {
         let account = self.session(alloc, client, steps, opened)?;
-        if !as_donated {
+        if !self.as_donated {
             donate_least(alloc, steps, opened.step, &account)?;
         }
         accounts.push(account)?;
@@ -147,7 +138,7 @@ impl ScriptSearch<'_> {
     fn session<R: Router + Drop>(
         &self,
         alloc: Global,
-        client: &mut Client<R>,
+        client: &mut SessionClient<R>,
         steps: &[ComponentLine],
         opened: &OpenedSession,
     ) -> Result<AccountBudgets, BootFault> {

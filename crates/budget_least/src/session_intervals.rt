@@ -5,7 +5,7 @@ ghost use Rattle.own_model.specs.Transcript.{entry_at};
 ghost use Rattle.budget_least.specs.OpenedSessions.{AreExactOf, AreSessionRuns, IsReady, opened_with, sent_at};
 
 use crate::budget_intervals::{BudgetIntervals, BudgetTrials};
-use crate::session_trial::{Client, SessionLines};
+use crate::session_trial::{SessionClient, SessionLines};
 use crate::trial::BudgetTrial;
 use budget_meter::Budget;
 use list_parser::BootFault;
@@ -16,7 +16,7 @@ use std::alloc::Global;
 /// is that of a run.
 pub(crate) fn session_rows<R: Router + Drop>(
     alloc: Global,
-    client: &mut Client<R>,
+    client: &mut SessionClient<R>,
     reached: SessionLines<'_>,
     most: Budget,
     given: Option<&[u8]>,
@@ -42,7 +42,7 @@ pub(crate) fn session_rows<R: Router + Drop>(
 struct SessionTrials<'a, R: Router + Drop> {
     caps: u64,
     reached: SessionLines<'a>,
-    client: &'a mut Client<R>,
+    client: &'a mut SessionClient<R>,
 }
 
 impl<R: Router + Drop> BudgetTrials for SessionTrials<'_, R> {

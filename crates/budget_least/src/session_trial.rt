@@ -53,7 +53,7 @@ impl SessionLines<'_> {
     pub(crate) fn trial<R: Router + Drop>(
         self,
         alloc: Global,
-        client: &mut Client<R>,
+        client: &mut SessionClient<R>,
         donation: Budget,
     ) -> Result<BudgetTrial, BootFault>
         ensures run { IfOk result (λ trial. (session : Session) →
@@ -101,7 +101,7 @@ impl SessionLines<'_> {
     fn run<R: Router + Drop>(
         self,
         alloc: Global,
-        client: &mut Client<R>,
+        client: &mut SessionClient<R>,
         donation: Budget,
         account: Quotas,
     ) -> Result<BudgetTrial, BootFault>
@@ -172,13 +172,13 @@ struct SessionRun {
 
 /// A client that has one session at a time, one after another.
 #[derive(Drop)]
-pub(crate) struct Client<R: Router + Drop> {
+pub(crate) struct SessionClient<R: Router + Drop> {
     core: Core<R>,
     client: usize,
     reply: Reply,
 }
 
-impl<R: Router + Drop> Client<R> {
+impl<R: Router + Drop> SessionClient<R> {
     ghost use Rattle.std.specs.Prelude.{◌≡◌, ◌<◌, ℕ, List, None, Some, true, false, is_some, length, slice_get, IfOk, OnOk};
     ghost use Rattle.std.specs.FinMap.{get};
     ghost use Rattle.std.specs.Option.{option_map};
@@ -196,14 +196,18 @@ impl<R: Router + Drop> Client<R> {
     ghost use Rattle.budget_least.specs.Steps.{call_said};
 
     /// Returns the client for a component of a core that has made no call. The error is that the host is out of memory.
-    pub(crate) fn new(alloc: Global, core: Core<R>, client: usize) -> Result<Client<R>, BootFault>
+    pub(crate) fn new(
+        alloc: Global,
+        core: Core<R>,
+        client: usize,
+    ) -> Result<SessionClient<R>, BootFault>
         ensures core { IfOk result (λ made. made.core ≡ core) }
         ensures client { IfOk result (λ made. made.client ≡ client) }
     {
         if client >= core.count() {
             return Err(UNLIKE);
         }
-        Ok(Client {
+        Ok(SessionClient {
             core,
             client,
             reply: Reply::boot(alloc)?,

@@ -3,7 +3,7 @@ use Rattle.std.proofs.Common.{◌≡◌, ℕ, ◌+◌, ◌-◌, ◌||◌, Bool, 
 use Rattle.std.specs.List.{starts_with}
 use Rattle.std.specs.Option.{option_map_or, option_or, unwrap_or}
 use Rattle.own_model.specs.Call.{parsed_call}
-use Rattle.line_friendly.specs.Friendly.{FriendlyLine, call_part, expects_bad_line, fault_behind, fault_in, no_call, reply_part, said_of, said_of_both, said_of_call, said_of_line, said_of_signs, said_of_text, trimmed_line, without_comment, without_return}
+use Rattle.line_friendly.specs.Friendly.{FriendlyLine, call_part, expects_bad_line, fault_behind, fault_in, no_call, reply_part, said_of, said_of_both, said_of_call, said_of_line, said_of_signs, said_of_text, trimmed_line, without_comment, without_meant, without_return}
 use Rattle.line_friendly.specs.Friendly.FriendlyLine.{Nothing, Log, Call}
 use Rattle.line_friendly.specs.Theorems.{CallsAreCalls, IsCallOrExpected}
 use Rattle.line_friendly.specs.CallParts.{parts_of, spelled}
@@ -57,7 +57,7 @@ of_both column text = of_choice (is_outside (after_text Outside text)) _ _ (of_c
 
 of_text : (column : ℕ) (text : List ℕ) → Holds (said_of_text column text)
 of_text column text =
-    of_choice _ _ _ of_nothing (of_choice _ _ _ (of_log _) (of_both column (without_comment text)))
+    of_choice _ _ _ of_nothing (of_choice _ _ _ (of_log _) (of_both column (without_meant (without_comment text))))
 
 pub calls_are_calls : CallsAreCalls
 calls_are_calls whole line reply unmarked is =

@@ -9,12 +9,13 @@ use Rattle.std.specs.Str.Parse.{digits_value}
 use Rattle.std.proofs.lemmas.Bool.Decides.{nat_tests}
 use Rattle.std.proofs.lemmas.Option.{none-some}
 use Rattle.std.proofs.lemmas.Slice.Eq.{bytes_eq-Decides}
+use Rattle.std.proofs.Math.Bool.{and-false}
 use Rattle.std.proofs.lemmas.Bool.{and_parts, and_from, not-true, or_parts}
 use Rattle.trade_base.specs.Amount.{amount_of, number_of}
 use Rattle.own_model.specs.Call.{Call, Form, Spoken, call_in, form_of, forms, name_of, of_none, of_one, of_rest, of_text, of_two, some_bytes_of_hex, parsed_call}
 use Rattle.own_model.specs.Text.{FirstWord, address_of, bytes_of_hex, first_word, hex_digit_of, hex_number_after, is_name, is_name_byte, is_path}
 use Rattle.own_model.specs.Transcript.{longest_line}
-use Rattle.line_friendly.specs.Friendly.{FriendlyLine, fault_in, is_passed, said_of_both, said_of_call, said_of_signs, said_of_text, trimmed_line, without_comment, without_mark, without_return}
+use Rattle.line_friendly.specs.Friendly.{FriendlyLine, arrow_of, begins_as_call, fault_in, is_meant, is_passed, said_of_both, said_of_call, said_of_signs, said_of_text, trimmed_line, without_comment, without_mark, without_meant, without_return}
 use Rattle.line_friendly.specs.Theorems.{IsPlain, LaterFormsAreMarked, PlainLinesPass, has_suffix, is_suffixed, is_translated}
 use Rattle.line_friendly.specs.CallParts.{CallTail, parts_of, quoted_or, request_tail, request_text, size_text, sizes_behind, sizes_in, spelled, tail_of, tail_text, takes_text, text_written, word_behind, word_text}
 use Rattle.line_friendly.specs.CallParts.CallTail.{Words, Kept, Sized, Request, Quoted}
@@ -633,8 +634,23 @@ call_said column line plain spelt =
 both_said : (column : ℕ) (line : List ℕ) → IsPlain line → said_of_both column line ≡ said_of_call column line None
 both_said column line plain = rw (plain.closed, plain.arrow) refl
 
+no_comment_stays : (text : List ℕ) → first_outside is_comment Outside text ≡ None → without_comment text ≡ text
+no_comment_stays text none = rw none refl
+
+-- without an arrow no reply is meant
+no_arrow_stays : (text : List ℕ) → arrow_of text ≡ None → without_meant text ≡ text
+no_arrow_stays text none =
+    let ends : Bool = nat_eq (slice_index text (length text - 1)) 33 in
+    let unmeant : is_meant text ≡ false =
+    ap (λ found. ends && (begins_as_call text && is_some found)) none
+    ∙ ap (λ b. ends && b) (and-false (begins_as_call text)) ∙ and-false ends in
+    rw unmeant refl
+
+plain_content : (line : List ℕ) → IsPlain line → without_meant (without_comment line) ≡ line
+plain_content line plain = ap without_meant (no_comment_stays line plain.comment) ∙ no_arrow_stays line plain.arrow
+
 text_said : (column : ℕ) (line : List ℕ) → IsPlain line → BeginsCall line → said_of_text column line ≡ said_of_both column line
-text_said column line plain front = rw (front.text, front.no_log, plain.comment) refl
+text_said column line plain front = rw (front.text, front.no_log) (ap (said_of_both column) (plain_content line plain))
 
 signs_said : (column : ℕ) (line : List ℕ) → BeginsCall line → without_return line ≡ line → said_of_signs column line ≡ said_of_text column line
 signs_said column line front ending = rw front.unmarked (ap (said_of_text column) ending)
@@ -676,8 +692,8 @@ plain_lines_pass line plain =
 no_mark_signs : (line : List ℕ) → starts_with nat_eq line (239 ∷ 187 ∷ 191 ∷ []) ≡ false → trimmed_line line ≡ skip_blanks line
 no_mark_signs line none = rw none refl
 
-no_comment_stays : (text : List ℕ) → first_outside is_comment Outside text ≡ None → without_comment text ≡ text
-no_comment_stays text none = rw none refl
+no_meant_stays : (text : List ℕ) → nat_eq (slice_index text (length text - 1)) 33 ≡ false → without_meant text ≡ text
+no_meant_stays text none = rw none refl
 
 arrow_is : (text : List ℕ) → nat_eq (slice_index text 0) 9 ≡ false → is_arrow text ≡ starts_with nat_eq text (codes " => ")
 arrow_is [] no_tab = refl
@@ -693,6 +709,7 @@ pub later_forms_are_marked : LaterFormsAreMarked
 later_forms_are_marked = record {
   mark = no_mark_signs;
   comment = no_comment_stays;
+  meant = no_meant_stays;
   arrow = arrow_is;
   request = λ blank text plain. ap (λ l. 32 ∷ l) (request_passes text plain);
   peek = peek_passes;

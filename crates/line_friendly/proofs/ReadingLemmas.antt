@@ -1,5 +1,5 @@
 -- The first and the last byte of a text that has none.
-use Rattle.std.proofs.Common.{◌≡◌, ℕ, ◌+◌, ◌<◌, ◌≤◌, false, nat_eq, is_some, inl, inr, List, [], ◌∷◌, length, slice_index, Option, Some, None, refl, sym, ap, ◌∙◌, arith}
+use Rattle.std.proofs.Common.{◌≡◌, ℕ, ◌+◌, ◌-◌, ◌<◌, ◌≤◌, false, nat_eq, is_some, inl, inr, List, [], ◌∷◌, length, slice_index, Option, Some, None, refl, sym, ap, ◌∙◌, arith}
 use Rattle.std.specs.Option.{option_map, option_or}
 use Rattle.std.proofs.lemmas.Option.{none-some}
 use Rattle.std.proofs.lemmas.Bool.Decides.{nat_tests}
@@ -7,7 +7,7 @@ use Rattle.own_model.specs.Call.{parsed_call}
 use Rattle.own_model.specs.Transcript.{longest_line}
 use Rattle.line_grammar.specs.Read.{IsReadAs}
 use Rattle.line_grammar.specs.declared.line.NamedCall.{NamedCall}
-use Rattle.line_friendly.specs.Friendly.{fault_behind, fault_in, said_of_call, said_of_line, without_return}
+use Rattle.line_friendly.specs.Friendly.{fault_behind, fault_in, said_of_call, said_of_line}
 use Rattle.line_friendly.specs.CallParts.{CallTail, parts_of, spelled}
 use Rattle.line_friendly.specs.CallFault.{has_small_unit}
 use Rattle.line_friendly.specs.LineText.{added}
@@ -16,9 +16,9 @@ pub first_of_none : (text : List ℕ) (byte : ℕ) → length text ≡ 0 → 0 <
 first_of_none [] byte none some = grind (arith, nat_tests)
 first_of_none (b ∷ bs) byte none some = absurd (omega (arith, none))
 
-pub last_of_none : (text : List ℕ) → length text ≡ 0 → without_return text ≡ text
-last_of_none [] none = refl
-last_of_none (b ∷ bs) none = absurd (omega (arith, none))
+pub last_of_none : (text : List ℕ) (byte : ℕ) → length text ≡ 0 → 0 < byte → nat_eq (slice_index text (length text - 1)) byte ≡ false
+last_of_none [] byte none some = grind (arith, nat_tests)
+last_of_none (b ∷ bs) byte none some = absurd (omega (arith, none))
 
 -- a call without a fault says what its line says
 pub call_says : (column : ℕ) (call : List ℕ) (reply : Option (List ℕ)) (tail : CallTail) (found : Option ℕ) (line : Option (List ℕ)) →

@@ -1,5 +1,5 @@
 -- What a line of a scenario in the friendly form says.
-use Rattle.std.specs.Prelude.{ℕ, ◌+◌, ◌-◌, ◌==◌, ◌||◌, Bool, false, List, [], ◌∷◌, length, take, drop, codes, nat_eq, slice_index, is_some, if◌then◌else◌, Option, Some, None, Result, Ok, Err}
+use Rattle.std.specs.Prelude.{ℕ, ◌+◌, ◌-◌, ◌==◌, ◌&&◌, ◌||◌, not, Bool, false, List, [], ◌∷◌, length, take, drop, codes, nat_eq, slice_index, is_some, if◌then◌else◌, Option, Some, None, Result, Ok, Err}
 use Rattle.std.specs.List.{starts_with}
 use Rattle.std.specs.Option.{option_map, option_map_or, option_or, unwrap_or}
 use Rattle.std.specs.Str.{bytes_eq}
@@ -80,12 +80,26 @@ said_of_both column text =
 abbrev pub without_comment : List ℕ → List ℕ
 without_comment text = option_map_or (λ n. take n text) (first_outside is_comment Outside text) text
 
+-- a text is a call by its first characters: no line for the engine, no comment, no directive, and no expected log line
+abbrev pub begins_as_call : List ℕ → Bool
+begins_as_call text =
+    not (slice_index text 0 == 33 || (slice_index text 0 == 35 || slice_index text 0 == 64))
+    && not (starts_with nat_eq text (codes "=> "))
+
+-- the reply that a call expects is meant: a `!` follows it
+abbrev pub is_meant : List ℕ → Bool
+is_meant text = slice_index text (length text - 1) == 33 && (begins_as_call text && is_some (arrow_of text))
+
+-- the text without that `!`
+abbrev pub without_meant : List ℕ → List ℕ
+without_meant text = if is_meant text then take (length text - 1) text else text
+
 -- nothing, or a comment; a log line; or a call
 abbrev pub said_of_text : ℕ → List ℕ → Result FriendlyLine FriendlyFault
 said_of_text column text =
     if nat_eq (length text) 0 || slice_index text 0 == 35 then Ok Nothing
     else (if starts_with nat_eq text (codes "=> ") then Ok (Log (drop 3 text))
-    else said_of_both column (without_comment text))
+    else said_of_both column (without_meant (without_comment text)))
 
 -- the content from the first character on: after `!` it is the engine's line unchanged
 abbrev pub said_of_signs : ℕ → List ℕ → Result FriendlyLine FriendlyFault
@@ -108,6 +122,10 @@ is_passed line = slice_index (trimmed_line line) 0 == 33
 abbrev pub said_of : List ℕ → Result FriendlyLine FriendlyFault
 said_of line = said_of_signs (length line - length (trimmed_line line) + 1) (trimmed_line line)
 
--- the end of a line's content: before a comment after it, or a carriage return
+-- a line from its first character on, without the comment after it
+abbrev pub content_of : List ℕ → List ℕ
+content_of line = without_comment (without_return (trimmed_line line))
+
+-- the end of a line's content: before the `!` of a reply that is meant, a comment, or a carriage return
 abbrev pub end_of : List ℕ → ℕ
-end_of line = length line - length (trimmed_line line) + length (without_comment (without_return (trimmed_line line)))
+end_of line = length line - length (trimmed_line line) + length (without_meant (content_of line))

@@ -25,6 +25,8 @@ pub use line_buffer::LineBuffer;
 pub use line_grammar::CallForm;
 pub use plain::plain_call;
 pub use quotes::arrow_of;
-pub use reading::{FriendlyLine, end_of, is_passed, read_friendly, trimmed_line};
+pub use reading::{
+    FriendlyLine, end_of, is_call_line, is_meant, is_passed, read_friendly, trimmed_line,
+};
 pub use theorems::calls_are_calls;
 pub use words::{next_word, skip_blanks};

@@ -1,10 +1,10 @@
 //! The parser of lines in the friendly form.
-ghost use Rattle.std.specs.Prelude.{◌≡◌, ◌+◌, ◌<◌, ◌≤◌, ◌^◌, ◌==◌, length, is_some, slice_index, true, IfSome, None};
+ghost use Rattle.std.specs.Prelude.{◌≡◌, ◌+◌, ◌-◌, ◌<◌, ◌≤◌, ◌^◌, ◌==◌, length, is_some, slice_index, true, IfSome, None};
 ghost use Rattle.std.specs.Option.{option_copied, option_map, option_or};
 ghost use Rattle.own_model.specs.Call.{parsed_call};
 ghost use Rattle.own_model.specs.Transcript.{longest_line};
 ghost use Rattle.line_grammar.specs.Read.{IsReadAs};
-ghost use Rattle.line_friendly.specs.Friendly.{end_of, expects_bad_line, fault_behind, fault_in, is_passed, no_call, said_of, said_of_both, said_of_call, said_of_line, said_of_signs, said_of_text, trimmed_line, without_comment, without_mark, without_return};
+ghost use Rattle.line_friendly.specs.Friendly.{begins_as_call, content_of, end_of, expects_bad_line, fault_behind, fault_in, is_meant, is_passed, no_call, said_of, said_of_both, said_of_call, said_of_line, said_of_signs, said_of_text, trimmed_line, without_comment, without_mark, without_meant, without_return};
 ghost use Rattle.line_friendly.specs.Friendly.FriendlyLine.{Call};
 ghost use Rattle.line_friendly.specs.Handed.{HandsOn};
 ghost use Rattle.line_friendly.specs.Theorems.{IsPlain, LaterFormsAreMarked};
@@ -17,7 +17,7 @@ use crate::expected::written_fault;
 use crate::fault::{FriendlyFault, LineReason};
 use crate::line_buffer::LineBuffer;
 use crate::plain::plain_call;
-use crate::quotes::{comment_of, marks_of};
+use crate::quotes::{arrow_of, comment_of, marks_of};
 use crate::words::{behind, skip_blanks};
 use line_grammar::{NamedCall, call_in};
 
@@ -69,14 +69,64 @@ fn said_of<'a>(line: &'a [u8], room: &'a mut LineBuffer) -> Result<FriendlyLine<
     said_of_signs(line.len() - signs.len() + 1, signs, room)
 }
 
-/// Returns the end of a line's content and of its expected reply: before a comment after its call and the blanks before the
-/// comment, or before a carriage return.
+/// Returns the end of a line's content and of its expected reply: before the `!` after a reply that is meant, before a comment
+/// after its call and the blanks before the comment, or before a carriage return.
 pub fn end_of(line: &[u8]) -> usize
     ensures value { result ≡ end_of line.now }
     ensures within { result ≤ length line.now }
 {
-    let signs = trimmed_line(line);
-    line.len() - signs.len() + without_comment(without_return(signs)).len()
+    line.len() - trimmed_line(line).len() + without_meant(content_of(line)).len()
+}
+
+/// Returns whether the reply that a line expects is meant: a `!` follows it, which is no part of the reply.
+pub fn is_meant(line: &[u8]) -> bool
+    ensures { result ≡ is_meant (content_of line.now) }
+{
+    is_meant_text(content_of(line))
+}
+
+/// Returns whether a line is a call by its first characters: no line for the engine, no comment, no directive, and no expected log
+/// line.
+pub fn is_call_line(line: &[u8]) -> bool
+    ensures { result ≡ begins_as_call (content_of line.now) }
+{
+    begins_as_call(content_of(line))
+}
+
+// Returns the text of a line from its first character on, without the comment after it.
+fn content_of(line: &[u8]) -> &[u8]
+    ensures value { result.now ≡ content_of line.now }
+    ensures within { length result.now ≤ length (trimmed_line line.now) }
+{
+    without_comment(without_return(trimmed_line(line)))
+}
+
+// Returns a text without the `!` after a reply that is meant.
+fn without_meant(text: &[u8]) -> &[u8]
+    ensures value { result.now ≡ without_meant text.now }
+    ensures within { length result.now ≤ length text.now }
+{
+    if is_meant_text(text) {
+        &text[..text.len() - 1]
+    } else {
+        text
+    }
+}
+
+// Returns whether a text is a call and an expected reply with a `!` after it.
+fn is_meant_text(text: &[u8]) -> bool
+    ensures value { result ≡ is_meant text.now }
+    ensures some { result ≡ true → 0 < length text.now }
+{
+    ends_with(text, b'!') && begins_as_call(text) && arrow_of(text).is_some()
+}
+
+// Returns whether a text is a call by its first characters.
+fn begins_as_call(text: &[u8]) -> bool
+    ensures { result ≡ begins_as_call text.now }
+{
+    let is_other = begins_with(text, b'!') || begins_with(text, b'#') || begins_with(text, b'@');
+    !is_other && !text.starts_with(b"=> ")
 }
 
 /// Returns whether a line is passed to the engine unchanged, after a `!`.
@@ -137,18 +187,23 @@ fn begins_with(text: &[u8], byte: u8) -> bool
     !text.is_empty() && text[0] == byte
 }
 
-// Returns a text without a carriage return at its end.
+// Returns whether a text ends with a byte.
 #[tactic(auto, using(crate::proofs::ReadingLemmas::last_of_none))]
+fn ends_with(text: &[u8], byte: u8) -> bool
+    requires { 0 < byte }
+    ensures value { result ≡ (slice_index text.now (length text.now - 1) == byte) }
+    ensures some { result ≡ true → 0 < length text.now }
+{
+    !text.is_empty() && text[text.len() - 1] == byte
+}
+
+// Returns a text without a carriage return at its end.
 fn without_return(text: &[u8]) -> &[u8]
     ensures value { result.now ≡ without_return text.now }
     ensures within { length result.now ≤ length text.now }
 {
-    if text.is_empty() {
-        return text;
-    }
-    let last = text.len() - 1;
-    if text[last] == b'\r' {
-        &text[..last]
+    if ends_with(text, b'\r') {
+        &text[..text.len() - 1]
     } else {
         text
     }
@@ -170,7 +225,7 @@ fn said_of_text<'a>(
     if text.starts_with(b"=> ") {
         return Ok(FriendlyLine::Log(behind(text, 3)));
     }
-    said_of_both(column, without_comment(text), room)
+    said_of_both(column, without_meant(without_comment(text)), room)
 }
 
 // Returns a text without the comment after it.

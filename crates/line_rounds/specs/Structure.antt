@@ -15,7 +15,7 @@ use Rattle.line_rounds.specs.declared.lines.RoundLineKind.TheVariants.{Repeats, 
 -- ---- one line
 
 -- the text of a line without the comment after it
-abbrev pub words_of : List ℕ → List ℕ
+unfoldable pub words_of : List ℕ → List ℕ
 words_of line = trimmed_line (take (end_of line) line)
 
 -- the kind of a line for rounds: its first token decides, if it begins with `@`

@@ -2,7 +2,7 @@
 ghost use Rattle.std.specs.Prelude.{◌≡◌, ◌+◌, ◌≤◌, IfOk, drop, length, take};
 ghost use Rattle.own_model.specs.Text.{lines_of};
 ghost use Rattle.run_lines.specs.Lines.{line_length};
-ghost use Rattle.line_rounds.specs.Structure.{column_of, kind_of, words_of};
+ghost use Rattle.line_rounds.specs.Structure.{column_of, kind_by, kind_of, words_of};
 ghost use Rattle.line_rounds.specs.Views.{texts};
 
 use line_friendly::{end_of, next_word, trimmed_line};
@@ -76,6 +76,13 @@ pub(crate) fn kind_of(line: &[u8]) -> RoundLineKind
         return RoundLineKind::Plain;
     }
     let (word, _) = next_word(words_of(line));
+    kind_by(word)
+}
+
+// Returns the kind of a line whose first token begins with `@`, by that token.
+fn kind_by(word: &[u8]) -> RoundLineKind
+    ensures { result ≡ kind_by word.now }
+{
     if word == b"@repeat".as_slice() {
         RoundLineKind::Repeats
     } else if word == b"@end".as_slice() {
@@ -86,6 +93,7 @@ pub(crate) fn kind_of(line: &[u8]) -> RoundLineKind
 }
 
 /// Returns the text of a line without the comment after it.
+#[tactic(auto, unfolding(crate::specs::Structure::words_of))]
 pub(crate) fn words_of(line: &[u8]) -> &[u8]
     ensures { result.now ≡ words_of line.now }
 {

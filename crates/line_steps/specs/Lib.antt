@@ -1,1 +1,3 @@
 pub mod RunPosition
+pub mod ResolvedLines
+pub mod ResolvedViews

@@ -1,10 +1,15 @@
-//! The steps of a run through the lines of a scenario: the position of the run, and the values of names there. The run of a
-//! scenario, its recording and the search for its minimum budgets call this crate.
+//! The steps of a run through the lines of a scenario: the position of the run, and each line with the values of its names. The run
+//! of a scenario, its recording and the search for its minimum budgets call this crate.
 //!
-//! `RunPosition::new(known, marks)?` is the position before the first line. For each line, `stand.pass()` returns its number, and after
-//! the line `stand.arrive()?` enters and leaves the rounds there.
+//! `RunPosition::new(known, marks)?` is the position before the first line. For each line, `resolve(None, position.known(), line,
+//! buffers)` returns what the line is, `position.pass()` returns its number, and after the line `position.arrive()?` enters and
+//! leaves the rounds there.
 #![tactic(auto)]
 
+mod line_resolution;
+mod resolved_line;
 mod run_position;
 
+pub use line_resolution::{LineBuffers, is_skipped, resolve};
+pub use resolved_line::{ResolvedLine, ScenarioCall};
 pub use run_position::RunPosition;

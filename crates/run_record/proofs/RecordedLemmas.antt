@@ -1,22 +1,19 @@
 -- What is recorded of a scenario that is played line by line.
 use Rattle.std.proofs.Common.{◌≡◌, ℕ, ◌<◌, ◌≤◌, nat_le, nat_lt, cond, not, ◌&&◌, Bool, true, false, is_some, List, [], ◌∷◌, length, Option, Some, None, Result, Ok, Err, IfOk, OnOk, arith, ap, refl, subst, sym, ◌∙◌}
 use Rattle.std.specs.List.{flat_map}
-use Rattle.std.proofs.lemmas.Bool.Decides.{nat_tests}
-use Rattle.line_steps.specs.RunPosition.{RunPosition, arrived, passed}
+use Rattle.line_steps.specs.RunPosition.{RunPosition, arrived, passed, position_following}
 use Rattle.own_model.specs.Reply.{log_text}
-use Rattle.own_model.specs.Transcript.{heard as heard_call, longest_line}
+use Rattle.own_model.specs.Transcript.{heard as heard_call}
 use Rattle.own_model.specs.World.{World}
 use Rattle.list_parser.specs.declared.fault.BootFault.{BootFault}
-use Rattle.line_friendly.specs.Friendly.{FriendlyLine, said_of}
-use Rattle.line_friendly.specs.declared.fault.FriendlyFault.{FriendlyFault}
 use Rattle.run_lines.specs.Answer.{finished_lines}
-use Rattle.line_names.specs.Directives.{Directive, directive_of}
-use Rattle.line_names.specs.Filling.{FilledLine, filled}
+use Rattle.line_names.specs.Directives.{Directive}
+use Rattle.line_names.specs.Filling.{FilledLine}
 use Rattle.line_names.specs.NameTable.{NameTable}
-use Rattle.line_names.specs.declared.fault.NameFault.{NameFault}
 use Rattle.run_record.specs.Marked.{StepsTo, all_marked, marks_after, unmarked}
-use Rattle.run_record.specs.RecordedCalls.{RecordedLine, RecordedCall, RecordingState, deed_by, deed_filled, deed_of, deed_said, events, first_recording, hearing_of, line_passed, events_in, reply_in, rounds_passed, recording_after, recording_behind}
-use Rattle.run_record.specs.RecordedCalls.RecordedLine.{Passes, Follows, Awaits, Calls}
+use Rattle.run_record.specs.RecordedCalls.{RecordedCall, RecordingState, events, first_recording, hearing_of, line_passed, events_in, reply_in, rounds_passed, recording_after, recording_behind}
+use Rattle.line_steps.specs.ResolvedLines.{ResolvedLine, resolved_line}
+use Rattle.line_steps.specs.ResolvedLines.ResolvedLine.{TooLong, Skipped, BadName, Follow, Misplaced, Nothing, Log, Call, BadLine}
 use Rattle.run_record.specs.RecordedCalls.Meeting.{Hears}
 use Rattle.run_record.specs.Recorded.{LineMark, pieces_of, recorded, without_last, written_lines}
 use Rattle.run_record.specs.Views.{recorded_call_view, recording_in}
@@ -25,67 +22,56 @@ use Rattle.run_record.specs.declared.recording.Recording.{Recording}
 use Rattle.run_record.proofs.MarkLemmas.{marked_on, marks_in_all}
 
 -- no line changes who is there
-entries_by : (stage : RecordingState) (deed : RecordedLine) → (recording_after (line_passed stage) deed).world.entries ≡ stage.world.entries
-entries_by stage Passes = refl
-entries_by stage (Follows directive) = refl
-entries_by stage Awaits = refl
-entries_by stage (Calls filled call reply) = refl
+entries_by : (stage : RecordingState) (resolved : ResolvedLine) → (recording_after (line_passed stage) resolved).world.entries ≡ stage.world.entries
+entries_by stage TooLong = refl
+entries_by stage Skipped = refl
+entries_by stage (BadName fault) = refl
+entries_by stage (Follow directive) = refl
+entries_by stage (Misplaced column) = refl
+entries_by stage Nothing = refl
+entries_by stage (Log text) = refl
+entries_by stage (Call filled call reply) = refl
+entries_by stage (BadLine fault) = refl
 
 pub entries_behind : (stage : RecordingState) (line : List ℕ) → (recording_behind stage line).world.entries ≡ stage.world.entries
-entries_behind stage line = entries_by stage (deed_of stage.stand.known line)
+entries_behind stage line = entries_by stage (resolved_line None stage.stand.known line)
 
 -- ---- the turn of a line
 
-is_short : (n : ℕ) → n ≤ longest_line → nat_le n longest_line ≡ true
-is_short n short = grind (arith, nat_tests)
-
-is_long : (n : ℕ) → longest_line < n → nat_le n longest_line ≡ false
-is_long n long = grind (arith, nat_tests)
-
--- what a line is
-pub deed_long : (known : NameTable) (line : List ℕ) → longest_line < length line → deed_of known line ≡ Passes
-deed_long known line long = ap (λ b. cond b (deed_filled (filled known line)) Passes) (is_long (length line) long)
-
-deed_short : (known : NameTable) (line : List ℕ) (made : Result FilledLine NameFault) → length line ≤ longest_line → made ≡ filled known line →
-    deed_of known line ≡ deed_filled made
-deed_short known line made short is =
-    ap (λ b. cond b (deed_filled (filled known line)) Passes) (is_short (length line) short) ∙ ap deed_filled (sym is)
-
-pub deed_unnamed : (known : NameTable) (line : List ℕ) (fault : NameFault) → length line ≤ longest_line → Err fault ≡ filled known line →
-    deed_of known line ≡ Passes
-deed_unnamed known line fault short is = deed_short known line (Err fault) short is
-
-pub deed_follows : (known : NameTable) (line : List ℕ) (made : FilledLine) (directive : Directive) → length line ≤ longest_line →
-    Ok made ≡ filled known line → Some directive ≡ directive_of made.line → deed_of known line ≡ Follows directive
-deed_follows known line made directive short is says = deed_short known line (Ok made) short is ∙ ap (deed_by made) (sym says)
-
-pub deed_says : (known : NameTable) (line : List ℕ) (made : FilledLine) → length line ≤ longest_line →
-    Ok made ≡ filled known line → None ≡ directive_of made.line → deed_of known line ≡ deed_said made (said_of made.line)
-deed_says known line made short is says = deed_short known line (Ok made) short is ∙ ap (deed_by made) (sym says)
-
-pub said_deed : (made : FilledLine) (line : List ℕ) (said : Result FriendlyLine FriendlyFault) → said ≡ said_of line → deed_said made (said_of line) ≡ deed_said made said
-said_deed made line said is = ap (deed_said made) (sym is)
+on_ok : {E : Type 0} (r : Result Unit E) {P : Type 0} → P → OnOk r P
+on_ok (Ok done) p = p
+on_ok (Err fault) p = tt
 
 -- a turn by what its line is
-pub turns_by : (all : Bool) (number : ℕ) (deed shown : RecordedLine) (old new : RecordingState) (before after : List LineMark) →
-    deed ≡ shown → StepsTo all number shown old new before after → StepsTo all number deed old new before after
-turns_by all number deed shown old new before after is turns = subst (λ d. StepsTo all number d old new before after) (sym is) turns
+pub turns_by : (all : Bool) (number : ℕ) (resolved shown : ResolvedLine) (old new : RecordingState) (before after : List LineMark) →
+    resolved ≡ shown → StepsTo all number shown old new before after → StepsTo all number resolved old new before after
+turns_by all number resolved shown old new before after is turns = subst (λ d. StepsTo all number d old new before after) (sym is) turns
 
-pub turned_by : {E : Type 0} (r : Result Unit E) (all : Bool) (number : ℕ) (deed shown : RecordedLine) (old new : RecordingState) (before after : List LineMark) →
-    deed ≡ shown → OnOk r (StepsTo all number shown old new before after) → OnOk r (StepsTo all number deed old new before after)
-turned_by (Ok done) all number deed shown old new before after is turns = turns_by all number deed shown old new before after is turns
-turned_by (Err fault) all number deed shown old new before after is none = tt
+pub turned_by : {E : Type 0} (r : Result Unit E) (all : Bool) (number : ℕ) (resolved shown : ResolvedLine) (old new : RecordingState) (before after : List LineMark) →
+    resolved ≡ shown → OnOk r (StepsTo all number shown old new before after) → OnOk r (StepsTo all number resolved old new before after)
+turned_by (Ok done) all number resolved shown old new before after is turns = turns_by all number resolved shown old new before after is turns
+turned_by (Err fault) all number resolved shown old new before after is none = tt
+
+-- what a line is with the values of names, which are known by another name
+pub resolved_as : (known now : NameTable) (line : List ℕ) (shown : ResolvedLine) → now ≡ known → shown ≡ resolved_line None now line → resolved_line None known line ≡ shown
+resolved_as known now line shown is by = sym (by ∙ ap (λ k. resolved_line None k line) is)
 
 -- where nothing is met
-pub turns_over : (all : Bool) (number : ℕ) (deed : RecordedLine) (old new : RecordingState) (before after : List LineMark) →
-    deed ≡ Passes → new ≡ old → after ≡ before → StepsTo all number deed old new before after
-turns_over all number deed old new before after is stays same =
-    turns_by all number deed Passes old new before after is (record { stage = stays; marks = same })
+pub turns_over : (all : Bool) (number : ℕ) (resolved shown : ResolvedLine) (old new : RecordingState) (before after : List LineMark) →
+    resolved ≡ shown → recording_after old shown ≡ old → events_in all number old shown ≡ [] → new ≡ old → after ≡ before → StepsTo all number resolved old new before after
+turns_over all number resolved shown old new before after is leads none stays same =
+    turns_by all number resolved shown old new before after is (record { stage = stays ∙ sym leads; marks = same ∙ ap (λ es. all_marked es before) (sym none) })
 
-pub turned_over : {E : Type 0} (r : Result Unit E) (all : Bool) (number : ℕ) (deed : RecordedLine) (old new : RecordingState) (before after : List LineMark) →
-    deed ≡ Passes → new ≡ old → after ≡ before → OnOk r (StepsTo all number deed old new before after)
-turned_over (Ok done) all number deed old new before after is stays same = turns_over all number deed old new before after is stays same
-turned_over (Err fault) all number deed old new before after is stays same = tt
+pub turned_over : {E : Type 0} (r : Result Unit E) (all : Bool) (number : ℕ) (resolved shown : ResolvedLine) (old new : RecordingState) (before after : List LineMark) →
+    resolved ≡ shown → recording_after old shown ≡ old → events_in all number old shown ≡ [] → new ≡ old → after ≡ before → OnOk r (StepsTo all number resolved old new before after)
+turned_over r all number resolved shown old new before after is leads none stays same =
+    on_ok r (turns_over all number resolved shown old new before after is leads none stays same)
+
+-- where a directive is followed
+pub turned_following : {E : Type 0} (r : Result Unit E) (all : Bool) (number : ℕ) (directive : Directive) (world : World) (stand next : RunPosition) (awaits : Bool) (marks : List LineMark) →
+    OnOk r (next ≡ position_following stand directive) → OnOk r (StepsTo all number (Follow directive) (recording_in stand awaits world) (recording_in next awaits world) marks marks)
+turned_following (Ok done) all number directive world stand next awaits marks is = record { stage = ap (λ s. recording_in s awaits world) is; marks = refl }
+turned_following (Err fault) all number directive world stand next awaits marks is = tt
 
 -- a call as it was heard
 pub heard_is : (all : Bool) (stage : RecordingState) (made : FilledLine) (call : List ℕ) (expected : Option (List ℕ)) (heard : Heard) (reply lines : List ℕ) →
@@ -97,9 +83,9 @@ heard_is all stage made call expected heard reply lines known binds expects call
     rw (known, binds, expects, call_is, reply_is, lines_is, answered, finished) refl
 
 pub called : {all : Bool} {number : ℕ} {stage next : RecordingState} {made : FilledLine} {call : List ℕ} {expected : Option (List ℕ)} {before after : List LineMark}
-    (h : RecordedCall) → h ≡ hearing_of all stage made call expected → next ≡ recording_after stage (Calls made call expected) →
+    (h : RecordedCall) → h ≡ hearing_of all stage made call expected → next ≡ recording_after stage (Call made call expected) →
     after ≡ marks_after 1 (record { number = number; meeting = Hears h }) before →
-    StepsTo all number (Calls made call expected) stage next before after
+    StepsTo all number (Call made call expected) stage next before after
 called {number = number} {before = before} h is next_is after_is = record {
   stage = next_is;
   marks = after_is ∙ ap (λ x. marks_after 1 (record { number = number; meeting = Hears x }) before) is;
@@ -114,44 +100,45 @@ same_stage world stands same = λ i. record { stand = stands i; world = world; a
 pub passed_in : (old new : RunPosition) (awaits : Bool) (world : World) → new ≡ passed old → recording_in new awaits world ≡ line_passed (recording_in old awaits world)
 passed_in old new awaits world is = ap (λ s. recording_in s awaits world) is
 
-met_passed : (all : Bool) (number : ℕ) (stage : RecordingState) (deed : RecordedLine) → events_in all number (line_passed stage) deed ≡ events_in all number stage deed
-met_passed all number stage Passes = refl
-met_passed all number stage (Follows directive) = refl
-met_passed all number stage Awaits = refl
-met_passed all number stage (Calls filled call reply) = refl
-
-on_ok : {E : Type 0} (r : Result Unit E) {P : Type 0} → P → OnOk r P
-on_ok (Ok done) p = p
-on_ok (Err fault) p = tt
+met_passed : (all : Bool) (number : ℕ) (stage : RecordingState) (resolved : ResolvedLine) → events_in all number (line_passed stage) resolved ≡ events_in all number stage resolved
+met_passed all number stage TooLong = refl
+met_passed all number stage Skipped = refl
+met_passed all number stage (BadName fault) = refl
+met_passed all number stage (Follow directive) = refl
+met_passed all number stage (Misplaced column) = refl
+met_passed all number stage Nothing = refl
+met_passed all number stage (Log text) = refl
+met_passed all number stage (Call filled call reply) = refl
+met_passed all number stage (BadLine fault) = refl
 
 pub played_stage : {E : Type 0} (r : Result Unit E) (all : Bool) (number : ℕ) (line : List ℕ) (old stage mid : RecordingState) (before after : List LineMark)
-    (next : RunPosition) → stage ≡ line_passed old → StepsTo all number (deed_of stage.stand.known line) stage mid before after → OnOk r (next ≡ arrived mid.stand) →
+    (next : RunPosition) → stage ≡ line_passed old → StepsTo all number (resolved_line None stage.stand.known line) stage mid before after → OnOk r (next ≡ arrived mid.stand) →
     OnOk r (recording_in next mid.awaits mid.world ≡ recording_behind old line)
 played_stage (Ok done) all number line old stage mid before after next is turned arrives =
     ap (λ s. recording_in s mid.awaits mid.world) arrives
-    ∙ ap rounds_passed (turned.stage ∙ ap (λ (s : RecordingState). recording_after s (deed_of s.stand.known line)) is)
+    ∙ ap rounds_passed (turned.stage ∙ ap (λ (s : RecordingState). recording_after s (resolved_line None s.stand.known line)) is)
 played_stage (Err fault) all number line old stage mid before after next is turned arrives = tt
 
 pub played_marks : {E : Type 0} (r : Result Unit E) (all : Bool) (line : List ℕ) (old stage mid : RecordingState) (before after : List LineMark)
     (number : ℕ) → stage ≡ line_passed old → number ≡ old.stand.number →
-    StepsTo all number (deed_of stage.stand.known line) stage mid before after →
-    OnOk r (after ≡ all_marked (events_in all old.stand.number old (deed_of old.stand.known line)) before)
+    StepsTo all number (resolved_line None stage.stand.known line) stage mid before after →
+    OnOk r (after ≡ all_marked (events_in all old.stand.number old (resolved_line None old.stand.known line)) before)
 played_marks r all line old stage mid before after number is numbered turned =
     on_ok r
     (turned.marks
-    ∙ ap (λ (s : RecordingState). all_marked (events_in all number s (deed_of s.stand.known line)) before) is
-    ∙ ap (λ es. all_marked es before) (met_passed all number old (deed_of old.stand.known line))
-    ∙ ap (λ n. all_marked (events_in all n old (deed_of old.stand.known line)) before) numbered)
+    ∙ ap (λ (s : RecordingState). all_marked (events_in all number s (resolved_line None s.stand.known line)) before) is
+    ∙ ap (λ es. all_marked es before) (met_passed all number old (resolved_line None old.stand.known line))
+    ∙ ap (λ n. all_marked (events_in all n old (resolved_line None old.stand.known line)) before) numbered)
 
 -- a line more is played
 pub one_more : (whole marks now : List LineMark) (all all' : Bool) (stage next : RecordingState) (text line : List ℕ) (behind : List (List ℕ)) →
     whole ≡ all_marked (events all stage (pieces_of text)) marks → pieces_of text ≡ line ∷ behind →
-    now ≡ all_marked (events_in all stage.stand.number stage (deed_of stage.stand.known line)) marks → all' ≡ all → next ≡ recording_behind stage line →
+    now ≡ all_marked (events_in all stage.stand.number stage (resolved_line None stage.stand.known line)) marks → all' ≡ all → next ≡ recording_behind stage line →
     whole ≡ all_marked (events all' next behind) now
 one_more whole marks now all all' stage next text line behind so pieces now_is all_is next_is =
     rw (now_is, all_is, next_is)
     (so ∙ ap (λ ps. all_marked (events all stage ps) marks) pieces
-    ∙ marked_on (events_in all stage.stand.number stage (deed_of stage.stand.known line)) (events all (recording_behind stage line) behind) marks)
+    ∙ marked_on (events_in all stage.stand.number stage (resolved_line None stage.stand.known line)) (events all (recording_behind stage line) behind) marks)
 
 -- a play begins
 pub first_in : (stand : RunPosition) (awaits : Bool) (world : World) (start : RunPosition) → stand ≡ start → awaits ≡ false → recording_in stand awaits world ≡ first_recording world start

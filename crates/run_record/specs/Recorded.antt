@@ -1,17 +1,15 @@
 -- A scenario with the replies of its calls behind them, line for line.
-use Rattle.std.specs.Prelude.{ℕ, ◌+◌, ◌-◌, ◌==◌, ◌&&◌, not, Bool, true, false, List, [], ◌∷◌, ◌++◌, length, take, drop, codes, nat_eq, nat_le, slice_index, is_none, if◌then◌else◌, Option, Some, None, Result, Ok, Err}
+use Rattle.std.specs.Prelude.{ℕ, ◌+◌, ◌-◌, ◌==◌, ◌&&◌, not, Bool, true, false, List, [], ◌∷◌, ◌++◌, length, take, drop, codes, nat_eq, slice_index, is_none, if◌then◌else◌, Option, Some, None}
 use Rattle.std.specs.List.{flat_map, list_all, list_any, slice_split}
 use Rattle.std.specs.Option.{unwrap_or}
 use Rattle.std.specs.Str.{bytes_eq}
+use Rattle.line_steps.specs.ResolvedLines.{ResolvedLine, resolved_line}
+use Rattle.line_steps.specs.ResolvedLines.ResolvedLine.{Call}
 use Rattle.line_steps.specs.RunPosition.{RunPosition}
-use Rattle.own_model.specs.Transcript.{longest_line}
 use Rattle.own_model.specs.World.{World}
 use Rattle.line_friendly.specs.Expected.{meets}
-use Rattle.line_friendly.specs.Friendly.{FriendlyLine, arrow_of, end_of, said_of}
-use Rattle.line_friendly.specs.Friendly.FriendlyLine.{Nothing, Log, Call}
-use Rattle.line_friendly.specs.declared.fault.FriendlyFault.{FriendlyFault}
-use Rattle.line_names.specs.Filling.{FilledLine, filled, is_dollar}
-use Rattle.line_names.specs.declared.fault.NameFault.{NameFault}
+use Rattle.line_friendly.specs.Friendly.{arrow_of, end_of}
+use Rattle.line_names.specs.Filling.{is_dollar}
 use Rattle.run_record.specs.RecordedCalls.{Event, RecordedCall, Meeting, events, first_recording}
 use Rattle.run_record.specs.RecordedCalls.Meeting.{Logs, Hears}
 
@@ -52,22 +50,14 @@ verdict reply = if meets reply (codes "refused") then codes "refused" else codes
 
 -- ---- what holds in one step
 
--- the parsed line is this call, and its expectation matches the reply
-abbrev pub says_met : RecordedCall → Result FriendlyLine FriendlyFault → Bool
-says_met hearing (Ok Nothing) = false
-says_met hearing (Ok (Log text)) = false
-says_met hearing (Ok (Call said None)) = false
-says_met hearing (Ok (Call said (Some expected))) = bytes_eq said hearing.call && meets hearing.reply expected
-says_met hearing (Err fault) = false
-
-abbrev pub reads_met : RecordedCall → Result FilledLine NameFault → Bool
-reads_met hearing (Ok line) = says_met hearing (said_of line.line)
-reads_met hearing (Err fault) = false
+-- a line is this call, and its expectation matches the reply
+abbrev pub is_met_by : RecordedCall → ResolvedLine → Bool
+is_met_by hearing (Call filled call (Some expected)) = bytes_eq call hearing.call && meets hearing.reply expected
+is_met_by hearing resolved = false
 
 -- a line in place of this one holds, with the names of then
 abbrev pub is_met : RecordedCall → List ℕ → Bool
-is_met hearing line =
-    if nat_le (length line) longest_line then reads_met hearing (filled hearing.known line) else false
+is_met hearing line = is_met_by hearing (resolved_line None hearing.known line)
 
 -- and so are these log lines before it
 unfoldable pub holds : List ℕ → List ℕ → RecordedCall → Bool

@@ -1,50 +1,17 @@
 -- The answers to the calls of a scenario, each in the step of its line.
-use Rattle.std.specs.Prelude.{ℕ, ◌&&◌, not, Bool, true, false, is_some, List, [], ◌∷◌, ◌++◌, length, nat_le, nat_lt, if◌then◌else◌, Option, Some, None, Result, Ok, Err}
+use Rattle.std.specs.Prelude.{ℕ, ◌&&◌, not, Bool, false, true, is_some, List, [], ◌∷◌, ◌++◌, length, nat_lt, if◌then◌else◌, Option, None}
 use Rattle.std.specs.List.{flat_map}
 use Rattle.own_model.specs.Reply.{log_text, reply_text}
-use Rattle.own_model.specs.Transcript.{heard, longest_line}
+use Rattle.own_model.specs.Transcript.{heard}
 use Rattle.own_model.specs.World.{World}
-use Rattle.line_friendly.specs.Friendly.{FriendlyLine, said_of}
-use Rattle.line_friendly.specs.Friendly.FriendlyLine.{Nothing, Log, Call}
-use Rattle.line_friendly.specs.declared.fault.FriendlyFault.{FriendlyFault}
+use Rattle.line_steps.specs.ResolvedLines.{ResolvedLine, resolved_line}
+use Rattle.line_steps.specs.ResolvedLines.ResolvedLine.{Follow, Log, Call}
 use Rattle.line_steps.specs.RunPosition.{RunPosition, arrived, position_following, passed}
 use Rattle.run_lines.specs.Answer.{answered_reply, finished_lines}
 use Rattle.run_lines.specs.Answered.{after_all}
-use Rattle.line_names.specs.Directives.{Directive, directive_of}
-use Rattle.line_names.specs.Filling.{FilledLine, filled}
+use Rattle.line_names.specs.Filling.{FilledLine}
 use Rattle.line_names.specs.NameTable.{NameTable}
 use Rattle.line_names.specs.Learning.{learnt}
-use Rattle.line_names.specs.declared.fault.NameFault.{NameFault}
-
--- ---- lines
-
--- what a line is in its step: nothing that is answered, or it can't be parsed; a directive; a log line that is expected; or the
--- engine's line of a call, and the expected reply
-pub data RecordedLine : Type 0 where
-  Passes : RecordedLine
-  Follows : Directive → RecordedLine
-  Awaits : RecordedLine
-  Calls : FilledLine → List ℕ → Option (List ℕ) → RecordedLine
-
-abbrev pub deed_said : FilledLine → Result FriendlyLine FriendlyFault → RecordedLine
-deed_said filled (Ok Nothing) = Passes
-deed_said filled (Ok (Log text)) = Awaits
-deed_said filled (Ok (Call call reply)) = Calls filled call reply
-deed_said filled (Err fault) = Passes
-
-abbrev pub deed_by : FilledLine → Option Directive → RecordedLine
-deed_by filled (Some directive) = Follows directive
-deed_by filled None = deed_said filled (said_of filled.line)
-
-abbrev pub deed_filled : Result FilledLine NameFault → RecordedLine
-deed_filled (Ok filled) = deed_by filled (directive_of filled.line)
-deed_filled (Err fault) = Passes
-
--- by the values of names
-abbrev pub deed_of : NameTable → List ℕ → RecordedLine
-deed_of known line = if nat_le (length line) longest_line then deed_filled (filled known line) else Passes
-
--- ---- a run
 
 -- the position in the scenario, the world, and whether log lines are expected of the next call
 pub record RecordingState : Type 0 where
@@ -69,15 +36,15 @@ abbrev pub line_passed : RecordingState → RecordingState
 line_passed stage = record stage { stand = passed stage.stand }
 
 -- and was run
-abbrev pub recording_after : RecordingState → RecordedLine → RecordingState
-recording_after stage Passes = stage
-recording_after stage (Follows directive) = record stage { stand = position_following stage.stand directive }
-recording_after stage Awaits = record stage { awaits = true }
-recording_after stage (Calls filled call reply) = record {
+abbrev pub recording_after : RecordingState → ResolvedLine → RecordingState
+recording_after stage (Follow directive) = record stage { stand = position_following stage.stand directive }
+recording_after stage (Log text) = record stage { awaits = true }
+recording_after stage (Call filled call reply) = record {
   stand = record stage.stand { known = learnt stage.stand.known filled (reply_in stage.world call) };
   world = after_all None stage.world (call ∷ []);
   awaits = false;
 }
+recording_after stage resolved = stage
 
 -- an answered call: the values of names before it, whether its reply binds a name, whether a reply is expected, the engine's
 -- line, its reply, and the log lines to be expected of it
@@ -111,12 +78,11 @@ hearing_of all stage filled call reply = record {
 }
 
 -- the result of the line of a number by what it is
-abbrev pub events_in : Bool → ℕ → RecordingState → RecordedLine → List Event
-events_in all number stage Passes = []
-events_in all number stage (Follows directive) = []
-events_in all number stage Awaits = record { number = number; meeting = Logs } ∷ []
-events_in all number stage (Calls filled call reply) =
+abbrev pub events_in : Bool → ℕ → RecordingState → ResolvedLine → List Event
+events_in all number stage (Log text) = record { number = number; meeting = Logs } ∷ []
+events_in all number stage (Call filled call reply) =
     record { number = number; meeting = Hears (hearing_of all stage filled call reply) } ∷ []
+events_in all number stage resolved = []
 
 -- rounds begin or end there
 abbrev pub rounds_passed : RecordingState → RecordingState
@@ -124,10 +90,10 @@ rounds_passed stage = record stage { stand = arrived stage.stand }
 
 -- after a line of the scenario
 abbrev pub recording_behind : RecordingState → List ℕ → RecordingState
-recording_behind stage line = rounds_passed (recording_after (line_passed stage) (deed_of stage.stand.known line))
+recording_behind stage line = rounds_passed (recording_after (line_passed stage) (resolved_line None stage.stand.known line))
 
 -- all results of lines from a state on
 abbrev pub events : Bool → RecordingState → List (List ℕ) → List Event
 events all stage [] = []
 events all stage (line ∷ lines) =
-    events_in all stage.stand.number stage (deed_of stage.stand.known line) ++ events all (recording_behind stage line) lines
+    events_in all stage.stand.number stage (resolved_line None stage.stand.known line) ++ events all (recording_behind stage line) lines

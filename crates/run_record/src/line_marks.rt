@@ -7,8 +7,9 @@ ghost use Rattle.run_record.specs.Views.{recorded_call_view, mark_view, marks_vi
 
 use crate::line_record::LineRecord;
 use crate::pieces::first_piece;
-use crate::recorded_call::{CheckBuffers, RecordedCall};
+use crate::recorded_call::RecordedCall;
 use crate::recorded_text::RecordedText;
+use line_steps::LineBuffers;
 use std::alloc::{AllocError, Global};
 
 /// A line of a scenario, and its results.
@@ -27,7 +28,7 @@ pub(crate) struct LineMarks<'a> {
     alloc: Global,
     marks: Vec<LineMark<'a>>,
     // Buffers for lines that are written and then checked.
-    rooms: CheckBuffers,
+    buffers: LineBuffers,
 }
 
 impl<'a> LineMarks<'a> {
@@ -50,7 +51,7 @@ impl<'a> LineMarks<'a> {
         Ok(LineMarks {
             alloc,
             marks,
-            rooms: CheckBuffers::new(),
+            buffers: LineBuffers::new(),
         })
     }
 
@@ -84,7 +85,7 @@ impl<'a> LineMarks<'a> {
             return Ok(());
         };
         match self.marks.get_mut(place as usize) {
-            Some(mark) => mark.hear(self.alloc, hearing, &mut self.rooms),
+            Some(mark) => mark.hear(self.alloc, hearing, &mut self.buffers),
             None => Ok(()),
         }
     }
@@ -108,7 +109,7 @@ impl LineMark<'_> {
         &mut self,
         alloc: Global,
         hearing: &RecordedCall<'_, '_>,
-        rooms: &mut CheckBuffers,
+        buffers: &mut LineBuffers,
     ) -> Result<(), AllocError>
         ensures { OnOk result (mark_view self.new
             ≡ marked (mark_view self.old) (Hears (recorded_call_view hearing.now))) }
@@ -117,7 +118,7 @@ impl LineMark<'_> {
             Some(note) => note,
             None => LineRecord::new(alloc, hearing)?,
         };
-        note.hear(alloc, self.line, hearing, rooms)?;
+        note.hear(alloc, self.line, hearing, buffers)?;
         self.note = Some(note);
         Ok(())
     }

@@ -4,9 +4,10 @@ ghost use Rattle.run_record.specs.LineRecords.{record_of_first, record_of_more};
 ghost use Rattle.run_record.specs.Recorded.{anew, stays, verdict, written_anew};
 ghost use Rattle.run_record.specs.Views.{recorded_call_view, line_by, note_view};
 
-use crate::recorded_call::{CheckBuffers, RecordedCall};
+use crate::recorded_call::RecordedCall;
 use crate::writing::{expecting, put_expected, put_kept};
 use line_friendly::meets;
+use line_steps::LineBuffers;
 use std::alloc::{AllocError, Global};
 
 /// The record of all steps of a line.
@@ -63,7 +64,7 @@ impl LineRecord {
         alloc: Global,
         line: &[u8],
         hearing: &RecordedCall<'_, '_>,
-        rooms: &mut CheckBuffers,
+        buffers: &mut LineBuffers,
     ) -> Result<(), AllocError>
         ensures { OnOk result (note_view self.new
             ≡ record_of_more line.now (note_view self.old) (recorded_call_view hearing.now)) }
@@ -71,9 +72,9 @@ impl LineRecord {
         let exact = expecting(alloc, line, self.reply.as_slice())?;
         let told = expecting(alloc, line, verdict(self.reply.as_slice()))?;
         let lines = self.lines.as_slice();
-        let own_holds = self.own && hearing.holds(lines, line, rooms);
-        let exact_holds = self.exact && hearing.holds(lines, exact.as_slice(), rooms);
-        let told_holds = self.told && hearing.holds(lines, told.as_slice(), rooms);
+        let own_holds = self.own && hearing.holds(lines, line, buffers);
+        let exact_holds = self.exact && hearing.holds(lines, exact.as_slice(), buffers);
+        let told_holds = self.told && hearing.holds(lines, told.as_slice(), buffers);
         self.expects = self.expects || hearing.expects;
         self.binds = self.binds || hearing.binds;
         self.own = own_holds;

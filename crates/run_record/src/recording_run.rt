@@ -1,31 +1,29 @@
 //! The run of a scenario that is recorded.
-ghost use Rattle.std.specs.Prelude.{◌≡◌, ◌∷◌, [], None, false, OnOk, IfOk, IfErr, length, nat_lt, if◌then◌else◌};
-ghost use Rattle.std.specs.Option.{option_copied};
+ghost use Rattle.std.specs.Prelude.{◌≡◌, [], None, false, OnOk, IfOk, IfErr, is_some, length, nat_lt, if◌then◌else◌};
 ghost use Rattle.list_parser.specs.declared.fault.BootFault.TheVariants.{NoMemory};
-ghost use Rattle.line_friendly.specs.Friendly.{said_of};
-ghost use Rattle.line_names.specs.Views.{directive_view, filled_view};
+ghost use Rattle.line_grammar.specs.Read.{IsReadAs};
+ghost use Rattle.line_names.specs.Views.{filled_view};
+ghost use Rattle.line_steps.specs.ResolvedLines.{resolved_line};
+ghost use Rattle.line_steps.specs.ResolvedViews.{call_view};
 ghost use Rattle.run_record.specs.Marked.{StepsTo, all_marked, marks_after};
-ghost use Rattle.run_record.specs.RecordedCalls.{deed_of, deed_said, events, events_in, recording_behind};
-ghost use Rattle.run_record.specs.RecordedCalls.RecordedLine.{Calls, Follows};
+ghost use Rattle.run_record.specs.RecordedCalls.{events, events_in, recording_behind};
 ghost use Rattle.run_record.specs.RecordedCalls.Meeting.{Hears};
 ghost use Rattle.run_record.specs.Recorded.{pieces_of, without_last, written_lines};
 ghost use Rattle.run_record.specs.Views.{marks_view, recording_in};
 ghost use Rattle.own_model.specs.Listed.{start_list_of};
 ghost use Rattle.own_model.specs.StartList.{entries_of};
-ghost use Rattle.own_model.specs.World.{World};
 
 use crate::line_marks::LineMarks;
 use crate::pieces::first_piece;
-use crate::recorded_call::{CheckBuffers, RecordedCall};
+use crate::recorded_call::RecordedCall;
 use crate::recording::Recording;
-use crate::unread_line::{UnreadLine, UnreadReason, column_of};
+use crate::unread_line::{UnreadLine, UnreadReason};
 use core_calls::Reply;
-use line_friendly::{FriendlyFault, FriendlyLine, LineBuffer, read_friendly};
-use line_names::{Directive, FilledLine, NameTable, directive_of, fill, source_column};
-use line_steps::RunPosition;
+use line_names::NameTable;
+use line_steps::{LineBuffers, ResolvedLine, RunPosition, ScenarioCall, resolve};
 use list_parser::{BootFault, StartList};
 use pd_core::{Core, Router};
-use run_lines::{LONGEST_LINE, LineAnswer, LineDispatcher};
+use run_lines::{LineAnswer, LineDispatcher};
 use std::alloc::{AllocError, Global};
 
 /// The run of a scenario that is recorded.
@@ -78,11 +76,11 @@ impl<'a, 'm> RecordingRun<'a, 'm> {
             (events self.old.all (recording_in self.old.stand self.old.awaits core.old) (pieces_of scenario.now))
             (marks_view self.old.marks.marks.items)) }
     {
-        let mut rooms = CheckBuffers::new();
+        let mut buffers = LineBuffers::new();
         let mut rest = Some(scenario);
         while let Some(text) = rest {
             let (line, behind) = first_piece(text);
-            self.play(list, core, line, &mut rooms)?;
+            self.play(list, core, line, &mut buffers)?;
             rest = behind;
         }
         Ok(())
@@ -94,7 +92,7 @@ impl<'a, 'm> RecordingRun<'a, 'm> {
         list: &StartList,
         core: &mut Core<R>,
         line: &[u8],
-        rooms: &mut CheckBuffers,
+        buffers: &mut LineBuffers,
     ) -> Result<(), AllocError>
         requires listed { core.old.entries ≡ entries_of (start_list_of list.now) }
         ensures all { self.new.all ≡ self.old.all }
@@ -102,10 +100,10 @@ impl<'a, 'm> RecordingRun<'a, 'm> {
             ≡ recording_behind (recording_in self.old.stand self.old.awaits core.old) line.now) }
         ensures marks { OnOk result (marks_view self.new.marks.marks.items ≡ all_marked
             (events_in self.old.all self.old.stand.number (recording_in self.old.stand self.old.awaits core.old)
-            (deed_of self.old.stand.known line.now)) (marks_view self.old.marks.marks.items)) }
+            (resolved_line None self.old.stand.known line.now)) (marks_view self.old.marks.marks.items)) }
     {
         let number = self.stand.pass();
-        self.run_passed(list, core, number, line, rooms)?;
+        self.run_passed(list, core, number, line, buffers)?;
         self.stand.arrive()
     }
 
@@ -116,122 +114,64 @@ impl<'a, 'm> RecordingRun<'a, 'm> {
         core: &mut Core<R>,
         number: u64,
         line: &[u8],
-        rooms: &mut CheckBuffers,
+        buffers: &mut LineBuffers,
     ) -> Result<(), AllocError>
         requires listed { core.old.entries ≡ entries_of (start_list_of list.now) }
         ensures all { self.new.all ≡ self.old.all }
         ensures turned { OnOk result (StepsTo self.old.all number
-            (deed_of self.old.stand.known line.now)
+            (resolved_line None self.old.stand.known line.now)
             (recording_in self.old.stand self.old.awaits core.old) (recording_in self.new.stand self.new.awaits core.new)
             (marks_view self.old.marks.marks.items) (marks_view self.new.marks.marks.items)) }
     {
-        if line.len() > LONGEST_LINE {
-            return self.miss(number, UnreadReason::TooLong);
-        }
-        match fill(line, self.stand.known(), &mut rooms.filled) {
-            Ok(filled) => match directive_of(filled.line) {
-                Some(directive) => self.follow(number, line, directive),
-                None => self.run_filled(list, core, number, line, &filled, &mut rooms.read),
-            },
-            Err(fault) => self.miss(number, UnreadReason::Name(fault)),
-        }
-    }
-
-    // Follows a directive, or records why it can't be followed.
-    fn follow(
-        &mut self,
-        number: u64,
-        line: &[u8],
-        directive: Directive<'_>,
-    ) -> Result<(), AllocError>
-        ensures all { self.new.all ≡ self.old.all }
-        ensures turned { (world : World) → OnOk result (StepsTo self.old.all number
-            (Follows (directive_view directive.entry))
-            (recording_in self.old.stand self.old.awaits world) (recording_in self.new.stand self.new.awaits world)
-            (marks_view self.old.marks.marks.items) (marks_view self.new.marks.marks.items)) }
-    {
-        match directive.misplaced() {
-            Some(why) => self.miss(number, UnreadReason::Misplaced(column_of(line), why)),
-            None => self.stand.follow(directive),
-        }
-    }
-
-    // Runs a filled line that is no directive.
-    fn run_filled<R: Router + Drop>(
-        &mut self,
-        list: &StartList,
-        core: &mut Core<R>,
-        number: u64,
-        line: &[u8],
-        filled: &FilledLine<'_>,
-        room: &mut LineBuffer,
-    ) -> Result<(), AllocError>
-        requires listed { core.old.entries ≡ entries_of (start_list_of list.now) }
-        ensures all { self.new.all ≡ self.old.all }
-        ensures turned { OnOk result (StepsTo self.old.all number
-            (deed_said (filled_view filled.now) (said_of filled.now.line.now))
-            (recording_in self.old.stand self.old.awaits core.old) (recording_in self.new.stand self.new.awaits core.new)
-            (marks_view self.old.marks.marks.items) (marks_view self.new.marks.marks.items)) }
-    {
-        match read_friendly(filled.line, room) {
-            Ok(FriendlyLine::Nothing) => Ok(()),
-            Ok(FriendlyLine::Log(_)) => {
+        match resolve(None, self.stand.known(), line, buffers) {
+            ResolvedLine::TooLong => self.miss(number, UnreadReason::TooLong),
+            ResolvedLine::Skipped => Ok(()),
+            ResolvedLine::BadName(fault) => self.miss(number, UnreadReason::Name(fault)),
+            ResolvedLine::Directive(directive) => self.stand.follow(directive),
+            ResolvedLine::Misplaced(column, why) => {
+                self.miss(number, UnreadReason::Misplaced(column, why))
+            }
+            ResolvedLine::Nothing => Ok(()),
+            ResolvedLine::Log(_) => {
                 self.awaits = true;
                 self.marks.log(number);
                 Ok(())
             }
-            Ok(
-                FriendlyLine::Call {
-                    line: call,
-                    reply,
-                    ..
-                },
-            ) => self.run_call(list, core, number, filled, call, reply),
-            Err(fault) => {
-                let column = source_column(line, self.stand.known(), fault.column);
-                self.miss(
-                    number,
-                    UnreadReason::Fault(FriendlyFault { column, ..fault }),
-                )
-            }
+            ResolvedLine::Call(call) => self.run_call(list, core, number, &call),
+            ResolvedLine::BadLine(fault) => self.miss(number, UnreadReason::Fault(fault)),
         }
     }
 
-    // Runs a call with its expected reply, if it has one.
-    fn run_call<'x, R: Router + Drop>(
-        &'x mut self,
-        list: &'x StartList,
+    // Runs the call of a line of this number.
+    fn run_call<R: Router + Drop>(
+        &mut self,
+        list: &StartList,
         core: &mut Core<R>,
         number: u64,
-        filled: &FilledLine<'_>,
-        call: &'x [u8],
-        expected: Option<&[u8]>,
+        call: &ScenarioCall<'_>,
     ) -> Result<(), AllocError>
         requires listed { core.old.entries ≡ entries_of (start_list_of list.now) }
+        requires read { IsReadAs call.now.line.now call.now.call }
         ensures all { self.new.all ≡ self.old.all }
-        ensures turned { OnOk result (StepsTo self.old.all number
-            (Calls (filled_view filled.now) call.now (option_copied expected.entry))
+        ensures turned { OnOk result (StepsTo self.old.all number (call_view call.now)
             (recording_in self.old.stand self.old.awaits core.old) (recording_in self.new.stand self.new.awaits core.new)
             (marks_view self.old.marks.marks.items) (marks_view self.new.marks.marks.items)) }
     {
         let run = LineDispatcher { list, only: None };
-        let Some(answer) = run.answer(core, call, &mut self.reply) else {
+        let Some(answer) = run.answer_read(core, call.line, call.call, &mut self.reply) else {
             return Ok(());
         };
         let reply = answer.reply;
         let lines = lines_for(self.awaits && !self.all, answer);
-        let expects = expected.is_some();
         record_call(
             &mut self.marks,
             number,
             self.stand.known(),
-            filled,
-            expects,
             call,
             reply,
             lines,
         )?;
-        self.stand.learn(filled, reply)?;
+        self.stand.learn(&call.filled, reply)?;
         self.awaits = false;
         Ok(())
     }
@@ -262,23 +202,21 @@ impl<'a, 'm> RecordingRun<'a, 'm> {
 }
 
 // Records the line of a number as a call with its reply.
-fn record_call<'x>(
+fn record_call(
     marks: &mut LineMarks<'_>,
     number: u64,
     known: &NameTable,
-    filled: &FilledLine<'_>,
-    expects: bool,
-    call: &'x [u8],
-    reply: &'x [u8],
-    lines: &'x [u8],
+    call: &ScenarioCall<'_>,
+    reply: &[u8],
+    lines: &[u8],
 ) -> Result<(), AllocError>
     ensures { OnOk result (marks_view marks.new.marks.items ≡ marks_after 1 (record {
       number = number;
       meeting = Hears (record {
         known = known.now;
-        binds = nat_lt 0 (length (filled_view filled.now).holes);
-        expects = expects;
-        call = call.now;
+        binds = nat_lt 0 (length (filled_view call.now.filled).holes);
+        expects = is_some call.now.reply;
+        call = call.now.line.now;
         reply = reply.now;
         lines = lines.now;
       });
@@ -286,9 +224,9 @@ fn record_call<'x>(
 {
     let hearing = RecordedCall {
         known,
-        binds: !filled.holes.is_empty(),
-        expects,
-        call,
+        binds: !call.filled.holes.is_empty(),
+        expects: call.reply.is_some(),
+        call: call.line,
         reply,
         lines,
     };

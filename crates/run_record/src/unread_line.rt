@@ -1,6 +1,6 @@
 //! Lines that can't be parsed.
 
-use line_friendly::{FriendlyFault, trimmed_line};
+use line_friendly::FriendlyFault;
 use line_names::{DirectiveFault, NameFault};
 use std::fmt;
 
@@ -60,11 +60,4 @@ pub struct UnreadLine {
     pub number: u64,
     /// The reason why it can't be parsed.
     pub why: UnreadReason,
-}
-
-/// Returns the column of a line's first character, from 1 on.
-pub(crate) fn column_of(line: &[u8]) -> usize {
-    line.len()
-        .saturating_sub(trimmed_line(line).len())
-        .saturating_add(1)
 }

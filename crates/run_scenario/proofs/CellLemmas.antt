@@ -44,7 +44,7 @@ pub ruleset plain_numbers = (plain_cell)
 -- ---- cells
 
 -- a cell, and then others
-cell_then : (old x : List ℕ) (xs : List (List ℕ)) → old ++ fields_text default_writer (x ∷ xs) ≡ (old ++ cell_text x) ++ fields_text default_writer xs
+pub cell_then : (old x : List ℕ) (xs : List (List ℕ)) → old ++ fields_text default_writer (x ∷ xs) ≡ (old ++ cell_text x) ++ fields_text default_writer xs
 unfolding fields_text
 cell_then old x xs = sym (append_assoc old (cell_text x) (fields_text default_writer xs))
 
@@ -71,7 +71,7 @@ cells_more (x ∷ xs) ys =
     ap (λ text. cell_text x ++ text) (cells_more xs ys) ∙ sym (append_assoc (cell_text x) (fields_text default_writer xs) (fields_text default_writer ys))
 
 -- one cell behind cells
-last_cell : (xs : List (List ℕ)) (x : List ℕ) → fields_text default_writer xs ++ cell_text x ≡ fields_text default_writer (xs ++ x ∷ [])
+pub last_cell : (xs : List (List ℕ)) (x : List ℕ) → fields_text default_writer xs ++ cell_text x ≡ fields_text default_writer (xs ++ x ∷ [])
 last_cell xs x = sym (cells_more xs (x ∷ []) ∙ cell_then (fields_text default_writer xs) x [] ∙ none_then (fields_text default_writer xs ++ cell_text x))
 
 -- ---- a text in quotes

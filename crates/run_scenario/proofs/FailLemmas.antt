@@ -1,15 +1,10 @@
 -- Which faults come, and whether a write has failed then.
 use Rattle.std.proofs.Common.{◌≡◌, Bool, true, false, ◌||◌, List, ℕ, Some, None, Result, Ok, Err, IfErr, IsErrAnd, OnErr, refl, sym, ◌∙◌, ap}
 use Rattle.std.proofs.Math.Bool.{or-true}
-use Rattle.line_friendly.specs.Friendly.{FriendlyLine, said_of}
-use Rattle.line_friendly.specs.declared.fault.FriendlyFault.{FriendlyFault}
 use Rattle.run_lines.specs.Next.{AllWork}
-use Rattle.run_scenario.specs.Faults.{fault_before, takes_memory, reading_takes_memory}
+use Rattle.run_scenario.specs.Faults.{fault_before}
 use Rattle.run_lines.specs.Faults.{Fails}
 use Rattle.run_lines.proofs.FaultLemmas.{or_first}
-use Rattle.line_names.specs.Filling.{FilledLine}
-use Rattle.run_scenario.specs.LineSteps.{binds_names}
-use Rattle.run_scenario.specs.LineSteps.ResolvedLine.{Says}
 use Rattle.run_lines.specs.declared.line_run_fault.LineRunFault.{LineRunFault}
 use Rattle.run_lines.specs.declared.line_run_fault.LineRunFault.TheVariants.{ReadFault, WriteFault, TooManyLines, NoMemory}
 
@@ -28,11 +23,6 @@ fails_before A T WriteFault a b takes more works fails wider = or_first a b work
 fails_before A T TooManyLines a b takes more works fails wider = fails
 fails_before A T NoMemory a b takes more works fails wider = (or_first a b works ∙ fails.0, wider fails.1)
 
--- want of room alone
-pub fails_for_room : {T : Type 0} (r : Result T LineRunFault) (failed takes : Bool) → failed ≡ false → takes ≡ true → IfErr r (λ fault. fault ≡ NoMemory) → Fails r failed takes
-fails_for_room (Ok done) failed takes works room is = works
-fails_for_room (Err fault) failed takes works room is = rw is (works, room)
-
 -- where rounds begin or end behind what failed, or didn't
 pub fails_crossing : {T : Type 0} (r : Result T LineRunFault) (failed takes due crosses : Bool) → failed ≡ false → IfErr r (λ fault. fault ≡ NoMemory) → OnErr r (due ≡ true) → due ≡ crosses → Fails r failed (takes || crosses)
 fails_crossing (Ok done) failed takes due crosses works room cross same = works
@@ -44,14 +34,6 @@ fails_or T WriteFault failed takes crosses fails = fails
 fails_or T TooManyLines failed takes crosses fails = fails
 fails_or T NoMemory failed takes crosses fails = (fails.0, ap (λ b. b || crosses) fails.1)
 
--- what takes no room fails for want of none
-pub fails_wider : {T : Type 0} (r : Result T LineRunFault) (failed takes : Bool) → Fails r failed false → Fails r failed takes
-fails_wider (Ok done) failed takes fails = fails
-fails_wider (Err ReadFault) failed takes fails = fails
-fails_wider (Err WriteFault) failed takes fails = fails
-fails_wider (Err TooManyLines) failed takes fails = fails
-fails_wider (Err NoMemory) failed takes fails = absurd (let e : false ≡ true = fails.1 in cc)
-
 -- a fault that is handed on
 pub unwritten : {T : Type 0} (r : Result T LineRunFault) (failed takes : Bool) → IsErrAnd r (λ fault. fault ≡ WriteFault) → failed ≡ true → Fails r failed takes
 unwritten (Ok done) failed takes is fails = absurd is
@@ -60,17 +42,6 @@ unwritten (Err fault) failed takes is fails = rw is fails
 pub roomless : {T : Type 0} (r : Result T LineRunFault) (failed takes : Bool) → IsErrAnd r (λ fault. fault ≡ NoMemory) → failed ≡ false → takes ≡ true → Fails r failed takes
 roomless (Ok done) failed takes is works room = absurd is
 roomless (Err fault) failed takes is works room = rw is (works, room)
-
-pub roomless_on : {T : Type 0} (r : Result T LineRunFault) (failed takes : Bool) {e : LineRunFault} → IsErrAnd r (λ fault. fault ≡ e) → e ≡ NoMemory → failed ≡ false → takes ≡ true → Fails r failed takes
-roomless_on (Ok done) failed takes is room works more = absurd is
-roomless_on (Err fault) failed takes is room works more = rw (is, room) (works, more)
-
-pub line_takes : (calls : Bool) (f : FilledLine) (line : List ℕ) (said : Result FriendlyLine FriendlyFault) → said ≡ said_of line → reading_takes_memory calls said ≡ true → takes_memory calls (Says f (said_of line)) ≡ true
-line_takes calls f line said is takes = ap (λ b. b || binds_names f) (ap (reading_takes_memory calls) (sym is) ∙ takes)
-
--- and what its reply binds
-pub holes_take : (calls : Bool) (f : FilledLine) (said : Result FriendlyLine FriendlyFault) → binds_names f ≡ true → takes_memory calls (Says f said) ≡ true
-holes_take calls f said some = ap (λ b. reading_takes_memory calls said || b) some ∙ or-true (reading_takes_memory calls said)
 
 -- devices of which none had failed
 pub all_work : (read_failed write_failed complaint_failed : Bool) → fault_before read_failed (write_failed || complaint_failed) ≡ None → AllWork read_failed write_failed complaint_failed

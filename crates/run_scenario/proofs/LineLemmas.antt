@@ -1,9 +1,9 @@
 -- A line that is played: what it says is answered and told, or nothing changes, and then it is judged.
 use Rattle.std.proofs.Common.{◌≡◌, ℕ, ◌&&◌, ◌||◌, Bool, true, false, List, [], ◌∷◌, ◌++◌, append-nil, is_some, Option, Some, None, Result, Ok, Err, IfOk, OnOk, refl, sym, ◌∙◌, ap, subst}
+use Rattle.std.proofs.lemmas.Bool.{or_left}
 use Rattle.own_model.specs.LinesOfName.{said_by}
 use Rattle.own_model.specs.Transcript.{heard}
 use Rattle.own_model.specs.World.{World, world_running}
-use Rattle.line_friendly.specs.Friendly.FriendlyLine.{Nothing, Log, Call}
 use Rattle.run_lines.specs.Answer.{IsAnswer}
 use Rattle.run_lines.specs.Answered.{after_all}
 use Rattle.run_lines.specs.Faults.{Fails}
@@ -15,8 +15,9 @@ use Rattle.run_scenario.specs.Faults.{takes_memory}
 use Rattle.run_scenario.specs.CallAnswers.{ReportsCalls, IsAnsweredCall, IsAnsweredAs, answer_of}
 use Rattle.run_scenario.specs.Judging.{AnswersIn, Awaited, IsJudged, awaited_after, is_complained}
 use Rattle.run_scenario.specs.ScenarioRuns.{RunsLine, Point, point}
-use Rattle.run_scenario.specs.LineSteps.{Arrives, ResolvedLine, calls_in, binds_names, stand_after}
-use Rattle.run_scenario.specs.LineSteps.ResolvedLine.{TooLong, Unnamed, Follows, Says}
+use Rattle.line_steps.specs.ResolvedLines.{ResolvedLine}
+use Rattle.run_scenario.specs.LineSteps.{Arrives, calls_in, binds_names, stand_after}
+use Rattle.line_steps.specs.ResolvedLines.ResolvedLine.{TooLong, Skipped, BadName, Follow, Misplaced, Nothing, Log, Call, BadLine}
 use Rattle.run_scenario.specs.Observation.{IsAnsweredAfter, Watches}
 use Rattle.line_steps.specs.RunPosition.{RunPosition, arrived, crosses, passed}
 use Rattle.run_scenario.specs.declared.call_observer.ObservedCall.{ObservedCall}
@@ -24,7 +25,8 @@ use Rattle.run_scenario.proofs.FailLemmas.{fails_before, fails_beside}
 use Rattle.run_scenario.proofs.PlayedLemmas.{told_of_one}
 use Rattle.run_scenario.proofs.TurnLemmas.{stands_answered}
 
-on_ok : {T E : Type 0} {P : Type 0} (r : Result T E) → P → OnOk r P
+-- what is so is so of what succeeded
+pub on_ok : {T E : Type 0} {P : Type 0} (r : Result T E) → P → OnOk r P
 on_ok (Ok done) p = p
 on_ok (Err fault) p = tt
 
@@ -95,32 +97,36 @@ answers_in only world number calls (Some it) is = (it.line.now, is.said, is.answ
 answers_in only world number calls None none = none
 
 -- what takes room without its call takes some
-takes_wider : (calls : Bool) (deed : ResolvedLine) → takes_memory false deed ≡ true → takes_memory calls deed ≡ true
+takes_wider : (calls : Bool) (resolved : ResolvedLine) → takes_memory false resolved ≡ true → takes_memory calls resolved ≡ true
 takes_wider calls TooLong takes = takes
-takes_wider calls (Unnamed fault) takes = takes
-takes_wider calls (Follows directive) takes = takes
-takes_wider calls (Says f (Ok Nothing)) takes = takes
-takes_wider calls (Says f (Ok (Log text))) takes = takes
-takes_wider true (Says f (Ok (Call line reply))) takes = refl
-takes_wider false (Says f (Ok (Call line reply))) takes = takes
-takes_wider calls (Says f (Err fault)) takes = takes
+takes_wider calls Skipped takes = takes
+takes_wider calls (BadName fault) takes = takes
+takes_wider calls (Follow directive) takes = takes
+takes_wider calls (Misplaced column) takes = takes
+takes_wider calls Nothing takes = takes
+takes_wider calls (Log text) takes = takes
+takes_wider true (Call f line reply) takes = refl
+takes_wider false (Call f line reply) takes = takes
+takes_wider calls (BadLine fault) takes = takes
 
 -- and so does a call that is told, where that takes some
-told_takes : (only : Option (List ℕ)) (world : World) (number : ℕ) (calls : Bool) (deed : ResolvedLine) (o : Option ObservedCall) → IsAnsweredCall only world number (calls_in deed) o → (is_some o && calls) ≡ true → takes_memory calls deed ≡ true
-told_takes only world number calls deed None none takes = absurd (let e : false ≡ true = takes in cc)
-told_takes only world number calls deed (Some it) is takes = of deed is.said
+told_takes : (only : Option (List ℕ)) (world : World) (number : ℕ) (calls : Bool) (resolved : ResolvedLine) (o : Option ObservedCall) → IsAnsweredCall only world number (calls_in resolved) o → (is_some o && calls) ≡ true → takes_memory calls resolved ≡ true
+told_takes only world number calls resolved None none takes = absurd (let e : false ≡ true = takes in cc)
+told_takes only world number calls resolved (Some it) is takes = of resolved is.said
   where
     unsaid : {A : Type 0} → said_by only [] ≡ it.line.now ∷ [] → A
     unsaid said = absurd (let e : [] ≡ it.line.now ∷ [] = sym (said_none only) ∙ said in cc)
 
-    of : (deed : ResolvedLine) → said_by only (calls_in deed) ≡ it.line.now ∷ [] → takes_memory calls deed ≡ true
+    of : (resolved : ResolvedLine) → said_by only (calls_in resolved) ≡ it.line.now ∷ [] → takes_memory calls resolved ≡ true
     of TooLong said = unsaid said
-    of (Unnamed fault) said = unsaid said
-    of (Follows directive) said = unsaid said
-    of (Says f (Ok Nothing)) said = unsaid said
-    of (Says f (Ok (Log text))) said = unsaid said
-    of (Says f (Ok (Call line reply))) said = ap (λ b. b || binds_names f) takes
-    of (Says f (Err fault)) said = unsaid said
+    of Skipped said = unsaid said
+    of (BadName fault) said = unsaid said
+    of (Follow directive) said = unsaid said
+    of (Misplaced column) said = unsaid said
+    of Nothing said = unsaid said
+    of (Log text) said = unsaid said
+    of (Call f line reply) said = ap (λ b. b || binds_names f) takes
+    of (BadLine fault) said = unsaid said
 
 -- and where rounds begin or end behind a line that takes some too
 or_wider : (a b c : Bool) → (a ≡ true → b ≡ true) → (a || c) ≡ true → (b || c) ≡ true
@@ -128,44 +134,41 @@ or_wider true b c wider takes = ap (λ x. x || c) (wider refl)
 or_wider false true c wider takes = refl
 or_wider false false c wider takes = takes
 
-or_left : (a c : Bool) → a ≡ true → (a || c) ≡ true
-or_left a c is = ap (λ x. x || c) is
-
 module _ {only : Option (List ℕ)} {tells : World → List (List ℕ) → ℕ → List ℕ → List ℕ} {calls : Bool} {seen now_seen : World → List (List ℕ) → Type 0} {old new : World} {stand next : RunPosition} {awaited now_awaited : Awaited}
-    {w w' : Option (List ℕ)} {g g' : List ℕ} (told_failed own_failed : Bool) (deed : ResolvedLine) (o : Option ObservedCall) (heard : IsAnsweredCall only old stand.number (calls_in deed) o) where
+    {w w' : Option (List ℕ)} {g g' : List ℕ} (told_failed own_failed : Bool) (resolved : ResolvedLine) (o : Option ObservedCall) (heard : IsAnsweredCall only old stand.number (calls_in resolved) o) where
   -- a line was told and judged
-  pub turn_judged : {T : Type 0} {done : T} (r : Result Bool LineRunFault) → ReportsCalls only tells seen now_seen stand.number (calls_in deed) old new (Ok done) w g w' g' → told_failed ≡ false →
-      IfOk r (λ complained. complained ≡ is_complained deed (answer_of o) awaited) → OnOk r (now_awaited ≡ awaited_after stand.number deed awaited) →
-      OnOk r (Arrives stand deed (answer_of o) next) → Fails r own_failed (takes_memory false deed || crosses stand) →
-      RunsLine only tells calls seen now_seen deed (told_failed || own_failed) r (point old stand awaited w g) (point new next now_awaited w' g')
+  pub turn_judged : {T : Type 0} {done : T} (r : Result Bool LineRunFault) → ReportsCalls only tells seen now_seen stand.number (calls_in resolved) old new (Ok done) w g w' g' → told_failed ≡ false →
+      IfOk r (λ complained. complained ≡ is_complained resolved (answer_of o) awaited) → OnOk r (now_awaited ≡ awaited_after stand.number resolved awaited) →
+      OnOk r (Arrives stand resolved (answer_of o) next) → Fails r own_failed (takes_memory false resolved || crosses stand) →
+      RunsLine only tells calls seen now_seen resolved (told_failed || own_failed) r (point old stand awaited w g) (point new next now_awaited w' g')
   turn_judged r hears works judged expects stands fails = record {
     hears = hears_on r hears;
     stands = stands_on r stands;
     judged = judged_on r judged;
     expects = expects;
-    failing = fails_beside r told_failed own_failed _ _ works fails (or_wider (takes_memory false deed) (takes_memory calls deed) (crosses stand) (takes_wider calls deed));
+    failing = fails_beside r told_failed own_failed _ _ works fails (or_wider (takes_memory false resolved) (takes_memory calls resolved) (crosses stand) (takes_wider calls resolved));
   }
     where
-      stands_on : (r : Result Bool LineRunFault) → OnOk r (Arrives stand deed (answer_of o) next) → OnOk r (next ≡ arrived (stand_after only old (passed stand) deed))
-      stands_on (Ok complained) stands = stands.is ∙ ap arrived (stands_answered only old (passed stand) deed _ (answers_in only old stand.number (calls_in deed) o heard))
+      stands_on : (r : Result Bool LineRunFault) → OnOk r (Arrives stand resolved (answer_of o) next) → OnOk r (next ≡ arrived (stand_after only old (passed stand) resolved))
+      stands_on (Ok complained) stands = stands.is ∙ ap arrived (stands_answered only old (passed stand) resolved _ (answers_in only old stand.number (calls_in resolved) o heard))
       stands_on (Err fault) stands = tt
 
-      judged_on : (r : Result Bool LineRunFault) → IfOk r (λ complained. complained ≡ is_complained deed (answer_of o) awaited) → IfOk r (IsJudged only old deed awaited)
-      judged_on (Ok complained) judged = (_, answers_in only old stand.number (calls_in deed) o heard, judged)
+      judged_on : (r : Result Bool LineRunFault) → IfOk r (λ complained. complained ≡ is_complained resolved (answer_of o) awaited) → IfOk r (IsJudged only old resolved awaited)
+      judged_on (Ok complained) judged = (_, answers_in only old stand.number (calls_in resolved) o heard, judged)
       judged_on (Err fault) judged = tt
 
   -- or it couldn't be told
-  pub turn_untold : {T : Type 0} (fault : LineRunFault) → ReportsCalls {T = T} only tells seen now_seen stand.number (calls_in deed) old new (Err fault) w g w' g' → own_failed ≡ false → Fails {T = T} (Err fault) told_failed (is_some o && calls) →
-      RunsLine only tells calls seen now_seen deed (told_failed || own_failed) (Err fault) (point old stand awaited w g) (point new next now_awaited w' g')
+  pub turn_untold : {T : Type 0} (fault : LineRunFault) → ReportsCalls {T = T} only tells seen now_seen stand.number (calls_in resolved) old new (Err fault) w g w' g' → own_failed ≡ false → Fails {T = T} (Err fault) told_failed (is_some o && calls) →
+      RunsLine only tells calls seen now_seen resolved (told_failed || own_failed) (Err fault) (point old stand awaited w g) (point new next now_awaited w' g')
   turn_untold {T} fault hears works fails = record {
     hears = hears_fault fault hears;
     stands = tt;
     judged = tt;
     expects = tt;
-    failing = fails_before T Bool fault told_failed own_failed (is_some o && calls) _ works fails (λ takes. or_left _ (crosses stand) (told_takes only old stand.number calls deed o heard takes));
+    failing = fails_before T Bool fault told_failed own_failed (is_some o && calls) _ works fails (λ takes. or_left _ (crosses stand) (told_takes only old stand.number calls resolved o heard takes));
   }
 
 -- what a line is may be told in other words
-pub plays_as : {only : Option (List ℕ)} {tells : World → List (List ℕ) → ℕ → List ℕ → List ℕ} {calls : Bool} {seen now_seen : World → List (List ℕ) → Type 0} {deed here : ResolvedLine} {failed : Bool} {r : Result Bool LineRunFault} {old new : Point} →
-    deed ≡ here → RunsLine only tells calls seen now_seen deed failed r old new → RunsLine only tells calls seen now_seen here failed r old new
+pub plays_as : {only : Option (List ℕ)} {tells : World → List (List ℕ) → ℕ → List ℕ → List ℕ} {calls : Bool} {seen now_seen : World → List (List ℕ) → Type 0} {resolved here : ResolvedLine} {failed : Bool} {r : Result Bool LineRunFault} {old new : Point} →
+    resolved ≡ here → RunsLine only tells calls seen now_seen resolved failed r old new → RunsLine only tells calls seen now_seen here failed r old new
 plays_as {only} {tells} {calls} {seen} {now_seen} {failed = failed} {r = r} {old = old} {new = new} is plays = subst (λ d. RunsLine only tells calls seen now_seen d failed r old new) is plays

@@ -15,7 +15,7 @@ use Rattle.run_lines.proofs.ToldLemmas.{left_none, said_none}
 use Rattle.run_scenario.specs.Faults.{takes_memory}
 use Rattle.run_scenario.specs.RunCalls.{calls_answered, calls_of_steps, text_of_calls, text_of_steps}
 use Rattle.run_scenario.specs.ScenarioRuns.{ClosesAs, LeadsSteps, RunsAll, RunsLine, Point, Remains, StopsSteps, TakesMemoryFor, counted, most_lines}
-use Rattle.run_scenario.specs.LineSteps.{call_of, deed_of, left_behind, next_stand, stand_behind, turn_of, turns_of}
+use Rattle.run_scenario.specs.LineSteps.{call_of, left_behind, next_stand, resolved_at, stand_behind, turn_of, turns_of}
 use Rattle.run_scenario.specs.Observation.{Watches}
 use Rattle.line_steps.specs.RunPosition.{RunPosition, crosses}
 use Rattle.run_scenario.proofs.PlayedLemmas.{answered_more, answered-one, calls_of_steps-one, left_more, stand_more, told_more, text_of_steps-one, turns_more}
@@ -41,14 +41,14 @@ module _ (only : Option (List ℕ)) (start mid : World) (first stand : RunPositi
   earlier = calls_answered only (turns_of only start first xs)
 
   world_next : (last : World) → last ≡ left_behind only mid stand line → last ≡ after_all only start (calls_of_steps (turns_of only start first (xs ++ line ∷ [])))
-  world_next last then = left_more only start mid first stand xs (line ∷ []) left stands last (then ∙ ap (after_all only mid) (sym (calls_of_steps-one (turn_of stand line))))
+  world_next last then = left_more only start mid first stand xs (line ∷ []) left stands last (then ∙ ap (after_all only mid) (sym (calls_of_steps-one (turn_of only stand line))))
 
-  seen_next : (seen : List (List ℕ) → Type 0) → seen (earlier ++ said_by only (call_of stand line)) → seen (calls_answered only (turns_of only start first (xs ++ line ∷ [])))
+  seen_next : (seen : List (List ℕ) → Type 0) → seen (earlier ++ said_by only (call_of only stand line)) → seen (calls_answered only (turns_of only start first (xs ++ line ∷ [])))
   seen_next seen sees =
-      subst seen (ap (λ calls. earlier ++ calls) (sym (answered-one only (turn_of stand line))) ∙ answered_more only start mid first stand xs (line ∷ []) left stands []) sees
+      subst seen (ap (λ calls. earlier ++ calls) (sym (answered-one only (turn_of only stand line))) ∙ answered_more only start mid first stand xs (line ∷ []) left stands []) sees
 
   goes_on : {A : Type 0} (calls : Bool) (seen : List (List ℕ) → Type 0) (last : World) (next : RunPosition) (judged : Result Bool LineRunFault) (write_failed : Bool) → A → last ≡ left_behind only mid stand line →
-      OnOk judged (seen (earlier ++ said_by only (call_of stand line))) → OnOk judged (next ≡ next_stand only mid stand line) → Fails judged write_failed (takes_memory calls (deed_of stand line) || crosses stand) →
+      OnOk judged (seen (earlier ++ said_by only (call_of only stand line))) → OnOk judged (next ≡ next_stand only mid stand line) → Fails judged write_failed (takes_memory calls (resolved_at only stand line) || crosses stand) →
       Continues (λ lines. A × LeadsSteps only start last first next seen lines) (λ fault lines. A × StopsSteps calls only start last first fault lines) (xs ++ line ∷ []) (counted judged)
   goes_on calls seen last next (Ok complained) write_failed a world sees after fails = (
     a,
@@ -65,19 +65,19 @@ module _ (only : Option (List ℕ)) (start mid : World) (first stand : RunPositi
     a,
     record {
       world_is = world_next last world;
-      takes = (turns_of only start first xs, turn_of stand line, sym (turns_more only start mid first stand xs (line ∷ []) left stands), fails.1);
+      takes = (turns_of only start first xs, turn_of only stand line, sym (turns_more only start mid first stand xs (line ∷ []) left stands), fails.1);
     },
   )
 
   -- what is told of it is told behind what was told of those, and it leads on
   pub bench_plays : {A : Type 0} (tells : List (List ℕ) → ℕ → List ℕ → List ℕ) (calls : Bool) (seen : List (List ℕ) → Type 0) (last : World) (next : RunPosition) (judged : Result Bool LineRunFault) (write_failed : Bool) (w w' : Option (List ℕ)) (g g' : List ℕ) → A →
-      last ≡ left_behind only mid stand line → OutputsUnless judged w g w' g' (text_of_calls tells earlier stand.number (said_by only (call_of stand line))) →
-      OnOk judged (seen (earlier ++ said_by only (call_of stand line))) → OnOk judged (next ≡ next_stand only mid stand line) → Fails judged write_failed (takes_memory calls (deed_of stand line) || crosses stand) →
+      last ≡ left_behind only mid stand line → OutputsUnless judged w g w' g' (text_of_calls tells earlier stand.number (said_by only (call_of only stand line))) →
+      OnOk judged (seen (earlier ++ said_by only (call_of only stand line))) → OnOk judged (next ≡ next_stand only mid stand line) → Fails judged write_failed (takes_memory calls (resolved_at only stand line) || crosses stand) →
       HandlesLine (λ lines. text_of_steps tells only [] (turns_of only start first lines)) (λ lines. A × LeadsSteps only start last first next seen lines) (λ fault lines. A × StopsSteps calls only start last first fault lines) xs line (counted judged) w g w' g'
   bench_plays tells calls seen last next judged write_failed w w' g g' a world told sees after fails = record {
-    piece = text_of_steps tells only earlier (turn_of stand line ∷ []);
+    piece = text_of_steps tells only earlier (turn_of only stand line ∷ []);
     more = sym (told_more only tells start mid first stand [] xs (line ∷ []) left stands);
-    tells = tells_counted _ judged (subst (OutputsUnless judged w g w' g') (text_of_steps-one only tells earlier (turn_of stand line)) told);
+    tells = tells_counted _ judged (subst (OutputsUnless judged w g w' g') (text_of_steps-one only tells earlier (turn_of only stand line)) told);
     goes_on = goes_on calls seen last next judged write_failed a world sees after fails;
   }
     where
@@ -103,17 +103,17 @@ listed_on entries_at only calls old leaves listed run_is = ap (λ (w : World). w
 -- the same for a player that is the one that began
 pub bench_line : {R A : Type 0} (only_of : R → Option (List ℕ)) (seen_old seen_new : R → World → List (List ℕ) → Type 0) {at run : R} {telling now_telling : World → List (List ℕ) → ℕ → List ℕ → List ℕ} (start : World) {first : RunPosition} (xs : List (List ℕ)) (line : List ℕ)
     (calls : Bool) (judged : Result Bool LineRunFault) {failed : Bool} {old new : Point} → A → run ≡ at → now_telling ≡ telling → LeadsSteps (only_of at) start old.world first old.stand (seen_old at start) xs →
-    RunsLine (only_of run) now_telling calls (seen_old run) (seen_new run) (deed_of old.stand line) failed judged old new →
+    RunsLine (only_of run) now_telling calls (seen_old run) (seen_new run) (resolved_at (only_of run) old.stand line) failed judged old new →
     HandlesLine (λ lines. text_of_steps (telling start) (only_of at) [] (turns_of (only_of at) start first lines)) (λ lines. A × LeadsSteps (only_of at) start new.world first new.stand (seen_new at start) lines)
     (λ fault lines. A × StopsSteps calls (only_of at) start new.world first fault lines) xs line (counted judged) old.written old.gathered new.written new.gathered
 bench_line only_of seen_old seen_new {at} {run} {telling} {now_telling} start {first} xs line calls judged {failed} {old} {new} kept run_is tells_is led plays =
     bench_plays (only_of at) start old.world first old.stand xs line led.world_is led.stands (telling start) calls (seen_new at start) new.world new.stand judged failed old.written new.written old.gathered new.gathered kept
     here.hears.world (here.hears.told start _ watches) (sees_on judged _ _ _ _ (here.hears.sees start _ watches)) here.stands here.failing
   where
-    here : RunsLine (only_of at) telling calls (seen_old at) (seen_new at) (deed_of old.stand line) failed judged old new
+    here : RunsLine (only_of at) telling calls (seen_old at) (seen_new at) (resolved_at (only_of at) old.stand line) failed judged old new
     here =
-        subst (λ t. RunsLine (only_of at) t calls (seen_old at) (seen_new at) (deed_of old.stand line) failed judged old new) tells_is
-        (subst (λ r. RunsLine (only_of r) now_telling calls (seen_old r) (seen_new r) (deed_of old.stand line) failed judged old new) run_is plays)
+        subst (λ t. RunsLine (only_of at) t calls (seen_old at) (seen_new at) (resolved_at (only_of at) old.stand line) failed judged old new) tells_is
+        (subst (λ r. RunsLine (only_of r) now_telling calls (seen_old r) (seen_new r) (resolved_at (only_of r) old.stand line) failed judged old new) run_is plays)
 
     watches : Watches (seen_old at) start (calls_answered (only_of at) (turns_of (only_of at) start first xs)) old.world
     watches = record { leads = led.world_is; sees = led.sees }

@@ -1,6 +1,5 @@
 -- Turns, one after others: the calls that are answered, and what is told of them.
-use Rattle.std.proofs.Common.{◌≡◌, ℕ, ◌<◌, ◌≤◌, true, false, cond, List, [], ◌∷◌, ◌++◌, length, nat_le, Option, None, arith, refl, sym, ◌∙◌, ap, append_assoc, append-nil}
-use Rattle.std.proofs.lemmas.Bool.Decides.{nat_tests}
+use Rattle.std.proofs.Common.{◌≡◌, ℕ, ◌<◌, ◌≤◌, true, false, cond, List, [], ◌∷◌, ◌++◌, length, nat_le, Option, None, refl, sym, ◌∙◌, ap, append_assoc, append-nil}
 use Rattle.std.proofs.lemmas.Grind.{flat_map-append}
 use Rattle.own_model.specs.LinesOfName.{said_by}
 use Rattle.own_model.specs.Transcript.{longest_line}
@@ -9,34 +8,38 @@ use Rattle.own_model.proofs.RunningLemmas.{Tracks-none, transcript_after-running
 use Rattle.run_lines.specs.Answered.{after_all, output_of_lines}
 use Rattle.run_lines.proofs.ToldLemmas.{left_by_both, left_none, said_by-append, said_none, running_transcript-append, world_running-append}
 use Rattle.run_scenario.specs.RunCalls.{calls_answered, calls_of_steps, engine_text, text_of_calls, text_of_steps}
-use Rattle.run_scenario.specs.LineSteps.{LineStep, call_of, calls_in, deed_filled, deed_of, left_behind, next_stand, stand_behind, turn_of, turns_of}
-use Rattle.run_scenario.specs.LineSteps.ResolvedLine.{TooLong}
+use Rattle.run_scenario.specs.LineSteps.{LineStep, call_of, calls_in, resolved_at, left_behind, next_stand, stand_behind, turn_of, turns_of}
+use Rattle.line_steps.specs.ResolvedLines.{is_skipped, resolved_by}
+use Rattle.line_steps.specs.ResolvedLines.ResolvedLine.{TooLong, Skipped}
 use Rattle.line_names.specs.Filling.{filled}
 use Rattle.run_scenario.specs.Writes.{transcript_of}
 use Rattle.line_steps.specs.RunPosition.{RunPosition}
+use Rattle.run_scenario.proofs.SaidLemmas.{is_long, is_short}
 
--- a line's length is tested
-is_short : (n : ℕ) → n ≤ longest_line → nat_le n longest_line ≡ true
-is_short n short = grind (arith, nat_tests)
+-- what a line is that isn't too long, and isn't skipped
+pub resolved_own : (only : Option (List ℕ)) (stand : RunPosition) (line : List ℕ) → length line ≤ longest_line → is_skipped only line ≡ false → resolved_at only stand line ≡ resolved_by stand.known line (filled stand.known line)
+resolved_own only stand line short own =
+    ap (λ b. cond b (cond (is_skipped only line) Skipped (resolved_by stand.known line (filled stand.known line))) TooLong) (is_short (length line) short)
+    ∙ ap (λ b. cond b Skipped (resolved_by stand.known line (filled stand.known line))) own
 
-is_long : (n : ℕ) → longest_line < n → nat_le n longest_line ≡ false
-is_long n long = grind (arith, nat_tests)
+-- one that is skipped
+pub resolved_skipped : (only : Option (List ℕ)) (stand : RunPosition) (line : List ℕ) → length line ≤ longest_line → is_skipped only line ≡ true → Skipped ≡ resolved_at only stand line
+resolved_skipped only stand line short skipped =
+    sym (ap (λ b. cond b (cond (is_skipped only line) Skipped (resolved_by stand.known line (filled stand.known line))) TooLong) (is_short (length line) short)
+    ∙ ap (λ b. cond b Skipped (resolved_by stand.known line (filled stand.known line))) skipped)
 
--- what a line is that isn't too long
-pub deed_of-short : (stand : RunPosition) (line : List ℕ) → length line ≤ longest_line → deed_of stand line ≡ deed_filled (filled stand.known line)
-deed_of-short stand line short = ap (λ b. cond b (deed_filled (filled stand.known line)) TooLong) (is_short (length line) short)
-
--- and one that is
-pub deed_of-long : (stand : RunPosition) (line : List ℕ) → longest_line < length line → deed_of stand line ≡ TooLong
-deed_of-long stand line long = ap (λ b. cond b (deed_filled (filled stand.known line)) TooLong) (is_long (length line) long)
+-- and one that is too long
+pub resolved_long : (only : Option (List ℕ)) (stand : RunPosition) (line : List ℕ) → longest_line < length line → resolved_at only stand line ≡ TooLong
+resolved_long only stand line long =
+    ap (λ b. cond b (cond (is_skipped only line) Skipped (resolved_by stand.known line (filled stand.known line))) TooLong) (is_long (length line) long)
 
 -- the calls of turns, and then of others
 pub calls_of_steps-append : (xs ys : List LineStep) → calls_of_steps (xs ++ ys) ≡ calls_of_steps xs ++ calls_of_steps ys
-calls_of_steps-append xs ys = flat_map-append (λ turn. calls_in turn.deed) xs ys
+calls_of_steps-append xs ys = flat_map-append (λ turn. calls_in turn.resolved) xs ys
 
 -- of one
-pub calls_of_steps-one : (turn : LineStep) → calls_of_steps (turn ∷ []) ≡ calls_in turn.deed
-calls_of_steps-one turn = append-nil (calls_in turn.deed)
+pub calls_of_steps-one : (turn : LineStep) → calls_of_steps (turn ∷ []) ≡ calls_in turn.resolved
+calls_of_steps-one turn = append-nil (calls_in turn.resolved)
 
 -- what is told of a call that is answered
 pub told_of_one : (tells : List (List ℕ) → ℕ → List ℕ → List ℕ) (earlier : List (List ℕ)) (number : ℕ) (call : List ℕ) (calls : List (List ℕ)) → calls ≡ call ∷ [] →
@@ -51,7 +54,7 @@ module _ (only : Option (List ℕ)) where
       ∙ ap (λ calls. earlier ++ calls) (sym (ap (said_by only) (calls_of_steps-append xs ys) ∙ said_by-append only (calls_of_steps xs) (calls_of_steps ys)))
 
   -- of one
-  pub answered-one : (turn : LineStep) → calls_answered only (turn ∷ []) ≡ said_by only (calls_in turn.deed)
+  pub answered-one : (turn : LineStep) → calls_answered only (turn ∷ []) ≡ said_by only (calls_in turn.resolved)
   answered-one turn = ap (said_by only) (calls_of_steps-one turn)
 
   -- the world that both leave
@@ -63,8 +66,8 @@ module _ (only : Option (List ℕ)) where
   -- ---- the turns of lines, and then of others
 
   left_on : (world : World) (stand : RunPosition) (x : List ℕ) (turns : List LineStep) →
-      after_all only (left_behind only world stand x) (calls_of_steps turns) ≡ after_all only world (calls_of_steps (turn_of stand x ∷ turns))
-  left_on world stand x turns = left_by_both only world (left_behind only world stand x) _ (call_of stand x) (calls_of_steps turns) refl refl
+      after_all only (left_behind only world stand x) (calls_of_steps turns) ≡ after_all only world (calls_of_steps (turn_of only stand x ∷ turns))
+  left_on world stand x turns = left_by_both only world (left_behind only world stand x) _ (call_of only stand x) (calls_of_steps turns) refl refl
 
   turns_of-append : (world : World) (stand : RunPosition) (xs ys : List (List ℕ)) →
       turns_of only world stand (xs ++ ys)
@@ -73,7 +76,7 @@ module _ (only : Option (List ℕ)) where
   turns_of-append world stand (x ∷ xs) ys =
       let left = left_behind only world stand x in
       let next = next_stand only world stand x in
-      ap (λ turns. turn_of stand x ∷ turns)
+      ap (λ turns. turn_of only stand x ∷ turns)
       (turns_of-append left next xs ys
       ∙ ap (λ w. turns_of only left next xs ++ turns_of only w (stand_behind only left next xs) ys) (left_on world stand x (turns_of only left next xs)))
 
@@ -111,8 +114,8 @@ module _ (only : Option (List ℕ)) where
         let none : earlier ++ calls_answered only [] ≡ earlier = ap (λ calls. earlier ++ calls) (said_none only) ∙ append-nil earlier in
         rw none refl
     text_of_steps-append earlier (x ∷ xs) ys =
-        let next = earlier ++ said_by only (calls_in x.deed) in
-        let told = text_of_calls tells earlier x.number (said_by only (calls_in x.deed)) in
+        let next = earlier ++ said_by only (calls_in x.resolved) in
+        let told = text_of_calls tells earlier x.number (said_by only (calls_in x.resolved)) in
         let calls : next ++ calls_answered only xs ≡ earlier ++ calls_answered only (x ∷ xs) =
         ap (λ c. (earlier ++ c) ++ calls_answered only xs) (sym (answered-one x)) ∙ answered-append earlier (x ∷ []) xs in
         ap (λ text. told ++ text) (text_of_steps-append next xs ys)
@@ -129,8 +132,8 @@ module _ (only : Option (List ℕ)) where
 
     -- of one
     pub text_of_steps-one : (earlier : List (List ℕ)) (turn : LineStep) →
-        text_of_calls tells earlier turn.number (said_by only (calls_in turn.deed)) ≡ text_of_steps tells only earlier (turn ∷ [])
-    text_of_steps-one earlier turn = sym (append-nil (text_of_calls tells earlier turn.number (said_by only (calls_in turn.deed))))
+        text_of_calls tells earlier turn.number (said_by only (calls_in turn.resolved)) ≡ text_of_steps tells only earlier (turn ∷ [])
+    text_of_steps-one earlier turn = sym (append-nil (text_of_calls tells earlier turn.number (said_by only (calls_in turn.resolved))))
 
 -- ---- the engine's transcript
 
@@ -148,13 +151,13 @@ told_turns_as_engine : (only : Option (List ℕ)) (start : World) (earlier : Lis
     text_of_steps (engine_text start) only earlier turns ≡ output_of_lines None (world_running start earlier) (calls_answered only turns)
 told_turns_as_engine only start earlier [] = sym (ap (output_of_lines None (world_running start earlier)) (said_none only))
 told_turns_as_engine only start earlier (turn ∷ turns) =
-    let here = said_by only (calls_in turn.deed) in
+    let here = said_by only (calls_in turn.resolved) in
     let world = world_running start earlier in
     ap (λ text. text ++ text_of_steps (engine_text start) only (earlier ++ here) turns) (told_calls_as_engine start earlier turn.number here)
     ∙ ap (λ text. output_of_lines None world here ++ text) (told_turns_as_engine only start (earlier ++ here) turns)
     ∙ ap (λ w. output_of_lines None world here ++ output_of_lines None w (calls_answered only turns)) (sym (world_running-append start earlier here))
     ∙ sym (running_transcript-append world here (calls_answered only turns))
-    ∙ ap (output_of_lines None world) (sym (said_by-append only (calls_in turn.deed) (calls_of_steps turns)))
+    ∙ ap (output_of_lines None world) (sym (said_by-append only (calls_in turn.resolved) (calls_of_steps turns)))
 
 -- which is the transcript of the calls
 pub told_as_engine : (only : Option (List ℕ)) (start : World) (turns : List LineStep) → text_of_steps (engine_text start) only [] turns ≡ transcript_of only start turns

@@ -7,11 +7,12 @@ use Rattle.line_grammar.specs.Read.{IsNoCall, Reads, spoken_as}
 use Rattle.line_grammar.specs.declared.line.NamedCall.{NamedCall}
 use Rattle.run_scenario.specs.Said.{said_in}
 
-fits : (n : ℕ) → n ≤ longest_line → nat_le n longest_line ≡ true
-fits n short = grind (arith, nat_tests)
+-- a line's length is tested
+pub is_short : (n : ℕ) → n ≤ longest_line → nat_le n longest_line ≡ true
+is_short n short = grind (arith, nat_tests)
 
-is_over : (n : ℕ) → longest_line < n → nat_le n longest_line ≡ false
-is_over n long = grind (arith, nat_tests)
+pub is_long : (n : ℕ) → longest_line < n → nat_le n longest_line ≡ false
+is_long n long = grind (arith, nat_tests)
 
 unless_some : (t : Bool) (says : Option Spoken) → says ≡ None → cond t says None ≡ None
 unless_some true says none = none
@@ -19,11 +20,11 @@ unless_some false says none = refl
 
 -- its call
 pub says_read : (line : List ℕ) (call : NamedCall) → Reads line call → said_in line ≡ Some (spoken_as call)
-says_read line call reads = rw (fits (length line) reads.short) reads.says
+says_read line call reads = rw (is_short (length line) reads.short) reads.says
 
 -- or nothing
 pub says_none : (line : List ℕ) → IsNoCall line → said_in line ≡ None
-says_none line (inl long) = rw (is_over (length line) long) refl
+says_none line (inl long) = rw (is_long (length line) long) refl
 says_none line (inr none) = unless_some (nat_le (length line) longest_line) (parsed_call line) none
 
 pub ruleset says = (says_read, says_none)

@@ -1,10 +1,10 @@
 -- What a line is when its turn comes, by how it was filled.
-use Rattle.std.proofs.Common.{◌≡◌, ℕ, ◌≤◌, ◌==◌, ◌||◌, Bool, true, false, cond, List, [], ◌∷◌, length, nat_le, slice_index, is_none, take, Option, Some, None, Result, Ok, Err, OnOk, refl, sym, ◌∙◌, ap, subst}
+use Rattle.std.proofs.Common.{◌≡◌, ℕ, ◌+◌, ◌-◌, ◌≤◌, ◌==◌, ◌||◌, Bool, true, false, cond, List, [], ◌∷◌, length, nat_le, slice_index, is_none, take, Option, Some, None, Result, Ok, Err, OnOk, refl, sym, ◌∙◌, ap, subst}
 use Rattle.own_model.specs.LinesOfName.{said_by}
 use Rattle.own_model.specs.Transcript.{longest_line}
 use Rattle.own_model.specs.World.{World}
 use Rattle.line_friendly.specs.Friendly.{FriendlyLine, end_of, said_of, trimmed_line}
-use Rattle.line_friendly.specs.Friendly.FriendlyLine.{Nothing, Log, Call}
+use Rattle.line_friendly.specs.Friendly.FriendlyLine.{Nothing as NoContent, Log as LogContent, Call as CallContent}
 use Rattle.line_friendly.specs.Theorems.{IsBare, IsPlain}
 use Rattle.line_friendly.proofs.PlainLemmas.{plain_lines_pass}
 use Rattle.line_friendly.specs.declared.fault.FriendlyFault.{FriendlyFault}
@@ -12,56 +12,39 @@ use Rattle.line_friendly.specs.Words.{next_word}
 use Rattle.run_lines.specs.Answered.{after_all}
 use Rattle.run_lines.specs.declared.line_answer.LineAnswer.{LineAnswer}
 use Rattle.run_lines.proofs.ToldLemmas.{left_none, said_none}
-use Rattle.line_names.specs.Directives.{Directive, directive_by, directive_of}
-use Rattle.line_names.specs.Filling.{FilledLine, BoundName, body_of, filled, filled_parts, front_length, whole}
+use Rattle.line_names.specs.Directives.{directive_by, directive_of}
+use Rattle.line_names.specs.Filling.{FilledLine, BoundName, body_of, filled, filled_parts, front_length, source_column, source_from, whole}
 use Rattle.line_names.specs.NameTable.{NameTable}
 use Rattle.line_names.specs.Learning.{learnt, learnt_of}
 use Rattle.line_names.specs.RoundMarks.{RoundMark}
 use Rattle.line_friendly.specs.Expected.{meets}
-use Rattle.line_names.specs.declared.fault.NameFault.{NameFault}
-use Rattle.run_scenario.specs.ResolvedLines.{resolved_view}
-use Rattle.run_scenario.specs.CallAnswers.{TakesStep}
+use Rattle.line_steps.specs.ResolvedLines.{ResolvedLine, is_skipped, resolved_by, resolved_content, resolved_filled}
+use Rattle.line_steps.specs.ResolvedLines.ResolvedLine.{TooLong, Skipped, BadName, Follow, Misplaced, Nothing, Log, Call, BadLine}
+use Rattle.line_steps.specs.ResolvedViews.{resolved_view}
+use Rattle.run_scenario.specs.CallAnswers.{IsAnsweredCall, TakesStep}
 use Rattle.run_scenario.specs.Judging.{AnswersIn}
-use Rattle.run_scenario.specs.LineSteps.{AreBare, Arrives, ResolvedLine, bare_line, calls_in, deed_by, deed_filled, deed_of, learnt_by, learnt_from, left_behind, next_stand, stand_after, stand_with, turns_from, turns_of}
-use Rattle.run_scenario.specs.LineSteps.ResolvedLine.{TooLong, Unnamed, Follows, Says}
-use Rattle.run_scenario.specs.declared.resolved_line.ResolvedLine.{ResolvedLine as Told}
+use Rattle.run_scenario.specs.LineSteps.{AreBare, Arrives, bare_content, bare_line, calls_in, learnt_by, learnt_from, left_behind, next_stand, plain_line, resolved_at, stand_after, stand_with, turns_from, turns_of}
 use Rattle.line_steps.specs.RunPosition.{RunPosition, arrived, arrived_at, crosses, is_due, number_after, passed}
 use Rattle.run_scenario.specs.declared.line_step.LineStep.{LineStep}
-use Rattle.run_scenario.proofs.PlayedLemmas.{deed_of-short}
-
-module _ (stand : RunPosition) (line : List ℕ) (short : length line ≤ longest_line) where
-  pub deed_unnamed : (fault : NameFault) → Err fault ≡ filled stand.known line → Unnamed fault ≡ deed_of stand line
-  deed_unnamed fault is = sym (deed_of-short stand line short ∙ ap deed_filled (sym is))
-
-  pub deed_follows : (f : FilledLine) (directive : Directive) → Ok f ≡ filled stand.known line → Some directive ≡ directive_of f.line → Follows directive ≡ deed_of stand line
-  deed_follows f directive is leads = sym (deed_of-short stand line short ∙ ap deed_filled (sym is) ∙ ap (deed_by f) (sym leads))
-
-  pub deed_says : (f : FilledLine) (said : Result FriendlyLine FriendlyFault) → Ok f ≡ filled stand.known line → None ≡ directive_of f.line → said ≡ said_of f.line → Says f said ≡ deed_of stand line
-  deed_says f said is none says = ap (Says f) says ∙ sym (deed_of-short stand line short ∙ ap deed_filled (sym is) ∙ ap (deed_by f) (sym none))
-
--- what a line is filled with is known by another name
-pub filled_by : (known now : NameTable) (line : List ℕ) (what : Result FilledLine NameFault) → now ≡ known → what ≡ filled now line → what ≡ filled known line
-filled_by known now line what is by = by ∙ ap (λ k. filled k line) is
+use Rattle.run_scenario.proofs.PlayedLemmas.{resolved_own}
 
 -- ---- how it has its turn
 
 module _ {only : Option (List ℕ)} {number : ℕ} where
   -- what a line is may be told in other words
-  pub turn_as : {deed here : ResolvedLine} {old new : World} {turn : LineStep} → deed ≡ here → TakesStep only number deed old new turn → TakesStep only number here old new turn
+  pub turn_as : {resolved here : ResolvedLine} {old new : World} {turn : LineStep} → resolved ≡ here → TakesStep only number resolved old new turn → TakesStep only number here old new turn
   turn_as {old = old} {new = new} {turn = turn} is takes = subst (λ d. TakesStep only number d old new turn) is takes
 
   -- by the turn itself
-  pub turn_viewed : {deed : ResolvedLine} {old new : World} {turn : LineStep} → TakesStep only number deed old new turn → TakesStep only number (resolved_view turn.deed) old new turn
-  turn_viewed takes = turn_as (sym takes.deed_is) takes
+  pub turn_viewed : {resolved : ResolvedLine} {old new : World} {turn : LineStep} → TakesStep only number resolved old new turn → TakesStep only number (resolved_view turn.resolved) old new turn
+  turn_viewed takes = turn_as (sym takes.resolved_is) takes
 
-  -- where it says no call nothing is answered
-  pub turn_silent : {deed : ResolvedLine} {world : World} (told : Told) → resolved_view told ≡ deed → calls_in deed ≡ [] → TakesStep only number deed world world (record { deed = told; heard = None })
-  turn_silent {world = world} told is silent = record {
-    deed_is = is;
-    world = sym (ap (after_all only world) silent ∙ left_none only world);
-    heard = ap (said_by only) silent ∙ said_none only;
-    read = tt;
-  }
+-- nothing is answered where there is no call
+pub answers_none : (only : Option (List ℕ)) (world : World) (number : ℕ) (calls : List (List ℕ)) → calls ≡ [] → (world ≡ after_all only world calls) × IsAnsweredCall only world number calls None
+answers_none only world number calls none = (
+  sym (ap (after_all only world) none ∙ left_none only world),
+  ap (said_by only) none ∙ said_none only,
+)
 
 -- ---- what names stand for then
 
@@ -75,53 +58,63 @@ learnt_none known f reply none =
     ap (λ (holes : List BoundName). cond (meets reply f.expected) (learnt_of known reply f.expected holes) known) none ∙ same_known (meets reply f.expected) known
 
 module _ (only : Option (List ℕ)) (world : World) where
-  -- no call binds none
-  learns_silent : (known : NameTable) (f : FilledLine) → known ≡ learnt_from world known f (said_by only [])
-  learns_silent known f = sym (ap (learnt_from world known f) (said_none only))
-
   -- a call that is answered binds what its answer binds
   learns_answer : (known : NameTable) (f : FilledLine) (calls : List (List ℕ)) (answer : Option LineAnswer) → AnswersIn only world calls answer → learnt_by known f answer ≡ learnt_from world known f (said_by only calls)
   learns_answer known f calls None none = sym (ap (learnt_from world known f) none)
   learns_answer known f calls (Some answer) answers = ap (learnt known f) answers.2.reply ∙ sym (ap (learnt_from world known f) answers.1)
 
   -- so the play stands by the answer where it stands by the world
-  pub stands_answered : (stand : RunPosition) (deed : ResolvedLine) (answer : Option LineAnswer) → AnswersIn only world (calls_in deed) answer → stand_with stand deed answer ≡ stand_after only world stand deed
+  pub stands_answered : (stand : RunPosition) (resolved : ResolvedLine) (answer : Option LineAnswer) → AnswersIn only world (calls_in resolved) answer → stand_with stand resolved answer ≡ stand_after only world stand resolved
   stands_answered stand TooLong answer answers = refl
-  stands_answered stand (Unnamed fault) answer answers = refl
-  stands_answered stand (Follows directive) answer answers = refl
-  stands_answered stand (Says f (Ok Nothing)) answer answers = ap (λ known. record stand { known = known }) (learns_silent stand.known f)
-  stands_answered stand (Says f (Ok (Log text))) answer answers = ap (λ known. record stand { known = known }) (learns_silent stand.known f)
-  stands_answered stand (Says f (Ok (Call line reply))) answer answers = ap (λ known. record stand { known = known }) (learns_answer stand.known f (line ∷ []) answer answers)
-  stands_answered stand (Says f (Err fault)) answer answers = ap (λ known. record stand { known = known }) (learns_silent stand.known f)
+  stands_answered stand Skipped answer answers = refl
+  stands_answered stand (BadName fault) answer answers = refl
+  stands_answered stand (Follow directive) answer answers = refl
+  stands_answered stand (Misplaced column) answer answers = refl
+  stands_answered stand Nothing answer answers = refl
+  stands_answered stand (Log text) answer answers = refl
+  stands_answered stand (Call f line reply) answer answers = ap (λ known. record stand { known = known }) (learns_answer stand.known f (line ∷ []) answer answers)
+  stands_answered stand (BadLine fault) answer answers = refl
 
   -- its number is passed, and no mark is
-  next_number : (stand : RunPosition) (deed : ResolvedLine) → (stand_after only world (passed stand) deed).number ≡ number_after stand.number
+  next_number : (stand : RunPosition) (resolved : ResolvedLine) → (stand_after only world (passed stand) resolved).number ≡ number_after stand.number
   next_number stand TooLong = refl
-  next_number stand (Unnamed fault) = refl
-  next_number stand (Follows directive) = refl
-  next_number stand (Says f said) = refl
+  next_number stand Skipped = refl
+  next_number stand (BadName fault) = refl
+  next_number stand (Follow directive) = refl
+  next_number stand (Misplaced column) = refl
+  next_number stand Nothing = refl
+  next_number stand (Log text) = refl
+  next_number stand (Call f line reply) = refl
+  next_number stand (BadLine fault) = refl
 
-  same_ahead : (stand : RunPosition) (deed : ResolvedLine) → (stand_after only world (passed stand) deed).ahead ≡ stand.ahead
+  same_ahead : (stand : RunPosition) (resolved : ResolvedLine) → (stand_after only world (passed stand) resolved).ahead ≡ stand.ahead
   same_ahead stand TooLong = refl
-  same_ahead stand (Unnamed fault) = refl
-  same_ahead stand (Follows directive) = refl
-  same_ahead stand (Says f said) = refl
+  same_ahead stand Skipped = refl
+  same_ahead stand (BadName fault) = refl
+  same_ahead stand (Follow directive) = refl
+  same_ahead stand (Misplaced column) = refl
+  same_ahead stand Nothing = refl
+  same_ahead stand (Log text) = refl
+  same_ahead stand (Call f line reply) = refl
+  same_ahead stand (BadLine fault) = refl
 
 -- whether marks are due behind a line is known before it
-pub due_behind : (stand : RunPosition) (deed : ResolvedLine) (answer : Option LineAnswer) → is_due (stand_with (passed stand) deed answer).number (stand_with (passed stand) deed answer).ahead ≡ crosses stand
+pub due_behind : (stand : RunPosition) (resolved : ResolvedLine) (answer : Option LineAnswer) → is_due (stand_with (passed stand) resolved answer).number (stand_with (passed stand) resolved answer).ahead ≡ crosses stand
 due_behind stand TooLong answer = refl
-due_behind stand (Unnamed fault) answer = refl
-due_behind stand (Follows directive) answer = refl
-due_behind stand (Says f (Ok Nothing)) answer = refl
-due_behind stand (Says f (Ok (Log text))) answer = refl
-due_behind stand (Says f (Ok (Call line reply))) answer = refl
-due_behind stand (Says f (Err fault)) answer = refl
+due_behind stand Skipped answer = refl
+due_behind stand (BadName fault) answer = refl
+due_behind stand (Follow directive) answer = refl
+due_behind stand (Misplaced column) answer = refl
+due_behind stand Nothing answer = refl
+due_behind stand (Log text) answer = refl
+due_behind stand (Call f line reply) answer = refl
+due_behind stand (BadLine fault) answer = refl
 
 -- rounds begin or end behind the line
-pub arrives : {T E : Type 0} (stand mid next : RunPosition) (deed : ResolvedLine) (answer : Option LineAnswer) (r : Result T E) → OnOk r (next ≡ arrived mid) → mid ≡ stand_with (passed stand) deed answer →
-    OnOk r (Arrives stand deed answer next)
-arrives stand mid next deed answer (Ok done) leads is = record { is = leads ∙ ap arrived is }
-arrives stand mid next deed answer (Err fault) leads is = tt
+pub arrives : {T E : Type 0} (stand mid next : RunPosition) (resolved : ResolvedLine) (answer : Option LineAnswer) (r : Result T E) → OnOk r (next ≡ arrived mid) → mid ≡ stand_with (passed stand) resolved answer →
+    OnOk r (Arrives stand resolved answer next)
+arrives stand mid next resolved answer (Ok done) leads is = record { is = leads ∙ ap arrived is }
+arrives stand mid next resolved answer (Err fault) leads is = tt
 
 -- ---- bare lines
 
@@ -133,13 +126,27 @@ bare_says : (line : List ℕ) → IsBare line → directive_of line ≡ None
 bare_says line bare =
     ap (λ b. cond b (Some (directive_by (next_word (trimmed_line (take (end_of line) line))).word (next_word (trimmed_line (take (end_of line) line))).rest)) None) bare.says
 
-is_bare : (stand : RunPosition) (line : List ℕ) → IsBare line → deed_of stand line ≡ bare_line line
-is_bare stand line bare =
-    ap (λ deed. cond (nat_le (length line) longest_line) deed TooLong) (ap deed_filled (bare_filled stand.known line bare) ∙ ap (deed_by (whole line)) (bare_says line bare))
+-- the columns of a bare line are those before substitution
+bare_column : (known : NameTable) (line : List ℕ) (column : ℕ) → IsBare line → source_column known line column ≡ column
+bare_column known line column bare =
+    ap (λ (o : Option ℕ). cond (is_none o || (slice_index (trimmed_line line) 0 == 33 || slice_index (trimmed_line line) 0 == 35)) column (1 + source_from known 0 (column - 1) (body_of line))) bare.nameless
 
-pub deed_plain : (stand : RunPosition) (line : List ℕ) → length line ≤ longest_line → IsBare line → IsPlain line → Says (whole line) (Ok (Call line None)) ≡ deed_of stand line
-deed_plain stand line short bare plain =
-    sym (deed_of-short stand line short ∙ ap deed_filled (bare_filled stand.known line bare) ∙ ap (deed_by (whole line)) (bare_says line bare) ∙ ap (Says (whole line)) (plain_lines_pass line plain))
+bare_said : (known : NameTable) (line : List ℕ) (said : Result FriendlyLine FriendlyFault) → IsBare line → resolved_content known line (whole line) said ≡ bare_content line said
+bare_said known line (Ok NoContent) bare = refl
+bare_said known line (Ok (LogContent text)) bare = refl
+bare_said known line (Ok (CallContent call reply)) bare = refl
+bare_said known line (Err fault) bare = ap (λ column. BadLine (record fault { column = column })) (bare_column known line fault.column bare)
+
+bare_resolved : (known : NameTable) (line : List ℕ) → IsBare line → resolved_by known line (filled known line) ≡ resolved_content known line (whole line) (said_of line)
+bare_resolved known line bare = ap (resolved_by known line) (bare_filled known line bare) ∙ ap (resolved_filled known line (whole line)) (bare_says line bare)
+
+is_bare : (only : Option (List ℕ)) (stand : RunPosition) (line : List ℕ) → IsBare line → resolved_at only stand line ≡ bare_line only line
+is_bare only stand line bare =
+    ap (λ resolved. cond (nat_le (length line) longest_line) (cond (is_skipped only line) Skipped resolved) TooLong) (bare_resolved stand.known line bare ∙ bare_said stand.known line (said_of line) bare)
+
+pub resolved_plain : (only : Option (List ℕ)) (stand : RunPosition) (line : List ℕ) → length line ≤ longest_line → is_skipped only line ≡ false → IsBare line → IsPlain line → plain_line line ≡ resolved_at only stand line
+resolved_plain only stand line short own bare plain =
+    sym (resolved_own only stand line short own ∙ bare_resolved stand.known line bare ∙ ap (resolved_content stand.known line (whole line)) (plain_lines_pass line plain))
 
 -- no reply binds a name of it
 pub stands_whole : (stand : RunPosition) (line : List ℕ) (answer : Option LineAnswer) → stand ≡ record stand { known = learnt_by stand.known (whole line) answer }
@@ -151,16 +158,16 @@ arrives_nowhere : (stand : RunPosition) → stand.ahead ≡ [] → arrived stand
 arrives_nowhere stand none =
     ap (arrived_at stand.number stand.known) none ∙ ap (λ (marks : List RoundMark). record { number = stand.number; known = stand.known; ahead = marks }) (sym none)
 
-pub bare_turns : (only : Option (List ℕ)) (world : World) (stand : RunPosition) (lines : List (List ℕ)) → stand.ahead ≡ [] → AreBare lines → turns_of only world stand lines ≡ turns_from stand.number lines
+pub bare_turns : (only : Option (List ℕ)) (world : World) (stand : RunPosition) (lines : List (List ℕ)) → stand.ahead ≡ [] → AreBare lines → turns_of only world stand lines ≡ turns_from only stand.number lines
 bare_turns only world stand [] none bare = refl
 bare_turns only world stand (line ∷ lines) none bare =
-    let is = is_bare stand line bare.0 in
+    let is = is_bare only stand line bare.0 in
     let left = left_behind only world stand line in
-    let after = stand_after only world (passed stand) (deed_of stand line) in
+    let after = stand_after only world (passed stand) (resolved_at only stand line) in
     let next = next_stand only world stand line in
-    let still : after.ahead ≡ [] = same_ahead only world stand (deed_of stand line) ∙ none in
+    let still : after.ahead ≡ [] = same_ahead only world stand (resolved_at only stand line) ∙ none in
     let stays : next ≡ after = arrives_nowhere after still in
-    let number : next.number ≡ number_after stand.number = ap (λ (s : RunPosition). s.number) stays ∙ next_number only world stand (deed_of stand line) in
-    let rest = bare_turns only left next lines (ap (λ (s : RunPosition). s.ahead) stays ∙ still) bare.1 ∙ ap (λ n. turns_from n lines) number in
+    let number : next.number ≡ number_after stand.number = ap (λ (s : RunPosition). s.number) stays ∙ next_number only world stand (resolved_at only stand line) in
+    let rest = bare_turns only left next lines (ap (λ (s : RunPosition). s.ahead) stays ∙ still) bare.1 ∙ ap (λ n. turns_from only n lines) number in
     let crosses_none : crosses stand ≡ false = ap (is_due (number_after stand.number)) none in
-    λ i. record { number = stand.number; deed = is i; crosses = crosses_none i } ∷ rest i
+    λ i. record { number = stand.number; resolved = is i; crosses = crosses_none i } ∷ rest i

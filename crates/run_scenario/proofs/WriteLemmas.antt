@@ -237,5 +237,5 @@ silent_calls earlier number (call ∷ calls) = silent_calls (earlier ++ call ∷
 pub silent_turns : (only : Option (List ℕ)) (earlier : List (List ℕ)) (turns : List LineStep) → text_of_steps (λ _ _ _. []) only earlier turns ≡ []
 silent_turns only earlier [] = refl
 silent_turns only earlier (turn ∷ turns) =
-    ap (λ text. text ++ text_of_steps (λ _ _ _. []) only (earlier ++ said_by only (calls_in turn.deed)) turns) (silent_calls earlier turn.number (said_by only (calls_in turn.deed)))
-    ∙ silent_turns only (earlier ++ said_by only (calls_in turn.deed)) turns
+    ap (λ text. text ++ text_of_steps (λ _ _ _. []) only (earlier ++ said_by only (calls_in turn.resolved)) turns) (silent_calls earlier turn.number (said_by only (calls_in turn.resolved)))
+    ∙ silent_turns only (earlier ++ said_by only (calls_in turn.resolved)) turns

@@ -10,9 +10,10 @@ use Rattle.run_lines.specs.Answered.{after_all}
 use Rattle.run_lines.specs.RunOutput.{OutputsUnless}
 use Rattle.run_lines.specs.declared.line_answer.LineAnswer.{LineAnswer}
 use Rattle.run_lines.specs.declared.line_run_fault.LineRunFault.{LineRunFault}
-use Rattle.run_scenario.specs.ResolvedLines.{resolved_view}
+use Rattle.line_steps.specs.ResolvedLines.{ResolvedLine}
+use Rattle.line_steps.specs.ResolvedViews.{resolved_view}
 use Rattle.run_scenario.specs.RunCalls.{text_of_calls}
-use Rattle.run_scenario.specs.LineSteps.{ResolvedLine, calls_in}
+use Rattle.run_scenario.specs.LineSteps.{calls_in}
 use Rattle.run_scenario.specs.Observation.{Watches}
 use Rattle.run_scenario.specs.declared.line_step.LineStep.{LineStep}
 use Rattle.run_scenario.specs.declared.call_observer.ObservedCall.{ObservedCall}
@@ -33,11 +34,11 @@ abbrev pub answer_of : Option ObservedCall → Option LineAnswer
 answer_of o = option_map (λ it. it.answer) o
 
 -- a line of this number had its step: what it is after substitution, the world after its call, and the answer, if there is one
-pub record TakesStep (only : Option (List ℕ)) (number : ℕ) (deed : ResolvedLine) (old new : World) (turn : LineStep) : Type 0 where
-  pub deed_is : resolved_view turn.deed ≡ deed
-  pub world : new ≡ after_all only old (calls_in deed)
-  pub heard : IsAnsweredCall only old number (calls_in deed) turn.heard
-  pub read : IfSome turn.heard (λ it. IsReadAs it.line.now it.call)
+pub record TakesStep (only : Option (List ℕ)) (number : ℕ) (resolved : ResolvedLine) (old new : World) (turn : LineStep) : Type 0 where
+  pub resolved_is : resolved_view turn.resolved ≡ resolved
+  pub world : new ≡ after_all only old (calls_in resolved)
+  pub heard : IsAnsweredCall only old number (calls_in resolved) turn.answered
+  pub read : IfSome turn.answered (λ it. IsReadAs it.line.now it.call)
 
 -- the calls of a line of this number led from one world to the next, all or those of one name; after earlier calls that were
 -- observed they are written, and are observed too, unless there is a fault

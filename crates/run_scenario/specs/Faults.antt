@@ -1,28 +1,21 @@
 -- What uses memory of the host in a run, and the fault of devices that had failed before.
-use Rattle.std.specs.Prelude.{◌||◌, Bool, true, false, if◌then◌else◌, Option, Some, None, Result, Ok, Err}
-use Rattle.line_friendly.specs.Friendly.{FriendlyLine}
-use Rattle.line_friendly.specs.Friendly.FriendlyLine.{Nothing, Log, Call}
-use Rattle.line_friendly.specs.declared.fault.FriendlyFault.{FriendlyFault}
+use Rattle.std.specs.Prelude.{◌||◌, Bool, true, false, if◌then◌else◌, Option, Some, None}
 use Rattle.run_lines.specs.declared.line_run_fault.LineRunFault.{LineRunFault}
 use Rattle.run_lines.specs.declared.line_run_fault.LineRunFault.TheVariants.{ReadFault, WriteFault}
-use Rattle.run_scenario.specs.LineSteps.{ResolvedLine, binds_names}
-use Rattle.run_scenario.specs.LineSteps.ResolvedLine.{TooLong, Unnamed, Follows, Says}
+use Rattle.line_steps.specs.ResolvedLines.{ResolvedLine}
+use Rattle.line_steps.specs.ResolvedLines.ResolvedLine.{BadName, Follow, Log, Call, BadLine}
+use Rattle.run_scenario.specs.LineSteps.{binds_names}
 use Rattle.run_scenario.specs.declared.scenario_end.ScenarioEnd.{ScenarioEnd}
 
--- parsing a line takes memory of the host if a log line is expected, or if the line can't be parsed; a call takes memory if the
--- observer does
-abbrev pub reading_takes_memory : Bool → Result FriendlyLine FriendlyFault → Bool
-reading_takes_memory calls (Ok Nothing) = false
-reading_takes_memory calls (Ok (Log text)) = true
-reading_takes_memory calls (Ok (Call line reply)) = calls
-reading_takes_memory calls (Err fault) = true
-
--- and so does a line by what it is after substitution: names are kept that a directive or a reply binds
+-- a line takes memory of the host if it is told why it can't be filled or parsed, if it is a log line that is expected, and if it
+-- may bind a name; a call takes memory if the observer does
 abbrev pub takes_memory : Bool → ResolvedLine → Bool
-takes_memory calls TooLong = false
-takes_memory calls (Unnamed fault) = true
-takes_memory calls (Follows directive) = true
-takes_memory calls (Says filled said) = reading_takes_memory calls said || binds_names filled
+takes_memory calls (BadName fault) = true
+takes_memory calls (Follow directive) = true
+takes_memory calls (Log text) = true
+takes_memory calls (Call filled line reply) = calls || binds_names filled
+takes_memory calls (BadLine fault) = true
+takes_memory calls resolved = false
 
 -- the fault of devices that had failed before: the outputs' first
 abbrev pub fault_before : Bool → Bool → Option LineRunFault

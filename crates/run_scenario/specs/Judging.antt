@@ -1,21 +1,19 @@
 -- The expectation of an answer, and whether the answer differs.
-use Rattle.std.specs.Prelude.{◌≡◌, ℕ, ◌&&◌, ◌||◌, Bool, true, false, not, is_some, List, [], ◌∷◌, ◌++◌, Option, Some, None, Result, Ok, Err}
+use Rattle.std.specs.Prelude.{◌≡◌, ℕ, ◌&&◌, ◌||◌, Bool, true, false, not, is_some, List, [], ◌∷◌, ◌++◌, Option, Some, None}
 use Rattle.std.specs.Str.{bytes_eq}
 use Rattle.trade_base.specs.declared.refusal.Refusal.TheVariants.{UnknownComponent}
 use Rattle.own_model.specs.LinesOfName.{said_by}
 use Rattle.own_model.specs.Transcript.{heard}
 use Rattle.own_model.specs.World.{World}
 use Rattle.line_friendly.specs.Expected.{meets}
-use Rattle.line_friendly.specs.Friendly.{FriendlyLine, is_passed}
-use Rattle.line_friendly.specs.Friendly.FriendlyLine.{Nothing, Log, Call}
-use Rattle.line_friendly.specs.declared.fault.FriendlyFault.{FriendlyFault}
+use Rattle.line_friendly.specs.Friendly.{is_passed}
 use Rattle.run_lines.specs.Answer.{IsAnswer}
 use Rattle.core_calls.specs.declared.outcome.Outcome.{Outcome}
 use Rattle.core_calls.specs.declared.outcome.Outcome.TheVariants.{Refused}
 use Rattle.run_lines.specs.declared.line_answer.LineAnswer.{LineAnswer}
-use Rattle.line_names.specs.DirectiveFault.{is_misplaced}
-use Rattle.run_scenario.specs.LineSteps.{ResolvedLine, calls_in}
-use Rattle.run_scenario.specs.LineSteps.ResolvedLine.{TooLong, Unnamed, Follows, Says}
+use Rattle.line_steps.specs.ResolvedLines.{ResolvedLine}
+use Rattle.line_steps.specs.ResolvedLines.ResolvedLine.{TooLong, Skipped, BadName, Misplaced, Log, Call, BadLine}
+use Rattle.run_scenario.specs.LineSteps.{calls_in}
 
 -- the log lines that the next call is expected to finish, each as it is printed, and the number of the scenario's line with the
 -- first of them
@@ -58,32 +56,22 @@ is_other passed (Some reply) (Some answer) awaited =
 
 -- ---- of a line, by what it is after substitution
 
--- the expectation after the line of this number
-abbrev pub awaited_said : ℕ → Result FriendlyLine FriendlyFault → Awaited → Awaited
-awaited_said number (Ok Nothing) awaited = awaited
-awaited_said number (Ok (Log text)) awaited = awaited_more awaited number text
-awaited_said number (Ok (Call line reply)) awaited = nothing_awaited
-awaited_said number (Err fault) awaited = awaited
-
+-- the expectation after the line of this number: after a call, also one that is skipped, no log line is expected any more
 abbrev pub awaited_after : ℕ → ResolvedLine → Awaited → Awaited
-awaited_after number TooLong awaited = awaited
-awaited_after number (Unnamed fault) awaited = awaited
-awaited_after number (Follows directive) awaited = awaited
-awaited_after number (Says filled said) awaited = awaited_said number said awaited
+awaited_after number Skipped awaited = nothing_awaited
+awaited_after number (Log text) awaited = awaited_more awaited number text
+awaited_after number (Call filled line reply) awaited = nothing_awaited
+awaited_after number resolved awaited = awaited
 
--- a line that can't be parsed has an error, and so has a call whose answer differs from its expectation
-abbrev pub is_complained_said : Bool → Result FriendlyLine FriendlyFault → Option LineAnswer → Awaited → Bool
-is_complained_said passed (Ok Nothing) answer awaited = false
-is_complained_said passed (Ok (Log text)) answer awaited = false
-is_complained_said passed (Ok (Call line reply)) answer awaited = is_other passed reply answer awaited
-is_complained_said passed (Err fault) answer awaited = true
-
--- and so has a line that is too long or can't be filled, and a directive that can't be followed
+-- a line has an error that is too long, can't be filled or can't be parsed, and so have a directive that can't be followed and a
+-- call whose answer differs from its expectation
 abbrev pub is_complained : ResolvedLine → Option LineAnswer → Awaited → Bool
 is_complained TooLong answer awaited = true
-is_complained (Unnamed fault) answer awaited = true
-is_complained (Follows directive) answer awaited = is_misplaced directive
-is_complained (Says filled said) answer awaited = is_complained_said (is_passed filled.line) said answer awaited
+is_complained (BadName fault) answer awaited = true
+is_complained (Misplaced column) answer awaited = true
+is_complained (Call filled line reply) answer awaited = is_other (is_passed filled.line) reply answer awaited
+is_complained (BadLine fault) answer awaited = true
+is_complained resolved answer awaited = false
 
 -- the one of these calls that is answered has this answer in this world, or none is answered
 abbrev pub AnswersIn : Option (List ℕ) → World → List (List ℕ) → Option LineAnswer → Type 0
@@ -93,5 +81,5 @@ AnswersIn only world calls None = said_by only calls ≡ []
 
 -- a line has an error by the answer to its call in this world
 abbrev pub IsJudged : Option (List ℕ) → World → ResolvedLine → Awaited → Bool → Type 0
-IsJudged only world deed awaited complained =
-    (answer : Option LineAnswer) × AnswersIn only world (calls_in deed) answer × (complained ≡ is_complained deed answer awaited)
+IsJudged only world resolved awaited complained =
+    (answer : Option LineAnswer) × AnswersIn only world (calls_in resolved) answer × (complained ≡ is_complained resolved answer awaited)

@@ -1,5 +1,4 @@
 pub mod Cells
-pub mod ResolvedLines
 pub mod ScenarioEnd
 pub mod Faults
 pub mod CallAnswers

@@ -8,7 +8,7 @@ use Rattle.run_scenario.specs.LineSteps.{LineStep, calls_in}
 
 -- the engine's lines of a scenario's lines, by their steps
 abbrev pub calls_of_steps : List LineStep → List (List ℕ)
-calls_of_steps turns = flat_map (λ turn. calls_in turn.deed) turns
+calls_of_steps turns = flat_map (λ turn. calls_in turn.resolved) turns
 
 -- those that are answered: all, or a name's alone
 abbrev pub calls_answered : Option (List ℕ) → List LineStep → List (List ℕ)
@@ -25,8 +25,8 @@ text_of_calls tells earlier number (call ∷ calls) =
 abbrev pub text_of_steps : (List (List ℕ) → ℕ → List ℕ → List ℕ) → Option (List ℕ) → List (List ℕ) → List LineStep → List ℕ
 text_of_steps tells only earlier [] = []
 text_of_steps tells only earlier (turn ∷ turns) =
-    text_of_calls tells earlier turn.number (said_by only (calls_in turn.deed))
-    ++ text_of_steps tells only (earlier ++ said_by only (calls_in turn.deed)) turns
+    text_of_calls tells earlier turn.number (said_by only (calls_in turn.resolved))
+    ++ text_of_steps tells only (earlier ++ said_by only (calls_in turn.resolved)) turns
 
 -- the text that the engine writes for a call after others from a start
 abbrev pub engine_text : World → List (List ℕ) → ℕ → List ℕ → List ℕ

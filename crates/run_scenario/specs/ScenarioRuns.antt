@@ -1,5 +1,6 @@
 -- How far a run of the friendly form is, and how it ends.
 use Rattle.std.specs.Prelude.{◌≡◌, ℕ, ◌≤◌, ◌||◌, Bool, true, false, ⊤, List, [], ◌∷◌, ◌++◌, length, Option, Some, None, IfSome, IfNone, IfOk, OnOk, Result, Ok, Err}
+use Rattle.line_steps.specs.ResolvedLines.{ResolvedLine}
 use Rattle.line_steps.specs.RunPosition.{RunPosition, arrived, crosses, passed}
 use Rattle.own_model.specs.World.{World}
 use Rattle.run_lines.specs.Answered.{after_all}
@@ -12,7 +13,7 @@ use Rattle.run_scenario.specs.Faults.{takes_memory}
 use Rattle.run_scenario.specs.CallAnswers.{ReportsCalls}
 use Rattle.run_scenario.specs.Judging.{Awaited, IsJudged, awaited_after}
 use Rattle.run_scenario.specs.RunCalls.{calls_answered, calls_of_steps, text_of_steps}
-use Rattle.run_scenario.specs.LineSteps.{ResolvedLine, LineStep, calls_in, stand_after, stand_behind, turns_of}
+use Rattle.run_scenario.specs.LineSteps.{LineStep, calls_in, stand_after, stand_behind, turns_of}
 
 -- a line handler is the one that began: its sink of errors, its run, the text that it writes and what it was made with
 pub record Remains {N R T : Type 0} (name now_name : N) (run now_run : R) (tells now_tells : T) (holds now_holds : List ℕ)
@@ -35,7 +36,7 @@ TakesMemory calls ReadFault turns = ⊤
 TakesMemory calls WriteFault turns = ⊤
 TakesMemory calls TooManyLines turns = ⊤
 TakesMemory calls NoMemory turns =
-    (front : List LineStep) × (last : LineStep) × (turns ≡ front ++ last ∷ []) × ((takes_memory calls last.deed || last.crosses) ≡ true)
+    (front : List LineStep) × (last : LineStep) × (turns ≡ front ++ last ∷ []) × ((takes_memory calls last.resolved || last.crosses) ≡ true)
 
 -- lines lead from one world to another, and the last of them had a fault
 pub record StopsSteps (calls : Bool) (only : Option (List ℕ)) (start world : World) (first : RunPosition) (fault : LineRunFault)
@@ -71,14 +72,14 @@ point world stand awaited written gathered =
 -- a line is run by what it is: its call is answered and reported, the position moves on, and the line is checked, unless there is
 -- a fault, which it may have
 pub record RunsLine (only : Option (List ℕ)) (tells : World → List (List ℕ) → ℕ → List ℕ → List ℕ) (calls : Bool)
-    (seen now_seen : World → List (List ℕ) → Type 0) (deed : ResolvedLine) (failed : Bool) (result : Result Bool LineRunFault)
+    (seen now_seen : World → List (List ℕ) → Type 0) (resolved : ResolvedLine) (failed : Bool) (result : Result Bool LineRunFault)
     (old new : Point) : Type 0 where
-  pub hears : ReportsCalls only tells seen now_seen old.stand.number (calls_in deed) old.world new.world result old.written old.gathered
+  pub hears : ReportsCalls only tells seen now_seen old.stand.number (calls_in resolved) old.world new.world result old.written old.gathered
       new.written new.gathered
-  pub stands : OnOk result (new.stand ≡ arrived (stand_after only old.world (passed old.stand) deed))
-  pub judged : IfOk result (IsJudged only old.world deed old.awaited)
-  pub expects : OnOk result (new.awaited ≡ awaited_after old.stand.number deed old.awaited)
-  pub failing : Fails result failed (takes_memory calls deed || crosses old.stand)
+  pub stands : OnOk result (new.stand ≡ arrived (stand_after only old.world (passed old.stand) resolved))
+  pub judged : IfOk result (IsJudged only old.world resolved old.awaited)
+  pub expects : OnOk result (new.awaited ≡ awaited_after old.stand.number resolved old.awaited)
+  pub failing : Fails result failed (takes_memory calls resolved || crosses old.stand)
 
 -- ---- the whole run
 

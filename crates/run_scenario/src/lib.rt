@@ -14,7 +14,6 @@ mod line_step;
 mod near_names;
 mod printable_hex;
 mod reply_checker;
-mod resolved_line;
 mod running;
 mod scenario_end;
 mod scenario_input;

@@ -1,47 +1,37 @@
-//! The step of a line: the line is read, and its call is answered and reported.
-ghost use Rattle.std.specs.Prelude.{◌≡◌, ◌≤◌, ◌∷◌, ◌&&◌, [], ℕ, List, Option, IfSome, false, is_some, length};
+//! The step of a line: the line is resolved, and its call is answered and reported.
+ghost use Rattle.std.specs.Prelude.{◌≡◌, ◌∷◌, ◌&&◌, [], ℕ, List, IfSome, false, is_some};
+ghost use Rattle.std.specs.Prelude.{Option};
 ghost use Rattle.std.specs.Option.{option_copied};
 ghost use Rattle.own_model.specs.Listed.{start_list_of};
 ghost use Rattle.own_model.specs.StartList.{entries_of};
 ghost use Rattle.own_model.specs.World.{World};
-ghost use Rattle.line_friendly.specs.Friendly.{said_of};
 ghost use Rattle.run_lines.specs.Answered.{after_all};
 ghost use Rattle.run_lines.specs.Faults.{Fails};
 ghost use Rattle.line_grammar.specs.Read.{IsReadAs, Reads};
-ghost use Rattle.line_names.specs.Views.{filled_view};
+ghost use Rattle.line_steps.specs.ResolvedViews.{HasParsedCall, resolved_view};
 ghost use Rattle.run_scenario.specs.CallAnswers.{ReportsCalls, IsAnsweredCall, TakesStep, answer_of};
-ghost use Rattle.run_scenario.specs.LineSteps.{deed_of};
-ghost use Rattle.run_scenario.specs.LineSteps.ResolvedLine.{Says};
+ghost use Rattle.run_scenario.specs.LineSteps.{calls_in, resolved_at};
 
 use crate::call_observer::{CallObserver, ObservedCall};
-use crate::resolved_line::{LineContent, ResolvedLine};
 use core_calls::Reply;
-use line_friendly::{FriendlyLine, LineBuffer, read_friendly};
-use line_names::{FilledLine, directive_of, fill};
-use line_steps::RunPosition;
+use line_steps::{LineBuffers, ResolvedLine, RunPosition, resolve};
 use list_parser::StartList;
 use pd_core::{Core, Router};
-use run_lines::{
-    LONGEST_LINE, LineAnswer, LineDispatcher, LineRunFault, NamedCall, Sink, WriteBuffer,
-};
+use run_lines::{LineAnswer, LineDispatcher, LineRunFault, NamedCall, Sink, WriteBuffer};
 use std::alloc::Global;
 use trade_base::NoMemory;
 
 /// A line after substitution, and its answered call, if it has one that was answered.
 #[derive(Drop)]
 pub struct LineStep<'a> {
-    pub deed: ResolvedLine<'a>,
-    pub heard: Option<ObservedCall<'a>>,
+    pub resolved: ResolvedLine<'a>,
+    pub answered: Option<ObservedCall<'a>>,
 }
 
 /// Buffers for a line that is filled and parsed, and for the reply to its call.
 #[derive(Drop)]
 pub struct CallBuffers {
-    /// The line with the values of its names.
-    filled: LineBuffer,
-    /// The engine's line.
-    engine: LineBuffer,
-    /// The reply to the call.
+    line: LineBuffers,
     reply: Reply,
 }
 
@@ -49,108 +39,52 @@ impl CallBuffers {
     /// Returns empty buffers. The error is that the host is out of memory.
     pub fn new(alloc: Global) -> Result<CallBuffers, NoMemory> {
         Ok(CallBuffers {
-            filled: LineBuffer::new(),
-            engine: LineBuffer::new(),
+            line: LineBuffers::new(),
             reply: Reply::boot(alloc)?,
         })
     }
 }
 
-/// Reads a line that isn't too long at a position of the run, and answers its call, if the call is to be answered. The line is
-/// filled with the values of its names, and then it is a directive or parsed.
-pub fn take_turn<'a, 'b, R: Router + Drop>(
+/// Resolves a line at a position of the run, and answers its call, if it has one that isn't skipped.
+pub fn take_step<'a, 'b, R: Router + Drop>(
     run: &LineDispatcher<'a>,
     core: &mut Core<R>,
     stand: &RunPosition<'_>,
     line: &'b [u8],
-    rooms: &'b mut CallBuffers,
+    buffers: &'b mut CallBuffers,
 ) -> LineStep<'b>
 where
     'a: 'b,
-    requires short { length line.now ≤ LONGEST_LINE }
     requires listed { core.old.entries ≡ entries_of (start_list_of run.now.list.now) }
     ensures { TakesStep (option_copied run.now.only) stand.now.number
-        (deed_of stand.now line.now) core.old core.new result }
+        (resolved_at (option_copied run.now.only) stand.now line.now) core.old core.new result }
 {
-    match fill(line, stand.known(), &mut rooms.filled) {
-        Ok(filled) => match directive_of(filled.line) {
-            Some(directive) => LineStep {
-                deed: ResolvedLine::Follows(directive),
-                heard: None,
-            },
-            None => answer_filled(
-                run,
-                core,
-                stand,
-                filled,
-                &mut rooms.engine,
-                &mut rooms.reply,
-            ),
-        },
-        Err(fault) => LineStep {
-            deed: ResolvedLine::Unnamed(fault),
-            heard: None,
-        },
-    }
+    let resolved = resolve(run.only, stand.known(), line, &mut buffers.line);
+    let answered = answer_resolved(run, core, stand, &resolved, &mut buffers.reply);
+    LineStep { resolved, answered }
 }
 
-// Does the same for a filled line that is no directive.
-fn answer_filled<'a, 'b, R: Router + Drop>(
+// Answers the call of a resolved line at a position of the run, if it has one that isn't skipped.
+fn answer_resolved<'a, 'b, R: Router + Drop>(
     run: &LineDispatcher<'a>,
     core: &mut Core<R>,
     stand: &RunPosition<'_>,
-    filled: FilledLine<'b>,
-    room: &'b mut LineBuffer,
+    resolved: &ResolvedLine<'b>,
     reply: &'b mut Reply,
-) -> LineStep<'b>
+) -> Option<ObservedCall<'b>>
 where
     'a: 'b,
     requires listed { core.old.entries ≡ entries_of (start_list_of run.now.list.now) }
-    ensures { TakesStep (option_copied run.now.only) stand.now.number
-        (Says (filled_view filled.entry) (said_of filled.entry.line.now))
-        core.old core.new result }
+    requires read { HasParsedCall resolved.now }
+    ensures world { core.new ≡ after_all (option_copied run.now.only) core.old
+        (calls_in (resolved_view resolved.now)) }
+    ensures heard { IsAnsweredCall (option_copied run.now.only) core.old stand.now.number
+        (calls_in (resolved_view resolved.now)) result }
+    ensures read { IfSome result (λ it. IsReadAs it.line.now it.call) }
 {
-    match read_friendly(filled.line, room) {
-        Ok(FriendlyLine::Nothing) => LineStep {
-            deed: ResolvedLine::Says {
-                filled,
-                said: Ok(LineContent::Nothing),
-            },
-            heard: None,
-        },
-        Ok(FriendlyLine::Log(text)) => LineStep {
-            deed: ResolvedLine::Says {
-                filled,
-                said: Ok(LineContent::Log(text)),
-            },
-            heard: None,
-        },
-        Ok(
-            FriendlyLine::Call {
-                line,
-                call,
-                reply: expected,
-            },
-        ) => {
-            let heard = hear(run, core, stand, line, call, reply);
-            LineStep {
-                deed: ResolvedLine::Says {
-                    filled,
-                    said: Ok(LineContent::Call {
-                        line,
-                        reply: expected,
-                    }),
-                },
-                heard,
-            }
-        }
-        Err(fault) => LineStep {
-            deed: ResolvedLine::Says {
-                filled,
-                said: Err(fault),
-            },
-            heard: None,
-        },
+    match resolved {
+        ResolvedLine::Call(call) => answer(run, core, stand, call.line, call.call, reply),
+        _ => None,
     }
 }
 
@@ -161,7 +95,7 @@ pub fn answer_plain<'a, 'b, R: Router + Drop>(
     stand: &RunPosition<'_>,
     line: &'b [u8],
     call: NamedCall<'b>,
-    rooms: &'b mut CallBuffers,
+    buffers: &'b mut CallBuffers,
 ) -> Option<ObservedCall<'b>>
 where
     'a: 'b,
@@ -172,11 +106,11 @@ where
         (line.now ∷ []) result }
     ensures read { IfSome result (λ it. IsReadAs it.line.now it.call) }
 {
-    hear(run, core, stand, line, Some(call), &mut rooms.reply)
+    answer(run, core, stand, line, Some(call), &mut buffers.reply)
 }
 
 // Answers the engine's line of a line at a position of the run. `call` is what was parsed of it.
-fn hear<'a, 'b, R: Router + Drop>(
+fn answer<'a, 'b, R: Router + Drop>(
     run: &LineDispatcher<'a>,
     core: &mut Core<R>,
     stand: &RunPosition<'_>,

@@ -1,5 +1,5 @@
 //! Bytes in hexadecimal digits, as text.
-ghost use Rattle.std.specs.Prelude.{◌≡◌, ◌/◌, ◌<◌, false, get_or, is_err, length, Some};
+ghost use Rattle.std.specs.Prelude.{◌≡◌, ◌/◌, ◌<◌, ◌++◌, false, get_or, is_err, length, Some, IfOk, OnOk};
 ghost use Rattle.std.specs.List.{list_all};
 ghost use Rattle.std.specs.Option.{option_map};
 ghost use Rattle.csv.specs.Writing.{default_writer, needs_quotes, quoted};
@@ -10,6 +10,7 @@ ghost use Rattle.run_scenario.specs.Cells.{cell_text};
 
 use crate::csv_row::needs_byte;
 use run_lines::{DeviceFault, Sink, WriteBuffer};
+use std::alloc::{AllocError, Global};
 use text_codec::read_hex;
 use view_diagnostics::Diagnostics;
 
@@ -50,6 +51,14 @@ impl<'a> PrintableHex<'a> {
         gathered.put(sink, b" (\"")?;
         put_signs(self.hex, false, gathered, sink)?;
         gathered.put(sink, b"\")")
+    }
+
+    /// Returns the text, with the same escapes. The error is that the host is out of memory.
+    pub fn to_text(self, alloc: Global) -> Result<Vec<u8>, AllocError>
+        ensures { IfOk result (λ text. text.items
+            ≡ characters_text (hex_bytes self.entry.hex.now)) }
+    {
+        text_of(alloc, self.hex)
     }
 
     /// Writes ` ("TEXT")` into a message, with the same escapes. The error is a failed write.
@@ -221,5 +230,29 @@ fn put_sign<K: Sink>(
         b'"' if in_cell => gathered.put(sink, b"\\\"\""),
         b'"' | b'\\' => gathered.put(sink, &[b'\\', byte]),
         _ => gathered.put(sink, &[byte]),
+    }
+}
+
+// Returns the text of these bytes.
+fn text_of(alloc: Global, hex: &[u8]) -> Result<Vec<u8>, AllocError>
+    requires { bytes_of_hex hex.now ≡ Some (hex_bytes hex.now) }
+    ensures { IfOk result (λ text. text.items ≡ characters_text (hex_bytes hex.now)) }
+{
+    let mut text = Vec::new(alloc);
+    for place in 0..hex.len() / 2 {
+        add_sign(byte_at(hex, place), &mut text)?;
+    }
+    Ok(text)
+}
+
+// Appends the text of a byte.
+fn add_sign(byte: u8, text: &mut Vec<u8>) -> Result<(), AllocError>
+    ensures { OnOk result (text.new.items ≡ text.old.items ++ character_text byte) }
+{
+    match byte {
+        b'\n' => text.extend_from_slice(b"\\n"),
+        b'\t' => text.extend_from_slice(b"\\t"),
+        b'"' | b'\\' => text.extend_from_slice(&[b'\\', byte]),
+        _ => text.extend_from_slice(&[byte]),
     }
 }

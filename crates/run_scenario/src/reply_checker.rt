@@ -82,7 +82,7 @@ impl<'a> ReplyChecker<'a> {
                 self.judge_answer(wish, answer, sink)
             }
         };
-        self.expected.clear();
+        self.forget_expected();
         judged
     }
 
@@ -145,12 +145,17 @@ impl<'a> ReplyChecker<'a> {
         Ok(false)
     }
 
-    /// Writes why a line, filled with `known`, can't be parsed. Returns true. The error is a failed write or that the host is out
-    /// of memory.
-    pub fn tell_unread<E: Sink>(
+    /// Removes the expected log lines, after a call that was answered or skipped.
+    pub fn forget_expected(&mut self)
+        ensures { self.new.expected ≡ nothing_awaited }
+    {
+        self.expected.clear();
+    }
+
+    /// Writes why a line can't be parsed. Returns true. The error is a failed write or that the host is out of memory.
+    pub fn report_bad_line<E: Sink>(
         &mut self,
         given: SourceLine<'_>,
-        known: &NameTable,
         fault: FriendlyFault,
         sink: &mut E,
     ) -> Result<bool, LineRunFault>
@@ -160,14 +165,13 @@ impl<'a> ReplyChecker<'a> {
         ensures works { OnOk result (E.has_failed sink.new ≡ false) }
         ensures failing { Fails result (E.has_failed sink.new) true }
     {
-        let token = String::from_utf8_lossy(self.alloc, given.token(known, fault.column))?;
+        let token = String::from_utf8_lossy(self.alloc, token_at(given.line, fault.column))?;
         let message = fault.reason.about(token.as_str()).to_string(self.alloc)?;
-        let place = given.place(known, fault.column);
-        self.complain(place, message.as_bytes(), sink)
+        self.complain(given.at(fault.column), message.as_bytes(), sink)
     }
 
     /// Writes what is wrong with a name in a line. Returns true. The error is a failed write or that the host is out of memory.
-    pub fn report_unnamed<E: Sink>(
+    pub fn report_bad_name<E: Sink>(
         &mut self,
         given: SourceLine<'_>,
         fault: NameFault,
@@ -181,14 +185,14 @@ impl<'a> ReplyChecker<'a> {
     {
         let token = String::from_utf8_lossy(self.alloc, token_at(given.line, fault.column))?;
         let message = fault.reason.about(token.as_str()).to_string(self.alloc)?;
-        let place = FilePlace::Byte(given.number, fault.column as u64);
-        self.complain(place, message.as_bytes(), sink)
+        self.complain(given.at(fault.column), message.as_bytes(), sink)
     }
 
-    /// Writes why a directive can't be followed. Returns true. The error is a failed write.
+    /// Writes why the directive at a column can't be followed. Returns true. The error is a failed write.
     pub fn report_misplaced<E: Sink>(
         &mut self,
         given: SourceLine<'_>,
+        column: usize,
         why: DirectiveFault,
         sink: &mut E,
     ) -> Result<bool, LineRunFault>
@@ -198,7 +202,7 @@ impl<'a> ReplyChecker<'a> {
         ensures works { OnOk result (E.has_failed sink.new ≡ false) }
         ensures failing { Fails result (E.has_failed sink.new) false }
     {
-        self.complain(given.start(), why.words().as_bytes(), sink)
+        self.complain(given.at(column), why.words().as_bytes(), sink)
     }
 
     /// Writes that a line has more than 8192 bytes. Returns true. The error is a failed write.

@@ -1,5 +1,5 @@
 //! Runs scenarios in the friendly form.
-ghost use Rattle.std.specs.Prelude.{◌≡◌, ◌≤◌, ◌||◌, [], length};
+ghost use Rattle.std.specs.Prelude.{◌≡◌, ◌≤◌, ◌||◌, [], false, length};
 ghost use Rattle.std.specs.Option.{option_copied};
 ghost use Rattle.own_model.specs.Listed.{start_list_of};
 ghost use Rattle.own_model.specs.StartList.{entries_of};
@@ -8,13 +8,14 @@ ghost use Rattle.line_friendly.specs.Theorems.{IsBare, IsPlain};
 ghost use Rattle.run_lines.specs.Next.{OutputsWork};
 ghost use Rattle.run_scenario.specs.RunCalls.{text_of_steps};
 ghost use Rattle.run_scenario.specs.ScenarioRuns.{LeadsSteps, RunsLine, Remains, StopsSteps, counted, point};
-ghost use Rattle.run_scenario.specs.LineSteps.{deed_of, turns_of};
+ghost use Rattle.run_scenario.specs.LineSteps.{resolved_at, turns_of};
+ghost use Rattle.line_steps.specs.ResolvedLines.{is_skipped};
 
 use crate::call_observer::CallObserver;
-use crate::line_step::{CallBuffers, LineStep, answer_plain, report_call, take_turn};
-use crate::resolved_line::ResolvedLine;
+use crate::line_step::{CallBuffers, LineStep, answer_plain, report_call, take_step};
 use crate::scenario_state::ScenarioState;
 use line_friendly::plain_call;
+use line_steps::{ResolvedLine, is_skipped};
 use pd_core::{Core, Router};
 use run_lines::{
     LONGEST_LINE, LineDispatcher, LineHandler, LineRunFault, NamedCall, Sink, WriteBuffer,
@@ -72,7 +73,8 @@ impl<W: CallObserver, E: Sink> ScenarioRunner<'_, '_, '_, '_, '_, '_, '_, W, E> 
         ensures plays { RunsLine (option_copied self.old.run.now.only) (W.tells self.old.watch.now)
             W.takes (W.sees self.old.watch.now self.old.run.now.list.now)
             (W.sees self.new.watch.now self.old.run.now.list.now)
-            (deed_of self.old.notes.now.stand line.now)
+            (resolved_at (option_copied self.old.run.now.only) self.old.notes.now.stand
+            line.now)
             (K.has_failed writer.new || E.has_failed self.new.complaints.now) result
             (point core.old self.old.notes.now.stand self.old.notes.now.critic.expected
             (K.contents writer.old) gathered.old)
@@ -80,8 +82,10 @@ impl<W: CallObserver, E: Sink> ScenarioRunner<'_, '_, '_, '_, '_, '_, '_, W, E> 
             (K.contents writer.new) gathered.new) }
     {
         match plain_call(line) {
-            Some(call) => self.run_plain_line(core, line, call, gathered, writer),
-            None => self.run_any_line(core, line, gathered, writer),
+            Some(call) if !is_skipped(self.run.only, line) => {
+                self.run_plain_line(core, line, call, gathered, writer)
+            }
+            _ => self.run_any_line(core, line, gathered, writer),
         }
     }
 
@@ -94,6 +98,7 @@ impl<W: CallObserver, E: Sink> ScenarioRunner<'_, '_, '_, '_, '_, '_, '_, W, E> 
         gathered: &mut WriteBuffer,
         writer: &mut K,
     ) -> Result<bool, LineRunFault>
+        requires own { is_skipped (option_copied self.old.run.now.only) line.now ≡ false }
         requires plain { IsPlain line.now }
         requires bare { IsBare line.now }
         requires read { Reads line.now call }
@@ -108,7 +113,8 @@ impl<W: CallObserver, E: Sink> ScenarioRunner<'_, '_, '_, '_, '_, '_, '_, W, E> 
         ensures plays { RunsLine (option_copied self.old.run.now.only) (W.tells self.old.watch.now)
             W.takes (W.sees self.old.watch.now self.old.run.now.list.now)
             (W.sees self.new.watch.now self.old.run.now.list.now)
-            (deed_of self.old.notes.now.stand line.now)
+            (resolved_at (option_copied self.old.run.now.only) self.old.notes.now.stand
+            line.now)
             (K.has_failed writer.new || E.has_failed self.new.complaints.now) result
             (point core.old self.old.notes.now.stand self.old.notes.now.critic.expected
             (K.contents writer.old) gathered.old)
@@ -123,7 +129,7 @@ impl<W: CallObserver, E: Sink> ScenarioRunner<'_, '_, '_, '_, '_, '_, '_, W, E> 
         }
     }
 
-    // Runs any line: reads it, answers its call, reports the answer, and checks it.
+    // Runs any line: resolves it, answers its call, reports the answer, and checks it.
     fn run_any_line<R: Router + Drop, K: Sink>(
         &mut self,
         core: &mut Core<R>,
@@ -142,7 +148,8 @@ impl<W: CallObserver, E: Sink> ScenarioRunner<'_, '_, '_, '_, '_, '_, '_, W, E> 
         ensures plays { RunsLine (option_copied self.old.run.now.only) (W.tells self.old.watch.now)
             W.takes (W.sees self.old.watch.now self.old.run.now.list.now)
             (W.sees self.new.watch.now self.old.run.now.list.now)
-            (deed_of self.old.notes.now.stand line.now)
+            (resolved_at (option_copied self.old.run.now.only) self.old.notes.now.stand
+            line.now)
             (K.has_failed writer.new || E.has_failed self.new.complaints.now) result
             (point core.old self.old.notes.now.stand self.old.notes.now.critic.expected
             (K.contents writer.old) gathered.old)
@@ -150,8 +157,8 @@ impl<W: CallObserver, E: Sink> ScenarioRunner<'_, '_, '_, '_, '_, '_, '_, W, E> 
             (K.contents writer.new) gathered.new) }
     {
         let list = self.run.list;
-        let turn = take_turn(self.run, core, &self.notes.stand, line, self.rooms);
-        match report_call(self.watch, core, list, &turn.heard, gathered, writer) {
+        let turn = take_step(self.run, core, &self.notes.stand, line, self.rooms);
+        match report_call(self.watch, core, list, &turn.answered, gathered, writer) {
             Ok(()) => self.notes.take_in(list, line, &turn, self.complaints),
             Err(fault) => Err(fault),
         }
@@ -198,8 +205,8 @@ impl<W: CallObserver, E: Sink> LineHandler for ScenarioRunner<'_, '_, '_, '_, '_
         _writer: &mut K,
     ) -> Result<(), LineRunFault> {
         let turn = LineStep {
-            deed: ResolvedLine::TooLong,
-            heard: None,
+            resolved: ResolvedLine::TooLong,
+            answered: None,
         };
         let judged = self
             .notes

@@ -3,23 +3,21 @@ ghost use Rattle.std.specs.Prelude.{◌≡◌, ◌||◌, IfErr, IfOk, OnErr, OnO
 ghost use Rattle.std.specs.Option.{option_copied};
 ghost use Rattle.line_friendly.specs.Friendly.{is_passed};
 ghost use Rattle.run_lines.specs.Faults.{Fails};
-ghost use Rattle.line_names.specs.DirectiveFault.{is_misplaced};
 ghost use Rattle.line_names.specs.Views.{directive_view, filled_view};
-ghost use Rattle.run_scenario.specs.ResolvedLines.{resolved_view, plain_line};
+ghost use Rattle.line_steps.specs.ResolvedViews.{call_view, resolved_view};
 ghost use Rattle.run_scenario.specs.Faults.{takes_memory};
 ghost use Rattle.run_scenario.specs.CallAnswers.{answer_of};
 ghost use Rattle.run_scenario.specs.Judging.{awaited_after, is_complained, is_other, nothing_awaited};
-ghost use Rattle.run_scenario.specs.LineSteps.{Arrives, binds_names, learnt_by, stand_with};
+ghost use Rattle.run_scenario.specs.LineSteps.{Arrives, binds_names, learnt_by, plain_line, stand_with};
 ghost use Rattle.line_steps.specs.RunPosition.{arrived, crosses, position_following, is_due, passed};
 ghost use Rattle.run_lines.specs.declared.line_run_fault.LineRunFault.TheVariants.{NoMemory as NoRoom};
 
 use crate::call_observer::ObservedCall;
 use crate::line_step::{LineStep, answer_in};
 use crate::reply_checker::ReplyChecker;
-use crate::resolved_line::{LineContent, ResolvedLine};
 use crate::source_line::{JudgedLine, SourceLine};
 use line_names::{Directive, FilledLine};
-use line_steps::RunPosition;
+use line_steps::{ResolvedLine, RunPosition, ScenarioCall};
 use list_parser::StartList;
 use run_lines::{LineAnswer, LineRunFault, Sink};
 use std::alloc::Global;
@@ -57,13 +55,13 @@ impl<'a> ScenarioState<'a> {
     ) -> Result<bool, LineRunFault>
         requires works { E.has_failed complaints.old ≡ false }
         ensures judged { IfOk result (λ complained. complained ≡ is_complained
-            (resolved_view turn.now.deed) (answer_of turn.now.heard) self.old.critic.expected) }
+            (resolved_view turn.now.resolved) (answer_of turn.now.answered) self.old.critic.expected) }
         ensures expects { OnOk result (self.new.critic.expected ≡ awaited_after
-            self.old.stand.number (resolved_view turn.now.deed) self.old.critic.expected) }
+            self.old.stand.number (resolved_view turn.now.resolved) self.old.critic.expected) }
         ensures stands { OnOk result (Arrives self.old.stand
-            (resolved_view turn.now.deed) (answer_of turn.now.heard) self.new.stand) }
+            (resolved_view turn.now.resolved) (answer_of turn.now.answered) self.new.stand) }
         ensures failing { Fails result (E.has_failed complaints.new)
-            (takes_memory false (resolved_view turn.now.deed) || crosses self.old.stand) }
+            (takes_memory false (resolved_view turn.now.resolved) || crosses self.old.stand) }
     {
         match self.take_turn(list, line, turn, complaints) {
             Ok(complained) => self.arrive(complained),
@@ -81,36 +79,39 @@ impl<'a> ScenarioState<'a> {
     ) -> Result<bool, LineRunFault>
         requires works { E.has_failed complaints.old ≡ false }
         ensures judged { IfOk result (λ complained. complained ≡ is_complained
-            (resolved_view turn.now.deed) (answer_of turn.now.heard) self.old.critic.expected) }
+            (resolved_view turn.now.resolved) (answer_of turn.now.answered) self.old.critic.expected) }
         ensures expects { OnOk result (self.new.critic.expected ≡ awaited_after
-            self.old.stand.number (resolved_view turn.now.deed) self.old.critic.expected) }
+            self.old.stand.number (resolved_view turn.now.resolved) self.old.critic.expected) }
         ensures stands { OnOk result (self.new.stand ≡ stand_with (passed self.old.stand)
-            (resolved_view turn.now.deed) (answer_of turn.now.heard)) }
+            (resolved_view turn.now.resolved) (answer_of turn.now.answered)) }
         ensures failing { Fails result (E.has_failed complaints.new)
-            (takes_memory false (resolved_view turn.now.deed)) }
+            (takes_memory false (resolved_view turn.now.resolved)) }
     {
         let number = self.stand.pass();
         let given = SourceLine { number, line };
-        match &turn.deed {
+        match &turn.resolved {
             ResolvedLine::TooLong => self.critic.report_too_long(number, complaints),
-            ResolvedLine::Unnamed(fault) => self.critic.report_unnamed(given, *fault, complaints),
-            ResolvedLine::Follows(directive) => self.follow(given, *directive, complaints),
-            ResolvedLine::Says { filled, said } => match said {
-                Ok(LineContent::Nothing) => Ok(false),
-                Ok(LineContent::Log(text)) => self.critic.expect_line(number, *text),
-                Ok(LineContent::Call { reply, .. }) => {
-                    let asked = JudgedLine {
-                        given,
-                        line: filled.line,
-                        reply: *reply,
-                    };
-                    let answer = answer_in(&turn.heard);
-                    self.judge_filled(list, asked, filled, answer, complaints)
-                }
-                Err(fault) => self
-                    .critic
-                    .tell_unread(given, self.stand.known(), *fault, complaints),
-            },
+            ResolvedLine::Skipped => {
+                self.critic.forget_expected();
+                Ok(false)
+            }
+            ResolvedLine::BadName(fault) => {
+                self.critic.report_bad_name(given, *fault, complaints)
+            }
+            ResolvedLine::Directive(directive) => self.follow(*directive),
+            ResolvedLine::Misplaced(column, why) => {
+                self.critic
+                    .report_misplaced(given, *column, *why, complaints)
+            }
+            ResolvedLine::Nothing => Ok(false),
+            ResolvedLine::Log(text) => self.critic.expect_line(number, *text),
+            ResolvedLine::Call(call) => {
+                let answer = answer_in(&turn.answered);
+                self.judge_call(list, given, call, answer, complaints)
+            }
+            ResolvedLine::BadLine(fault) => {
+                self.critic.report_bad_line(given, *fault, complaints)
+            }
         }
     }
 
@@ -162,53 +163,44 @@ impl<'a> ScenarioState<'a> {
         Ok(complained)
     }
 
-    // Follows a directive, or writes why it can't be followed.
-    fn follow<E: Sink>(
-        &mut self,
-        given: SourceLine<'_>,
-        directive: Directive<'_>,
-        complaints: &mut E,
-    ) -> Result<bool, LineRunFault>
-        requires works { E.has_failed complaints.old ≡ false }
+    // Follows a directive. The error is that the host is out of memory.
+    fn follow(&mut self, directive: Directive<'_>) -> Result<bool, LineRunFault>
         ensures stands { OnOk result
             (self.new.stand ≡ position_following self.old.stand (directive_view directive.entry)) }
-        ensures failing { Fails result (E.has_failed complaints.new) true }
-        ensures judged { IfOk result (λ complained. complained
-            ≡ is_misplaced (directive_view directive.entry)) }
+        ensures fault { IfErr result (λ fault. fault ≡ NoRoom) }
+        ensures judged { IfOk result (λ complained. complained ≡ false) }
         ensures keeps { self.new.critic.expected ≡ self.old.critic.expected }
     {
-        match directive.misplaced() {
-            Some(why) => self.critic.report_misplaced(given, why, complaints),
-            None => {
-                self.stand.follow(directive)?;
-                Ok(false)
-            }
-        }
+        self.stand.follow(directive)?;
+        Ok(false)
     }
 
-    // Checks the answer of a filled line's call, and binds the names of the line.
-    fn judge_filled<E: Sink>(
+    // Checks the answer of a line's call, and binds the names of the line.
+    fn judge_call<E: Sink>(
         &mut self,
         list: &StartList,
-        asked: JudgedLine<'_>,
-        filled: &FilledLine<'_>,
+        given: SourceLine<'_>,
+        call: &ScenarioCall<'_>,
         answer: Option<LineAnswer<'_>>,
         complaints: &mut E,
     ) -> Result<bool, LineRunFault>
         requires works { E.has_failed complaints.old ≡ false }
         ensures judged { IfOk result (λ complained. complained
-            ≡ is_other (is_passed asked.entry.line.now) (option_copied asked.entry.reply)
-            answer.entry self.old.critic.expected) }
+            ≡ is_complained (call_view call.now) answer.entry self.old.critic.expected) }
         ensures forgets { self.new.critic.expected ≡ nothing_awaited }
-        ensures stands { OnOk result (self.new.stand ≡ record self.old.stand {
-          known = learnt_by self.old.stand.known (filled_view filled.now) answer.entry;
-        }) }
+        ensures stands { OnOk result
+            (self.new.stand ≡ stand_with self.old.stand (call_view call.now) answer.entry) }
         ensures failing { Fails result (E.has_failed complaints.new)
-            (binds_names (filled_view filled.now)) }
+            (takes_memory false (call_view call.now)) }
     {
+        let asked = JudgedLine {
+            given,
+            line: call.filled.line,
+            reply: call.reply,
+        };
         let known = self.stand.known();
         match self.critic.judge(list, asked, known, answer, complaints) {
-            Ok(complained) => match learn(&mut self.stand, filled, answer) {
+            Ok(complained) => match learn(&mut self.stand, &call.filled, answer) {
                 Ok(()) => Ok(complained),
                 Err(fault) => Err(fault),
             },

@@ -1,7 +1,7 @@
 //! Lines of a scenario before substitution.
 
 use line_friendly::trimmed_line;
-use line_names::{NameTable, source_column, token_at};
+use line_names::{NameTable, source_column};
 use view_diagnostics::FilePlace;
 
 /// A line of a scenario before substitution.
@@ -34,18 +34,13 @@ impl<'a> SourceLine<'a> {
         FilePlace::Byte(self.number, before.saturating_add(1) as u64)
     }
 
+    /// Returns the place of the text at a column of the line.
+    pub fn at(self, column: usize) -> FilePlace {
+        FilePlace::Byte(self.number, column as u64)
+    }
+
     /// Returns the place of the text at a column of the filled line, if `known` holds the names that it was filled with.
     pub fn place(self, known: &NameTable, column: usize) -> FilePlace {
-        FilePlace::Byte(self.number, self.column(known, column) as u64)
-    }
-
-    /// Returns the token at the place of a column of the filled line, as `place` does.
-    pub fn token(self, known: &NameTable, column: usize) -> &'a [u8] {
-        token_at(self.line, self.column(known, column))
-    }
-
-    // Returns the column of the text at a column of the filled line.
-    fn column(self, known: &NameTable, column: usize) -> usize {
-        source_column(self.line, known, column)
+        self.at(source_column(self.line, known, column))
     }
 }

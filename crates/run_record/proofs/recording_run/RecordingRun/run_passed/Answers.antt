@@ -1,31 +1,43 @@
--- A line is filled, and then it says something, or it is a directive; or it isn't read.
-use Rattle.std.proofs.Common.{ap, ◌∙◌}
-use Rattle.line_names.specs.Filling.{filled}
-use Rattle.line_names.specs.Views.{directive_view, filled_view}
+-- A line is resolved, and does what it is.
+use Rattle.std.proofs.Common.{ap, refl}
+use Rattle.line_names.specs.Views.{directive_view}
 use Rattle.run_record.specs.Views.{marks_view}
-use Rattle.run_record.proofs.RecordedLemmas.{deed_follows, deed_long, deed_says, deed_unnamed, same_stage, turned_by, turned_over}
+use Rattle.run_record.proofs.RecordedLemmas.{resolved_as, same_stage, turned_by, turned_following, turned_over, turns_by, turns_over}
 use Rattle.run_record.proofs.recording_run.RecordingRun.run_passed.Goals as goal
 
-pub returns-then-line-gt-LONGEST_LINE-clause-turned : goal.returns-then-line-gt-LONGEST_LINE-clause-turned
-returns-then-line-gt-LONGEST_LINE-clause-turned g c =
-    turned_over c.miss.result _ _ _ _ _ _ _ (deed_long c.args.self.now.stand.known c.args.line.now c.if-line-gt-LONGEST_LINE.true)
+pub returns-in-TooLong-clause-turned : goal.returns-in-TooLong-clause-turned
+returns-in-TooLong-clause-turned g c =
+    turned_over c.miss.result _ _ _ _ _ _ _ _ (resolved_as _ _ c.args.line.now _ c.known.ensures c.in-TooLong.ensures.line) refl refl
     (same_stage c.args.core.now c.miss.ensures.stand c.miss.ensures.awaits) (ap (λ m. marks_view m.marks.items) c.miss.ensures.marks)
 
-pub returns-in-Some-clause-turned : goal.returns-in-Some-clause-turned
-returns-in-Some-clause-turned g c =
-    turned_by c.follow.result _ _ _ _ _ _ _ _
-    (deed_follows c.args.self.now.stand.known c.args.line.now (filled_view c.in-Ok.filled) (directive_view c.in-Some.directive)
-    c.if-line-gt-LONGEST_LINE.false (c.in-Ok.ensures ∙ ap (λ known. filled known c.args.line.now) c.known.ensures) c.in-Some.ensures)
-    (c.follow.ensures.turned c.args.core.now)
+pub returns-in-Skipped-clause-turned : goal.returns-in-Skipped-clause-turned
+returns-in-Skipped-clause-turned g c = turns_over _ _ _ _ _ _ _ _ (resolved_as _ _ c.args.line.now _ c.known.ensures c.in-Skipped.ensures.line) refl refl refl refl
 
-pub returns-in-None-clause-turned : goal.returns-in-None-clause-turned
-returns-in-None-clause-turned g c =
-    turned_by c.run_filled.result _ _ _ _ _ _ _ _
-    (deed_says c.args.self.now.stand.known c.args.line.now (filled_view c.in-Ok.filled) c.if-line-gt-LONGEST_LINE.false (c.in-Ok.ensures ∙ ap (λ known. filled known c.args.line.now) c.known.ensures) c.in-None.ensures)
-    c.run_filled.ensures.turned
+pub returns-in-BadName-clause-turned : goal.returns-in-BadName-clause-turned
+returns-in-BadName-clause-turned g c =
+    turned_over c.miss-in-BadName.result _ _ _ _ _ _ _ _ (resolved_as _ _ c.args.line.now _ c.known.ensures c.in-BadName.ensures.line) refl refl
+    (same_stage c.args.core.now c.miss-in-BadName.ensures.stand c.miss-in-BadName.ensures.awaits) (ap (λ m. marks_view m.marks.items) c.miss-in-BadName.ensures.marks)
 
-pub returns-in-Err-clause-turned : goal.returns-in-Err-clause-turned
-returns-in-Err-clause-turned g c =
-    turned_over c.miss-in-Err.result _ _ _ _ _ _ _
-    (deed_unnamed c.args.self.now.stand.known c.args.line.now c.in-Err.fault c.if-line-gt-LONGEST_LINE.false (c.in-Err.ensures ∙ ap (λ known. filled known c.args.line.now) c.known.ensures))
-    (same_stage c.args.core.now c.miss-in-Err.ensures.stand c.miss-in-Err.ensures.awaits) (ap (λ m. marks_view m.marks.items) c.miss-in-Err.ensures.marks)
+pub returns-in-Directive-clause-turned : goal.returns-in-Directive-clause-turned
+returns-in-Directive-clause-turned g c =
+    turned_by c.follow.result _ _ _ _ _ _ _ _ (resolved_as _ _ c.args.line.now _ c.known.ensures c.in-Directive.ensures.line)
+    (turned_following c.follow.result _ _ (directive_view c.in-Directive.directive) c.args.core.now _ _ _ _ c.follow.ensures)
+
+pub returns-in-Misplaced-clause-turned : goal.returns-in-Misplaced-clause-turned
+returns-in-Misplaced-clause-turned g c =
+    turned_over c.miss-in-Misplaced.result _ _ _ _ _ _ _ _ (resolved_as _ _ c.args.line.now _ c.known.ensures c.in-Misplaced.ensures.line) refl refl
+    (same_stage c.args.core.now c.miss-in-Misplaced.ensures.stand c.miss-in-Misplaced.ensures.awaits) (ap (λ m. marks_view m.marks.items) c.miss-in-Misplaced.ensures.marks)
+
+pub returns-in-Nothing-clause-turned : goal.returns-in-Nothing-clause-turned
+returns-in-Nothing-clause-turned g c = turns_over _ _ _ _ _ _ _ _ (resolved_as _ _ c.args.line.now _ c.known.ensures c.in-Nothing.ensures.line) refl refl refl refl
+
+pub returns-in-Log-clause-turned : goal.returns-in-Log-clause-turned
+returns-in-Log-clause-turned g c = turns_by _ _ _ _ _ _ _ _ (resolved_as _ _ c.args.line.now _ c.known.ensures c.in-Log.ensures.line) (record { stage = refl; marks = c.log.ensures })
+
+pub returns-in-Call-clause-turned : goal.returns-in-Call-clause-turned
+returns-in-Call-clause-turned g c = turned_by c.run_call.result _ _ _ _ _ _ _ _ (resolved_as _ _ c.args.line.now _ c.known.ensures c.in-Call.ensures.line) c.run_call.ensures.turned
+
+pub returns-in-BadLine-clause-turned : goal.returns-in-BadLine-clause-turned
+returns-in-BadLine-clause-turned g c =
+    turned_over c.miss-in-BadLine.result _ _ _ _ _ _ _ _ (resolved_as _ _ c.args.line.now _ c.known.ensures c.in-BadLine.ensures.line) refl refl
+    (same_stage c.args.core.now c.miss-in-BadLine.ensures.stand c.miss-in-BadLine.ensures.awaits) (ap (λ m. marks_view m.marks.items) c.miss-in-BadLine.ensures.marks)

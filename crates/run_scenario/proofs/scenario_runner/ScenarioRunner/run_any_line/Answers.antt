@@ -1,22 +1,22 @@
 -- A line has its turn, its answer is told, and then it is judged.
 use Rattle.std.specs.Option.{option_copied}
-use Rattle.run_scenario.specs.ResolvedLines.{resolved_view}
+use Rattle.line_steps.specs.ResolvedViews.{resolved_view}
 use Rattle.run_scenario.proofs.LineLemmas.{plays_as, turn_judged, turn_untold}
 use Rattle.run_scenario.proofs.TurnLemmas.{turn_viewed}
 use Rattle.run_scenario.proofs.scenario_runner.ScenarioRunner.run_any_line.Goals as goal
 
 pub returns-in-Ok-clause-plays : goal.returns-in-Ok-clause-plays
 returns-in-Ok-clause-plays g c =
-    let turn = c.take_turn-turn.result in
-    let takes = turn_viewed c.take_turn-turn.ensures in
-    plays_as c.take_turn-turn.ensures.deed_is (turn_judged _ _ (resolved_view turn.deed) turn.heard takes.heard c.take_in.result
+    let turn = c.take_step-turn.result in
+    let takes = turn_viewed c.take_step-turn.ensures in
+    plays_as c.take_step-turn.ensures.resolved_is (turn_judged _ _ (resolved_view turn.resolved) turn.answered takes.heard c.take_in.result
     (c.in-Ok.ensures.hears (option_copied c.args.self.now.run.now.only) c.args.self.now.notes.now.stand.number c.args.core.now _ takes.world takes.heard)
     c.in-Ok.ensures.failing c.take_in.ensures.judged c.take_in.ensures.expects c.take_in.ensures.stands c.take_in.ensures.failing)
 
 pub returns-in-Err-clause-plays : goal.returns-in-Err-clause-plays
 returns-in-Err-clause-plays g c =
-    let turn = c.take_turn-turn.result in
-    let takes = turn_viewed c.take_turn-turn.ensures in
-    plays_as c.take_turn-turn.ensures.deed_is (turn_untold _ _ (resolved_view turn.deed) turn.heard takes.heard c.in-Err.fault
+    let turn = c.take_step-turn.result in
+    let takes = turn_viewed c.take_step-turn.ensures in
+    plays_as c.take_step-turn.ensures.resolved_is (turn_untold _ _ (resolved_view turn.resolved) turn.answered takes.heard c.in-Err.fault
     (c.in-Err.ensures.hears (option_copied c.args.self.now.run.now.only) c.args.self.now.notes.now.stand.number c.args.core.now _ takes.world takes.heard)
     c.requires.works.own c.in-Err.ensures.failing)

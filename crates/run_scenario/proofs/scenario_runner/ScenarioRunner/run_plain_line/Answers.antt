@@ -1,14 +1,14 @@
 -- A call as it stands is answered, its answer is told, and then it is judged.
 use Rattle.std.specs.Option.{option_copied}
-use Rattle.run_scenario.specs.ResolvedLines.{plain_line}
+use Rattle.run_scenario.specs.LineSteps.{plain_line}
 use Rattle.run_scenario.proofs.LineLemmas.{plays_as, turn_judged, turn_untold}
-use Rattle.run_scenario.proofs.TurnLemmas.{deed_plain}
+use Rattle.run_scenario.proofs.TurnLemmas.{resolved_plain}
 use Rattle.run_scenario.proofs.scenario_runner.ScenarioRunner.run_plain_line.Goals as goal
 
 pub returns-in-Ok-clause-plays : goal.returns-in-Ok-clause-plays
 returns-in-Ok-clause-plays g c =
     let heard = c.answer_plain-heard.ensures.heard in
-    plays_as (deed_plain c.args.self.now.notes.now.stand c.args.line.now c.requires.short c.requires.bare c.requires.plain)
+    plays_as (resolved_plain (option_copied c.args.self.now.run.now.only) c.args.self.now.notes.now.stand c.args.line.now c.requires.short c.requires.own c.requires.bare c.requires.plain)
     (turn_judged _ _ (plain_line c.args.line.now) c.answer_plain-heard.result heard c.take_plain.result
     (c.in-Ok.ensures.hears (option_copied c.args.self.now.run.now.only) c.args.self.now.notes.now.stand.number c.args.core.now _ c.answer_plain-heard.ensures.world heard)
     c.in-Ok.ensures.failing c.take_plain.ensures.judged c.take_plain.ensures.expects c.take_plain.ensures.stands c.take_plain.ensures.failing)
@@ -16,7 +16,7 @@ returns-in-Ok-clause-plays g c =
 pub returns-in-Err-clause-plays : goal.returns-in-Err-clause-plays
 returns-in-Err-clause-plays g c =
     let heard = c.answer_plain-heard.ensures.heard in
-    plays_as (deed_plain c.args.self.now.notes.now.stand c.args.line.now c.requires.short c.requires.bare c.requires.plain)
+    plays_as (resolved_plain (option_copied c.args.self.now.run.now.only) c.args.self.now.notes.now.stand c.args.line.now c.requires.short c.requires.own c.requires.bare c.requires.plain)
     (turn_untold _ _ (plain_line c.args.line.now) c.answer_plain-heard.result heard c.in-Err.fault
     (c.in-Err.ensures.hears (option_copied c.args.self.now.run.now.only) c.args.self.now.notes.now.stand.number c.args.core.now _ c.answer_plain-heard.ensures.world heard)
     c.requires.works.own c.in-Err.ensures.failing)

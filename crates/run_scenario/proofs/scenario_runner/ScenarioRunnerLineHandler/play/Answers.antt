@@ -2,7 +2,7 @@
 use Rattle.std.specs.Option.{option_copied}
 use Rattle.own_model.specs.Listed.{start_list_of}
 use Rattle.own_model.specs.StartList.{entries_of}
-use Rattle.run_scenario.specs.LineSteps.{calls_in, deed_of}
+use Rattle.run_scenario.specs.LineSteps.{calls_in, resolved_at}
 use Rattle.run_scenario.proofs.PlayLemmas.{bench_line, counted_fails, listed_on, ready_next, remains_on}
 use Rattle.run_scenario.proofs.scenario_runner.ScenarioRunnerLineHandler.play.Goals as goal
 
@@ -18,7 +18,7 @@ pub returns-clause-ready : goal.returns-clause-ready
 returns-clause-ready g c = λ more ready.
     let now = c.args.self.now in
     let only = option_copied now.run.now.only in
-    let deed = deed_of now.notes.now.stand c.args.line.now in
+    let resolved = resolved_at only now.notes.now.stand c.args.line.now in
     rw c.count.ensures (ready_next c.run_line-judged.result
-    (listed_on (λ run. entries_of (start_list_of run.list.now)) only (calls_in deed) c.args.core.now c.run_line-judged.ensures.plays.hears.world ready
+    (listed_on (λ run. entries_of (start_list_of run.list.now)) only (calls_in resolved) c.args.core.now c.run_line-judged.ensures.plays.hears.world ready
     c.run_line-judged.ensures.remains.run_is))

@@ -3,10 +3,10 @@ use Rattle.std.proofs.Common.{None, Ok, Result, sym}
 use Rattle.std.specs.Option.{option_copied}
 use Rattle.run_lines.specs.declared.line_run_fault.LineRunFault.{LineRunFault}
 use Rattle.run_lines.proofs.ToldLemmas.{left_none, said_none}
-use Rattle.run_scenario.specs.LineSteps.ResolvedLine.{TooLong}
+use Rattle.line_steps.specs.ResolvedLines.ResolvedLine.{TooLong}
 use Rattle.run_scenario.proofs.LineLemmas.{hears_none, plays_as, turn_judged}
 use Rattle.run_scenario.proofs.PlayLemmas.{bench_line, ready_next}
-use Rattle.run_scenario.proofs.PlayedLemmas.{deed_of-long}
+use Rattle.run_scenario.proofs.PlayedLemmas.{resolved_long}
 use Rattle.run_scenario.proofs.scenario_runner.ScenarioRunnerLineHandler.play_too_long.Goals as goal
 
 abbrev told : Result (Unit {0}) LineRunFault
@@ -18,7 +18,7 @@ returns-clause-played g c = λ first start earlier line long led.
     let only = option_copied now.run.now.only in
     rw c.count.ensures (bench_line (λ run. option_copied run.only) (λ run. g.W.CallObserver.sees now.watch.now run.list.now) (λ run. g.W.CallObserver.sees now.watch.now run.list.now)
     start earlier line g.W.CallObserver.takes c.take_in-judged.result (record { name_is = led.0.name_is; run_is = led.0.run_is; tells_is = led.0.tells_is; holds_is = led.0.holds_is }) led.0.run_is led.0.tells_is led.1
-    (plays_as (sym (deed_of-long now.notes.now.stand line long)) (turn_judged _ _ TooLong None (said_none only) c.take_in-judged.result (hears_none told (sym (left_none only c.args._core.now)) (said_none only)) c.requires.works.writes
+    (plays_as (sym (resolved_long only now.notes.now.stand line long)) (turn_judged _ _ TooLong None (said_none only) c.take_in-judged.result (hears_none told (sym (left_none only c.args._core.now)) (said_none only)) c.requires.works.writes
     c.take_in-judged.ensures.judged c.take_in-judged.ensures.expects c.take_in-judged.ensures.stands c.take_in-judged.ensures.failing)))
 
 pub returns-clause-ready : goal.returns-clause-ready

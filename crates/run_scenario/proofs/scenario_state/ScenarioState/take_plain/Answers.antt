@@ -1,7 +1,7 @@
 -- Rounds begin or end behind the line, unless a fault came.
 use Rattle.std.proofs.Common.{Bool, false, ap, ◌∙◌}
 use Rattle.line_steps.specs.RunPosition.{RunPosition, is_due, passed}
-use Rattle.run_scenario.specs.ResolvedLines.{plain_line}
+use Rattle.run_scenario.specs.LineSteps.{plain_line}
 use Rattle.run_scenario.specs.CallAnswers.{answer_of}
 use Rattle.run_scenario.proofs.FailLemmas.{fails_crossing, fails_or}
 use Rattle.run_scenario.proofs.TurnLemmas.{arrives, stands_whole}

@@ -1,0 +1,39 @@
+-- Advice that is gathered, piece by piece and line by line.
+use Rattle.std.proofs.Common.{◌≡◌, ℕ, ◌+◌, false, List, [], ◌∷◌, ◌++◌, length, Option, sym, ap, ◌∙◌}
+use Rattle.std.proofs.lemmas.List.{append_assoc, map-append}
+use Rattle.std.specs.Borrow.{Bor}
+use Rattle.std.specs.List.{slice_split}
+use Rattle.own_model.specs.SessionArgs.{pieces_of}
+use Rattle.session_proto.specs.Pieces.{pieces_after}
+use Rattle.line_advice.specs.Advice.{Advice, advice_on, argument_advice, is_newline, lines_after, listed, pieces_advice, scenario_advice}
+use Rattle.line_advice.specs.Views.{advice_view, advices, texts}
+use Rattle.line_advice.specs.declared.advice.LineAdvice.{LineAdvice as Told}
+
+-- one more is found
+pub pushed : (found : List Told) (advice : Told) → advices (found ++ advice ∷ []) ≡ advices found ++ advice_view advice ∷ []
+pushed found advice = map-append advice_view found (advice ∷ [])
+
+pub named : (names : List (Bor (List ℕ))) (name : Bor (List ℕ)) → texts (names ++ name ∷ []) ≡ texts names ++ name.now ∷ []
+named names name = map-append (λ (n : Bor (List ℕ)). n.now) names (name ∷ [])
+
+-- the advice on the first piece is found, and that on the others is left
+pub next_pieces : (line column : ℕ) (old new whole : List Advice) (text piece : List ℕ) (more : Option (List ℕ))
+    → old ++ pieces_advice line column (pieces_of false text) ≡ whole → pieces_of false text ≡ piece ∷ pieces_after more
+    → new ≡ old ++ listed (argument_advice line column piece)
+    → new ++ pieces_advice line (column + length piece + 1) (pieces_after more) ≡ whole
+next_pieces line column old new whole text piece more was is finds =
+    let left : List Advice = pieces_advice line (column + length piece + 1) (pieces_after more) in
+    ap (λ found. found ++ left) finds
+    ∙ append_assoc old (listed (argument_advice line column piece)) left
+    ∙ ap (λ pieces. old ++ pieces_advice line column pieces) (sym is) ∙ was
+
+-- and so is that on the first line
+pub next_lines : (services : List (List ℕ)) (number : ℕ) (old new whole : List Advice) (text line : List ℕ) (more : Option (List ℕ))
+    → old ++ scenario_advice services number (slice_split is_newline text) ≡ whole
+    → slice_split is_newline text ≡ line ∷ lines_after more → new ≡ old ++ advice_on services number line
+    → new ++ scenario_advice services (number + 1) (lines_after more) ≡ whole
+next_lines services number old new whole text line more was is finds =
+    let left : List Advice = scenario_advice services (number + 1) (lines_after more) in
+    ap (λ found. found ++ left) finds
+    ∙ append_assoc old (advice_on services number line) left
+    ∙ ap (λ lines. old ++ scenario_advice services number lines) (sym is) ∙ was

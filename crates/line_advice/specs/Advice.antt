@@ -1,0 +1,134 @@
+-- What is probably not intended in the session requests of a scenario.
+use Rattle.std.specs.Prelude.{ℕ, ◌+◌, ◌-◌, ◌==◌, ◌&&◌, ◌||◌, not, Bool, true, false, List, [], ◌∷◌, ◌++◌, length, take, drop, codes, is_none, is_some, position, if◌then◌else◌, Option, Some, None}
+use Rattle.std.specs.List.{before_first, list_all, list_any, slice_split}
+use Rattle.std.specs.Option.{unwrap_or}
+use Rattle.std.specs.Str.{bytes_eq, is_utf8}
+use Rattle.own_model.specs.SessionArgs.{arguments_of, is_equals, is_space, pieces_of, skip_spaces, trimmed}
+use Rattle.own_model.specs.Text.{is_name}
+use Rattle.text_near_words.specs.Near.{nearest}
+use Rattle.line_friendly.specs.Friendly.{arrow_of, begins_as_call, content_of, end_of, is_meant, trimmed_line}
+use Rattle.line_friendly.specs.Words.{next_word, skip_blanks}
+use Rattle.line_advice.specs.declared.key.ArgumentKey.{ArgumentKey}
+use Rattle.line_advice.specs.declared.key.ArgumentKey.TheVariants.{RamQuota, CapQuota, Label}
+
+-- a service that the start list doesn't offer, or a key that session arguments don't have, with the word that may be meant; or a
+-- text that isn't read as a pair, with the key whose value it doesn't have
+pub data Reason : Type 0 where
+  UnknownService : Option (List ℕ) → Reason
+  UnknownKey : Option (List ℕ) → Reason
+  Unread : Option ArgumentKey → Reason
+
+-- a text of a line, and why it is probably not intended
+pub record Advice : Type 0 where
+  pub line : ℕ
+  pub column : ℕ
+  pub text : List ℕ
+  pub reason : Reason
+
+-- the word that may be meant by a text, which is none where it isn't UTF-8
+abbrev pub near_in : List (List ℕ) → List ℕ → Option (List ℕ)
+near_in words text = if is_utf8 text then nearest words text else None
+
+-- ---- session arguments
+
+-- the keys of session arguments
+abbrev pub keys : List (List ℕ)
+keys = codes "ram_quota" ∷ codes "cap_quota" ∷ codes "label" ∷ []
+
+abbrev pub key_named : List ℕ → Option ArgumentKey
+key_named name =
+    if bytes_eq name (codes "ram_quota") then Some RamQuota
+    else (if bytes_eq name (codes "cap_quota") then Some CapQuota
+    else (if bytes_eq name (codes "label") then Some Label else None))
+
+-- a text has the `$` of a name, which is filled before the line is run
+abbrev pub has_dollar : List ℕ → Bool
+has_dollar text = is_some (position (λ b. b == 36) text)
+
+-- a piece is read as a pair: it isn't blank, and alone it is session arguments
+abbrev pub is_read : List ℕ → Bool
+is_read piece = not (list_all is_space piece) && is_some (arguments_of piece)
+
+-- the text before its equals sign
+abbrev pub key_of : List ℕ → List ℕ
+key_of piece = before_first is_equals (skip_spaces piece)
+
+-- the first byte of a piece that is no space
+abbrev pub text_column : ℕ → List ℕ → ℕ
+text_column column piece = column + (length piece - length (skip_spaces piece))
+
+-- the advice on a piece at a column: that it isn't read, or has an unknown key; and none where a name is to be filled
+abbrev pub argument_advice : ℕ → ℕ → List ℕ → Option Advice
+argument_advice line column piece =
+    if has_dollar piece then None
+    else (if not (is_read piece) then
+    Some (record { line = line; column = text_column column piece; text = trimmed piece; reason = Unread (key_named (key_of piece)) })
+    else (if is_none (key_named (key_of piece)) then
+    Some (record { line = line; column = text_column column piece; text = key_of piece; reason = UnknownKey (near_in keys (key_of piece)) })
+    else None))
+
+abbrev pub listed : Option Advice → List Advice
+listed None = []
+listed (Some advice) = advice ∷ []
+
+-- a comma is between two pieces
+abbrev pub pieces_advice : ℕ → ℕ → List (List ℕ) → List Advice
+pieces_advice line column [] = []
+pieces_advice line column (piece ∷ pieces) =
+    listed (argument_advice line column piece) ++ pieces_advice line (column + length piece + 1) pieces
+
+-- spaces alone are arguments without a pair
+abbrev pub arguments_advice : ℕ → ℕ → List ℕ → List Advice
+arguments_advice line column text = if list_all is_space text then [] else pieces_advice line column (pieces_of false text)
+
+-- ---- lines
+
+-- the bytes of a line before its expected reply and its comment
+abbrev pub front_of : List ℕ → List ℕ
+front_of line = take (unwrap_or (arrow_of (take (end_of line) line)) (end_of line)) line
+
+-- the column at which the last bytes of them begin
+abbrev pub column_in : List ℕ → List ℕ → ℕ
+column_in front rest = length front - length rest + 1
+
+-- the first token of a text at a column names no service of the list. What is no name is passed over: one that is to be filled too
+abbrev pub service_advice : List (List ℕ) → ℕ → ℕ → List ℕ → List Advice
+service_advice services line column text =
+    let service = (next_word text).word in
+    if not (is_name service) || list_any (bytes_eq service) services then []
+    else record { line = line; column = column; text = service; reason = UnknownService (near_in services service) } ∷ []
+
+-- the arguments after the first token and one blank
+abbrev pub rest_advice : ℕ → List ℕ → List ℕ → List Advice
+rest_advice line front rest =
+    let text = drop 1 (next_word rest).rest in arguments_advice line (column_in front text) text
+
+-- a request after its form: of `open` the service and the arguments, of `upgrade` the arguments after the selector
+abbrev pub request_advice : List (List ℕ) → ℕ → List ℕ → List ℕ → List ℕ → List Advice
+request_advice services line front form rest =
+    if bytes_eq form (codes "open") then
+    service_advice services line (column_in front (skip_blanks rest)) rest ++ rest_advice line front rest
+    else (if bytes_eq form (codes "upgrade") then rest_advice line front rest else [])
+
+-- the call after its component
+abbrev pub call_advice : List (List ℕ) → ℕ → List ℕ → List ℕ → List Advice
+call_advice services line front call = request_advice services line front (next_word call).word (next_word call).rest
+
+-- a line has advice if it is a call, and its expected reply isn't meant
+abbrev pub advice_on : List (List ℕ) → ℕ → List ℕ → List Advice
+advice_on services number line =
+    if not (begins_as_call (content_of line)) || is_meant (content_of line) then []
+    else call_advice services number (front_of line) (next_word (trimmed_line (front_of line))).rest
+
+abbrev pub is_newline : ℕ → Bool
+is_newline b = b == 10
+
+-- the lines of what is after a newline, if there is one
+abbrev pub lines_after : Option (List ℕ) → List (List ℕ)
+lines_after None = []
+lines_after (Some text) = slice_split is_newline text
+
+-- and each line of a scenario has its own, from this number on
+abbrev pub scenario_advice : List (List ℕ) → ℕ → List (List ℕ) → List Advice
+scenario_advice services number [] = []
+scenario_advice services number (line ∷ lines) = advice_on services number line ++ scenario_advice services (number + 1) lines

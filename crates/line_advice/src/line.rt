@@ -1,0 +1,134 @@
+//! Advice on a line.
+ghost use Rattle.std.specs.Prelude.{◌≡◌, ◌+◌, ◌-◌, ◌<◌, ◌≤◌, ◌^◌, ◌++◌, drop, length, take, OnOk};
+ghost use Rattle.std.specs.List.{list_any};
+ghost use Rattle.std.specs.Str.{bytes_eq};
+ghost use Rattle.line_advice.specs.Advice.{advice_on, column_in, front_of, rest_advice, service_advice};
+ghost use Rattle.line_advice.specs.Views.{advices, texts};
+
+use crate::advice::{AdviceReason, LineAdvice};
+use crate::arguments::{TextPlace, advise_arguments};
+use crate::near::near_in;
+use line_friendly::{
+    arrow_of, end_of, is_call_line, is_meant, next_word, skip_blanks, trimmed_line,
+};
+use std::alloc::{AllocError, Global};
+use text_codec::is_name;
+
+/// Adds the advice on the line with this number. A line whose expected reply is meant has none. Fails if the host is out of memory.
+pub(crate) fn advise_line<'a>(
+    alloc: Global,
+    services: &[&'a str],
+    number: usize,
+    line: &'a [u8],
+    found: &mut Vec<LineAdvice<'a>>,
+) -> Result<(), AllocError>
+    ensures { OnOk result (advices found.new.items
+        ≡ advices found.old.items ++ advice_on (texts services.now) number line.now) }
+{
+    if !is_call_line(line) || is_meant(line) {
+        return Ok(());
+    }
+    let front = front_of(line);
+    let (_, call) = next_word(trimmed_line(front));
+    let (form, rest) = next_word(call);
+    if form == b"open".as_slice() {
+        advise_service(
+            alloc,
+            services,
+            place_in(number, front, skip_blanks(rest)),
+            rest,
+            found,
+        )?;
+        advise_rest(alloc, number, front, rest, found)
+    } else if form == b"upgrade".as_slice() {
+        advise_rest(alloc, number, front, rest, found)
+    } else {
+        Ok(())
+    }
+}
+
+// Adds the advice on a service at a place: the first token of a text. What is no name is none of a service, and is passed over.
+#[tactic(auto, using(crate::proofs::AdviceLemmas::pushed))]
+fn advise_service<'a>(
+    alloc: Global,
+    services: &[&'a str],
+    at: TextPlace,
+    text: &'a [u8],
+    found: &mut Vec<LineAdvice<'a>>,
+) -> Result<(), AllocError>
+    ensures { OnOk result (advices found.new.items
+        ≡ advices found.old.items ++ service_advice (texts services.now) at.line at.column text.now) }
+{
+    let (service, _) = next_word(text);
+    if !is_name(service) || is_listed(services, service) {
+        return Ok(());
+    }
+    let near = near_in(alloc, services, service)?;
+    found.push(LineAdvice {
+        line: at.line,
+        column: at.column,
+        text: service,
+        reason: AdviceReason::UnknownService(near),
+    })?;
+    Ok(())
+}
+
+// Adds the advice on the session arguments after the first token of the last bytes of a line's front.
+fn advise_rest<'a>(
+    alloc: Global,
+    number: usize,
+    front: &[u8],
+    rest: &'a [u8],
+    found: &mut Vec<LineAdvice<'a>>,
+) -> Result<(), AllocError>
+    requires { length rest.now ≤ length front.now }
+    ensures { OnOk result (advices found.new.items
+        ≡ advices found.old.items ++ rest_advice number front.now rest.now) }
+{
+    let (_, text) = next_word(rest);
+    let arguments = behind_blank(text);
+    advise_arguments(alloc, place_in(number, front, arguments), arguments, found)
+}
+
+// Returns the place of the last bytes of a line's front.
+fn place_in(number: usize, front: &[u8], rest: &[u8]) -> TextPlace
+    requires { length rest.now ≤ length front.now }
+    ensures line { result.line ≡ number }
+    ensures column { result.column ≡ column_in front.now rest.now }
+{
+    TextPlace {
+        line: number,
+        column: front.len() - rest.len() + 1,
+    }
+}
+
+// Returns a text without its first byte, if it has one.
+fn behind_blank(text: &[u8]) -> &[u8]
+    ensures value { result.now ≡ drop 1 text.now }
+    ensures within { length result.now ≤ length text.now }
+{
+    if text.is_empty() { text } else { &text[1..] }
+}
+
+// Returns whether a service is one of these.
+fn is_listed(services: &[&str], service: &[u8]) -> bool
+    ensures { result ≡ list_any (bytes_eq service.now) (texts services.now) }
+{
+    for name in services {
+        if service == name.as_bytes() {
+            return true;
+        }
+    }
+    false
+}
+
+// Returns the bytes of a line before its expected reply and its comment.
+fn front_of(line: &[u8]) -> &[u8]
+    ensures value { result.now ≡ front_of line.now }
+{
+    let content = &line[..end_of(line)];
+    match arrow_of(content) {
+        Some(place) => &content[..place],
+        None => content,
+    }
+}

@@ -1,0 +1,62 @@
+//! Advice on all lines of a scenario.
+ghost use Rattle.std.specs.Prelude.{◌≡◌, ◌+◌, ◌∷◌, ◌≤◌, IfOk, IfSome, length};
+ghost use Rattle.std.specs.List.{slice_split};
+ghost use Rattle.std.specs.Option.{option_copied};
+ghost use Rattle.line_advice.specs.Advice.{is_newline, lines_after, scenario_advice};
+ghost use Rattle.line_advice.specs.Services.{services_of};
+ghost use Rattle.line_advice.specs.Views.{advices, texts};
+
+use crate::advice::LineAdvice;
+use crate::line::advise_line;
+use crate::services::services_of;
+use list_parser::StartList;
+use std::alloc::{AllocError, Global};
+use text_codec::find_byte;
+
+/// Returns the advice on the lines of a scenario's text, in their order, by the services of a start list. A line in rounds has its
+/// advice once. Fails if the host is out of memory.
+pub fn advise<'a>(
+    alloc: Global,
+    list: &StartList,
+    text: &'a [u8],
+) -> Result<Vec<LineAdvice<'a>>, AllocError>
+    ensures { IfOk result (λ found. advices found.items
+        ≡ scenario_advice (services_of list.now.entries) 1 (slice_split is_newline text.now)) }
+{
+    let services = services_of(alloc, list)?;
+    advise_lines(alloc, services.as_slice(), text)
+}
+
+// Returns the advice on the lines of a text, where a start list offers these services.
+fn advise_lines<'a>(
+    alloc: Global,
+    services: &[&'a str],
+    text: &'a [u8],
+) -> Result<Vec<LineAdvice<'a>>, AllocError>
+    ensures { IfOk result (λ found. advices found.items
+        ≡ scenario_advice (texts services.now) 1 (slice_split is_newline text.now)) }
+{
+    let mut found = Vec::new(alloc);
+    let mut number = 1;
+    let mut rest = Some(text);
+    while let Some(lines) = rest {
+        let (line, more) = split_line(lines);
+        advise_line(alloc, services, number, line, &mut found)?;
+        number += 1;
+        rest = more;
+    }
+    Ok(found)
+}
+
+// Splits a text at its first newline. Returns the text before it, and the text after it if there is a newline.
+fn split_line(text: &[u8]) -> (&[u8], Option<&[u8]>)
+    ensures lines { slice_split is_newline text.now
+        ≡ result.0.now ∷ lines_after (option_copied result.1) }
+    ensures lengths { IfSome result.1
+        (λ rest. length result.0.now + 1 + length rest.now ≡ length text.now) }
+{
+    match find_byte(b'\n', text) {
+        Some(end) => (&text[..end], Some(&text[end + 1..])),
+        None => (text, None),
+    }
+}
