@@ -57,8 +57,3 @@ module _ {meters : List AccountMeter} {start : World} {earlier : List (List ℕ)
     where
       here : heard start.entries line ≡ Caller (record { component = component; call = call })
       here = subst (λ es. heard es line ≡ Caller (record { component = component; call = call })) begins is
-
--- what is so is so of what succeeded
-pub on_ok : {T E : Type 0} {P : Type 0} (r : Result T E) → P → OnOk r P
-on_ok (Ok done) so = so
-on_ok (Err fault) so = tt

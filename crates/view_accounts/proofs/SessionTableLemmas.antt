@@ -39,8 +39,3 @@ module _ {T Z : Type 0} where
       by : (b : Bool) → row_value (cond b row.items (row_of rows c)) q ≡ cond b None (row_value (row_of rows c) q)
       by true = ap (λ r. row_value r q) empty
       by false = refl
-
--- what follows from what is so where it succeeded
-pub on_ok_by : {X E : Type 0} {P Q : Type 0} (r : Result X E) → (P → Q) → OnOk r P → OnOk r Q
-on_ok_by (Ok x) then so = then so
-on_ok_by (Err e) then so = so

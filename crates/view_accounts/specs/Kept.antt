@@ -1,4 +1,4 @@
--- What is kept of peaks, and what it tells of the accounts so far.
+-- What is kept of peaks, and what it says of the accounts so far.
 use Rattle.std.specs.Prelude.{◌≡◌, ℕ, ◌<◌, ◌==◌, ◌&&◌, Bool, false, List, length, max, slice_index_or, if◌then◌else◌, Option, Some, None}
 use Rattle.std.specs.Option.{option_map, option_or}
 use Rattle.own_model.specs.Account.{Account}

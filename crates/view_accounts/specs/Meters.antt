@@ -1,4 +1,4 @@
--- What is kept of needs, and what it tells of the accounts so far.
+-- What is kept of needs, and what it says of the accounts so far.
 use Rattle.std.specs.Prelude.{◌≡◌, ℕ, ◌<◌, false, List, [], length, slice_index_or}
 use Rattle.std.specs.Option.{option_map_or}
 use Rattle.own_model.specs.Account.{Account}

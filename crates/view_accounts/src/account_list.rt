@@ -43,8 +43,8 @@ pub struct AccountList {
 /// that passed still pass; an init's is what its list needs. A peak is the most that was in use at the start or after any line,
 /// of a session since its opening. Errors of lines are written as they are found.
 ///
-/// At a fault of the play no list is written, and at one of the list's a part of it, from the front. It stops as `run` does, and for
-/// want of room at a call too.
+/// At a fault of the run no list is written. At a fault while the list is written, the list is a prefix. It stops as `run` does,
+/// and also if the host is out of memory at a call.
 #[tactic(auto, using(run_lines::proofs::MachineLemmas::listed_at_start))]
 pub fn accounts<S: Source, K: Sink, E: Sink>(
     alloc: Global,

@@ -10,7 +10,7 @@ use Rattle.own_model.specs.Call.{Call, Spoken}
 use Rattle.own_model.specs.Call.Call.{Open}
 use Rattle.own_model.specs.Listed.{Listed, ListedEntry}
 use Rattle.own_model.specs.Session.{given}
-use Rattle.list_reach.specs.RouteSteps.{RouteStepAt, route_steps_of}
+use Rattle.list_labels.specs.RouteSteps.{RouteStepAt, route_steps_of}
 use Rattle.view_coverage.specs.declared.event.RouteOwner.{RouteOwner}
 use Rattle.view_coverage.specs.declared.event.RouteOwner.TheVariants.{Own, Inner, Machine}
 use Rattle.view_coverage.specs.declared.event.RulePlace.{RulePlace}

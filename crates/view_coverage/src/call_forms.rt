@@ -5,6 +5,11 @@ ghost use Rattle.view_coverage.specs.Forms.{form_of, form_word, forms, is_form_o
 
 use core_calls::Call;
 use trade_base::Refusal;
+use trade_base::Refusal::{
+    BadArgs, BadLine, Gone, InsufficientCapQuota, InsufficientRamQuota, InvalidCap, InvalidSession,
+    InvalidSize, NotAScript, OutOfCaps, OutOfRam, PageFault, RegionConflict, ServiceDenied,
+    TooManyChunks, TooManyRegions, UnknownComponent,
+};
 
 /// What a refusal answers: any line, any call, or a call of one form.
 #[derive(Clone, Copy, PartialEq, Eq)]
@@ -95,51 +100,31 @@ impl CoverageCall {
         ensures { result.now ≡ refusals_of self }
     {
         match self {
-            CoverageCall::AnyLine => &[Refusal::BadLine, Refusal::UnknownComponent],
-            CoverageCall::AnyCall => &[Refusal::NotAScript, Refusal::Gone],
-            CoverageCall::Alloc => &[Refusal::InvalidSize, Refusal::OutOfRam, Refusal::OutOfCaps],
-            CoverageCall::Free | CoverageCall::Capfree => &[Refusal::InvalidCap],
+            CoverageCall::AnyLine => &[BadLine, UnknownComponent],
+            CoverageCall::AnyCall => &[NotAScript, Gone],
+            CoverageCall::Alloc => &[InvalidSize, OutOfRam, OutOfCaps],
+            CoverageCall::Free | CoverageCall::Capfree => &[InvalidCap],
             CoverageCall::Attach | CoverageCall::AttachAt => {
-                &[
-                    Refusal::InvalidCap,
-                    Refusal::TooManyRegions,
-                    Refusal::RegionConflict,
-                ]
+                &[InvalidCap, TooManyRegions, RegionConflict]
             }
-            CoverageCall::Detach | CoverageCall::Del | CoverageCall::Sdel => &[Refusal::PageFault],
-            CoverageCall::Peek | CoverageCall::Poke => &[Refusal::InvalidSize, Refusal::PageFault],
-            CoverageCall::Capalloc => &[Refusal::OutOfCaps],
-            CoverageCall::New => {
-                &[
-                    Refusal::InvalidSize,
-                    Refusal::TooManyChunks,
-                    Refusal::OutOfRam,
-                    Refusal::OutOfCaps,
-                ]
-            }
-            CoverageCall::Snew => &[Refusal::InvalidSize, Refusal::OutOfRam, Refusal::OutOfCaps],
-            CoverageCall::Request | CoverageCall::Yield => {
-                &[Refusal::BadArgs, Refusal::OutOfRam, Refusal::OutOfCaps]
-            }
+            CoverageCall::Detach | CoverageCall::Del | CoverageCall::Sdel => &[PageFault],
+            CoverageCall::Peek | CoverageCall::Poke => &[InvalidSize, PageFault],
+            CoverageCall::Capalloc => &[OutOfCaps],
+            CoverageCall::New => &[InvalidSize, TooManyChunks, OutOfRam, OutOfCaps],
+            CoverageCall::Snew => &[InvalidSize, OutOfRam, OutOfCaps],
+            CoverageCall::Request | CoverageCall::Yield => &[BadArgs, OutOfRam, OutOfCaps],
             CoverageCall::Open => {
                 &[
-                    Refusal::BadArgs,
-                    Refusal::ServiceDenied,
-                    Refusal::OutOfRam,
-                    Refusal::OutOfCaps,
-                    Refusal::InsufficientRamQuota,
-                    Refusal::InsufficientCapQuota,
+                    BadArgs,
+                    ServiceDenied,
+                    OutOfRam,
+                    OutOfCaps,
+                    InsufficientRamQuota,
+                    InsufficientCapQuota,
                 ]
             }
-            CoverageCall::Upgrade => {
-                &[
-                    Refusal::InvalidSession,
-                    Refusal::BadArgs,
-                    Refusal::OutOfRam,
-                    Refusal::OutOfCaps,
-                ]
-            }
-            CoverageCall::CallSession | CoverageCall::Close => &[Refusal::InvalidSession],
+            CoverageCall::Upgrade => &[InvalidSession, BadArgs, OutOfRam, OutOfCaps],
+            CoverageCall::CallSession | CoverageCall::Close => &[InvalidSession],
         }
     }
 

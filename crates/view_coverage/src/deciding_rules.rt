@@ -8,8 +8,9 @@ ghost use Rattle.view_coverage.specs.Rules.{decided_by, default_of, init_of, ini
 
 use crate::event::{RouteOwner, RulePlace, is_refused};
 use core_calls::{Answer, Call};
+use list_labels::RouteStep;
 use list_parser::{ListEntry, StartList};
-use list_reach::{RoutePath, RouteStep};
+use list_reach::RoutePath;
 use session_proto::SessionArgs;
 use std::alloc::{AllocError, Global};
 use trade_base::Refusal;

@@ -52,7 +52,7 @@ impl CoverageReport {
         let decided = self.count_decided(list, rules);
         writeln!(
             f,
-            "# coverage: {path}: {decided} of {all} rules decide a wish"
+            "# coverage: {path}: {decided} of {all} rules decide a session request"
         )?;
         for rule in rules.rules.as_slice() {
             let name = rule.name.as_str();

@@ -4,6 +4,10 @@ ghost use Rattle.std.specs.Option.{option_copied};
 ghost use Rattle.core_calls.specs.Call.{model_call};
 ghost use Rattle.view_coverage.specs.Requests.{asked_word, errors_of, is_asked, request_word};
 
+use core_calls::FileError::{
+    BadName, BadRange, BadRequest, End, Exists, Gap, InvalidSize, NoBuffer, NotFound, OutOfCaps,
+    OutOfRam, TooLong, TooManyChunks,
+};
 use core_calls::{Call, FileError};
 use text_codec::split_first_word;
 
@@ -70,56 +74,16 @@ impl CoverageRequest {
         ensures { result.now ≡ errors_of self }
     {
         match self {
-            CoverageRequest::AnyRequest => &[FileError::BadRequest],
-            CoverageRequest::Create => {
-                &[
-                    FileError::BadName,
-                    FileError::Exists,
-                    FileError::TooManyChunks,
-                    FileError::OutOfRam,
-                    FileError::OutOfCaps,
-                ]
-            }
-            CoverageRequest::Write => {
-                &[
-                    FileError::NotFound,
-                    FileError::Gap,
-                    FileError::OutOfRam,
-                    FileError::OutOfCaps,
-                ]
-            }
-            CoverageRequest::Read => &[FileError::NotFound, FileError::Gap, FileError::TooLong],
-            CoverageRequest::Size | CoverageRequest::Clear | CoverageRequest::Drop => &[
-                FileError::NotFound,
-            ],
-            CoverageRequest::Name => &[FileError::End],
-            CoverageRequest::Buffer => {
-                &[
-                    FileError::InvalidSize,
-                    FileError::Exists,
-                    FileError::OutOfRam,
-                    FileError::OutOfCaps,
-                ]
-            }
-            CoverageRequest::Unbuffer => &[FileError::NoBuffer],
-            CoverageRequest::Put => {
-                &[
-                    FileError::NotFound,
-                    FileError::Gap,
-                    FileError::NoBuffer,
-                    FileError::BadRange,
-                    FileError::OutOfRam,
-                    FileError::OutOfCaps,
-                ]
-            }
-            CoverageRequest::Get => {
-                &[
-                    FileError::NotFound,
-                    FileError::Gap,
-                    FileError::NoBuffer,
-                    FileError::BadRange,
-                ]
-            }
+            CoverageRequest::AnyRequest => &[BadRequest],
+            CoverageRequest::Create => &[BadName, Exists, TooManyChunks, OutOfRam, OutOfCaps],
+            CoverageRequest::Write => &[NotFound, Gap, OutOfRam, OutOfCaps],
+            CoverageRequest::Read => &[NotFound, Gap, TooLong],
+            CoverageRequest::Size | CoverageRequest::Clear | CoverageRequest::Drop => &[NotFound],
+            CoverageRequest::Name => &[End],
+            CoverageRequest::Buffer => &[InvalidSize, Exists, OutOfRam, OutOfCaps],
+            CoverageRequest::Unbuffer => &[NoBuffer],
+            CoverageRequest::Put => &[NotFound, Gap, NoBuffer, BadRange, OutOfRam, OutOfCaps],
+            CoverageRequest::Get => &[NotFound, Gap, NoBuffer, BadRange],
         }
     }
 

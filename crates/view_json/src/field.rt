@@ -1,5 +1,8 @@
-//! Values of a document's members.
+//! Members of a document, and their values.
 use crate::object_list::ObjectList;
+
+/// A member of a document: its name and its value.
+pub type JsonMember<'a> = (&'static str, JsonField<'a>);
 
 /// A value of a member.
 #[derive(Clone, Copy)]

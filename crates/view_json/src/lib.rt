@@ -1,17 +1,16 @@
-//! Tables and lists that people read, as documents of JSON for programs.
+//! Values that people read, as documents of JSON for programs.
 //!
 //! The commands with `--json` call it: `listing.add(&[("line", JsonField::Number(3))])` adds an object to a list.
 #![tactic(auto)]
 
-mod column;
 mod document;
-mod document_writer;
 mod field;
+mod field_value;
+mod json_line;
 mod listing;
 mod object_list;
 
-pub use column::Column;
-pub use document_writer::DocumentWriter;
-pub use field::JsonField;
+pub use field::{JsonField, JsonMember};
+pub use json_line::document_line;
 pub use listing::Listing;
 pub use object_list::{ObjectList, ObjectListBuilder};

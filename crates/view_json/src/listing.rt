@@ -1,6 +1,10 @@
 //! Lists of documents.
+ghost use Rattle.std.specs.Prelude.{◌≡◌, ◌∷◌, ◌++◌, [], ℕ, List, IfOk, OnOk};
+ghost use Rattle.serde_json.specs.Data.{Data};
+ghost use Rattle.view_json.specs.Documents.{list_text, members_data, objects_text, separator};
+
 use crate::document::Document;
-use crate::field::JsonField;
+use crate::field::JsonMember;
 use std::alloc::{AllocError, Global};
 
 /// Documents as a list of JSON, in the order in which they were added.
@@ -13,7 +17,9 @@ pub struct Listing {
 
 impl Listing {
     /// Returns a list of JSON that has no documents yet.
-    pub fn new(alloc: Global) -> Listing {
+    pub fn new(alloc: Global) -> Listing
+        ensures { result.text.items ≡ objects_text [] }
+    {
         Listing {
             alloc,
             text: Vec::new(alloc),
@@ -21,28 +27,36 @@ impl Listing {
     }
 
     /// Adds a document with these members. After an error, which is out of memory, the list is of no further use.
-    pub fn add(&mut self, members: &[(&'static str, JsonField<'_>)]) -> Result<(), AllocError> {
-        let mut document = Document::new(self.alloc);
-        for (name, field) in members {
-            document.add_field(self.alloc, *name, *field)?;
-        }
-        self.push(document)
-    }
-
-    /// Adds a document. The error is out of memory, as in `add`.
-    pub(crate) fn push(&mut self, document: Document) -> Result<(), AllocError> {
-        let text = document.into_text(self.alloc)?;
-        if !self.text.is_empty() {
-            self.text.extend_from_slice(b",\n")?;
-        }
+    pub fn add(&mut self, members: &[JsonMember<'_>]) -> Result<(), AllocError>
+        ensures { (objects : List (List (List ℕ × Data))) →
+            self.old.text.items ≡ objects_text objects →
+            OnOk result (self.new.text.items
+            ≡ objects_text (objects ++ members_data members.now ∷ [])) }
+    {
+        let text = Document::of(self.alloc, members)?.into_text(self.alloc)?;
+        self.text
+            .extend_from_slice(separator(self.text.as_slice()))?;
         self.text.extend_from_slice(text.as_slice())
     }
 
     /// Renders the list as text. The error is out of memory.
-    pub fn into_text(self) -> Result<Vec<u8>, AllocError> {
+    pub fn into_text(self) -> Result<Vec<u8>, AllocError>
+        ensures { (objects : List (List (List ℕ × Data))) → self.text.items ≡ objects_text objects →
+            IfOk result (λ text. text.items ≡ list_text objects) }
+    {
         let mut list = Vec::from_slice(self.alloc, b"[")?;
         list.extend_from_slice(self.text.as_slice())?;
         list.extend_from_slice(b"]\n")?;
         Ok(list)
+    }
+}
+
+// Returns what is between a text of documents and one more.
+fn separator(text: &[u8]) -> &'static [u8]
+    ensures { result.now ≡ separator text.now }
+{
+    match text {
+        [] => b"",
+        _ => b",\n",
     }
 }

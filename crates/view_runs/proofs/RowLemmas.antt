@@ -1,65 +1,76 @@
--- The text of a row, cell by cell.
-use Rattle.std.proofs.Common.{◌≡◌, ℕ, suc, ◌+◌, ◌^◌, ◌<◌, ◌==◌, ◌&&◌, ◌||◌, Bool, true, false, cond, if◌then◌else◌, List, [], ◌∷◌, ◌++◌, length, take, drop, get_or, arith, refl, sym, ◌∙◌, ap, append_assoc, append-nil, codes, Option, Some, None}
+-- The row of a call, and its text, cell by cell.
+use Rattle.std.proofs.Common.{◌≡◌, ℕ, ◌^◌, ◌<◌, List, [], ◌∷◌, ◌++◌, codes, Option, Some, None, refl, sym, ◌∙◌, ap, append_assoc}
 use Rattle.std.specs.Prelude.{decimal}
-use Rattle.std.specs.Char.{is_ascii_digit}
-use Rattle.std.specs.List.{list_any}
-use Rattle.std.specs.Str.{all_ascii_digits}
 use Rattle.std.specs.Option.{option_map, unwrap_or}
-use Rattle.std.proofs.Math.Seq.{take-suc}
-use Rattle.std.proofs.lemmas.Bool.Decides.{nat_tests}
-use Rattle.std.proofs.lemmas.Fmt.{digits_decimal}
-use Rattle.std.proofs.lemmas.List.{take-append-drop}
-use Rattle.std.proofs.lemmas.Option.{none-some, same_Some}
-use Rattle.std.proofs.lemmas.Str.Parse.{numerals_by_value, tells_all_ascii_digits}
-use Rattle.std.proofs.lemmas.Bool.{and_parts}
-use Rattle.csv.specs.Writing.{default_writer, escaped, field_text, fields_text, is_blank, needs_byte, needs_quotes, quoted, row_text}
+use Rattle.csv.specs.Writing.{default_writer, field_text, fields_text, is_blank, row_text}
 use Rattle.own_model.specs.Account.{Account}
 use Rattle.own_model.specs.Session.{Session}
 use Rattle.own_model.specs.Transcript.{heard}
 use Rattle.own_model.specs.World.{World, world_running}
 use Rattle.run_lines.specs.declared.line_answer.LineAnswer.{LineAnswer}
 use Rattle.run_lines.proofs.ToldLemmas.{world_running-append}
-use Rattle.run_scenario.specs.Texts.{line_text}
 use Rattle.run_scenario.specs.Cells.{account_cells, cell_text}
-use Rattle.view_runs.specs.Tracing.{call_text, cells_of, figures, open_cells, stranger_cells, trace_row, trace_call_text}
 use Rattle.run_scenario.specs.Observation.{IsAnsweredAfter}
-use Rattle.run_scenario.proofs.CellLemmas.{cells_more, plain_number}
-
--- empty cells
-pub five_empty : codes ",,,,," ≡ fields_text default_writer ([] ∷ cells_of None)
-unfolding fields_text
-five_empty = refl
-
-pub nine_empty : codes ",,,,,,,,," ≡ fields_text default_writer stranger_cells
-unfolding fields_text
-nine_empty = refl
-
-pub ruleset empty_cells = (five_empty, nine_empty)
-
--- a cell, and then others
-cell_then : (old x : List ℕ) (xs : List (List ℕ)) → old ++ fields_text default_writer (x ∷ xs) ≡ (old ++ cell_text x) ++ fields_text default_writer xs
-unfolding fields_text
-cell_then old x xs = sym (append_assoc old (cell_text x) (fields_text default_writer xs))
-
-none_then : (old : List ℕ) → old ++ fields_text default_writer [] ≡ old
-unfolding fields_text
-none_then old = append-nil old
-
--- one cell after cells
-last_cell : (xs : List (List ℕ)) (x : List ℕ) → fields_text default_writer xs ++ cell_text x ≡ fields_text default_writer (xs ++ x ∷ [])
-last_cell xs x = sym (cells_more xs (x ∷ []) ∙ cell_then (fields_text default_writer xs) x [] ∙ none_then (fields_text default_writer xs ++ cell_text x))
+use Rattle.run_scenario.specs.Texts.{line_text}
+use Rattle.run_scenario.proofs.CellLemmas.{cell_then, cells_more, last_cell, plain_number}
+use Rattle.view_runs.specs.CsvRows.{cells_of, csv_row, figures, row_cells, session_cells}
+use Rattle.view_runs.specs.Tracing.{SessionAccount, TraceRow, account_in, call_text, session_in, trace_row}
 
 -- ---- the row
 
--- the row of a call that was told of, by its cells
-pub row_told : {start : World} {earlier : List (List ℕ)} {call : List ℕ} {core : World} {answer : LineAnswer} (number : ℕ) → IsAnsweredAfter start earlier call core answer →
-    decimal number ∷ answer.name.now ∷ call_text call ∷ answer.reply.now ∷ (figures core (heard core.entries call) ++ unwrap_or (line_text call) [] ∷ []) ≡ trace_row (world_running start earlier) number call
-row_told {start} {earlier} {call} {core} {answer} number told =
-    let left : core ≡ world_running (world_running start earlier) (call ∷ []) = told.leaves ∙ sym (world_running-append start earlier (call ∷ [])) in
-    λ i. decimal number ∷ told.answers.name i ∷ call_text call ∷ told.answers.reply i ∷ (figures (left i) (heard (left i).entries call) ++ unwrap_or (line_text call) [] ∷ [])
+-- what a core shows after a call is the row of the call
+pub answered_row : {start : World} {earlier : List (List ℕ)} {call : List ℕ} {core : World} {answer : LineAnswer} (number : ℕ) → IsAnsweredAfter start earlier call core answer →
+    {says : List ℕ} {account : Option Account} {session : Option SessionAccount} {text : Option (List ℕ)} →
+    says ≡ call_text call → account ≡ account_in core (heard core.entries call) → session ≡ session_in core (heard core.entries call) → text ≡ line_text call →
+    record { number = number; component = answer.name.now; call = says; reply = answer.reply.now; account = account; session = session; text = text } ≡ trace_row (world_running start earlier) number call
+answered_row {start} {earlier} {call} {core} number answered is_call is_account is_session is_text =
+    let left : core ≡ world_running (world_running start earlier) (call ∷ []) = answered.leaves ∙ sym (world_running-append start earlier (call ∷ [])) in
+    let is_account_left = is_account ∙ ap (λ (world : World). account_in world (heard world.entries call)) left in
+    let is_session_left = is_session ∙ ap (λ (world : World). session_in world (heard world.entries call)) left in
+    λ i. record {
+      number = number;
+      component = answered.answers.name i;
+      call = is_call i;
+      reply = answered.answers.reply i;
+      account = is_account_left i;
+      session = is_session_left i;
+      text = is_text i;
+    }
+
+abbrev with_selector : ℕ → Account → SessionAccount
+with_selector selector account = record { selector = selector; account = account }
+
+-- a session by its selector and its account
+pub session_there : (selector : ℕ) (s : Option Session) (account : Option Account) → account ≡ option_map (λ (x : Session). x.account) s →
+    option_map (with_selector selector) account ≡ option_map (λ (x : Session). with_selector selector x.account) s
+session_there selector None account is = ap (option_map (with_selector selector)) is
+session_there selector (Some x) account is = ap (option_map (with_selector selector)) is
+
+-- ---- its cells
+
+-- empty cells
+pub four_empty : codes ",,,," ≡ fields_text default_writer (cells_of None)
+unfolding fields_text
+four_empty = refl
+
+pub five_empty : codes ",,,,," ≡ fields_text default_writer (session_cells None)
+unfolding fields_text
+five_empty = refl
+
+pub ruleset empty_cells = (four_empty, five_empty)
+
+-- the cells of a session: its selector, and those of its account
+pub session_then : (old : List ℕ) (selector : ℕ) (account : Account) →
+    (old ++ cell_text (decimal selector)) ++ fields_text default_writer (account_cells account) ≡ old ++ fields_text default_writer (session_cells (Some (record { selector = selector; account = account })))
+session_then old selector account = sym (cell_then old (decimal selector) (account_cells account))
+
+-- the cells of both accounts
+pub figures_more : (account : Option Account) (session : Option SessionAccount) →
+    fields_text default_writer (cells_of account) ++ fields_text default_writer (session_cells session) ≡ fields_text default_writer (figures account session)
+figures_more account session = sym (cells_more (cells_of account) (session_cells session))
 
 -- a row is its number, three cells and the others
-pub row_whole : (number : ℕ) (name call reply : List ℕ) (cells : List (List ℕ)) → number < 2 ^ 64 →
+row_whole : (number : ℕ) (name call reply : List ℕ) (cells : List (List ℕ)) → number < 2 ^ 64 →
     decimal number ++ (cell_text name ++ (cell_text call ++ (cell_text reply ++ (fields_text default_writer cells ++ 10 ∷ []))))
     ≡ row_text default_writer (decimal number ∷ name ∷ call ∷ reply ∷ cells)
 unfolding fields_text is_blank
@@ -76,30 +87,15 @@ row_whole number name call reply cells small =
 to_right : (a b c d e : List ℕ) → (((a ++ b) ++ c) ++ d) ++ e ≡ a ++ (b ++ (c ++ (d ++ e)))
 to_right a b c d e = append_assoc ((a ++ b) ++ c) d e ∙ append_assoc (a ++ b) c (d ++ e) ∙ append_assoc a b (c ++ (d ++ e))
 
--- so what is put together is what is told of a call
-pub row_written : {start : World} {earlier : List (List ℕ)} {call : List ℕ} {core : World} {answer : LineAnswer} (number : ℕ) (says cells : List ℕ) (text : Option (List ℕ)) → number < 2 ^ 64 →
-    IsAnsweredAfter start earlier call core answer → says ≡ call_text call → cells ≡ fields_text default_writer (figures core (heard core.entries call)) → text ≡ line_text call →
-    decimal number ++ cell_text answer.name.now ++ cell_text says ++ cell_text answer.reply.now ++ cells ++ cell_text (unwrap_or text []) ++ 10 ∷ [] ≡ trace_call_text start earlier number call
-row_written {call = call} {core = core} {answer = answer} number says cells text small told is_call is_cells is_text =
-    let front = decimal number ++ cell_text answer.name.now ++ cell_text (call_text call) ++ cell_text answer.reply.now in
-    let behind = figures core (heard core.entries call) in
-    let shown = unwrap_or (line_text call) [] in
-    (λ i. decimal number ++ cell_text answer.name.now ++ cell_text (is_call i) ++ cell_text answer.reply.now ++ is_cells i ++ cell_text (unwrap_or (is_text i) []) ++ 10 ∷ [])
+-- so what is put together is the row
+pub row_written : (row : TraceRow) (cells : List ℕ) → row.number < 2 ^ 64 → cells ≡ fields_text default_writer (figures row.account row.session) →
+    decimal row.number ++ cell_text row.component ++ cell_text row.call ++ cell_text row.reply ++ cells ++ cell_text (unwrap_or row.text []) ++ 10 ∷ [] ≡ csv_row row
+row_written row cells small is_cells =
+    let front = decimal row.number ++ cell_text row.component ++ cell_text row.call ++ cell_text row.reply in
+    let behind = figures row.account row.session in
+    let shown = unwrap_or row.text [] in
+    ap (λ text. front ++ text ++ cell_text shown ++ 10 ∷ []) is_cells
     ∙ ap (λ line. line ++ 10 ∷ []) (append_assoc front (fields_text default_writer behind) (cell_text shown) ∙ ap (λ more. front ++ more) (last_cell behind shown))
     ∙ append_assoc front (fields_text default_writer (behind ++ shown ∷ [])) (10 ∷ [])
-    ∙ to_right (decimal number) (cell_text answer.name.now) (cell_text (call_text call)) (cell_text answer.reply.now) _
-    ∙ row_whole number answer.name.now (call_text call) answer.reply.now (behind ++ shown ∷ []) small
-    ∙ ap (row_text default_writer) (row_told number told)
-
--- ---- the session that a call names, where it is there
-
-pub session_there : (old : List ℕ) (selector : ℕ) (s : Option Session) (account : Account) → Some account ≡ option_map (λ (x : Session). x.account) s →
-    (old ++ cell_text (decimal selector)) ++ fields_text default_writer (account_cells account) ≡ old ++ fields_text default_writer (open_cells selector s)
-session_there old selector None account is = absurd (none-some account (sym is))
-session_there old selector (Some x) account is =
-    (let same : account ≡ x.account = same_Some account x.account is in ap (λ a. (old ++ cell_text (decimal selector)) ++ fields_text default_writer (account_cells a)) same)
-    ∙ sym (cell_then old (decimal selector) (account_cells x.account))
-
--- an account's cells, and then those of a session
-pub cells_both : {text : List ℕ} (xs ys : List (List ℕ)) (more : List ℕ) → text ≡ [] ++ fields_text default_writer xs → more ≡ fields_text default_writer ys → text ++ more ≡ fields_text default_writer (xs ++ ys)
-cells_both xs ys more first others = (λ i. first i ++ others i) ∙ sym (cells_more xs ys)
+    ∙ to_right (decimal row.number) (cell_text row.component) (cell_text row.call) (cell_text row.reply) _
+    ∙ row_whole row.number row.component row.call row.reply (behind ++ shown ∷ []) small

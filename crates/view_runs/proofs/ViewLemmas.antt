@@ -6,16 +6,14 @@ use Rattle.own_model.specs.LinesOfName.{is_line_of, said_by}
 use Rattle.own_model.specs.Listed.{Listed, start_list_of}
 use Rattle.own_model.specs.StartList.{entries_of}
 use Rattle.own_model.specs.World.{World}
-use Rattle.line_friendly.specs.Friendly.{FriendlyLine}
-use Rattle.line_friendly.specs.Friendly.FriendlyLine.{Nothing, Log, Call}
-use Rattle.line_friendly.specs.declared.fault.FriendlyFault.{FriendlyFault}
+use Rattle.line_steps.specs.ResolvedLines.{ResolvedLine}
+use Rattle.line_steps.specs.ResolvedLines.ResolvedLine.{TooLong, Skipped, BadName, Follow, Misplaced, Nothing, Log, Call, BadLine}
 use Rattle.run_lines.specs.Machine.{accounts_for}
 use Rattle.view_runs.specs.Alone.{SeesAlone, alone_sum, alone_call_text}
 use Rattle.run_scenario.specs.RunCalls.{calls_answered, calls_of_steps, text_of_steps}
 use Rattle.run_scenario.specs.ScenarioRuns.{RunsAll}
-use Rattle.view_runs.specs.Tracing.{trace_header, trace_call_text}
-use Rattle.run_scenario.specs.LineSteps.{ResolvedLine, LineStep, call_in, calls_in, left_behind, next_stand, turns_of}
-use Rattle.run_scenario.specs.LineSteps.ResolvedLine.{TooLong, Unnamed, Follows, Says}
+use Rattle.view_runs.specs.Tracing.{TraceRow, trace_call_text}
+use Rattle.run_scenario.specs.LineSteps.{LineStep, calls_in, left_behind, next_stand, turns_of}
 use Rattle.run_scenario.specs.Writes.{Closes, IsRunFrom, WritesAfter}
 use Rattle.view_runs.specs.Transcripts.{list_behind, text_of_run_call, shown_of}
 use Rattle.run_scenario.specs.declared.scenario_end.ScenarioEnd.{ScenarioEnd}
@@ -34,11 +32,12 @@ run_played false accounts only listed {first = first} {start = start} {w' = w'} 
     played_from played ended plays (told_as_engine only start (turns_of only start first plays.given))
     (subst (λ world. Closes played ended w' w'' (accounts_for accounts listed world)) plays.world closes)
 
--- the rows of a trace, behind its header
-pub trace_played : {first : RunPosition} {seen : List (List ℕ) → Type 0} {start last : World} {input rest w w' : Option (List ℕ)} {failed : Bool} (ending : ScenarioEnd) →
-    RunsAll (trace_call_text start) false seen None first ending.fault ending.lines start last trace_header input rest failed w w' →
-    IsRunFrom (turns_of None start first) (λ turns. trace_header ++ text_of_steps (trace_call_text start) None [] turns) (λ _. []) false ending input rest failed w w'
-trace_played {w' = w'} ending plays = played_from ending ending plays refl (closes_alone ending w')
+-- the rows of a trace, after the text before them
+pub trace_played : (front : List ℕ) (row_text : TraceRow → List ℕ) (takes : Bool) {first : RunPosition} {seen : List (List ℕ) → Type 0} {start last : World} {input rest w w' : Option (List ℕ)} {failed : Bool} (ending : ScenarioEnd) {header : List ℕ} → header ≡ front →
+    RunsAll (trace_call_text row_text start) takes seen None first ending.fault ending.lines start last header input rest failed w w' →
+    IsRunFrom (turns_of None start first) (λ turns. front ++ text_of_steps (trace_call_text row_text start) None [] turns) (λ _. []) takes ending input rest failed w w'
+trace_played front row_text takes {first = first} {start = start} {w' = w'} ending is plays =
+    played_from ending ending plays (ap (λ text. text ++ text_of_steps (trace_call_text row_text start) None [] (turns_of None start first plays.given)) is) (closes_alone ending w')
 
 -- ---- one name alone
 
@@ -48,22 +47,21 @@ filter_few p [] = omega arith
 filter_few p (x ∷ xs) = grind (arith, nat_tests, filter_few p xs)
 
 -- a line says one call at most
-one_call : (said : Result FriendlyLine FriendlyFault) → length (call_in said) ≤ 1
-one_call (Ok Nothing) = omega arith
-one_call (Ok (Log text)) = omega arith
-one_call (Ok (Call line reply)) = omega arith
-one_call (Err fault) = omega arith
-
-one_in : (deed : ResolvedLine) → length (calls_in deed) ≤ 1
+one_in : (resolved : ResolvedLine) → length (calls_in resolved) ≤ 1
 one_in TooLong = omega arith
-one_in (Unnamed fault) = omega arith
-one_in (Follows directive) = omega arith
-one_in (Says filled said) = one_call said
+one_in Skipped = omega arith
+one_in (BadName fault) = omega arith
+one_in (Follow directive) = omega arith
+one_in (Misplaced column) = omega arith
+one_in Nothing = omega arith
+one_in (Log text) = omega arith
+one_in (Call filled line reply) = omega arith
+one_in (BadLine fault) = omega arith
 
 -- so there are no more calls than turns, and as many of these as lines
 few_calls : (turns : List LineStep) → length (calls_of_steps turns) ≤ length turns
 few_calls [] = omega arith
-few_calls (turn ∷ turns) = omega (arith, few_calls turns, one_in turn.deed, length-append (calls_in turn.deed) (calls_of_steps turns))
+few_calls (turn ∷ turns) = omega (arith, few_calls turns, one_in turn.resolved, length-append (calls_in turn.resolved) (calls_of_steps turns))
 
 few_turns : (only : Option (List ℕ)) (world : World) (stand : RunPosition) (lines : List (List ℕ)) → length (turns_of only world stand lines) ≡ length lines
 few_turns only world stand [] = refl

@@ -1,8 +1,7 @@
 -- The rows of a trace.
-use Rattle.std.specs.Prelude.{ℕ, ◌+◌, List, [], ◌∷◌, ◌++◌, length, drop, codes, decimal, Option, Some, None}
+use Rattle.std.specs.Prelude.{ℕ, ◌+◌, List, ◌∷◌, ◌++◌, [], length, drop, Option, Some, None}
 use Rattle.std.specs.FinMap.{get}
-use Rattle.std.specs.Option.{unwrap_or}
-use Rattle.csv.specs.Writing.{comma, default_writer, field_text, row_text}
+use Rattle.std.specs.Option.{option_and_then, option_map}
 use Rattle.own_model.specs.Account.{Account}
 use Rattle.own_model.specs.Call.{Call, Spoken}
 use Rattle.own_model.specs.Call.Call.{Upgrade, CallSession, Close}
@@ -14,7 +13,6 @@ use Rattle.own_model.specs.Transcript.{Heard, heard, state_at}
 use Rattle.own_model.specs.Transcript.Heard.{NoCall, Stranger, Caller}
 use Rattle.own_model.specs.World.{World, account_at, world_running}
 use Rattle.run_lines.specs.Answer.{answered_name, answered_reply}
-use Rattle.run_scenario.specs.Cells.{account_cells}
 use Rattle.run_scenario.specs.RunCalls.{text_of_steps}
 use Rattle.run_scenario.specs.Said.{said_in}
 use Rattle.run_scenario.specs.Texts.{line_text}
@@ -36,50 +34,58 @@ session_of (CallSession selector request) = Some selector
 session_of (Close selector) = Some selector
 session_of call = None
 
-abbrev pub cells_of : Option Account → List (List ℕ)
-cells_of (Some a) = account_cells a
-cells_of None = [] ∷ [] ∷ [] ∷ [] ∷ []
+-- a session with its account
+pub record SessionAccount : Type 0 where
+  pub selector : ℕ
+  pub account : Account
+
+-- a row: the number of the call's line, the component, the call and its reply; the component's account after the call, if there is
+-- such a component; the session that the call names with its account, if it is open; and the text of the call's bytes, if it has some
+pub record TraceRow : Type 0 where
+  pub number : ℕ
+  pub component : List ℕ
+  pub call : List ℕ
+  pub reply : List ℕ
+  pub account : Option Account
+  pub session : Option SessionAccount
+  pub text : Option (List ℕ)
 
 -- a session that is open, by its selector
-abbrev pub open_cells : ℕ → Option Session → List (List ℕ)
-open_cells selector (Some session) = decimal selector ∷ account_cells session.account
-open_cells selector None = [] ∷ cells_of None
+abbrev pub session_at : OwnState → ℕ → Option SessionAccount
+session_at s selector =
+    option_map (λ (it : Session). record { selector = selector; account = it.account }) (session_named (get s.selectors selector))
 
-abbrev pub session_cells : OwnState → Option ℕ → List (List ℕ)
-session_cells s (Some selector) = open_cells selector (session_named (get s.selectors selector))
-session_cells s None = [] ∷ cells_of None
+-- the account of a call's component in a world; a line that is no call and a name that no component has have none
+abbrev pub account_in : World → Heard → Option Account
+account_in world NoCall = None
+account_in world (Stranger name) = None
+account_in world (Caller made) = Some (account_at world made.component)
 
--- the figures of the caller: of its account, and of the session that the call names
-abbrev pub caller_cells : World → ℕ → Call → List (List ℕ)
-caller_cells world component call =
-    account_cells (account_at world component) ++ session_cells (state_at world.states component) (session_of call)
+-- the session that a call names
+abbrev pub session_in : World → Heard → Option SessionAccount
+session_in world NoCall = None
+session_in world (Stranger name) = None
+session_in world (Caller made) = option_and_then (session_at (state_at world.states made.component)) (session_of made.call)
 
--- a name that no component has has none
-abbrev pub stranger_cells : List (List ℕ)
-stranger_cells = cells_of None ++ ([] ∷ cells_of None)
-
-abbrev pub figures : World → Heard → List (List ℕ)
-figures world NoCall = stranger_cells
-figures world (Stranger name) = stranger_cells
-figures world (Caller made) = caller_cells world made.component made.call
-
--- the row of a call: the number of its line, the caller, the call, the reply, the figures after it, and the text of its bytes
-abbrev pub trace_row : World → ℕ → List ℕ → List (List ℕ)
+-- the row of a call in a world, by a line of this number
+abbrev pub trace_row : World → ℕ → List ℕ → TraceRow
 trace_row before number call =
     let what = heard before.entries call in
-    decimal number ∷ answered_name before what ∷ call_text call ∷ reply_text (answered_reply before what)
-    ∷ (figures (world_running before (call ∷ [])) what ++ unwrap_or (line_text call) [] ∷ [])
+    let after = world_running before (call ∷ []) in
+    record {
+      number = number;
+      component = answered_name before what;
+      call = call_text call;
+      reply = reply_text (answered_reply before what);
+      account = account_in after what;
+      session = session_in after what;
+      text = line_text call;
+    }
 
--- as it is written
-abbrev pub trace_call_text : World → List (List ℕ) → ℕ → List ℕ → List ℕ
-trace_call_text start earlier number call = row_text default_writer (trace_row (world_running start earlier) number call)
+-- the text of a call's row, by the text of each row
+abbrev pub trace_call_text : (TraceRow → List ℕ) → World → List (List ℕ) → ℕ → List ℕ → List ℕ
+trace_call_text row_text start earlier number call = row_text (trace_row (world_running start earlier) number call)
 
--- the names of the columns
-abbrev pub trace_header : List ℕ
-trace_header =
-    codes "line,component,call,reply,ram_used,ram_limit,caps_used,caps_limit,session,session_ram_used,session_ram_limit,session_caps_used,session_caps_limit,text"
-    ++ 10 ∷ []
-
--- a trace: the names of the columns, and a row for each call
-abbrev pub trace_text : Listed → List LineStep → List ℕ
-trace_text listed turns = trace_header ++ text_of_steps (trace_call_text (world_of listed)) None [] turns
+-- a trace: the text before the rows, and a row for each call
+abbrev pub trace_text : List ℕ → (TraceRow → List ℕ) → Listed → List LineStep → List ℕ
+trace_text front row_text listed turns = front ++ text_of_steps (trace_call_text row_text (world_of listed)) None [] turns

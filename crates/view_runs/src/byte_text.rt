@@ -1,12 +1,13 @@
 //! The bytes that a call has in hexadecimal digits, as text.
 ghost use Rattle.std.specs.Prelude.{◌≡◌, [], false, is_err};
-ghost use Rattle.std.specs.Option.{option_map, option_map_or, unwrap_or};
+ghost use Rattle.std.specs.Option.{option_map_or, unwrap_or};
 ghost use Rattle.own_model.specs.Text.{hex_bytes};
 ghost use Rattle.core_calls.specs.Call.{model_call};
 ghost use Rattle.run_lines.specs.RunOutput.{OutputsUnless};
 ghost use Rattle.line_grammar.specs.Read.{IsReadAs};
-ghost use Rattle.run_scenario.specs.Texts.{bytes_in_call, bytes_written, in_brackets, line_text, characters_text};
+ghost use Rattle.run_scenario.specs.Texts.{bytes_in_call, bytes_written, in_brackets, line_text};
 ghost use Rattle.run_scenario.specs.Cells.{cell_text};
+ghost use Rattle.view_runs.specs.Rows.{printed_text};
 
 use core_calls::Call;
 use run_lines::{DeviceFault, NamedCall, Sink, WriteBuffer};
@@ -17,8 +18,7 @@ use session_proto::{FileRequest, LogRequest};
 /// line.
 pub(crate) fn shown_in<'a>(line: &'a [u8], call: Option<NamedCall<'a>>) -> Option<PrintableHex<'a>>
     requires { IsReadAs line.now call }
-    ensures { option_map (λ shown. characters_text (hex_bytes shown.hex.now)) result
-        ≡ line_text line.now }
+    ensures { printed_text result ≡ line_text line.now }
 {
     let (_, call) = said_in(line, call)?;
     PrintableHex::of(digits_in(call))
@@ -57,8 +57,7 @@ pub(crate) fn put_text_cell<K: Sink>(
     requires { K.has_failed sink.old ≡ false }
     ensures told { OutputsUnless result (K.contents sink.old) gathered.old
         (K.contents sink.new) gathered.new
-        (cell_text (unwrap_or
-        (option_map (λ it. characters_text (hex_bytes it.hex.now)) shown.entry) [])) }
+        (cell_text (unwrap_or (printed_text shown.entry) [])) }
     ensures failing { K.has_failed sink.new ≡ is_err result }
 {
     match shown {
@@ -76,8 +75,7 @@ pub(crate) fn put_text_after<K: Sink>(
     requires { K.has_failed sink.old ≡ false }
     ensures told { OutputsUnless result (K.contents sink.old) gathered.old
         (K.contents sink.new) gathered.new
-        (option_map_or in_brackets
-        (option_map (λ it. characters_text (hex_bytes it.hex.now)) shown.entry) []) }
+        (option_map_or in_brackets (printed_text shown.entry) []) }
     ensures failing { K.has_failed sink.new ≡ is_err result }
 {
     match shown {

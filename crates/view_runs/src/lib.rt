@@ -7,10 +7,18 @@
 mod alone_run;
 mod answer_list;
 mod byte_text;
+mod csv_rows;
+mod json_rows;
+mod row_format;
+mod trace_row;
 mod tracing;
 mod transcript;
 
 pub use alone_run::{AloneComparison, alone};
 pub use answer_list::{AnswerList, answers};
+pub use csv_rows::CsvRows;
+pub use json_rows::JsonRows;
+pub use row_format::RowFormat;
+pub use trace_row::{SessionAccount, TraceRow};
 pub use tracing::trace;
 pub use transcript::{TranscriptOptions, run};

@@ -33,7 +33,7 @@ junit_end trial = if trial.passed then codes "/>\n" else junit_failure trial.tol
 -- a trial
 unfoldable pub junit_case : TestResult → List ℕ
 junit_case trial =
-    between (codes "<testcase classname=\"nethrywel\" name=\"") (string_bytes trial.path) (codes "\"") ++ junit_end trial
+    between (codes "<testcase classname=\"nethrywel\" name=\"") (string_bytes trial.name) (codes "\"") ++ junit_end trial
 
 -- a document of all trials
 abbrev pub junit_document : List TestResult → List ℕ

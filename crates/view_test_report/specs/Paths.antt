@@ -1,4 +1,4 @@
--- The paths of scenarios.
+-- The paths of scenarios and policies.
 use Rattle.std.specs.Prelude.{ℕ, ◌-◌, Bool, List, length, take, codes, if◌then◌else◌}
 use Rattle.std.specs.List.{ends_with}
 use Rattle.std.specs.Prelude.{nat_eq}
@@ -7,6 +7,14 @@ use Rattle.std.specs.Prelude.{nat_eq}
 abbrev pub is_scenario : List ℕ → Bool
 is_scenario path = ends_with nat_eq path (codes ".scenario")
 
--- the path of a scenario without its ending
+-- a path is that of a policy
+abbrev pub is_policy : List ℕ → Bool
+is_policy path = ends_with nat_eq path (codes ".policy")
+
+-- the path of a policy without its ending
+abbrev pub policy_stem : List ℕ → List ℕ
+policy_stem path = if is_policy path then take (length path - 7) path else path
+
+-- the path of a scenario or a policy without its ending
 abbrev pub stem_of : List ℕ → List ℕ
-stem_of path = if is_scenario path then take (length path - 9) path else path
+stem_of path = if is_scenario path then take (length path - 9) path else policy_stem path

@@ -30,4 +30,4 @@ verdict false = codes "not ok"
 -- the lines about the trial of a number
 abbrev pub tap_point : ℕ → TestResult → List ℕ
 tap_point number trial =
-    verdict trial.passed ++ codes " " ++ decimal number ++ codes " - " ++ named (string_bytes trial.path) ++ 10 ∷ noted trial.told.items
+    verdict trial.passed ++ codes " " ++ decimal number ++ codes " - " ++ named (string_bytes trial.name) ++ 10 ∷ noted trial.told.items

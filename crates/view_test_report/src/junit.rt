@@ -61,7 +61,7 @@ fn add_number(
 fn add_case(text: &mut Vec<u8>, trial: &TestResult) -> Result<(), AllocError>
     ensures { OnOk result (text.new.items ≡ text.old.items ++ junit_case trial.now) }
 {
-    let path = trial.path.as_bytes();
+    let path = trial.name.as_bytes();
     add_between(
         text,
         b"<testcase classname=\"nethrywel\" name=\"",

@@ -1,6 +1,6 @@
-//! Scenarios by the names of their files, and the machines and policies next to them.
+//! Scenarios and policies by the names of their files, and the start lists and policies next to them.
 ghost use Rattle.std.specs.Prelude.{◌≡◌, ◌++◌, codes, string_bytes, IfOk};
-ghost use Rattle.view_test_report.specs.Paths.{is_scenario, stem_of};
+ghost use Rattle.view_test_report.specs.Paths.{is_policy, is_scenario, policy_stem, stem_of};
 
 use std::alloc::{AllocError, Global};
 
@@ -14,7 +14,18 @@ pub fn is_scenario(path: &str) -> bool
     path.as_bytes().ends_with(SCENARIO)
 }
 
-/// Returns the path of the machine next to a scenario: `NAME.json` for `NAME.scenario`. The error is out of memory.
+/// The ending of a policy's path.
+const POLICY: &[u8] = b".policy";
+
+/// Returns whether a path is that of a policy: it ends with `.policy`.
+pub fn is_policy(path: &str) -> bool
+    ensures { result ≡ is_policy path.now }
+{
+    path.as_bytes().ends_with(POLICY)
+}
+
+/// Returns the path of the machine next to a scenario or a policy: `NAME.json` for `NAME.scenario` and `NAME.policy`. The error is
+/// out of memory.
 pub fn machine_path(alloc: Global, path: &str) -> Result<String, AllocError>
     ensures { IfOk result (λ machine. string_bytes machine ≡ stem_of path.now ++ codes ".json") }
 {
@@ -28,12 +39,30 @@ pub fn policy_path(alloc: Global, path: &str) -> Result<String, AllocError>
     beside(alloc, path, ".policy")
 }
 
-// Returns the path of a file next to a scenario, by its ending.
+// Returns the path of a file next to a scenario or a policy, by its ending.
 fn beside(alloc: Global, path: &str, ending: &str) -> Result<String, AllocError>
     ensures { IfOk result (λ other. string_bytes other ≡ stem_of path.now ++ ending.now) }
 {
+    let stem = stem_of(path);
+    format!(in alloc; "{stem}{ending}")
+}
+
+// Returns the path of a scenario or a policy without its ending.
+fn stem_of(path: &str) -> &str
+    ensures { result.now ≡ stem_of path.now }
+{
     match path.strip_suffix(".scenario") {
-        Some(stem) => format!(in alloc; "{stem}{ending}"),
-        None => format!(in alloc; "{path}{ending}"),
+        Some(stem) => stem,
+        None => policy_stem(path),
+    }
+}
+
+// Returns the path of a policy without its ending.
+fn policy_stem(path: &str) -> &str
+    ensures { result.now ≡ policy_stem path.now }
+{
+    match path.strip_suffix(".policy") {
+        Some(stem) => stem,
+        None => path,
     }
 }

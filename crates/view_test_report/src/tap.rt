@@ -18,7 +18,7 @@ pub fn tap_point(alloc: Global, number: usize, trial: &TestResult) -> Result<Vec
 {
     let verdict = if trial.passed { "ok" } else { "not ok" };
     let mut text = format!(in alloc; "{verdict} {number} - ")?.into_bytes();
-    add_name(&mut text, trial.path.as_bytes())?;
+    add_name(&mut text, trial.name.as_bytes())?;
     text.push(b'\n')?;
     add_notes(&mut text, trial.told.as_slice())?;
     Ok(text)

@@ -1,13 +1,13 @@
 -- On the machine of the list.
 use Rattle.std.proofs.Common.{ap, ◌++◌, [], None}
 use Rattle.run_scenario.specs.RunCalls.{text_of_steps}
-use Rattle.view_runs.specs.Tracing.{trace_header, trace_call_text}
+use Rattle.view_runs.specs.Tracing.{trace_call_text}
 use Rattle.run_scenario.proofs.WriteLemmas.{ends_for_cause, played_on, unplayed_with}
 use Rattle.view_runs.proofs.tracing.trace.Goals as goal
 
 pub returns-clause-played : goal.returns-clause-played
 returns-clause-played g c = λ works.
-    played_on c.args.play.list.now None c.args.play.start (λ start turns. trace_header ++ text_of_steps (trace_call_text start) None [] turns) (λ _ _. []) c.trace_on.result _ _ _ _ _
+    played_on c.args.play.list.now None c.args.play.start (λ start turns. g.F.RowFormat.front ++ text_of_steps (trace_call_text g.F.RowFormat.row_text start) None [] turns) (λ _ _. []) c.trace_on.result _ _ _ _ _
     c.in_ok-core.ensures.started c.new-notes.ensures (c.trace_on.ensures.played works)
 
 pub returns-clause-ok : goal.returns-clause-ok

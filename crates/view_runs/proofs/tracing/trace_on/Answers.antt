@@ -1,6 +1,7 @@
--- The rows behind the header.
+-- The rows after the header.
 use Rattle.view_runs.proofs.ViewLemmas.{trace_played}
 use Rattle.view_runs.proofs.tracing.trace_on.Goals as goal
 
 pub returns-clause-played : goal.returns-clause-played
-returns-clause-played g c = λ works. trace_played c.play.result (rw c.requires.all at (c.play.ensures.plays works))
+returns-clause-played g c = λ works.
+    trace_played g.F.RowFormat.front g.F.RowFormat.row_text g.F.RowFormat.takes c.play.result c.header-header.ensures (rw c.requires.all at (c.play.ensures.plays works))

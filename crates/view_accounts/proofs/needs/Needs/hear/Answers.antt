@@ -2,7 +2,8 @@
 use Rattle.std.proofs.Common.{arith}
 use Rattle.core_calls.specs.Call.{model_call}
 use Rattle.run_lines.proofs.AccountLemmas.{entries_listed}
-use Rattle.view_accounts.proofs.HearLemmas.{on_ok, sees_more, still_sees}
+use Rattle.view_accounts.proofs.HearLemmas.{sees_more, still_sees}
+use Rattle.run_scenario.proofs.LineLemmas.{on_ok}
 use Rattle.view_accounts.proofs.needs.Needs.hear.Goals as goal
 
 pub account-requires : goal.account-requires

@@ -11,7 +11,7 @@ use Rattle.view_accounts.specs.Kept.{found}
 use Rattle.view_accounts.specs.Peaks.{Noted, session_at}
 use Rattle.view_accounts.specs.SessionTable.{value_at}
 use Rattle.view_accounts.proofs.KeptLemmas.{begun_there, found_opened, found_unopened}
-use Rattle.view_accounts.proofs.SessionTableLemmas.{on_ok_by}
+use Rattle.std.proofs.lemmas.Result.{on_ok_weaker}
 use Rattle.view_accounts.proofs.peaks.Peaks.keep_new.Goals as goal
 
 abbrev noted_with : Amounts → Option ℕ → List ℕ → Noted
@@ -37,7 +37,7 @@ returns-clause-sessions g c =
     let server_is : c.route.result ≡ server = c.route.ensures ∙ ap (route_of c.args.list.now c.args.opening.component c.args.opening.service.now) c.label_given-given.ensures.label in
     let client_is : c.label.result.now ≡ (entry_at c.args.core.now.entries c.args.opening.component).label = c.label.ensures.listed ∙ ap (λ entries. (entry_at entries c.args.opening.component).label) (sym c.requires.listed) in
     let label_is : c.in_ok-label_of.field-0.items ≡ label = c.in_ok-label_of.ensures ∙ (λ i. label_with (client_is i) (c.label_given-given.ensures.label i)) in
-    on_ok_by c.set.result
+    on_ok_weaker c.set.result
     (λ is k q.
     found_opened (k == c.args.opening.component && q == c.args.selector) _ _ (value_at c.args.self.now.sessions k q) _ (is k q)
     ((λ i. Some (noted_with (c.of.ensures i) (server_is i) (label_is i))) ∙ begun_there (session_at c.args.opening.component c.args.selector c.args.core.now) (quotas_account c.in-Some.account) server label c.in-Some.ensures))

@@ -1,0 +1,23 @@
+-- The text of a list of objects, object by object.
+use Rattle.std.proofs.Common.{◌≡◌, ℕ, if◌then◌else◌, List, [], ◌∷◌, ◌++◌, codes, Result, Ok, Err, OnOk, is_ok, sym, ◌∙◌, ap, append_assoc, append-nil}
+use Rattle.std.specs.List.{flat_map}
+use Rattle.std.proofs.lemmas.List.Concat.{flat_map-append}
+use Rattle.serde_json.specs.Data.{Data}
+use Rattle.view_json.specs.Documents.{object_text, objects_text, separator}
+
+-- one more object
+pub objects_more : (objects : List (List (List ℕ × Data))) (members : List (List ℕ × Data)) (text : List ℕ) → text ≡ objects_text objects →
+    (text ++ separator text) ++ object_text members ≡ objects_text (objects ++ members ∷ [])
+objects_more [] members text is = ap (λ t. (t ++ separator t) ++ object_text members) is ∙ sym (append-nil (object_text members))
+objects_more (first ∷ others) members text is =
+    let after : List (List ℕ × Data) → List ℕ = λ o. codes ",\n" ++ object_text o in
+    ap (λ t. (t ++ separator t) ++ object_text members) is
+    ∙ append_assoc (objects_text (first ∷ others)) (codes ",\n") (object_text members)
+    ∙ append_assoc (object_text first) (flat_map after others) (after members)
+    ∙ ap (λ t. object_text first ++ (flat_map after others ++ t)) (sym (append-nil (after members)))
+    ∙ ap (λ t. object_text first ++ t) (sym (flat_map-append after others (members ∷ [])))
+
+-- a text that is put behind another, if there is room
+pub put_behind : {T E : Type 0} (r : Result T E) (old more : List ℕ) {new text : List ℕ} → new ≡ (if is_ok r then old ++ more else old) → old ++ more ≡ text → OnOk r (new ≡ text)
+put_behind (Ok x) old more new_is is = new_is ∙ is
+put_behind (Err e) old more new_is is = tt

@@ -1,0 +1,21 @@
+-- A write that fails in one part loses the parts after it.
+use Rattle.run_lines.proofs.GatheredLemmas.{Tells-more, Tells-front, told_err, told_more}
+use Rattle.view_runs.proofs.csv_rows.put_front.Goals as goal
+
+pub returns-in_err-put_number-clause-told : goal.returns-in_err-put_number-clause-told
+returns-in_err-put_number-clause-told g c =
+    told_err _ _ _ c.from_residual.ensures.1
+    (_, Tells-front _ (Tells-front _ (Tells-front _ (c.in_err-put_number.ensures.told.1))))
+
+pub returns-in_err-put_cell-clause-told : goal.returns-in_err-put_cell-clause-told
+returns-in_err-put_cell-clause-told g c =
+    told_err _ _ _ c.from_residual-in_err-put_cell.ensures.1
+    (_, Tells-front _ (Tells-front _ (Tells-more c.in_ok-put_number.ensures.told (c.in_err-put_cell.ensures.told.1))))
+
+pub returns-in_err-put_cell-2-clause-told : goal.returns-in_err-put_cell-2-clause-told
+returns-in_err-put_cell-2-clause-told g c =
+    told_err _ _ _ c.from_residual-in_err-put_cell-2.ensures.1
+    (_, Tells-front _ (Tells-more (Tells-more c.in_ok-put_number.ensures.told c.in_ok-put_cell.ensures.told) (c.in_err-put_cell-2.ensures.told.1)))
+
+pub returns-clause-told : goal.returns-clause-told
+returns-clause-told g c = told_more _ _ _ _ (Tells-more (Tells-more c.in_ok-put_number.ensures.told c.in_ok-put_cell.ensures.told) c.in_ok-put_cell-2.ensures.told) c.put_cell-3.ensures.told
