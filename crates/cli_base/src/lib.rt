@@ -4,6 +4,7 @@
 //! `scenario_text(rt, form, path)` reads a scenario, or prints why it can't and returns the exit status.
 #![tactic(auto)]
 
+mod advice;
 mod coloring;
 mod files;
 mod lines;
@@ -17,6 +18,7 @@ mod status;
 mod streams;
 mod unfolding;
 
+pub use advice::{Warnings, warned_status};
 pub use coloring::Coloring;
 pub use files::{
     FileReadMessage, ReadFailure, STANDARD_INPUT, StartListFailure, read_list, read_whole,

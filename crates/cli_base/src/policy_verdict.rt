@@ -6,18 +6,20 @@ use crate::files::read_list;
 use crate::reports::Spot;
 use crate::status::REFUSED;
 use init_core::StartList;
-use list_policy::{Breach, BreachText, Policy, PolicyFault, exit_status};
+use list_policy::{Breach, BreachText, Policy, PolicyFault, PolicyLine, exit_status};
 use std::alloc::{AllocError, Global};
 use std::str;
 
 /// The most bytes of a policy.
 const LONGEST_POLICY: usize = 65_536;
 
-/// A diagnostic of a policy's line: the number of the line, and the message.
+/// A diagnostic of a policy: its place, and the message.
 #[derive(Drop)]
 pub struct PolicyDiagnostic {
     /// The number of the line, from 1 on.
     pub line: usize,
+    /// The column in bytes, from 1 on.
+    pub column: usize,
     /// The message of the diagnostic.
     pub text: String,
 }
@@ -25,7 +27,7 @@ pub struct PolicyDiagnostic {
 /// The result of a check of a start list against a policy.
 #[derive(Drop)]
 pub enum PolicyVerdict {
-    /// The lines that the list breaks, in their order: none if the list keeps the policy.
+    /// The breaches of the policy's lines, in their order: none if the list keeps the policy.
     Held(Vec<PolicyDiagnostic>),
     /// The faults of the policy's lines.
     Faulty(Vec<PolicyDiagnostic>),
@@ -48,9 +50,9 @@ impl PolicyVerdict {
 }
 
 impl PolicyDiagnostic {
-    /// Returns the place of the line in the policy's file.
+    /// Returns the place in the policy's file.
     pub fn spot<'a>(&self, path: &'a str) -> Spot<'a> {
-        Spot::line(path, self.line as u64)
+        Spot::byte(path, self.line as u64, self.column)
     }
 }
 
@@ -105,6 +107,7 @@ fn faulty(alloc: Global, faults: &[PolicyFault<'_>]) -> Result<PolicyVerdict, Al
         let flaw = &fault.flaw;
         notes.push(PolicyDiagnostic {
             line: fault.line,
+            column: fault.column,
             text: format!(in alloc; "{flaw}")?,
         })?;
     }
@@ -117,7 +120,7 @@ fn held(alloc: Global, list: &StartList, policy: &Policy) -> Result<PolicyVerdic
     for line in policy.lines() {
         let breaches = line.breaches(alloc, list)?;
         for breach in breaches.as_slice() {
-            broken.push(broken_by(alloc, list, line.number, breach)?)?;
+            broken.push(broken_by(alloc, list, line, breach)?)?;
         }
     }
     Ok(PolicyVerdict::Held(broken))
@@ -127,12 +130,13 @@ fn held(alloc: Global, list: &StartList, policy: &Policy) -> Result<PolicyVerdic
 fn broken_by(
     alloc: Global,
     list: &StartList,
-    line: usize,
+    line: &PolicyLine,
     breach: &Breach,
 ) -> Result<PolicyDiagnostic, AllocError> {
-    let told = BreachText::of(alloc, list, breach)?;
+    let told = BreachText::of(alloc, list, line, breach)?;
     Ok(PolicyDiagnostic {
-        line,
+        line: line.number,
+        column: line.column,
         text: format!(in alloc; "{told}")?,
     })
 }

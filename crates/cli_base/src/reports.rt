@@ -129,8 +129,8 @@ pub fn error_line<D: Display>(
     Ok(text_of(rt, writer))
 }
 
-// Writes a diagnostic. A write that fails loses it, and a writer that has failed isn't written to.
-fn write<D: Display>(
+/// Writes a diagnostic. A write that fails loses it, and a writer that has failed isn't written to. The error is out of memory.
+pub(crate) fn write<D: Display>(
     rt: &HostRuntime,
     writer: &mut Writer<'_>,
     form: DiagnosticForm,

@@ -5,7 +5,6 @@ use std::fs::File;
 use std::io;
 use std::io::{Printer, Read, Stderr, StdinLock, Write};
 use view_colors::{ColorSink, Lines};
-use view_json::DocumentWriter;
 
 /// The source of a scenario's bytes.
 #[derive(Drop)]
@@ -33,8 +32,6 @@ impl Read for Origin<'_> {
 pub enum OutputStream<'a> {
     /// Standard output.
     Printed(Printer<'a, HostRuntime>),
-    /// Standard output, a document for each row of a table.
-    Documents(DocumentWriter<Printer<'a, HostRuntime>>),
     /// Standard error.
     Complained(Stderr),
     /// A text in memory.
@@ -47,7 +44,6 @@ impl Write for OutputStream<'_> {
     fn write(&mut self, buffer: &[u8]) -> io::Result<usize> {
         match self {
             OutputStream::Printed(printer) => printer.write(buffer),
-            OutputStream::Documents(rows) => rows.write(buffer),
             OutputStream::Complained(stderr) => stderr.write(buffer),
             OutputStream::Kept(text) => text.write(buffer),
             OutputStream::Dropped => Ok(buffer.len()),

@@ -104,6 +104,7 @@ fn add_noted<'a>(
         ("kind", JsonField::Word(kind)),
         ("file", text_of(path)),
         ("line", number_of(noted.line)),
+        ("column", number_of(noted.column)),
         ("text", text_of(noted.text.as_str())),
     ])
 }

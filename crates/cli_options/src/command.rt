@@ -73,6 +73,8 @@ pub struct RunOptions<'a> {
     pub accounts: bool,
     /// Whether the replies of a line are printed after its number.
     pub numbers: bool,
+    /// Whether a warning is a fault.
+    pub strict: bool,
     /// The condition under which lines are coloured.
     pub color: Color,
     /// Whether diagnostics are documents of JSON.
@@ -90,6 +92,8 @@ pub struct RecordOptions<'a> {
     pub all: bool,
     /// Whether the recording replaces the scenario.
     pub write: bool,
+    /// Whether a warning is a fault.
+    pub strict: bool,
     /// Whether diagnostics are documents of JSON.
     pub json: bool,
     /// The path of the scenario.
@@ -217,6 +221,8 @@ pub struct TestOptions<'a> {
     pub machine: Option<&'a str>,
     /// The path of the JUnit document of all results, or none.
     pub junit: Option<&'a str>,
+    /// Whether a warning fails its scenario.
+    pub strict: bool,
     /// Whether the coverage of the scenarios is printed.
     pub coverage: bool,
     /// Whether the coverage is printed as a document of JSON, in place of all lines.
@@ -315,6 +321,7 @@ impl<'a> Command<'a> {
         Ok(Command::Test(TestOptions {
             machine: found.get_str("machine"),
             junit: found.get_str("junit"),
+            strict: is_set(found, "strict"),
             coverage: is_set(found, "coverage"),
             json: is_set(found, "json"),
             color: colored(found),
@@ -367,6 +374,7 @@ impl<'a> Command<'a> {
             only: found.get_str("only"),
             accounts: is_set(found, "accounts"),
             numbers: is_set(found, "numbers"),
+            strict: is_set(found, "strict"),
             color: colored(found),
             json: is_set(found, "json"),
             scenario: path(found, "scenario"),
@@ -381,6 +389,7 @@ impl<'a> Command<'a> {
             machine: found.get_str("machine"),
             all: is_set(found, "all"),
             write: is_set(found, "write"),
+            strict: is_set(found, "strict"),
             json: is_set(found, "json"),
             scenario: path(found, "scenario"),
         })

@@ -41,6 +41,8 @@ const JSON_ERRORS: ArgumentForm<'static> = ArgumentForm::Flag("json", help::JSON
 
 const COLOR: ArgumentForm<'static> = ArgumentForm::Value("color", "WHEN", help::COLOR);
 
+const STRICT: ArgumentForm<'static> = ArgumentForm::Flag("strict", help::STRICT);
+
 const LIST: ArgumentForm<'static> = ArgumentForm::Needed("list", "FILE", help::LIST);
 
 const SCENARIO: ArgumentForm<'static> = ArgumentForm::Needed(
@@ -59,6 +61,7 @@ pub(crate) const COMMANDS: &[CommandForm<'static>] = &[
             ArgumentForm::Value("only", "NAME", help::ONLY),
             ArgumentForm::Flag("accounts", help::WITH_ACCOUNTS),
             ArgumentForm::Flag("numbers", help::NUMBERS),
+            STRICT,
             COLOR,
             JSON_ERRORS,
             SET,
@@ -72,6 +75,7 @@ pub(crate) const COMMANDS: &[CommandForm<'static>] = &[
             MACHINE,
             ArgumentForm::Flag("all", help::ANEW),
             ArgumentForm::Flag("write", help::IN_PLACE),
+            STRICT,
             JSON_ERRORS,
             SET,
             SCENARIO,
@@ -81,7 +85,7 @@ pub(crate) const COMMANDS: &[CommandForm<'static>] = &[
         name: "check",
         about: help::CHECK,
         words: &[
-            ArgumentForm::Flag("strict", help::STRICT),
+            ArgumentForm::Flag("strict", help::STRICT_LIST),
             JSON,
             ArgumentForm::Value("policy", "POLICY", help::POLICY),
             SET,
@@ -160,6 +164,7 @@ pub(crate) const COMMANDS: &[CommandForm<'static>] = &[
         words: &[
             ArgumentForm::Value("machine", "FILE", help::OTHER_MACHINE),
             ArgumentForm::Value("junit", "FILE", help::JUNIT),
+            STRICT,
             ArgumentForm::Flag("coverage", help::COVERAGE),
             JSON,
             SET,

@@ -29,7 +29,8 @@ Exit status:
   1    a failed read or write, too many lines, or no memory during a run
   2    a refused command line, file or start list; with --strict also a finding
   3    a reply that isn't as expected, a line that is no call, a failed test, a
-       broken policy, a denied request, or an unknown component
+       broken policy, a denied request, or an unknown component; with --strict
+       also a warning about a line
   4    `diff` found a difference
   141  the reader of the output closed it
 docs/reference/ has the formats of scenarios, start lists, policies and output.";
@@ -85,6 +86,7 @@ HEX is hexadecimal digits, or \"text\" as the last argument of WRITE.
 Expected replies:
   granted              any reply except a refusal and ERR ..
   refused              a refusal, or ERR ..
+  refused!             a refusal, and the line is meant: no warning about it
   *                    any reply
   ram */65536 caps *   a * replaces an argument, or a number within one
   data \"hello\"         the bytes of a text
@@ -163,9 +165,13 @@ pub(crate) const SET: &str =
 
 pub(crate) const COLOR: &str = "When to colour the output: auto (on a terminal), always or never";
 
-pub(crate) const STRICT: &str = "Exit with status 2 if there is a finding";
+pub(crate) const STRICT_LIST: &str = "Exit with status 2 if there is a finding";
 
-pub(crate) const POLICY: &str = "A policy: lines that state which scripts may reach which servers";
+pub(crate) const STRICT: &str =
+    "Exit with status 3 if there is a warning; a ! after an expected reply says that its line is meant";
+
+pub(crate) const POLICY: &str =
+    "A policy: lines that state which scripts may reach which servers, and budgets";
 
 pub(crate) const DOT: &str = "Write a graph for Graphviz instead of text";
 
@@ -199,7 +205,7 @@ pub(crate) const AFTER: &str = "The start list after the change, in JSON";
 pub(crate) const COMPARED: &str = "A scenario whose replies are compared line by line";
 
 pub(crate) const PATHS: &str =
-    "A scenario, or a folder: each NAME.scenario in it, on NAME.json and checked against NAME.policy if these exist";
+    "A scenario, a policy, or a folder with these: NAME.scenario runs on NAME.json if that exists, and NAME.json is checked against NAME.policy";
 
 pub(crate) const OTHER_MACHINE: &str =
     "A start list in JSON for scenarios without their own, instead of the built-in machine";

@@ -8,6 +8,7 @@ mod command;
 mod command_table;
 mod commands;
 mod help;
+mod input_files;
 
 pub use command::{
     AloneOptions, CheckOptions, Color, Command, CommandLine, DiffOptions, LeastOptions,

@@ -2,7 +2,7 @@
 ghost use Rattle.std.specs.Prelude.{◌≡◌, ◌||◌, if◌then◌else◌, is_some, nat_lt};
 
 use crate::run_end::RunEnd;
-use crate::run_request::{RunRequest, play};
+use crate::run_request::{NONE_EARLIER, RunRequest, play};
 use crate::view::RunView;
 use cli_base::{
     Machine, Origin, OutputStream, REFUSED, Settings, UNWRITTEN, Writer, no_memory, plain_writer,
@@ -32,7 +32,8 @@ pub fn show_alone<'a>(
         settings,
         viewing: RunView::Alone(asked.name.as_bytes()),
         name: Some(asked.name),
-        errors: 0,
+        earlier: NONE_EARLIER,
+        strict: false,
     };
     play(rt, asked.machine, scene)
 }

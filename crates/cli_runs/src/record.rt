@@ -1,8 +1,8 @@
 //! The command `record`: a scenario with its replies, on standard output or in place of the scenario.
 use cli_base::{
-    LineStarts, Machine, REFUSED, STANDARD_INPUT, Settings, Spot, UNWRITTEN, made_or_status,
-    replace_file, report_boot_fault, report_error, report_write_failure, scenario_text, status_of,
-    summarize_errors, unfolded, unread_status,
+    LineStarts, Machine, REFUSED, STANDARD_INPUT, Settings, Spot, UNWRITTEN, Warnings,
+    made_or_status, replace_file, report_boot_fault, report_error, report_write_failure,
+    scenario_text, status_of, summarize, unfolded, unread_status, warned_status,
 };
 use cli_options::RecordOptions;
 use line_names::token_at;
@@ -10,10 +10,10 @@ use run_record::{Recording, Scenario, record};
 use std::alloc::AllocError;
 use std::io;
 use std::io::Write;
-use view_diagnostics::DiagnosticForm;
+use view_diagnostics::{Counts, DiagnosticForm};
 
 /// Records a scenario's replies on the machine of a start list, or on the built-in machine. Returns the exit status: 0, 3 if a
-/// line isn't read, 2 if the arguments or the list are refused.
+/// line isn't read or if a warning is a fault, 2 if the arguments or the list are refused.
 pub fn record_scenario(rt: &HostRuntime, wanted: &RecordOptions<'_>, settings: Settings<'_>) -> u8 {
     if wanted.write && wanted.scenario == STANDARD_INPUT {
         report_error(
@@ -50,14 +50,35 @@ fn record_on(
         Ok(start) => start,
         Err(status) => return status,
     };
+    let warned = warn(rt, machine, wanted, settings.form, text);
+    let warnings = match made_or_status(rt, warned) {
+        Ok(warnings) => warnings,
+        Err(status) => return status,
+    };
     let scenario = Scenario {
         text,
         unfolded: lines.bytes(),
     };
     match record(rt.alloc(), machine.list(), scenario, start, wanted.all) {
-        Ok(recording) => tell_recording(rt, settings.form, wanted, text, &recording),
+        Ok(recording) => {
+            let status = tell_recording(rt, settings.form, wanted, text, &recording, warnings);
+            warned_status(wanted.strict, warnings, status)
+        }
         Err(fault) => report_boot_fault(rt, settings.form, machine, &fault),
     }
+}
+
+// Prints the warnings about the lines of a scenario, and returns how many there are. The error is out of memory.
+fn warn(
+    rt: &HostRuntime,
+    machine: &Machine<'_>,
+    wanted: &RecordOptions<'_>,
+    form: DiagnosticForm,
+    text: &[u8],
+) -> Result<usize, AllocError> {
+    let warnings = Warnings::of(rt, machine.list(), wanted.scenario, text)?;
+    warnings.report(rt, form, false)?;
+    Ok(warnings.count())
 }
 
 // Prints the lines of a scenario's text that aren't read, and then the recording. Returns the exit status.
@@ -67,8 +88,9 @@ fn tell_recording(
     wanted: &RecordOptions<'_>,
     text: &[u8],
     recording: &Recording,
+    warnings: usize,
 ) -> u8 {
-    let unread = tell_unread(rt, form, wanted.scenario, text, recording);
+    let unread = tell_unread(rt, form, wanted.scenario, text, recording, warnings);
     let status = match made_or_status(rt, unread) {
         Ok(status) | Err(status) => status,
     };
@@ -76,18 +98,16 @@ fn tell_recording(
     if told == 0 { status } else { told }
 }
 
-// Prints the lines of a scenario's text that aren't read, and returns the exit status.
+// Prints the lines of a scenario's text that aren't read, and their number with that of the warnings. Returns the exit status.
 fn tell_unread(
     rt: &HostRuntime,
     form: DiagnosticForm,
     scenario: &str,
     text: &[u8],
     recording: &Recording,
+    warnings: usize,
 ) -> Result<u8, AllocError> {
     let all = recording.unread.as_slice();
-    if all.is_empty() {
-        return Ok(unread_status(0));
-    }
     let lines = LineStarts::of(rt, text)?;
     for unread in all {
         let column = unread.why.column();
@@ -96,7 +116,11 @@ fn tell_unread(
         let spot = Spot::byte(scenario, unread.number, column);
         report_error(rt, form, spot, &unread.why.about(token.as_str()));
     }
-    summarize_errors(rt, form, all.len() as u64);
+    let counts = Counts {
+        errors: all.len() as u64,
+        warnings: warnings as u64,
+    };
+    summarize(rt, form, counts);
     Ok(unread_status(all.len()))
 }
 

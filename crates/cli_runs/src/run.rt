@@ -1,5 +1,5 @@
 //! The command `run`: the transcript of a scenario.
-use crate::run_request::{RunRequest, play};
+use crate::run_request::{NONE_EARLIER, RunRequest, play};
 use crate::view::RunView;
 use cli_base::{Coloring, Settings};
 use cli_options::RunOptions;
@@ -22,7 +22,8 @@ pub fn run_scenario<'a>(
         settings,
         viewing: RunView::Run(showing, coloring),
         name: asked.only,
-        errors: 0,
+        earlier: NONE_EARLIER,
+        strict: asked.strict,
     };
     play(rt, asked.machine, scene)
 }

@@ -1,9 +1,9 @@
 //! How a run over files and the standard streams ended.
-use cli_base::{StopMessage, UNREAD, report_error, spot_of, summarize_errors};
+use cli_base::{StopMessage, UNREAD, report_error, spot_of, summarize};
 use init_core::BootFault;
 use run_lines::LineRunFault;
 use run_scenario::{ScenarioEnd, exit_status};
-use view_diagnostics::DiagnosticForm;
+use view_diagnostics::{Counts, DiagnosticForm};
 
 /// The end of a run, and whether nobody reads what is written.
 #[derive(Drop)]
@@ -15,20 +15,25 @@ pub(crate) struct RunEnd {
 }
 
 impl RunEnd {
-    /// Prints the fault of a scenario of this path, if there is one. Prints the number of errors too: `earlier` ones, the fault
-    /// and the scenario's own. Returns the exit status.
+    /// Prints the fault of a scenario of this path, if there is one. Prints the numbers of errors and warnings too: `earlier` ones,
+    /// the fault and the scenario's own. Returns the exit status.
     pub(crate) fn tell(
         &self,
         rt: &HostRuntime,
         form: DiagnosticForm,
         scenario: &str,
-        earlier: u64,
+        earlier: Counts,
     ) -> u8 {
         let status = self.tell_fault(rt, form, scenario);
         if let Ok(ending) = &self.ended {
             if status != UNREAD {
-                let errors = earlier.saturating_add(u64::from(ending.fault.is_some()));
-                summarize_errors(rt, form, ending.complaints.saturating_add(errors));
+                let stopped = u64::from(ending.fault.is_some());
+                let errors = earlier.errors.saturating_add(stopped);
+                let counts = Counts {
+                    errors: ending.complaints.saturating_add(errors),
+                    ..earlier
+                };
+                summarize(rt, form, counts);
             }
         }
         status

@@ -3,20 +3,20 @@ ghost use Rattle.std.specs.Prelude.{◌≡◌, ◌==◌, if◌then◌else◌};
 
 use crate::accounts::accounts_document;
 use crate::run_end::RunEnd;
-use crate::trace::trace_rows;
 use crate::view::{RunView, view};
 use cli_base::{
-    Machine, Origin, OutputStream, REFUSED, ReadFailure, STANDARD_INPUT, Settings, Spot,
-    read_whole, report_boot_fault, report_error, unfolded, writer,
+    Machine, Origin, OutputStream, REFUSED, ReadFailure, STANDARD_INPUT, Settings, Spot, Warnings,
+    made_or_status, read_whole, report_boot_fault, report_error, unfolded, warned_status, writer,
 };
 use cli_engine::Input;
 use cli_options::ReportOptions;
 use init_core::StartList;
 use line_names::RoundMark;
 use run_scenario::{ScenarioInput, near_component};
+use std::alloc::AllocError;
 use std::{fs, io};
 use view_colors::Lines;
-use view_diagnostics::DiagnosticForm;
+use view_diagnostics::{Counts, DiagnosticForm};
 
 /// The exit status if no component has the name that is asked for.
 const NOBODY: u8 = 3;
@@ -32,9 +32,17 @@ pub(crate) struct RunRequest<'a> {
     pub(crate) viewing: RunView<'a>,
     /// The component that the command line names, if it names one.
     pub(crate) name: Option<&'a str>,
-    /// How many errors were printed before the run.
-    pub(crate) errors: u64,
+    /// How many errors and warnings were printed before the run.
+    pub(crate) earlier: Counts,
+    /// Whether a warning is a fault.
+    pub(crate) strict: bool,
 }
+
+/// No errors and no warnings.
+pub(crate) const NONE_EARLIER: Counts = Counts {
+    errors: 0,
+    warnings: 0,
+};
 
 impl<'a> RunRequest<'a> {
     /// Returns a run that isn't restricted to one component.
@@ -48,13 +56,18 @@ impl<'a> RunRequest<'a> {
             settings,
             viewing,
             name: None,
-            errors: 0,
+            earlier: NONE_EARLIER,
+            strict: false,
         }
     }
 }
 
-/// Runs a scenario on the machine of a start list, or on the built-in machine. Returns the exit status.
+/// Runs a scenario on the machine of a start list, or on the built-in machine. Returns the exit status. If warnings are faults, a
+/// scenario that isn't read whole before its first line is refused, since it has none.
 pub(crate) fn play(rt: &HostRuntime, machine: Option<&str>, scene: RunRequest<'_>) -> u8 {
+    if scene.strict && scene.scenario == STANDARD_INPUT {
+        return refuse_strict(rt, scene, "expected the path of a file, found `-`");
+    }
     match Machine::read(rt, machine, scene.settings) {
         Ok(machine) => play_named(rt, &machine, scene),
         Err(status) => status,
@@ -70,7 +83,11 @@ fn play_named(rt: &HostRuntime, machine: &Machine<'_>, scene: RunRequest<'_>) ->
     if is_known {
         return play_on(rt, machine, scene);
     }
-    nobody_status(play_on(rt, machine, RunRequest { errors: 1, ..scene }))
+    let earlier = Counts {
+        errors: 1,
+        warnings: 0,
+    };
+    nobody_status(play_on(rt, machine, RunRequest { earlier, ..scene }))
 }
 
 // Returns the exit status of a run in which no component has the name that is asked for: 3, unless a fault comes first.
@@ -89,6 +106,13 @@ fn play_on(rt: &HostRuntime, machine: &Machine<'_>, scene: RunRequest<'_>) -> u8
         return play_whole(rt, machine, scene, &whole);
     }
     match fs::open(rt, scene.scenario) {
+        Ok(_) if scene.strict => {
+            refuse_strict(
+                rt,
+                scene,
+                "expected a file that is read to its end within 64M bytes",
+            )
+        }
         Ok(file) => play_from(rt, machine, scene, Origin::File(file), &[]),
         Err(error) => {
             let unread = ReadFailure::Closed(error);
@@ -103,15 +127,51 @@ fn play_on(rt: &HostRuntime, machine: &Machine<'_>, scene: RunRequest<'_>) -> u8
     }
 }
 
-// Runs a scenario of a text, with its rounds unfolded.
+// Prints why a scenario has no warnings that could be faults, and returns the exit status 2.
+fn refuse_strict(rt: &HostRuntime, scene: RunRequest<'_>, why: &str) -> u8 {
+    report_error(
+        rt,
+        scene.settings.form,
+        Spot::nowhere(),
+        &format_args!("--strict: {why}"),
+    );
+    REFUSED
+}
+
+// Runs a scenario of a text, with its rounds unfolded. Before the run of a transcript prints the warnings about its lines.
 fn play_whole(rt: &HostRuntime, machine: &Machine<'_>, scene: RunRequest<'_>, text: &[u8]) -> u8 {
-    match unfolded(rt, scene.scenario, text, scene.settings) {
-        Ok(lines) => {
-            let origin = Origin::Held(lines.bytes());
-            play_from(rt, machine, scene, origin, lines.marks())
-        }
-        Err(status) => status,
-    }
+    let lines = match unfolded(rt, scene.scenario, text, scene.settings) {
+        Ok(lines) => lines,
+        Err(status) => return status,
+    };
+    let warnings = match made_or_status(rt, warn(rt, machine, scene, text)) {
+        Ok(warnings) => warnings,
+        Err(status) => return status,
+    };
+    let earlier = Counts {
+        warnings: warnings as u64,
+        ..scene.earlier
+    };
+    let origin = Origin::Held(lines.bytes());
+    let scene = RunRequest { earlier, ..scene };
+    let status = play_from(rt, machine, scene, origin, lines.marks());
+    warned_status(scene.strict, warnings, status)
+}
+
+// Prints the warnings about the lines of a scenario whose transcript is printed, and returns how many there are. The error is out
+// of memory.
+fn warn(
+    rt: &HostRuntime,
+    machine: &Machine<'_>,
+    scene: RunRequest<'_>,
+    text: &[u8],
+) -> Result<usize, AllocError> {
+    let RunView::Run(_, coloring) = scene.viewing else {
+        return Ok(0);
+    };
+    let warnings = Warnings::of(rt, machine.list(), scene.scenario, text)?;
+    warnings.report(rt, scene.settings.form, coloring.err)?;
+    Ok(warnings.count())
 }
 
 // Runs the lines of a source with these round marks, and prints the fault that stops the run, if one does.
@@ -138,7 +198,7 @@ fn play_from(
     let form = scene.settings.form;
     match scene.viewing {
         RunView::Alone(_) => played.tell_fault(rt, form, scene.scenario),
-        _ => played.tell(rt, form, scene.scenario, scene.errors),
+        _ => played.tell(rt, form, scene.scenario, scene.earlier),
     }
 }
 
@@ -153,14 +213,11 @@ fn played(
     let mut reader = Input::new(origin);
     let stderr = OutputStream::Complained(rt.stderr());
     let mut complaints = writer(rt, stderr, Lines::Complaints, coloring.err);
-    let place = match viewing {
-        RunView::Accounts { json: true } => {
-            return accounts_document(rt, play, &mut reader, &mut complaints);
-        }
-        RunView::Trace { json: true } => OutputStream::Documents(trace_rows(rt)),
-        _ => OutputStream::Printed(io::writer(rt)),
-    };
-    let mut replies = writer(rt, place, Lines::Replies, coloring.out);
+    if let RunView::Accounts { json: true } = viewing {
+        return accounts_document(rt, play, &mut reader, &mut complaints);
+    }
+    let stdout = OutputStream::Printed(io::writer(rt));
+    let mut replies = writer(rt, stdout, Lines::Replies, coloring.out);
     let ended = view(
         rt,
         play,

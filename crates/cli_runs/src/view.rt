@@ -3,7 +3,7 @@ use cli_base::{Coloring, Reader, Writer};
 use init_core::BootFault;
 use run_scenario::{ScenarioEnd, ScenarioInput};
 use view_accounts::accounts;
-use view_runs::{TranscriptOptions, alone, run, trace};
+use view_runs::{CsvRows, JsonRows, TranscriptOptions, alone, run, trace};
 
 /// The part of a run that a command prints.
 #[derive(Clone, Copy)]
@@ -12,7 +12,7 @@ pub(crate) enum RunView<'a> {
     Run(TranscriptOptions<'a>, Coloring),
     /// A table of the lines.
     Trace {
-        /// Whether the table is printed as documents of JSON.
+        /// Whether the table is printed as documents of JSON, a document a line.
         json: bool,
     },
     /// The accounts after the last line.
@@ -34,8 +34,8 @@ impl<'a> RunView<'a> {
     }
 }
 
-/// Runs a scenario, and writes this part of it: a table as comma-separated values, and the accounts as lines. Returns the fault
-/// of the boot if there is one.
+/// Runs a scenario, and writes this part of it: a table as comma-separated values or as documents of JSON, and the accounts as
+/// lines. Returns the fault of the boot if there is one.
 pub(crate) fn view(
     rt: &HostRuntime,
     play: ScenarioInput<'_>,
@@ -47,7 +47,13 @@ pub(crate) fn view(
     let alloc = rt.alloc();
     match viewing {
         RunView::Run(showing, _) => run(alloc, play, showing, reader, writer, complaints),
-        RunView::Trace { .. } => trace(alloc, play, reader, writer, complaints),
+        RunView::Trace { json: false } => {
+            trace(alloc, play, CsvRows, reader, writer, complaints)
+        }
+        RunView::Trace { json: true } => {
+            let format = JsonRows { alloc };
+            trace(alloc, play, format, reader, writer, complaints)
+        }
         RunView::Accounts { .. } => {
             Ok(accounts(alloc, play, reader, writer, complaints)?.ending)
         }

@@ -1,11 +1,13 @@
-//! The command `test` of `nethrywel`: scenarios and policies are run as tests, and their results are printed.
+//! The command `test` of `nethrywel`: scenarios are run and policies are checked as tests, and their results are printed.
 //!
 //! `nethrywel` calls `run_tests(rt, asked, settings, colored)` with what the command line says, and ends with the exit status
 //! that this returns.
 #![tactic(auto)]
 
 mod coverage_printer;
-mod scenario_search;
+mod file_search;
+mod planned_test;
+mod policy_test;
 mod test;
 
 pub use test::run_tests;

@@ -1,13 +1,15 @@
-//! The command `test`: scenarios are run as tests, and their results are printed.
-ghost use Rattle.std.specs.Prelude.{◌≡◌, if◌then◌else◌, length, nat_lt};
+//! The command `test`: scenarios are run and policies are checked as tests, and their results are printed.
+ghost use Rattle.std.specs.Prelude.{◌≡◌, ◌+◌, if◌then◌else◌, length, nat_lt, IfOk, OnOk};
 ghost use Rattle.view_test_report.specs.Trials.{failed_among};
 
 use crate::coverage_printer::CoveragePrinter;
-use crate::scenario_search::scenarios_at;
+use crate::file_search::files_at;
+use crate::planned_test::{PlannedTest, planned_tests};
+use crate::policy_test::{add_error, test_policy};
 use cli_base::{
-    ListFaultMessage, Machine, Origin, OutputStream, PolicyDiagnostic, PolicyVerdict, ReadFailure,
-    Settings, Spot, StopMessage, UNWRITTEN, check_policy, error_line, fault_spot, plain_writer,
-    read_whole, report_write_failure, rounds_spot, rounds_token, spot_of, status_of, text_of,
+    ListFaultMessage, Machine, Origin, OutputStream, ReadFailure, Settings, Spot, StartListFailure,
+    StopMessage, UNWRITTEN, Warnings, error_line, fault_spot, plain_writer, read_whole,
+    report_write_failure, rounds_spot, rounds_token, spot_of, status_of, text_of, warned_status,
     write_file,
 };
 use cli_engine::Input;
@@ -18,15 +20,12 @@ use line_rounds::{UnfoldError, unfold};
 use list_review::Review;
 use run_scenario::{ScenarioEnd, ScenarioInput, exit_status};
 use std::alloc::AllocError;
-use std::fmt::Display;
 use std::io::{IsTerminal, Write};
 use std::{fs, io};
 use view_colors::{Lines, paint};
 use view_diagnostics::DiagnosticForm;
 use view_runs::{TranscriptOptions, answers, run};
-use view_test_report::{
-    TestResult, failures, junit_document, machine_path, policy_path, tap_plan, tap_point,
-};
+use view_test_report::{TestResult, failures, junit_document, machine_path, tap_plan, tap_point};
 
 /// The view of a run that a test takes: all replies, without accounts and line numbers.
 const REPLIES: TranscriptOptions<'static> = TranscriptOptions {
@@ -35,8 +34,11 @@ const REPLIES: TranscriptOptions<'static> = TranscriptOptions {
     numbers: false,
 };
 
-/// The exit status if a scenario isn't answered as it expects.
+/// The exit status if a scenario isn't answered as it expects, or a policy isn't kept.
 const FAILED: u8 = 3;
+
+/// The error of a scenario that has no warnings since it isn't read whole, where a warning is a fault.
+const UNWARNED: &str = "--strict: expected a file that is read to its end within 64M bytes";
 
 // The options of a run of tests.
 #[derive(Clone, Copy)]
@@ -49,8 +51,9 @@ struct TestSettings<'a> {
     colored: bool,
 }
 
-/// Runs the scenarios of all paths, each on the start list next to it or on that of `--machine`, and prints a line for each.
-/// Writes a JUnit document if one is asked for. Returns the exit status: 0, 3 if a scenario failed, 2 if no scenario is found.
+/// Runs the scenarios of all paths, each on the start list next to it or on that of `--machine`, and checks each policy against the
+/// start list next to it. Prints a line for each test, and writes a JUnit document if one is asked for. Returns the exit status:
+/// 0, 3 if a test failed, 2 if none is found.
 pub fn run_tests<'a>(
     rt: &HostRuntime,
     asked: &'a TestOptions<'a>,
@@ -62,8 +65,8 @@ pub fn run_tests<'a>(
         settings,
         colored,
     };
-    match scenarios_at(rt, wanted.asked.paths.as_slice()) {
-        Ok(scenarios) => match run_all(rt, scenarios.as_slice(), wanted) {
+    match files_at(rt, wanted.asked.paths.as_slice()) {
+        Ok(files) => match run_all(rt, files, wanted) {
             Ok(trials) => end(
                 rt,
                 wanted.settings.form,
@@ -100,40 +103,70 @@ fn write_document(rt: &HostRuntime, path: &str, trials: &[TestResult]) -> io::Re
     write_file(rt, path, document.as_slice())
 }
 
-// Runs all scenarios, and prints a line for each. After the lines prints the coverage if it is asked for.
+// Runs the tests of files, and prints a line for each. After the lines prints the coverage if it is asked for.
 fn run_all(
     rt: &HostRuntime,
-    scenarios: &[String],
+    files: Vec<String>,
     wanted: TestSettings<'_>,
 ) -> io::Result<Vec<TestResult>> {
+    let tests = planned_tests(rt, files)?;
     let mut coverings = CoveragePrinter::new(rt, wanted.asked.coverage, wanted.asked.json);
-    let teller = TestPrinter::new(rt, wanted.colored, coverings.is_document(), scenarios.len());
+    let teller = TestPrinter::new(rt, wanted.colored, coverings.is_document(), tests.len());
     teller.plan(rt)?;
-    let mut trials = Vec::new(rt.alloc());
-    for scenario in scenarios {
-        run_next(
-            rt,
-            scenario.as_str(),
-            wanted,
-            teller,
-            &mut coverings,
-            &mut trials,
-        )?;
-    }
+    let other = Machine::find(rt, wanted.asked.machine, wanted.settings);
+    let runner = TestRunner {
+        settings: wanted.settings,
+        strict: wanted.asked.strict,
+        other: &other,
+        teller,
+    };
+    let trials = run_each(rt, tests.as_slice(), runner, &mut coverings)?;
     coverings.tell(rt)?;
     Ok(trials)
 }
 
-// Runs the next scenario, and prints its line.
+// What all tests have in common.
+#[derive(Clone, Copy)]
+struct TestRunner<'a> {
+    settings: Settings<'a>,
+    // Whether a warning fails the test of a scenario.
+    strict: bool,
+    // The machine of scenarios without a start list of their own.
+    other: &'a Result<Machine<'a>, StartListFailure<'a>>,
+    teller: TestPrinter,
+}
+
+// Runs all tests, and returns the result of each.
+fn run_each(
+    rt: &HostRuntime,
+    tests: &[PlannedTest],
+    runner: TestRunner<'_>,
+    coverings: &mut CoveragePrinter,
+) -> io::Result<Vec<TestResult>>
+    ensures { IfOk result (λ trials. length trials.items ≡ length tests.now) }
+{
+    let mut trials = Vec::new(rt.alloc());
+    for place in 0..tests.len() {
+        run_next(rt, &tests[place], runner, coverings, &mut trials)?;
+    }
+    Ok(trials)
+}
+
+// Runs the next test, and prints its line.
 fn run_next(
     rt: &HostRuntime,
-    scenario: &str,
-    wanted: TestSettings<'_>,
-    teller: TestPrinter,
+    test: &PlannedTest,
+    runner: TestRunner<'_>,
     coverings: &mut CoveragePrinter,
     trials: &mut Vec<TestResult>,
-) -> io::Result<()> {
-    let trial = run_one(rt, scenario, wanted, coverings)?;
+) -> io::Result<()>
+    ensures { OnOk result (length trials.new.items ≡ length trials.old.items + 1) }
+{
+    let teller = runner.teller;
+    let trial = match test {
+        PlannedTest::Scenario(path) => run_one(rt, path.as_str(), runner, coverings)?,
+        PlannedTest::Policy(path) => test_policy(rt, path.as_str(), runner.settings)?,
+    };
     teller.point(rt, trials.len().saturating_add(1), &trial)?;
     trials.push(trial)?;
     teller.progress(rt, trials.len());
@@ -161,12 +194,12 @@ impl TestPrinter {
         }
     }
 
-    // Prints how many scenarios are run.
+    // Prints how many tests are run.
     fn plan(self, rt: &HostRuntime) -> io::Result<()> {
         self.tell(rt, tap_plan(rt.alloc(), self.all)?.as_bytes())
     }
 
-    // Prints the result of the scenario with this number.
+    // Prints the result of the test with this number.
     fn point(self, rt: &HostRuntime, number: usize, trial: &TestResult) -> io::Result<()> {
         self.tell(rt, tap_point(rt.alloc(), number, trial)?.as_slice())
     }
@@ -183,7 +216,7 @@ impl TestPrinter {
         writer.write_all(lines)
     }
 
-    // Prints how many scenarios were run, over the last such line. Clears the line after the last scenario.
+    // Prints how many tests were run, over the last such line. Clears the line after the last test.
     fn progress(self, rt: &HostRuntime, done: usize) {
         if !self.progress {
             return;
@@ -203,109 +236,46 @@ struct TestCase<'a> {
     scenario: &'a str,
     machine: &'a Machine<'a>,
     settings: Settings<'a>,
+    // Whether a warning fails the test.
+    strict: bool,
 }
 
-// Runs a scenario on its machine, and adds its coverage if that is asked for.
+// Runs a scenario on its machine: the one of the start list next to it if there is one, else the other one. Adds its coverage if
+// that is asked for.
 fn run_one(
     rt: &HostRuntime,
     scenario: &str,
-    wanted: TestSettings<'_>,
+    runner: TestRunner<'_>,
     coverings: &mut CoveragePrinter,
 ) -> Result<TestResult, AllocError> {
     let beside = machine_path(rt.alloc(), scenario)?;
-    let list = match fs::exists(rt, beside.as_str()) {
-        Ok(false) => wanted.asked.machine,
-        _ => Some(beside.as_str()),
-    };
-    run_listed(rt, scenario, list, wanted.settings, coverings)
+    if let Ok(false) = fs::exists(rt, beside.as_str()) {
+        return run_listed(rt, scenario, runner.other, runner, coverings);
+    }
+    let machine = Machine::find(rt, Some(beside.as_str()), runner.settings);
+    run_listed(rt, scenario, &machine, runner, coverings)
 }
 
-// Runs a scenario on the machine of a start list, or on the built-in machine.
+// Runs a scenario on a machine. The test fails if the machine's start list has a fault.
 fn run_listed(
     rt: &HostRuntime,
     scenario: &str,
-    path: Option<&str>,
-    settings: Settings<'_>,
+    machine: &Result<Machine<'_>, StartListFailure<'_>>,
+    runner: TestRunner<'_>,
     coverings: &mut CoveragePrinter,
 ) -> Result<TestResult, AllocError> {
-    match Machine::find(rt, path, settings) {
+    match machine {
         Ok(machine) => {
             let case = TestCase {
                 scenario,
-                machine: &machine,
-                settings,
+                machine,
+                settings: runner.settings,
+                strict: runner.strict,
             };
-            run_whole(rt, case, coverings)
+            run_on(rt, case, coverings)
         }
-        Err(fault) => failed(rt, scenario, error_line(rt, fault.spot(), &fault)?),
+        Err(fault) => failed(rt, scenario, error_line(rt, fault.spot(), fault)?),
     }
-}
-
-// Runs a scenario, and checks its machine against the policy next to it.
-fn run_whole(
-    rt: &HostRuntime,
-    case: TestCase<'_>,
-    coverings: &mut CoveragePrinter,
-) -> Result<TestResult, AllocError> {
-    let mut trial = run_on(rt, case, coverings)?;
-    hold_beside(rt, case, &mut trial)?;
-    Ok(trial)
-}
-
-// Checks a machine against the policy next to its scenario. The test fails if the policy isn't kept.
-fn hold_beside(
-    rt: &HostRuntime,
-    case: TestCase<'_>,
-    trial: &mut TestResult,
-) -> Result<(), AllocError> {
-    let alloc = rt.alloc();
-    let policy = policy_path(alloc, case.scenario)?;
-    if let Ok(false) = fs::exists(rt, policy.as_str()) {
-        return Ok(());
-    }
-    let standing = check_policy(rt, case.machine.list(), policy.as_str())?;
-    if standing.exit_status() != 0 {
-        trial.passed = false;
-    }
-    note_standing(rt, policy.as_str(), &standing, trial)
-}
-
-// Adds the errors of a machine's check against the policy of a path.
-fn note_standing(
-    rt: &HostRuntime,
-    policy: &str,
-    standing: &PolicyVerdict,
-    trial: &mut TestResult,
-) -> Result<(), AllocError> {
-    match standing {
-        PolicyVerdict::Held(notes) | PolicyVerdict::Faulty(notes) => {
-            for noted in notes.as_slice() {
-                note(rt, policy, noted, trial)?;
-            }
-            Ok(())
-        }
-        PolicyVerdict::ReadFailure(why) => add_error(rt, &mut trial.told, Spot::nowhere(), why),
-    }
-}
-
-// Adds the diagnostic of a policy's line, by which a test failed.
-fn note(
-    rt: &HostRuntime,
-    policy: &str,
-    noted: &PolicyDiagnostic,
-    trial: &mut TestResult,
-) -> Result<(), AllocError> {
-    add_error(rt, &mut trial.told, noted.spot(policy), &noted.text)
-}
-
-// Adds an error to the report of a test.
-fn add_error<D: Display>(
-    rt: &HostRuntime,
-    told: &mut Vec<u8>,
-    spot: Spot<'_>,
-    message: &D,
-) -> Result<(), AllocError> {
-    told.extend_from_slice(error_line(rt, spot, message)?.as_slice())
 }
 
 // Runs a scenario of a path.
@@ -319,6 +289,7 @@ fn run_on(
         return run_text(rt, case, &whole, coverings);
     }
     match fs::open(rt, scenario) {
+        Ok(_) if case.strict => failed(rt, scenario, error_line(rt, Spot::nowhere(), &UNWARNED)?),
         Ok(file) => run_from(rt, case, Origin::File(file), &[], coverings),
         Err(error) => {
             let unread = ReadFailure::Closed(error);
@@ -338,8 +309,10 @@ fn run_text(
     let scenario = case.scenario;
     match unfold(rt.alloc(), text, case.settings.known(rt.alloc())?) {
         Ok(lines) => {
+            let warnings = Warnings::of(rt, case.machine.list(), scenario, text)?;
             let origin = Origin::Held(lines.bytes());
-            run_from(rt, case, origin, lines.marks(), coverings)
+            let trial = run_from(rt, case, origin, lines.marks(), coverings)?;
+            warned(rt, &warnings, case.strict, trial)
         }
         Err(UnfoldError::Fault(fault)) => {
             let token = rounds_token(rt, text, fault)?;
@@ -349,6 +322,22 @@ fn run_text(
         }
         Err(UnfoldError::NoMemory) => Err(AllocError),
     }
+}
+
+// Returns a result with warnings before its diagnostics. With `strict` the test fails by them.
+fn warned(
+    rt: &HostRuntime,
+    warnings: &Warnings<'_>,
+    strict: bool,
+    trial: TestResult,
+) -> Result<TestResult, AllocError> {
+    let mut told = warnings.lines(rt)?;
+    told.extend_from_slice(trial.told.as_slice())?;
+    Ok(TestResult {
+        name: trial.name,
+        passed: trial.passed && warned_status(strict, warnings.count(), 0) == 0,
+        told,
+    })
 }
 
 // Runs the lines of a source with these round marks.
@@ -362,7 +351,7 @@ fn run_from(
     let mut kept = played(rt, case, origin, marks, coverings)?;
     add_end(rt, case, &kept.ended, &mut kept.text)?;
     Ok(TestResult {
-        path: String::from_str(rt.alloc(), case.scenario)?,
+        name: String::from_str(rt.alloc(), case.scenario)?,
         passed: exit_status(&kept.ended) == 0,
         told: kept.text,
     })
@@ -460,7 +449,7 @@ fn add_unbooted(
 // Returns the result of a scenario that failed before its first line.
 fn failed(rt: &HostRuntime, scenario: &str, told: Vec<u8>) -> Result<TestResult, AllocError> {
     Ok(TestResult {
-        path: String::from_str(rt.alloc(), scenario)?,
+        name: String::from_str(rt.alloc(), scenario)?,
         passed: false,
         told,
     })

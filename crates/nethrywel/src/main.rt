@@ -3,7 +3,7 @@
 #![tactic(auto)]
 
 use clap::Error;
-use cli_base::{Coloring, REFUSED, Settings, names_given, status_of};
+use cli_base::{Coloring, REFUSED, Settings, Spot, names_given, report_error, status_of};
 use cli_budgets::print_minimum_budgets;
 use cli_lists::{check_list, compare_lists, show_reach, show_route, show_tree};
 use cli_options::{
@@ -58,6 +58,11 @@ fn answer_request(rt: &HostRuntime, request: &CommandLine<'_>) -> u8 {
     } else {
         DiagnosticForm::Text
     };
+    if request.command.reads_input_twice() {
+        let message = "expected `-` for one file, found it for several";
+        report_error(rt, form, Spot::nowhere(), &message);
+        return REFUSED;
+    }
     match names_given(rt, request.given.as_slice(), form) {
         Ok(known) => answer(rt, &request.command, Settings::new(&known, form)),
         Err(status) => status,

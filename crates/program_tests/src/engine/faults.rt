@@ -33,7 +33,7 @@ struct FaultOutcome<'a> {
 }
 
 // Runs a case on the built-in machine.
-fn outcome_of<'a>(alloc: Global, case: &EngineCase<'a>) -> Result<FaultOutcome<'a>, TaskFailure> {
+fn outcome_of<'a>(alloc: Global, case: &FaultCase<'a>) -> Result<FaultOutcome<'a>, TaskFailure> {
     let list = StartList::read(alloc, MACHINE_A.as_bytes())?;
     let mut core = boot(alloc, &list)?;
     outcome_on(alloc, &mut core, &list, case)
@@ -44,7 +44,7 @@ fn outcome_on<'a, R: Router + Drop>(
     alloc: Global,
     core: &mut Core<R>,
     list: &StartList,
-    case: &EngineCase<'a>,
+    case: &FaultCase<'a>,
 ) -> Result<FaultOutcome<'a>, TaskFailure>
     requires { core.old.entries ≡ entries_of (start_list_of list.now) }
 {
@@ -77,7 +77,7 @@ fn run_some<R: Router + Drop, S: Source, K: Sink>(
     core: &mut Core<R>,
     list: &StartList,
     reply: &mut Reply,
-    case: &EngineCase<'_>,
+    case: &FaultCase<'_>,
     reader: &mut S,
     writer: &mut K,
 ) -> Result<RunSummary, RunFault>
@@ -108,7 +108,7 @@ fn left_of<R: Router + Drop>(
 /// A run over devices that transfer `given` and `taken` bytes at a time. One read of the reader fails, and the writer fails after
 /// `room` bytes.
 #[derive(Clone, Copy)]
-struct EngineCase<'a> {
+struct FaultCase<'a> {
     shows: &'static str,
     only: Option<&'static [u8]>,
     scenario: &'a [u8],
@@ -126,7 +126,7 @@ struct EngineCase<'a> {
 }
 
 /// Both lines at once, over devices that don't fail.
-const CALM: EngineCase<'static> = EngineCase {
+const CALM: FaultCase<'static> = FaultCase {
     shows: "two lines at once",
     only: None,
     scenario: BOTH,
@@ -143,22 +143,22 @@ const CALM: EngineCase<'static> = EngineCase {
     caps: b'0',
 };
 
-const CASES: &[EngineCase<'static>] = &[
+const CASES: &[FaultCase<'static>] = &[
     CALM,
-    EngineCase {
+    FaultCase {
         shows: "each line comes alone: answers are written before the next read",
         given: 12,
         reads: 3,
         writes: 2,
         ..CALM
     },
-    EngineCase {
+    FaultCase {
         shows: "short writes are resumed",
         taken: 2,
         writes: 27,
         ..CALM
     },
-    EngineCase {
+    FaultCase {
         shows: "failing_reader_keeps_what_was_answered",
         scenario: b"alice quota\nalice al",
         failing: 2,
@@ -166,7 +166,7 @@ const CASES: &[EngineCase<'static>] = &[
         written: QUOTA,
         ..CALM
     },
-    EngineCase {
+    FaultCase {
         shows: "failing_reader_keeps_what_was_answered, interrupted",
         scenario: b"alice quota\nalice al",
         failing: 2,
@@ -175,7 +175,7 @@ const CASES: &[EngineCase<'static>] = &[
         written: QUOTA,
         ..CALM
     },
-    EngineCase {
+    FaultCase {
         shows: "one_line_too_many",
         scenario: b"alice quota\nbob quota\n",
         max_lines: 1,
@@ -184,7 +184,7 @@ const CASES: &[EngineCase<'static>] = &[
         reads: 1,
         ..CALM
     },
-    EngineCase {
+    FaultCase {
         shows: "one_line_too_many, as many as allowed",
         scenario: b"alice quota\n",
         max_lines: 1,
@@ -192,12 +192,12 @@ const CASES: &[EngineCase<'static>] = &[
         written: QUOTA,
         ..CALM
     },
-    EngineCase {
+    FaultCase {
         shows: "two lines of two",
         max_lines: 2,
         ..CALM
     },
-    EngineCase {
+    FaultCase {
         shows: "lines that are skipped count",
         only: Some(b"alice"),
         scenario: b"alice quota\nbob quota\n\nbob quota\n",
@@ -207,7 +207,7 @@ const CASES: &[EngineCase<'static>] = &[
         reads: 1,
         ..CALM
     },
-    EngineCase {
+    FaultCase {
         shows: "a writer that fails",
         room: 0,
         kind: Some(ErrorKind::Other),
@@ -216,7 +216,7 @@ const CASES: &[EngineCase<'static>] = &[
         reads: 1,
         ..CALM
     },
-    EngineCase {
+    FaultCase {
         shows: "a writer that is interrupted",
         room: 0,
         kind: Some(ErrorKind::Interrupted),
@@ -225,7 +225,7 @@ const CASES: &[EngineCase<'static>] = &[
         reads: 1,
         ..CALM
     },
-    EngineCase {
+    FaultCase {
         shows: "writer_that_takes_nothing",
         scenario: b"alice quota\n",
         room: 5,
@@ -235,7 +235,7 @@ const CASES: &[EngineCase<'static>] = &[
         writes: 2,
         ..CALM
     },
-    EngineCase {
+    FaultCase {
         shows: "a writer that takes nothing at first",
         room: 0,
         ended: Err(RunFault::WriteFault),
@@ -243,7 +243,7 @@ const CASES: &[EngineCase<'static>] = &[
         reads: 1,
         ..CALM
     },
-    EngineCase {
+    FaultCase {
         shows: "a writer that takes one answer",
         room: 29,
         ended: Err(RunFault::WriteFault),
@@ -252,7 +252,7 @@ const CASES: &[EngineCase<'static>] = &[
         writes: 2,
         ..CALM
     },
-    EngineCase {
+    FaultCase {
         shows: "a writer that takes a byte of the next",
         room: 30,
         ended: Err(RunFault::WriteFault),
@@ -261,7 +261,7 @@ const CASES: &[EngineCase<'static>] = &[
         writes: 2,
         ..CALM
     },
-    EngineCase {
+    FaultCase {
         shows: "a failed write before a line too many",
         room: 0,
         max_lines: 1,
@@ -270,7 +270,7 @@ const CASES: &[EngineCase<'static>] = &[
         reads: 1,
         ..CALM
     },
-    EngineCase {
+    FaultCase {
         shows: "the same after some bytes",
         room: 5,
         max_lines: 1,
@@ -280,7 +280,7 @@ const CASES: &[EngineCase<'static>] = &[
         writes: 2,
         ..CALM
     },
-    EngineCase {
+    FaultCase {
         shows: "the first read fails and isn't tried again",
         scenario: b"alice capalloc\nalice capalloc\n",
         given: 16,
@@ -291,7 +291,7 @@ const CASES: &[EngineCase<'static>] = &[
         writes: 0,
         ..CALM
     },
-    EngineCase {
+    FaultCase {
         shows: "the second read fails and isn't tried again",
         scenario: b"alice capalloc\nalice capalloc\n",
         given: 16,
@@ -301,7 +301,7 @@ const CASES: &[EngineCase<'static>] = &[
         caps: b'1',
         ..CALM
     },
-    EngineCase {
+    FaultCase {
         shows: "the read at the end fails and isn't tried again",
         scenario: b"alice capalloc\nalice capalloc\n",
         given: 16,
@@ -313,7 +313,7 @@ const CASES: &[EngineCase<'static>] = &[
         caps: b'2',
         ..CALM
     },
-    EngineCase {
+    FaultCase {
         shows: "a write that fails before the read that would",
         scenario: b"alice quota\nalice al",
         failing: 2,
@@ -324,7 +324,7 @@ const CASES: &[EngineCase<'static>] = &[
         writes: 2,
         ..CALM
     },
-    EngineCase {
+    FaultCase {
         shows: "one name's lines over a reader that fails",
         only: Some(b"carol"),
         failing: 2,
@@ -335,7 +335,7 @@ const CASES: &[EngineCase<'static>] = &[
 ];
 
 // Returns whether a run ended as its case states.
-fn is_so(ran: &FaultOutcome<'_>, case: &EngineCase<'_>) -> bool {
+fn is_so(ran: &FaultOutcome<'_>, case: &FaultCase<'_>) -> bool {
     has_written(ran, case)
         && ran.read_failed == (ran.ended == Err(RunFault::ReadFault))
         && ran.write_failed == (ran.ended == Err(RunFault::WriteFault))
@@ -347,12 +347,12 @@ fn is_so(ran: &FaultOutcome<'_>, case: &EngineCase<'_>) -> bool {
 }
 
 // Returns whether a run ended as its case states, and wrote this until then.
-fn has_written(ran: &FaultOutcome<'_>, case: &EngineCase<'_>) -> bool {
+fn has_written(ran: &FaultOutcome<'_>, case: &FaultCase<'_>) -> bool {
     ran.ended == case.ended && ran.writer.bytes.as_slice() == case.written
 }
 
 // Returns whether the run of a case ends as the case states.
-fn ends_so(alloc: Global, case: &EngineCase<'_>) -> bool {
+fn ends_so(alloc: Global, case: &FaultCase<'_>) -> bool {
     match outcome_of(alloc, case) {
         Ok(ran) => is_so(&ran, case),
         Err(_) => false,
@@ -360,7 +360,7 @@ fn ends_so(alloc: Global, case: &EngineCase<'_>) -> bool {
 }
 
 // Returns whether the run of a case ends as the case states and writes this, however often its devices are used.
-fn writes_so(alloc: Global, case: &EngineCase<'_>) -> bool {
+fn writes_so(alloc: Global, case: &FaultCase<'_>) -> bool {
     match outcome_of(alloc, case) {
         Ok(ran) => has_written(&ran, case),
         Err(_) => false,
@@ -368,7 +368,7 @@ fn writes_so(alloc: Global, case: &EngineCase<'_>) -> bool {
 }
 
 // Checks each run of a table.
-fn check_all<R: Abort + AllocGlobal>(rt: &R, cases: &[EngineCase<'_>]) {
+fn check_all<R: Abort + AllocGlobal>(rt: &R, cases: &[FaultCase<'_>]) {
     for case in cases {
         assert!(rt; ends_so(rt.alloc(), case), "{}", case.shows);
     }
@@ -381,7 +381,7 @@ fn devices_that_fail(rt: HostRuntime) {
 
 // Returns whether this is written if each byte is read alone and this read fails.
 fn is_left_by_read(alloc: Global, failing: usize, written: &[u8]) -> bool {
-    let case = EngineCase {
+    let case = FaultCase {
         scenario: DONATION,
         given: 1,
         failing,
@@ -413,7 +413,7 @@ fn each_read_fails_in_turn(rt: HostRuntime) {
 
 // Returns whether this is written if this number of bytes is read at once, and the next write fails.
 fn is_left_by_write(alloc: Global, given: usize, written: &[u8]) -> bool {
-    let case = EngineCase {
+    let case = FaultCase {
         scenario: DONATION,
         given,
         taken: 10,
@@ -450,7 +450,7 @@ fn is_cut(ran: &FaultOutcome<'_>) -> bool {
 
 // Returns whether a scenario ends so over a writer that accepts a hundred bytes, in two writes.
 fn is_cut_short(alloc: Global, scenario: &[u8]) -> bool {
-    let case = EngineCase {
+    let case = FaultCase {
         scenario,
         given: 100_000,
         taken: 70,

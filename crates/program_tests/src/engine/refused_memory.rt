@@ -81,7 +81,7 @@ fn boots(alloc: Global, list: &StartList) -> Option<bool> {
     }
 }
 
-// Returns whether a client's request for files is routed to this server, and one of two boots goes as usual.
+// Returns whether a client's request for files is routed to this server, and one of two boots succeeds.
 fn is_led(alloc: Global, list: &StartList, client: usize, leads: Option<usize>) -> bool {
     client < list.count()
         && route(list, client, b"File_system", b"") == leads

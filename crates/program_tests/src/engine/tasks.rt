@@ -24,7 +24,7 @@ pub const RICH: &str = r#"{"machine":{"pages":64,"caps":64},
 
 /// A task over a writer that accepts this number of bytes, one at a time, and then fails.
 #[derive(Clone, Copy)]
-struct EngineCase {
+struct TaskCase {
     shows: &'static str,
     list: &'static str,
     task: Task<'static>,
@@ -38,7 +38,7 @@ struct EngineCase {
 }
 
 /// A check of a machine that boots.
-const CHECK: EngineCase = EngineCase {
+const CHECK: TaskCase = TaskCase {
     shows: "a check tells ok and reads nothing",
     list: MACHINE_A,
     task: Task::Check,
@@ -52,7 +52,7 @@ const CHECK: EngineCase = EngineCase {
 };
 
 /// A list that isn't covered.
-const UNCOVERED: EngineCase = EngineCase {
+const UNCOVERED: TaskCase = TaskCase {
     shows: "boot_refuses_what_is_not_covered",
     list: RICH,
     told: "boot: Quota_exceeded alice",
@@ -63,7 +63,7 @@ const UNCOVERED: EngineCase = EngineCase {
 };
 
 /// A writer that fails at once.
-const UNWRITABLE: EngineCase = EngineCase {
+const UNWRITABLE: TaskCase = TaskCase {
     shows: "a write of ok that fails is tried once",
     room: 0,
     kind: Some(ErrorKind::Other),
@@ -74,37 +74,37 @@ const UNWRITABLE: EngineCase = EngineCase {
     ..CHECK
 };
 
-const CASES: &[EngineCase] = &[
+const CASES: &[TaskCase] = &[
     CHECK,
     UNCOVERED,
-    EngineCase {
+    TaskCase {
         task: PLAIN,
         ..UNCOVERED
     },
-    EngineCase {
+    TaskCase {
         task: LISTED,
         ..UNCOVERED
     },
     UNWRITABLE,
-    EngineCase {
+    TaskCase {
         shows: "a check over a writer that takes nothing",
         kind: None,
         ..UNWRITABLE
     },
-    EngineCase {
+    TaskCase {
         shows: "a check over a writer that takes two bytes",
         room: 2,
         written: b"ok",
         writes: 3,
         ..UNWRITABLE
     },
-    EngineCase {
+    TaskCase {
         shows: "a reply that can't be written is tried once",
         task: PLAIN,
         reads: 1,
         ..UNWRITABLE
     },
-    EngineCase {
+    TaskCase {
         shows: "an answer before the account list that can't be written is tried once",
         task: LISTED,
         reads: 1,
@@ -121,7 +121,7 @@ fn is_shown<D: Display>(alloc: Global, value: &D, text: &str) -> bool {
 }
 
 // Returns whether a task ends as its case states.
-fn ends_so(alloc: Global, case: &EngineCase) -> bool {
+fn ends_so(alloc: Global, case: &TaskCase) -> bool {
     let mut source = Input::new(TestReader::new(b"alice quota\n", 100));
     let mut sink = Output::new(TestWriter {
         size: 1,
@@ -135,7 +135,7 @@ fn ends_so(alloc: Global, case: &EngineCase) -> bool {
 }
 
 // Returns whether the end of a task has the text and the status of its case.
-fn is_told(alloc: Global, ended: &Result<RunSummary, TaskFailure>, case: &EngineCase) -> bool {
+fn is_told(alloc: Global, ended: &Result<RunSummary, TaskFailure>, case: &TaskCase) -> bool {
     let is_told = match ended {
         Ok(_) => case.told.is_empty(),
         Err(failure) => is_shown(alloc, failure, case.told),
@@ -144,14 +144,14 @@ fn is_told(alloc: Global, ended: &Result<RunSummary, TaskFailure>, case: &Engine
 }
 
 // Returns whether the devices were used as the case states.
-fn is_done(reader: &TestReader<'_>, writer: &TestWriter, case: &EngineCase) -> bool {
+fn is_done(reader: &TestReader<'_>, writer: &TestWriter, case: &TaskCase) -> bool {
     writer.bytes.as_slice() == case.written
         && writer.writes == case.writes
         && reader.reads == case.reads
 }
 
 // Checks each task of a table.
-fn check_all<R: Abort + AllocGlobal>(rt: &R, cases: &[EngineCase]) {
+fn check_all<R: Abort + AllocGlobal>(rt: &R, cases: &[TaskCase]) {
     for case in cases {
         assert!(rt; ends_so(rt.alloc(), case), "{}", case.shows);
     }

@@ -10,7 +10,7 @@ use std::io::ErrorKind;
 use std::process::Abort;
 use view_accounts::accounts;
 use view_diagnostics::{DiagnosticForm, Subject};
-use view_runs::{TranscriptOptions, alone, run, trace};
+use view_runs::{CsvRows, TranscriptOptions, alone, run, trace};
 
 /// The view of all lines, with the account list after the transcript.
 const LISTED: TranscriptOptions<'static> = TranscriptOptions {
@@ -57,7 +57,7 @@ fn played(
     };
     match kind {
         RunKind::Run => run(alloc, play, LISTED, reader, writer, complaints),
-        RunKind::Trace => trace(alloc, play, reader, writer, complaints),
+        RunKind::Trace => trace(alloc, play, CsvRows, reader, writer, complaints),
         RunKind::Accounts => Ok(accounts(alloc, play, reader, writer, complaints)?.ending),
         RunKind::Alone => Ok(alone(alloc, play, b"alice", reader, writer, complaints)?.ending),
     }

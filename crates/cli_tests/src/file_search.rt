@@ -1,21 +1,21 @@
-//! The scenarios of paths: a file itself, and all scenarios of a folder and the folders below it.
+//! The files of paths: a file itself, and all scenarios and policies of a folder and the folders below it.
 use cli_base::{REFUSED, ReadFailure, Spot, no_memory, report_error};
 use std::alloc::{AllocError, AllocFailed};
 use std::fs::DirEntry;
 use std::io::ErrorKind;
 use std::{fs, io};
 use view_diagnostics::DiagnosticForm;
-use view_test_report::is_scenario;
+use view_test_report::{is_policy, is_scenario};
 
 /// The most folders that are searched for one path.
 const MOST_FOLDERS: usize = 100_000;
 
-/// The reason for which the scenarios of paths aren't found.
+/// The reason for which the files of paths aren't found.
 #[derive(Clone, Copy)]
 pub(crate) enum SearchFailure<'a> {
     /// The file or folder of this path can't be read.
     Unreadable(&'a str, io::Error),
-    /// Neither this folder nor a folder below it has a scenario.
+    /// Neither this folder nor a folder below it has a scenario or a policy.
     Nothing(&'a str),
     /// The host is out of memory.
     NoMemory,
@@ -43,7 +43,7 @@ impl SearchFailure<'_> {
                 REFUSED
             }
             SearchFailure::Nothing(path) => {
-                let message = "no file in this folder ends with .scenario";
+                let message = "no file in this folder ends with .scenario or .policy";
                 report_error(rt, form, Spot::file(path), &message);
                 REFUSED
             }
@@ -52,34 +52,34 @@ impl SearchFailure<'_> {
     }
 }
 
-/// Returns the scenarios of paths in their order, those of a folder sorted by bytes. Errors: a path can't be read, a folder has
-/// no scenario, the host is out of memory.
-pub(crate) fn scenarios_at<'a>(
+/// Returns the scenarios and policies of paths in their order, those of a folder sorted by bytes. Errors: a path can't be read, a
+/// folder has none of them, the host is out of memory.
+pub(crate) fn files_at<'a>(
     rt: &HostRuntime,
     paths: &[&'a str],
 ) -> Result<Vec<String>, SearchFailure<'a>> {
     let mut all = Vec::new(rt.alloc());
     for path in paths {
-        add_scenarios(rt, path, &mut all)?;
+        add_files(rt, path, &mut all)?;
     }
     Ok(all)
 }
 
-// Adds the scenarios of a path.
-fn add_scenarios<'a>(
+// Adds the files of a path.
+fn add_files<'a>(
     rt: &HostRuntime,
     path: &'a str,
     all: &mut Vec<String>,
 ) -> Result<(), SearchFailure<'a>> {
     let mut found = at(rt, path)?;
     found.sort()?;
-    for scenario in found {
-        all.push(scenario)?;
+    for file in found {
+        all.push(file)?;
     }
     Ok(())
 }
 
-// Returns the scenarios of a path.
+// Returns the files of a path.
 fn at<'a>(rt: &HostRuntime, path: &'a str) -> Result<Vec<String>, SearchFailure<'a>> {
     match fs::metadata(rt, path) {
         Ok(of) if of.is_dir() => in_folder(rt, path),
@@ -88,7 +88,7 @@ fn at<'a>(rt: &HostRuntime, path: &'a str) -> Result<Vec<String>, SearchFailure<
     }
 }
 
-// Returns the scenarios of a folder, at least one.
+// Returns the scenarios and policies of a folder, at least one.
 fn in_folder<'a>(rt: &HostRuntime, path: &'a str) -> Result<Vec<String>, SearchFailure<'a>> {
     match below(rt, path) {
         Ok(found) if found.is_empty() => Err(SearchFailure::Nothing(path)),
@@ -97,7 +97,7 @@ fn in_folder<'a>(rt: &HostRuntime, path: &'a str) -> Result<Vec<String>, SearchF
     }
 }
 
-// Returns the scenarios of a folder and of the folders below it.
+// Returns the scenarios and policies of a folder and of the folders below it.
 fn below(rt: &HostRuntime, folder: &str) -> io::Result<Vec<String>> {
     let alloc = rt.alloc();
     let mut found = Vec::new(alloc);
@@ -115,7 +115,7 @@ fn below(rt: &HostRuntime, folder: &str) -> io::Result<Vec<String>> {
     }
 }
 
-// Adds the folders and the scenarios in a folder, except those whose names begin with a point.
+// Adds the folders, scenarios and policies in a folder, except those whose names begin with a point.
 fn look_through(
     rt: &HostRuntime,
     folder: &str,
@@ -128,7 +128,7 @@ fn look_through(
     Ok(())
 }
 
-// Adds an entry of a folder if it is a folder or a scenario.
+// Adds an entry of a folder if it is a folder, a scenario or a policy.
 fn look_at(
     rt: &HostRuntime,
     entry: &DirEntry<HostRuntime>,
@@ -141,7 +141,7 @@ fn look_at(
     let path = String::from_str(rt.alloc(), entry.path().as_str())?;
     if entry.file_type()?.is_dir() {
         folders.push(path)?;
-    } else if is_scenario(path.as_str()) {
+    } else if is_scenario(path.as_str()) || is_policy(path.as_str()) {
         found.push(path)?;
     }
     Ok(())

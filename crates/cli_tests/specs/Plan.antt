@@ -1,0 +1,27 @@
+-- The tests of files: each scenario, and each policy once.
+use Rattle.std.specs.Prelude.{ℕ, Bool, false, List, [], ◌∷◌, ◌++◌, string_bytes, if◌then◌else◌, Option, Some, None}
+use Rattle.std.specs.List.{list_any}
+use Rattle.std.specs.Str.{bytes_eq}
+use Rattle.view_test_report.specs.Paths.{is_policy}
+use Rattle.cli_tests.specs.declared.planned_test.PlannedTest.{PlannedTest}
+use Rattle.cli_tests.specs.declared.planned_test.PlannedTest.TheVariants.{Scenario, Policy}
+
+-- a test is that of the policy of a path
+abbrev pub holds_policy : List ℕ → PlannedTest → Bool
+holds_policy path (Scenario scenario) = false
+holds_policy path (Policy policy) = bytes_eq (string_bytes policy) path
+
+-- tests, and that of the policy of a path unless it is among them
+abbrev pub with_policy : List PlannedTest → List ℕ → PlannedTest → List PlannedTest
+with_policy tests path test = if list_any (holds_policy path) tests then tests else tests ++ test ∷ []
+
+-- the same of a policy that may not be there
+abbrev pub with_beside : List PlannedTest → Option PlannedTest → List PlannedTest
+with_beside tests None = tests
+with_beside tests (Some (Scenario scenario)) = tests
+with_beside tests (Some (Policy policy)) = with_policy tests (string_bytes policy) (Policy policy)
+
+-- tests, and those of a file: of a policy, or of a scenario after that of the policy next to it
+abbrev pub with_file : List PlannedTest → List ℕ → PlannedTest → PlannedTest → Option PlannedTest → List PlannedTest
+with_file tests path policy scenario beside =
+    if is_policy path then with_policy tests path policy else with_beside tests beside ++ scenario ∷ []
