@@ -1,17 +1,10 @@
-"""What the tools of this folder share: the repository, its crates, and the form of a tool's command line."""
+"""What the tools of this folder share: the repository and its crates."""
 import re
 import sys
 from pathlib import Path
 
 TOP = Path(__file__).resolve().parent.parent
 sys.path.insert(0, str(TOP / "tools/lib"))
-
-
-def arguments(name, usage, about):
-    """Returns a parser of a tool's command line."""
-    from nethrywel_tools.command_line import options
-
-    return options(name, usage, about)
 
 
 def text_of(path):

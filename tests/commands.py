@@ -20,7 +20,7 @@ PYTHON = "/usr/bin/python3"
 CRAWLER = ("--machine", "friendly/crawler.json")
 SENSORS = ("--machine", "friendly/sensors.json")
 # What the pages of report and desk need.
-PAGES = ("jinja2", "waitress", "/usr/share/nodejs/d3/dist/d3.min.js", "/usr/share/javascript/codemirror/codemirror.js")
+PAGES = ("jinja2", "tqdm", "waitress", "/usr/share/nodejs/d3/dist/d3.min.js", "/usr/share/javascript/codemirror/codemirror.js")
 CHROMIUM = (*PAGES, "selenium", "/usr/bin/chromedriver", "/usr/bin/chromium")
 
 
@@ -40,6 +40,11 @@ class Ran(NamedTuple):
     status: int
     out: str
     err: str
+
+    def ok(self) -> str:
+        """Returns the output of a command that ended with status 0."""
+        assert self.status == 0, self.out + self.err
+        return self.out
 
 
 def run(*words, stdin="", cwd=EXAMPLES, timeout=600, **options) -> Ran:

@@ -5,7 +5,7 @@ from pathlib import Path
 import pytest
 from commands import CHROMIUM, crawler_files, needs
 from conftest import running_desk
-from test_report import REPORTS, SCRIPT
+from test_report import REPORTS, SCRIPT, UNENDED, report_without
 
 pytestmark = [needs(*CHROMIUM), pytest.mark.slow]
 RIGHT = "\ue014"
@@ -81,6 +81,18 @@ def test_report(browser, report, name):
     page.run("document.querySelector('#alone details').open = true")
     page.wait(lambda: len(page.texts("#alone table tr")) > 1)
     assert page.console() == []
+
+
+@pytest.mark.parametrize("command", UNENDED)
+def test_unended_command(browser, nethrywel, tmp_path, command):
+    """What is left out since a command came to no end is stated in the verdict and at its part, and nothing else of the part is."""
+    _, page = report_without(nethrywel, tmp_path, command)
+    opened(browser, page)
+    told = f"left out: nethrywel {command}"
+    for place in ("#verdict .bad", f"#{UNENDED[command]} .bad"):
+        assert any(told in it for it in browser.texts(place)), browser.text()
+    assert not any(it in browser.text() for it in ("There are no accounts", "No account was called", "Nobody was called", "doesn't boot"))
+    assert browser.console() == []
 
 
 @pytest.fixture(scope="module")

@@ -17,8 +17,13 @@ def names_in(folder):
     return sorted(it.name for it in folder.iterdir() if it.is_file() and it.suffix not in (*KINDS, ".json", ".md"))
 
 
+# Cases of a million lines, which take minutes without the optimizations of a proved program.
+SLOW = ("as-many-lines-as-may-be",)
+
+
 def cases(root):
-    return [folder / name for folder in FOLDERS if folder.parent == root for name in names_in(folder)]
+    return [pytest.param(folder / name, marks=[pytest.mark.slow] * (name in SLOW))
+            for folder in FOLDERS if folder.parent == root for name in names_in(folder)]
 
 
 def check(program, case):
@@ -135,14 +140,9 @@ def test_shown(nethrywel, file):
     assert nethrywel(*SHOWN[file]) == (0, (EXAMPLES / file).read_text(), "")
 
 
-def test_policy_is_kept(nethrywel):
-    assert nethrywel("check", "--policy", "tenants.policy", "tenants.json") == (0, "ok\n", "")
-
-
 @pytest.mark.slow
 @pytest.mark.parametrize("script, count", [("reach", 100), ("needs", 50), ("least", 20)])
 def test_budgets_and_routes(nethrywel, script, count):
     """bench/reach.py, bench/needs.py and bench/least.py compare reach, needs and least with many runs of drawn lists and
     scenarios."""
-    ran = run(PYTHON, TOP / f"bench/{script}.py", nethrywel.path, str(count), timeout=900)
-    assert ran.status == 0, ran.out + ran.err
+    run(PYTHON, TOP / f"bench/{script}.py", nethrywel.path, str(count), timeout=900).ok()

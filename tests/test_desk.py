@@ -6,8 +6,8 @@ import os
 import signal
 import socket
 import struct
-import threading
 import time
+from concurrent.futures import ThreadPoolExecutor
 from urllib.parse import parse_qs, urlsplit
 
 import pytest
@@ -153,13 +153,11 @@ def test_much_output(desk, tmp_path, monkeypatch):
 def test_later_edit(client):
     """A long run is ended by a later edit. How long the first takes to begin depends on the host."""
     for pause in (0.3, 0.6, 0.9, 1.2, 1.5):
-        first = []
-        earlier = threading.Thread(target=lambda: first.append(client.post("/run", LONG)))
-        earlier.start()
-        time.sleep(pause)
-        later = client.post("/run", SMALL)
-        earlier.join()
-        if later[0] == 200 and "a later edit" in first[0][1]:
+        with ThreadPoolExecutor() as pool:
+            earlier = pool.submit(client.post, "/run", LONG)
+            time.sleep(pause)
+            later, first = client.post("/run", SMALL), earlier.result()
+        if later[0] == 200 and "a later edit" in first[1]:
             return
     pytest.fail(f"{later}, {first}")
 
@@ -191,13 +189,9 @@ def test_line_ends(client, before, after):
 def test_many_saves(client):
     """Forty saves at once succeed, leave no other file, and keep the mode."""
     client.scenario.chmod(0o640)
-    answers, sums = [], client.sums()
-    savers = [threading.Thread(target=lambda: answers.append(client.save("# forty\n", sums)[0])) for _ in range(40)]
-    for it in savers:
-        it.start()
-    for it in savers:
-        it.join()
-    assert answers == [200] * 40
+    sums = client.sums()
+    with ThreadPoolExecutor(40) as pool:
+        assert list(pool.map(lambda _: client.save("# forty\n", sums)[0], range(40))) == [200] * 40
     assert [it for it in os.listdir(client.scenario.parent) if "crawler.scenario" in it] == ["crawler.scenario"]
     assert client.scenario.stat().st_mode & 0o777 == 0o640
 

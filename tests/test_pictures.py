@@ -27,17 +27,17 @@ def trace_of(*calls):
 @drawing
 def test_accounts(nethrywel):
     trace = nethrywel("trace", "--json", *CRAWLER, "friendly/crawler.scenario").out
-    ran = PICTURE(stdin=trace)
-    assert ran.status == 0 and all(f">{it}<" in ran.out for it in ("crawler", "reader/1", "RAM in KiB", "capabilities"))
-    assert PICTURE(stdin=trace).out == ran.out
+    drawn = PICTURE(stdin=trace).ok()
+    assert all(f">{it}<" in drawn for it in ("crawler", "reader/1", "RAM in KiB", "capabilities"))
+    assert PICTURE(stdin=trace).out == drawn
 
 
 @drawing
 def test_budgets(nethrywel):
     """A strip is drawn for each interval."""
     rows = nethrywel("least", "--json", *SENSORS, "friendly/sensors.scenario").out
-    ran = PICTURE("--budgets", stdin=rows)
-    assert ran.status == 0 and ">archive/1 line 7<" in ran.out and ran.out.count("fill: #2a9d3a") == len(json.loads(rows))
+    drawn = PICTURE("--budgets", stdin=rows).ok()
+    assert ">archive/1 line 7<" in drawn and drawn.count("fill: #2a9d3a") == len(json.loads(rows))
 
 
 POINTS = 'Q,"D",C,status\n4K,1,1,0\n4K,1,2,0\n4K,2,1,0\n4K,2,2,3\n8K,1,1,3\n8K,2,1,0\n'
@@ -46,9 +46,9 @@ POINTS = 'Q,"D",C,status\n4K,1,1,0\n4K,1,2,0\n4K,2,1,0\n4K,2,2,3\n8K,1,1,3\n8K,2
 @drawing
 def test_map():
     """A cell is green if all its points have status 0, else red with a cross."""
-    ran = PICTURE("--heat", "Q", "D", stdin=POINTS)
-    assert ran.status == 0 and all(f">{it}<" in ran.out for it in ("4K", "8K", "Q", "D"))
-    assert ran.out.count("fill: #2a9d3a") == ran.out.count("fill: #d9534f") == 2
+    drawn = PICTURE("--heat", "Q", "D", stdin=POINTS).ok()
+    assert all(f">{it}<" in drawn for it in ("4K", "8K", "Q", "D"))
+    assert drawn.count("fill: #2a9d3a") == drawn.count("fill: #d9534f") == 2
 
 
 @drawing
@@ -81,9 +81,8 @@ def test_long_trace():
         session = (i % 9, 9, 1, 2) if i % 2 else (None, None, None, None)
         return call_of(i, f"c{i % 3}", "call 1 X", "OK", (i * 7 % 90, 99, i % 50, 60), i % 400, session)
 
-    ran = PICTURE(stdin=trace_of(*map(call, range(1, 200_001))))
-    assert ran.status == 0 and len(ran.out) < 600_000
-    assert re.search(r">line \(dashed: the limit; thinned; [0-9]+ sessions are left out\)<", ran.out)
+    drawn = PICTURE(stdin=trace_of(*map(call, range(1, 200_001)))).ok()
+    assert len(drawn) < 600_000 and re.search(r">line \(dashed: the limit; thinned; [0-9]+ sessions are left out\)<", drawn)
 
 
 def test_missing_package(tmp_path):
@@ -114,8 +113,8 @@ def test_figures():
 
 @needs("dot")
 def test_graph(nethrywel):
-    ran = GRAPH(stdin=nethrywel("tree", "--dot", "friendly/crawler.json").out)
-    assert ran.status == 0 and "<svg" in ran.out and "crawler" in ran.out
+    drawn = GRAPH(stdin=nethrywel("tree", "--dot", "friendly/crawler.json").out).ok()
+    assert "<svg" in drawn and "crawler" in drawn
 
 
 def test_missing_graphviz(tmp_path):

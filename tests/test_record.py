@@ -18,19 +18,17 @@ def check_record(nethrywel, folder, text, *words):
     """Records a scenario, and compares the result with the scenario, with its replies, and with further records of it."""
     scenario, recorded, wrong = (folder / it for it in ("drawn.scenario", "recorded.scenario", "wrong.scenario"))
     scenario.write_text(text)
-    ran = nethrywel("record", *words, scenario)
-    assert ran.status == 0, ran.err
-    kept = [it for it in ran.out.splitlines() if not it.startswith("=> ")]
+    out = nethrywel("record", *words, scenario).ok()
+    kept = [it for it in out.splitlines() if not it.startswith("=> ")]
     assert len(kept) == len(text.splitlines())
     assert all(line.startswith(before) for line, before in zip(kept, text.splitlines(), strict=True))
-    recorded.write_text(ran.out)
-    assert nethrywel("run", *words, recorded).status == 0
-    assert nethrywel("record", *words, recorded).out == ran.out
-    assert nethrywel("record", "--all", *words, recorded).out == ran.out
+    recorded.write_text(out)
+    nethrywel("run", *words, recorded).ok()
+    assert nethrywel("record", *words, recorded).out == nethrywel("record", "--all", *words, recorded).out == out
     # Each expectation that binds no name is made wrong, and recorded again.
-    lines = [it if re.search(r" => .*\$", it) else re.sub(r" => .*", " => never", it, count=1) for it in ran.out.split("\n")]
+    lines = [it if re.search(r" => .*\$", it) else re.sub(r" => .*", " => never", it, count=1) for it in out.split("\n")]
     wrong.write_text("\n".join(f"{it}!" if it.startswith("=> ") else it for it in lines))
-    assert nethrywel("record", "--all", *words, wrong).out == ran.out
+    assert nethrywel("record", "--all", *words, wrong).out == out
 
 
 @pytest.mark.slow
@@ -101,9 +99,8 @@ def test_names(nethrywel, tmp_path_factory, text):
 @pytest.mark.parametrize("name", scenarios("friendly/*.scenario"))
 def test_example(nethrywel, tmp_path, name):
     """An example in the friendly form, which expects replies already, holds after `record --all`."""
-    ran = nethrywel("record", "--all", *machine_of(name), f"{name}.scenario")
-    (tmp_path / "recorded.scenario").write_text(ran.out)
-    assert ran.status == 0 and nethrywel("run", *machine_of(name), tmp_path / "recorded.scenario").status == 0
+    (tmp_path / "recorded.scenario").write_text(nethrywel("record", "--all", *machine_of(name), f"{name}.scenario").ok())
+    nethrywel("run", *machine_of(name), tmp_path / "recorded.scenario").ok()
 
 
 @pytest.fixture

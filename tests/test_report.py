@@ -1,10 +1,11 @@
 """tools/report: one page that needs no network, lets no text of a file through, and is written whole or not at all."""
 import hashlib
+import json
 import os
 import re
 
 import pytest
-from commands import CRAWLER, EXAMPLES, PAGES, environment, limited, needs, tool
+from commands import CRAWLER, EXAMPLES, PAGES, environment, limited, needs, script, tool
 
 REPORT = tool("tools/report")
 SCRIPT = "<script>window.met=1</script>"
@@ -48,8 +49,7 @@ def write_report(name, folder):
         "none.scenario": "broke alloc 800M\n",
     }.items():
         (folder / file).write_text(text)
-    ran = REPORT(*(it.replace("{}", str(folder)) for it in REPORTS[name]), "-o", folder / f"{name}.html")
-    assert ran.status == 0, ran
+    REPORT(*(it.replace("{}", str(folder)) for it in REPORTS[name]), "--seconds", "600", "-o", folder / f"{name}.html").ok()
 
 
 @pytest.mark.slow
@@ -76,8 +76,41 @@ def test_name_like_an_option(nethrywel, tmp_path):
     assert nethrywel("route", "--", machine, "-reader", "LOG").out.splitlines()[-1] == "leads to log"
     ran = nethrywel("alone", "--machine", machine, "--", "-reader", scenario)
     assert ran.out.splitlines()[-1] == "10 lines of -reader: the same alone as in the whole run"
-    ran = REPORT("--machine", machine, scenario, "-o", tmp_path / "page.html")
-    assert ran.status == 0 and "for -reader, where the label is" in (tmp_path / "page.html").read_text()
+    REPORT("--machine", machine, scenario, "--seconds", "600", "-o", tmp_path / "page.html").ok()
+    assert "for -reader, where the label is" in (tmp_path / "page.html").read_text()
+
+
+# A command that comes to no end, and the part of the page that needs it.
+UNENDED = {"check": "reach", "tree": "reach", "reach": "reach", "route": "reach", "trace": "timelines", "run --machine": "scenario",
+           "run --only": "alone", "accounts": "budgets", "least": "budgets"}
+MACHINE = """{"machine": {"pages": 64, "caps": 64}, "start": [{"name": "log", "quantum": "8K", "caps": 4, "provides": ["LOG"]},
+{"name": "alice", "quantum": "64K", "caps": 16, "binary": "script", "route": [{"service": "LOG", "child": "log"}]}]}"""
+
+
+def report_without(nethrywel, folder, command, how="kill -9 $$", seconds="600"):
+    """Writes a report with a program of which one command comes to no end, and returns how it ended and the page."""
+    script(folder / "nethrywel", f'case "$*" in {command.replace(" ", "?")}*) {how} ;; esac\nexec "{nethrywel.path}" "$@"')
+    (folder / "it.json").write_text(MACHINE)
+    (folder / "it.scenario").write_text("alice quota\n")
+    words = ["--seconds", seconds, "--machine", "it.json", "it.scenario", "-o", folder / "page.html"]
+    return REPORT(*words, cwd=folder, env=environment(PROGRAMS=folder)), folder / "page.html"
+
+
+@pytest.mark.parametrize("command", UNENDED)
+def test_unended_command(nethrywel, tmp_path, command):
+    """Nothing is left out in silence: the part of the page and standard error name the command, and the status is 1."""
+    ran, page = report_without(nethrywel, tmp_path, command)
+    missing = json.loads(re.search(r'id="data">(.*?)</script>', page.read_text())[1])["missing"]
+    lines = [f"report: left out: {it}" for it in missing[UNENDED[command]]]
+    assert lines and all(re.fullmatch(rf"report: left out: nethrywel {command}.*: ended by signal 9", it) for it in lines)
+    assert (ran.status, ran.out) == (1, "") and ran.err.splitlines() == lines
+
+
+def test_late_command(nethrywel, tmp_path):
+    """A command that takes longer than the limit is ended, and reported in the same way."""
+    ran, _ = report_without(nethrywel, tmp_path, "accounts", how="exec sleep 600", seconds="10")
+    assert ran.status == 1
+    assert "report: left out: nethrywel accounts --json --machine list.json scenario: it ran longer than 10 seconds\n" in ran.err
 
 
 def test_unwritten_page(tmp_path):
@@ -95,8 +128,9 @@ def test_deep_list(tmp_path):
     assert "Traceback" not in ran.err and "invalid JSON" in (tmp_path / "page.html").read_text()
 
 
-@pytest.mark.parametrize("package, words", [("jinja2", ["report", "-o", "{}"]), ("jinja2", ["desk"]), ("waitress", ["desk"])],
-                         ids=["report-jinja2", "desk-jinja2", "desk-waitress"])
+@pytest.mark.parametrize("package, words", [
+    ("jinja2", ["report", "-o", "{}"]), ("tqdm", ["report", "-o", "{}"]), ("jinja2", ["desk"]), ("waitress", ["desk"])],
+                         ids=["report-jinja2", "report-tqdm", "desk-jinja2", "desk-waitress"])
 def test_missing_package(tmp_path, package, words):
     """Without a package report and desk say what to do, and write nothing."""
     (tmp_path / f"{package}.py").write_text("raise ImportError\n")

@@ -17,8 +17,7 @@ def documents():
 
 @pytest.mark.parametrize("name", TOOLS)
 def test_help(name):
-    ran = tool(name)("--help")
-    assert ran.status == 0 and name.split("/")[-1] in ran.out.lower()
+    assert name.split("/")[-1] in tool(name)("--help").ok().lower()
 
 
 @pytest.mark.parametrize("name, word", [*((name, "--frob") for name in TOOLS), *((name, "frob") for name in CLOSED)])
@@ -44,16 +43,14 @@ def test_version(nethrywel):
 def test_documents(nethrywel, words):
     """Links, words, quotes and scenarios of documents, step lists, the picture of the crates, and the places of the theorems."""
     name, *words = words.format(nethrywel.path).split()
-    ran = tool(f"dev/{name}")(*words)
-    assert ran.status == 0, ran.out + ran.err
+    tool(f"dev/{name}")(*words).ok()
 
 
 @needs("jsonschema")
 def test_schema(nethrywel):
     """The schema of start lists and the program agree on all start lists of the repository."""
     lists = [it for folder in (EXAMPLES, CASES, TOP / "bench") for it in sorted(folder.rglob("*.json"))]
-    ran = tool("dev/schema")(nethrywel.path, *lists)
-    assert ran.status == 0, ran.out + ran.err
+    tool("dev/schema")(nethrywel.path, *lists).ok()
 
 
 COMMANDS = [it.relative_to(TOP).as_posix() for it, text in documents().items() if b"\n```console\n" in text]
@@ -66,15 +63,14 @@ def test_commands_of_page(page):
     ran = tool("dev/tour")("--check", page)
     if ran.out.startswith("skipped: "):
         pytest.skip(ran.out.strip())
-    assert ran.status == 0, ran.out + ran.err
+    ran.ok()
 
 
 @pytest.mark.slow
 @needs("matplotlib", "dot", "chromium", "chromedriver", "selenium")
 def test_pictures(tmp_path):
     """The pictures of the documents are drawn again, each whole."""
-    ran = tool("dev/pictures")(tmp_path)
-    assert ran.status == 0, ran
+    tool("dev/pictures")(tmp_path).ok()
     assert sorted(it.name for it in tmp_path.iterdir()) == ["crawler.svg", "desk.png", "labels.svg"]
     assert (tmp_path / "labels.svg").read_text() == (EXAMPLES / "pictures/labels.svg").read_text()
     assert "PNG image data, 1500 x 1187" in run("file", tmp_path / "desk.png").out
@@ -91,11 +87,9 @@ def sources(language):
 @needs("shellcheck")
 @pytest.mark.parametrize("file", sources("sh"), ids=lambda it: it.relative_to(TOP).as_posix())
 def test_shellcheck(file):
-    ran = run("shellcheck", "-x", "-P", "SCRIPTDIR", file, cwd=TOP)
-    assert ran.status == 0, ran.out
+    run("shellcheck", "-x", "-P", "SCRIPTDIR", file, cwd=TOP).ok()
 
 
 @needs("pyflakes")
 def test_pyflakes():
-    ran = run(PYTHON, "-m", "pyflakes", *sources("python"))
-    assert ran.status == 0, ran.out
+    run(PYTHON, "-m", "pyflakes", *sources("python")).ok()

@@ -28,8 +28,7 @@ def small(folder, to, *words):
 
 
 def table_of(folder, words):
-    ran = SWEEP(*words)
-    assert ran.status == 0, ran
+    SWEEP(*words).ok()
     return (folder / "points.csv").read_text()
 
 
@@ -52,8 +51,7 @@ def test_table(table):
 @pytest.mark.slow
 @needs("matplotlib")
 def test_map(table):
-    ran = tool("tools/picture")("--heat", "Q", "C", stdin=table)
-    assert ran.status == 0 and "<svg" in ran.out
+    assert "<svg" in tool("tools/picture")("--heat", "Q", "C", stdin=table).ok()
 
 
 @pytest.mark.slow
@@ -77,7 +75,7 @@ def test_batches(nethrywel, tmp_path, table):
     words, out = large(tmp_path, "--points", "50"), tmp_path / "out"
     assert SWEEP(*words[:-1], "--plan", words[-1]).out == f"4 batches ({out})\n"
     for number in ("3", "1", "4"):
-        assert SWEEP("--batch", number, "--program", nethrywel.path, out).status == 0
+        SWEEP("--batch", number, "--program", nethrywel.path, out).ok()
     assert table_of(out, words) == table
 
 

@@ -3,6 +3,7 @@ import os
 import stat
 import sys
 import threading
+from concurrent.futures import ThreadPoolExecutor
 
 import pytest
 from commands import TOP
@@ -50,7 +51,7 @@ def test_one_desk_at_a_time(tmp_path, monkeypatch):
     """Of two desks that save over the same text at once, one saves and the other reports the change."""
     (tmp_path / "file").write_bytes(b"old\n")
     desks = [saved_files.Files({"scenario": tmp_path / "file"}) for _ in range(2)]
-    sums, both, ends = desks[0].read()[1], threading.Barrier(2), []
+    sums, both = desks[0].read()[1], threading.Barrier(2)
     real = saved_files.write_whole
 
     def slow(path, data):
@@ -63,14 +64,10 @@ def test_one_desk_at_a_time(tmp_path, monkeypatch):
         both.wait()
         try:
             desk.save({"scenario": text}, sums)
-            ends.append(text)
+            return text
         except saved_files.Changed:
-            ends.append(None)
+            return None
 
-    threads = [threading.Thread(target=save, args=(desk, text)) for desk, text in zip(desks, ("one\n", "two\n"))]
-    for it in threads:
-        it.start()
-    for it in threads:
-        it.join()
-    saved = [it for it in ends if it]
-    assert len(ends) == 2 and len(saved) == 1 and (tmp_path / "file").read_text() == saved[0]
+    with ThreadPoolExecutor() as pool:
+        (saved,) = filter(None, pool.map(save, desks, ("one\n", "two\n")))
+    assert (tmp_path / "file").read_text() == saved

@@ -102,14 +102,14 @@ unproved() {
 
 # build_unproved NAME: builds a program without a proof, as `rt try` does, and keeps it in the folder that `unproved` prints.
 build_unproved() {
-    local name=$1 to work copying options=(check)
+    local name=$1 to work copying counting options=(check)
     to=$(unproved)
     [ ! -x "$to/$name" ] || return 0
     if ! command -v rt >/dev/null; then
         echo "$name can't be built: rt, the toolchain's command, isn't on the path" >&2
         return 1
     fi
-    echo "building $name without a proof, once: about two minutes" >&2
+    echo "building $name without a proof, once: some minutes" >&2
     work=$(mktemp -d) && mkdir -p "$to" && mkfifo "$work/list" || return 1
     [ "$name" = nethrywel ] || options=(--check)
     # `rt try` removes the program at its end. So the program is copied while it waits for its start list, which is a pipe.
@@ -118,9 +118,12 @@ build_unproved() {
         cp "$(find "$work" -name program -type f)" "$to/$name.$$" && mv "$to/$name.$$" "$to/$name"
     ) &
     copying=$!
+    (while [ -t 2 ] && sleep 1; do printf '\r%s: %s s' "$name" "$SECONDS" >&2; done) &
+    counting=$!
     (cd "$top/crates/$name" && TMPDIR=$work rt try -- "${options[@]}" "$work/list") </dev/null >"$work/said" 2>&1
-    kill "$copying" 2>/dev/null
-    wait "$copying" 2>/dev/null
+    kill "$copying" "$counting" 2>/dev/null
+    wait "$copying" "$counting" 2>/dev/null
+    [ ! -t 2 ] || printf '\r\033[K' >&2
     [ -x "$to/$name" ] || cat "$work/said" >&2
     rm -rf "$work"
     [ -x "$to/$name" ]

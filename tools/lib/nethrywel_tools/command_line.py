@@ -2,8 +2,6 @@
 import argparse
 import os
 import sys
-import threading
-import time
 
 
 class Fault(Exception):
@@ -18,10 +16,7 @@ class Missing(Fault):
     """A package that isn't installed."""
 
     def __init__(self, package):
-        super().__init__(f"{package} isn't here; run {SETUP}")
-
-
-SETUP = "dev/setup"
+        super().__init__(f"{package} isn't here; run dev/setup")
 
 
 class Help(argparse.RawDescriptionHelpFormatter):
@@ -34,56 +29,50 @@ class Help(argparse.RawDescriptionHelpFormatter):
         super().start_section({"positional arguments": "Arguments", "options": "Options"}.get(heading, heading))
 
 
-def options(name, usage, about):
-    """Returns a parser of a tool's options. The help has the name by which the tool is called: nethrywel-NAME if it is
-    installed."""
+def argument(*names, **settings):
+    """Returns an argument of a tool, as argparse takes it."""
+    return names, settings
+
+
+def given_in(usage, about, arguments):
+    """Reads a tool's command line. Of arguments in a list one at most is given. The help has the name by which the tool is called:
+    nethrywel-NAME if it is installed."""
+    name = os.path.basename(usage.split()[0])
     if os.path.basename(sys.argv[0]) == f"nethrywel-{name}":
         usage, about = (it.replace("tools/", "nethrywel-") for it in (usage, about))
-    return argparse.ArgumentParser(prog=name, usage=usage, description=about, formatter_class=Help, allow_abbrev=False)
+    reader = argparse.ArgumentParser(prog=name, usage=usage, description=about, formatter_class=Help, allow_abbrev=False)
+    for it in arguments:
+        group = reader.add_mutually_exclusive_group() if isinstance(it, list) else reader
+        for names, settings in it if isinstance(it, list) else [it]:
+            group.add_argument(*names, **settings)
+    return name, reader.parse_args()
 
 
-def run(name, work, at_interrupt=130):
-    """Runs a tool and returns its status. A fault is printed with the tool's name; an interrupt has a status of its own."""
+def main(usage, about, work, *arguments, at_interrupt=130):
+    """Runs a tool with what its command line gives, and ends with the status that it returns. A fault is printed with the tool's
+    name; an interrupt has a status of its own."""
+    name, given = given_in(usage, about, arguments)
     try:
-        return work() or 0
+        status = work(given) or 0
     except Fault as it:
         print(f"{name}: {it}", file=sys.stderr)
-        return it.status
+        status = it.status
     except BrokenPipeError:
         os.dup2(os.open(os.devnull, os.O_WRONLY), sys.stdout.fileno())
-        return 141
+        status = 141
     except OSError as it:
-        print(f"{name}: {it.filename}: {it.strerror}" if it.filename else f"{name}: {it.strerror}", file=sys.stderr)
-        return 1
+        print(": ".join([name, *filter(None, (it.filename, it.strerror))]), file=sys.stderr)
+        status = 1
     except KeyboardInterrupt:
-        return at_interrupt
+        status = at_interrupt
+    sys.exit(status)
 
 
-class Progress:
-    """A line on a terminal that says what a tool does now, and for how long it has run; nothing if standard error is no
+def progress(name):
+    """Returns a line on a terminal that says for how long a tool has run and what it does now; nothing if standard error is no
     terminal."""
-
-    def __init__(self, name):
-        self.name, self.text, self.began = name, "", time.monotonic()
-        self.ends = threading.Event()
-        self.shows = threading.Thread(target=self.show, daemon=True)
-
-    def __enter__(self):
-        if sys.stderr.isatty():
-            self.shows.start()
-        return self
-
-    def __exit__(self, *_):
-        self.ends.set()
-        if self.shows.ident:
-            self.shows.join()
-            print("\r\033[K", end="", file=sys.stderr, flush=True)
-
-    def say(self, text):
-        self.text = text
-
-    def show(self):
-        """Prints the line again, twice a second."""
-        while not self.ends.wait(0.5):
-            line = f"{self.name}: {time.monotonic() - self.began:.0f} s, {self.text}"
-            print(f"\r\033[K{line[: (os.get_terminal_size(2).columns or 80) - 1]}", end="", file=sys.stderr, flush=True)
+    try:
+        from tqdm import tqdm
+    except ImportError as fault:
+        raise Missing("python3-tqdm") from fault
+    return tqdm(bar_format=f"{name}: {{elapsed}}, {{desc}}", disable=None, leave=False, dynamic_ncols=True)

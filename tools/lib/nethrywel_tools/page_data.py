@@ -14,6 +14,12 @@ WHOLE_LINES, WHOLE_BYTES = 3000, 500_000
 ENDS, WRONG, REFUSED, EVENLY, LONG = 300, 400, 400, 600, 120
 ACCOUNTS, COMPLAINTS, TEXT_LINES = 300, 1000, 400
 LEFT = ("lines", "timelines", "points", "accounts", "complaints", "ticks")
+# The parts of a page that show what a command prints; with `run --only` it is the part `alone`.
+PARTS = {
+    "check": ("reach",), "tree": ("reach", "budgets"), "reach": ("reach",), "route": ("reach",), "diff": (),
+    "trace": ("scenario", "timelines", "alone", "budgets"), "run": ("scenario", "alone"), "accounts": ("budgets",),
+    "least": ("budgets",),
+}
 
 
 def amount(number):
@@ -101,16 +107,25 @@ def budget_of(key, rows, given):
 
 class PageData:
     """What is printed of texts, which are in a folder as list.json, policy and scenario; the first two may be none. `run` runs
-    the program with arguments there, and returns status, output and standard error."""
+    the program with arguments there, and returns status, output and standard error. `missing` has why a part of the page isn't
+    whole: the commands that came to no end."""
 
     def __init__(self, run, list_text, policy_text, scenario_text):
-        self.run, self.list, self.policy, self.scenario = run, list_text, policy_text, scenario_text
+        self.run, self.list, self.policy, self.scenario, self.missing = run, list_text, policy_text, scenario_text, {}
         self.machine = ["--machine", "list.json"] if list_text is not None else []
         self.rules, self.calls, self.outputs, self.budgets = {}, [], [], {}
+
+    def ran(self, *words, parts=None):
+        """Returns status, output and standard error of a command. Status 1, which none has that came to its end, is noted."""
+        status, out, err = self.run(words)
+        for part in (parts or PARTS[words[0]]) if status == 1 else ():
+            self.missing.setdefault(part, []).append(f"nethrywel {' '.join(words)}: {errors_in(err)}")
+        return status, out, err
 
     def first(self):
         """Returns what is printed of the start list and, if it boots, of each line."""
         data = {"list": self.list, "boots": True, "count": len(lines_in(self.scenario)), "left": dict.fromkeys(LEFT, 0)}
+        data["missing"] = self.missing
         data |= dict.fromkeys(("policy", "reach", "least", "alone"))
         data |= {it: [] for it in ("findings", "ways", "lines", "complaints", "faults", "timelines", "accounts")}
         if self.list is None or self.of_list(data):
@@ -120,31 +135,31 @@ class PageData:
     def of_list(self, data):
         found = places(self.list)
         self.rules = rules_in(self.list, found)
-        status, out, err = self.run(["check", "--json", *(["--policy", "policy"] if self.policy else []), "list.json"])
-        told = [*values_in(Diagnostic, out), *diagnostics_in(err)]
+        status, out, err = self.ran("check", "--json", *(["--policy", "policy"] if self.policy else []), "list.json")
+        told = [*values_in(Diagnostic, out), *diagnostics_in(err)] if status != 1 else []
         breaches = [it for it in told if it.file == "policy"]
         for it in told:
             if it.file != "policy":
                 where = f"{it.line}:{it.column}: " if it.line else f"{it.part}: " if it.part and it.kind == "finding" else ""
                 place = range_of(it, self.list, found)
                 data["findings"].append({"told": where + it.text, "range": place, "advice": it.kind == "advice"})
-        # (a policy with a fault, or a breach of it, is no fault of the list)
-        data["boots"] = status == 0 or bool(breaches)
-        if self.policy and data["boots"]:
+        # (a policy with a fault, or a breach of it, is no fault of the list; without a check the run decides)
+        data["boots"] = status in (0, 1) or bool(breaches)
+        if self.policy and data["boots"] and status != 1:
             data["policy"] = policy_lines(self.policy, status, breaches, self.rules)
         if data["boots"]:
-            tree = self.run(["tree", "--json", "list.json"])[1]
+            tree = self.ran("tree", "--json", "list.json")[1]
             data["ways"] = requests_of(values_in(Request, tree, "wish"), self.rules)
             self.budgets = {it.name: (it.ram, it.caps) for it in values_in(Account, tree, "component")}
-            data["reach"] = json.loads(self.run(["reach", "--json", "list.json"])[1] or "[]")
+            data["reach"] = json.loads(self.ran("reach", "--json", "list.json")[1] or "null")
         return data["boots"]
 
     def of_scenario(self, data):
-        data["status"], out, err = self.run(["trace", "--json", *self.machine, "scenario"])
+        data["status"], out, err = self.ran("trace", "--json", *self.machine, "scenario")
         self.calls = list(calls_in(out.split("\n")))
         errors = diagnostics_in(err)
         complaints = [[it.line, it.column, it.text] for it in errors if it.file == "scenario" and it.column]
-        data["faults"] = [it.text for it in errors if it.file != "scenario" or not it.column]
+        data["faults"] = [it.text for it in errors if data["status"] != 1 and (it.file != "scenario" or not it.column)]
         data["wrong"] = len({it[0] for it in complaints})
         self.of_lines(data, complaints)
         shown = {it[0] for it in data["lines"]}
@@ -156,7 +171,7 @@ class PageData:
             "name": it.name, "session": bool(it.part), "points": it.points, "refusals": len(it.refused),
             "refused": some(it.refused, TICKS),
         } for it in timelines]
-        listed = self.run(["accounts", "--json", *self.machine, "scenario"])[1]
+        listed = self.ran("accounts", "--json", *self.machine, "scenario")[1]
         accounts = accounts_of(values_in(Account, listed, "account", "session", "reserve"))
         donated = Counter()
         for it in accounts:
@@ -168,7 +183,7 @@ class PageData:
     def of_lines(self, data, complaints):
         """Fills in the lines that are shown, each with its number, its text, who called, the reply and the log lines that it
         finished."""
-        texts, transcript = lines_in(self.scenario), self.run(["run", *self.machine, "scenario"])[1]
+        texts, transcript = lines_in(self.scenario), self.ran("run", *self.machine, "scenario")[1]
         self.outputs = list(outputs_in(self.calls, transcript))
         told = {it.line: (it.component, it.reply, output[:-1]) for it, output in self.outputs}
         if len(texts) <= WHOLE_LINES and len(self.scenario) + len(transcript) <= WHOLE_BYTES:
@@ -186,13 +201,13 @@ class PageData:
     def alone(self):
         """Returns for each script that has a call the replies to its lines, in the whole run and in a run of them alone."""
         scripts, own = [], {}
-        for it, output in self.outputs:
+        for it, output in self.outputs if "alone" not in self.missing else ():
             if it.ram_used is not None:
                 own.setdefault(it.component, []).append((it, output))
         for name, whole in own.items():
-            status, out, err = self.run(["run", f"--only={name}", *self.machine, "scenario"])
-            if status not in (0, 3):
-                return {"scripts": [], "thinned": False, "why": err}
+            status, out, _ = self.ran("run", f"--only={name}", *self.machine, "scenario", parts=["alone"])
+            if status == 1:
+                continue
             both = zip(whole, outputs_in([it for it, _ in whole], out))
             differ = {it.line: "\n".join(alone) for (it, output), (_, alone) in both if output != alone}
             lines = list(dict.fromkeys(it.line for it, _ in whole))
@@ -203,17 +218,18 @@ class PageData:
                 "name": name, "told": said, "lines": ticks, "thinned": len(ticks) < len(lines), "refused": refused,
                 "differ": list(differ.items()),
             })
-        return {"scripts": scripts, "thinned": any(it["thinned"] for it in scripts), "why": ""}
+        missing = self.missing.get("alone", [])
+        return {"scripts": scripts, "thinned": any(it["thinned"] for it in scripts), "missing": missing}
 
     def least(self):
         """Returns which budgets suffice for each account."""
-        arguments = [*self.machine, "scenario"]
-        status, out, err = self.run(["least", "--json", *arguments])
-        if status not in (0, 3):
-            return {"accounts": [], "left": 0, "text": [], "why": errors_in(err)}
+        status, out, _ = self.ran("least", "--json", *self.machine, "scenario")
+        # (nothing is printed if nothing is run, as of a round without an end)
+        if status == 1 or not out:
+            return {"accounts": [], "left": 0, "text": [], "missing": self.missing.get("budgets", [])}
         found, given = [], dict(self.budgets)
         if self.list is None:
-            boot = values_in(Account, self.run(["accounts", "--json", "/dev/null"])[1], "account")
+            boot = values_in(Account, self.ran("accounts", "--json", "/dev/null")[1], "account")
             given = {it.name: (it.ram_limit, it.caps_limit) for it in boot if it.name != "init"}
         openings = Counter()
         for it in self.calls:
@@ -234,13 +250,14 @@ class PageData:
         accounts = [budget_of(key, rows, given.get(key if key[1] else key[0])) for key, rows in found]
         sessions = {id(it) for it in some([it for it in accounts if it["session"]], TIMELINES)}
         shown = [it for it in accounts if not it["session"] or id(it) in sessions]
-        text = lines_in(self.run(["least", *arguments])[1])
-        return {"accounts": shown, "left": len(accounts) - len(shown), "text": text[:TEXT_LINES], "why": ""}
+        text, missing = lines_in(self.ran("least", *self.machine, "scenario")[1]), self.missing.get("budgets", [])
+        return {"accounts": shown, "left": len(accounts) - len(shown), "text": text[:TEXT_LINES], "missing": missing}
 
     def route(self, client, service, label):
         """Returns the route of one session request, as it is printed, with the rules that it names."""
         arguments = [f'label="{label}"'] if label else []
-        told = self.run(["route", "--", "list.json", client, service, *arguments])[1]
+        _, out, err = self.ran("route", "--", "list.json", client, service, *arguments)
+        told = out or errors_in(err)
         return {"told": told.splitlines(), "rules": rules_named(told, client, self.rules)}
 
     def routes(self, reach):
@@ -252,5 +269,5 @@ class PageData:
         """Returns how the start list differs from one before, with the effect on the scenario's replies."""
         if self.list is None:
             return {"told": [], "why": "the built-in machine has no text: write a start list"}
-        status, out, err = self.run(["diff", before, "list.json", "scenario"])
+        status, out, err = self.ran("diff", before, "list.json", "scenario")
         return {"told": lines_in(out), "why": "" if status in (0, 4) else err}

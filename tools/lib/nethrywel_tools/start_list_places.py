@@ -4,44 +4,30 @@ import re
 
 RULE = re.compile(r"(default-route|route)\[([0-9]+)\](?: for ([^,:]+))?")
 STEP = re.compile(r'([a-z-]+)(?: and [a-z-]+)?(?:\[([0-9]+)\])?(?: "[^"]*")?$')
-SPACE = re.compile(r"[ \t\n\r]*")
+TOKEN = re.compile(r'"(?:[^"\\]|\\.)*"|[{}\[\],]|[^\s{}\[\],:"]+')
 
 
 def places(text):
     """Returns where each value of a JSON text is, from its path to its first and last character; nothing if it is no JSON."""
-    found = {}
-    decode = json.JSONDecoder().raw_decode
-
-    def skip(at):
-        return SPACE.match(text, at).end()
-
-    def value(at, path):
-        end = {"{": members, "[": items}.get(text[at], scalar)(at, path)
-        found[path] = (at, end)
-        return end
-
-    def scalar(at, _):
-        return decode(text, at)[1]
-
-    def items(at, path):
-        at, count = skip(at + 1), 0
-        while text[at] != "]":
-            at = skip(value(at, (*path, count)))
-            at, count = skip(at + (text[at] == ",")), count + 1
-        return at + 1
-
-    def members(at, path):
-        at = skip(at + 1)
-        while text[at] != "}":
-            name, at = decode(text, at)
-            at = skip(value(skip(skip(at) + 1), (*path, name)))
-            at = skip(at + (text[at] == ","))
-        return at + 1
-
     try:
-        value(skip(0), ())
-    except (ValueError, IndexError, RecursionError):
+        json.loads(text)
+    except (ValueError, RecursionError):
         return {}
+    # The path of the token: an item's number, or a member's name, which is None before it is read.
+    found, path, begins = {}, [], []
+    for token in TOKEN.finditer(text):
+        if token[0] in "{[":
+            begins.append(token.start())
+            path.append(None if token[0] == "{" else 0)
+        elif token[0] in "}]":
+            path.pop()
+            found[tuple(path)] = begins.pop(), token.end()
+        elif token[0] == ",":
+            path[-1] = path[-1] + 1 if isinstance(path[-1], int) else None
+        elif path and path[-1] is None:
+            path[-1] = json.loads(token[0])
+        else:
+            found[tuple(path)] = token.span()
     return found
 
 

@@ -58,14 +58,19 @@ const Page = (() => {
     const old = document.getElementById(id);
     for (const it of parts) if (it.id === id) old.replaceWith(...it());
   };
-  // add ID TITLE MAKE: a part of the page, which MAKE fills; it is left out where MAKE returns false.
+  // Why a part isn't whole: the commands that came to no end.
+  const missing = (id) => state.data.missing[id] || [];
+  // A note that a part is empty, unless that isn't known.
+  const none = (id, text) => (missing(id).length ? "" : note(text));
+  // add ID TITLE MAKE: a part of the page, which MAKE fills; it is left out where MAKE returns false and nothing is missing.
   const add = (id, title, make) => parts.push(Object.assign(() => {
-    const part = el("section", { id }, el("h2", {}, title));
-    return make(part) === false ? [] : [part];
+    const why = missing(id).map((it) => el("p", { class: "bad" }, `✗ left out: ${it}`));
+    const part = el("section", { id }, el("h2", {}, title), ...why);
+    return make(part) === false && !why.length ? [] : [part];
   }, { id, title }));
 
   document.addEventListener("DOMContentLoaded", () => {
     if (document.body.className === "report") draw(JSON.parse(document.getElementById("data").textContent));
   });
-  return { state, hooks, page, parts, add, take, draw, redraw, el, svg, note, amount, refuses, fold };
+  return { state, hooks, page, parts, add, missing, none, take, draw, redraw, el, svg, note, amount, refuses, fold };
 })();

@@ -1,7 +1,7 @@
 "use strict";
 // Budgets: of each account what it uses, donated, has left and in reserve; and every budget that serves, with the least.
 (() => {
-  const { state, el, svg, note, amount, fold } = Page;
+  const { state, none, el, svg, note, amount, fold } = Page;
   const WIDE = 300;
   const KINDS = [
     { key: "ram", what: "RAM", shown: amount, from: 0 },
@@ -112,8 +112,8 @@
   };
   Page.add("budgets", "Budgets", (part) => {
     const { data } = state;
-    if (!data.accounts.length) return part.append(note("There are no accounts."));
-    const told = data.least === null || data.least.stale ? `Which budgets suffice is being computed ..${data.least ? " The strips are those of the text before." : ""}` : data.least.why ? `Which budgets suffice isn't known: ${data.least.why}`
+    if (!data.accounts.length) return part.append(none("budgets", "There are no accounts."));
+    const told = data.least === null || data.least.stale ? `Which budgets suffice is being computed ..${data.least ? " The strips are those of the text before." : ""}` : !data.least.accounts.length ? "Which budgets suffice isn't known."
       : `The strip below a bar is on the bar's scale: plain green if a budget suffices, hatched red if some call is short of quota. More RAM can be insufficient.${data.least.left ? ` The budgets of ${data.least.left} sessions are left out.` : ""}`;
     if (data.least && data.least.stale) part.className = "stale";
     part.append(legend(), note(told));

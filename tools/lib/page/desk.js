@@ -230,13 +230,14 @@
     const mine = edit;
     await compare();
     if (!now.boots) return whole();
-    for (const [what, part] of [["alone", "alone"], ["least", "budgets"]]) {
+    for (const [what, part, command] of [["alone", "alone", "run --only"], ["least", "budgets", "least"]]) {
       const told = await ask("rest", { edit: mine, what }).catch((fault) => {
         if (fault.message === "a later edit") throw fault;
-        return { accounts: [], scripts: [], why: fault.message };
+        return { accounts: [], scripts: [], missing: [`nethrywel ${command}: ${fault.message}`] };
       });
       if (mine !== edit) return undefined;
       now[what] = told;
+      now.missing[part] = told.missing;
       Page.redraw(part);
       Page.redraw("verdict");
     }

@@ -1,7 +1,7 @@
 "use strict";
 // What happens line by line: timelines, each script alone, and the scenario with its replies; one cursor for all.
 (() => {
-  const { state, hooks, page, el, svg, note, amount, refuses, fold } = Page;
+  const { state, hooks, page, none, el, svg, note, amount, refuses, fold } = Page;
   const FEW = 500;
   let go = () => {}, values = [];
 
@@ -94,7 +94,7 @@
   };
   Page.add("timelines", "Timelines", (part) => {
     const { data } = state;
-    if (!data.timelines.length) return part.append(note("No account was called."));
+    if (!data.timelines.length) return part.append(none("timelines", "No account was called."));
     part.append(note(`RAM on the left, capabilities on the right, over the scenario's ${data.count} lines: the area is what is in use, dashed is the limit, a red tick at the foot is a refusal. The number on the left is the top of the scale, the one on the right is what the cursor's line leaves.`));
     if (data.left.points) part.append(note("Long timelines are thinned: of each stretch the first point, the last, the least and the greatest are kept, and of refusals some."));
     if (data.left.timelines) part.append(note(`Left out: the timelines of ${data.left.timelines} sessions.`));
@@ -140,8 +140,7 @@
   Page.add("alone", "Alone", (part) => {
     const { alone } = state.data;
     if (alone === null) return part.append(note(state.data.boots ? "Each script alone is being run .." : "Nobody was called."));
-    if (alone.why) return part.append(note(`The replies to each script alone aren't known: ${alone.why}`));
-    if (!alone.scripts.length) return part.append(note("Nobody was called."));
+    if (!alone.scripts.length) return part.append(none("alone", "Nobody was called."));
     part.append(note("The replies to each script in the whole run, above, and in a run of its own lines alone, below: a tall tick is a reply, a short red one a refusal. By proof they are the same."));
     if (alone.thinned) part.append(note("Strips of many lines are thinned: some of the ticks are drawn, evenly."));
     for (const it of alone.scripts) {

@@ -1,16 +1,16 @@
 "use strict";
 // The verdict first: whether the machine boots, lines are answered as expected, the policy is kept and budgets suffice; then the contents.
 (() => {
-  const { state, hooks, parts, el } = Page;
+  const { state, hooks, parts, missing, el } = Page;
   const SIGNS = { good: "✓", bad: "✗", finding: "⚠", note: "…" };
   // (a desk has the scenario in an editor)
   const at = (id) => (id === "scenario" && hooks.select ? "#of-scenario" : `#${id}`);
   const line = (kind, text, part) => el("li", { class: kind }, `${SIGNS[kind]} `, el("a", { href: at(part) }, text));
   const many = (count, one, more) => (count === 1 ? one : `${count} ${more}`);
 
-  const of_lines = ({ wrong }) => (wrong
+  const of_lines = ({ wrong, status }) => [!wrong && status ? line("bad", "the scenario isn't run", "scenario") : wrong
     ? line("bad", many(wrong, "a line isn't answered as it expects, or is no call", "lines aren't answered as they expect, or are no calls"), "scenario")
-    : line("good", "each line is a call, and answered as it expects", "scenario"));
+    : line("good", "each line is a call, and answered as it expects", "scenario")];
   const of_policy = ({ policy }) => {
     if (!policy) return [];
     const broken = policy.lines.filter((it) => it.told).length;
@@ -22,7 +22,7 @@
     return found ? [line("finding", many(found, "a finding in the start list", "findings in the start list"), "reach")] : [];
   };
   const of_alone = ({ alone }) => {
-    if (alone === null || alone.why || !alone.scripts.length) return [];
+    if (alone === null || !alone.scripts.length) return [];
     const differ = alone.scripts.filter((it) => it.differ.length).map((it) => it.name);
     return [differ.length ? line("bad", `replies depend on others: ${differ.join(", ")}`, "alone")
       : line("good", `${many(alone.scripts.length, "the script has", "scripts have")} the same replies alone as in the whole run`, "alone")];
@@ -30,7 +30,7 @@
 
   const of_budgets = ({ least }) => {
     if (least === null || least.stale) return [line("note", "which budgets suffice is being computed", "budgets")];
-    if (least.why) return [line("note", "which budgets suffice isn't known", "budgets")];
+    if (!least.accounts.length) return [line("note", "which budgets suffice isn't known", "budgets")];
     const short = least.accounts.filter((it) => it.short);
     if (!short.length) return [line("good", "each budget and each donation suffices", "budgets")];
     return short.slice(0, 12).map((it) => line("bad", `${it.session ? `${it.name}/${it.session} (line ${it.line})` : it.name}: ${it.told.find((one) => one.startsWith("given ")) || it.told[0]}`, "budgets"))
@@ -39,7 +39,11 @@
 
   Page.add("verdict", "Verdict", (part) => {
     const { data } = state;
-    const told = data.boots ? [of_lines(data), ...of_policy(data), ...of_findings(data), ...of_alone(data), ...of_budgets(data)]
+    // (nothing is stated of a part that isn't whole, except what it lacks)
+    const said = new Set();
+    const lacks = (id) => missing(id).filter((it) => !said.has(it) && said.add(it)).map((it) => line("bad", `left out: ${it}`, id));
+    const whole = (id, of) => (missing(id).length ? lacks(id) : of(data));
+    const told = data.boots ? [...whole("scenario", of_lines), ...of_policy(data), ...whole("reach", of_findings), ...whole("alone", of_alone), ...whole("budgets", of_budgets)]
       : [line("bad", "the machine doesn't boot, so no line was answered", "reach")];
     part.append(el("ul", { class: "verdict" }, ...told),
       el("nav", { "aria-label": "contents" }, ...parts.filter((it) => it.id !== "verdict").map((it) => el("a", { href: at(it.id) }, it.title))));
