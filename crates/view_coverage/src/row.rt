@@ -15,8 +15,13 @@ pub struct CoverageRow {
 }
 
 impl CoverageRow {
+    ghost use Rattle.std.specs.Prelude.{◌≡◌};
+    ghost use Rattle.view_coverage.specs.ReportTexts.{is_of_a_rule};
+
     /// Returns whether the row is that of a rule.
-    pub(crate) fn is_of_a_rule(&self) -> bool {
+    pub(crate) fn is_of_a_rule(&self) -> bool
+        ensures { result ≡ is_of_a_rule self.now }
+    {
         matches!(self.event, CoverageEvent::Decided(_))
     }
 }
