@@ -61,11 +61,10 @@ impl CoveragePrinter {
         let Some(report) = &self.report else {
             return Ok(());
         };
-        let text = if self.json {
-            report.document(alloc)?
-        } else {
-            report.text(alloc)?
-        };
-        io::writer(rt).write_all(text.as_slice())
+        if self.json {
+            return io::writer(rt).write_all(report.document(alloc)?.as_slice());
+        }
+        let text = format!(in alloc; "{report}")?;
+        io::writer(rt).write_all(text.as_bytes())
     }
 }

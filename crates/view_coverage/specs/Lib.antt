@@ -3,5 +3,4 @@ pub mod Requests
 pub mod Rules
 pub mod Covered
 pub mod Reported
-pub mod ReportTexts
 pub mod TableTheorems

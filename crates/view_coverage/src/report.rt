@@ -1,8 +1,7 @@
 //! The coverage of all scenarios: which rules decide a session request, and which refusals and errors are met, in total and by
 //! file.
-ghost use Rattle.std.specs.Prelude.{◌≡◌, ◌&&◌, ◌==◌, [], count_by, map, string_bytes, IfOk, OnOk};
-ghost use Rattle.view_coverage.specs.ReportTexts.{tables, tables_of, times, times_decided};
-ghost use Rattle.view_coverage.specs.Reported.{is_met_in, list_view, lists_with, place_of, reported, reported_with, rule_name, rule_view, rules_from};
+ghost use Rattle.std.specs.Prelude.{◌≡◌, ◌&&◌, ◌==◌, count_by};
+ghost use Rattle.view_coverage.specs.Reported.{is_met_in};
 
 use crate::event::{CoverageEvent, RouteOwner, RulePlace};
 use crate::row::CoverageRow;
@@ -43,9 +42,7 @@ pub(crate) struct CoverageSheet {
 
 impl CoverageReport {
     /// Returns a report without scenarios, to which scenarios are added.
-    pub fn new(alloc: Global) -> CoverageReport
-        ensures { reported result ≡ record { lists = []; sheets = [] } }
-    {
+    pub fn new(alloc: Global) -> CoverageReport {
         CoverageReport {
             alloc,
             lists: Vec::new(alloc),
@@ -60,10 +57,7 @@ impl CoverageReport {
         path: &str,
         scenario: &str,
         coverage: Coverage,
-    ) -> Result<(), AllocError>
-        ensures { OnOk result (reported self.new
-            ≡ reported_with list.now path.now scenario.now coverage.rows.items (reported self.old)) }
-    {
+    ) -> Result<(), AllocError> {
         let place = self.place_of(list, path, coverage.rows.as_slice())?;
         self.sheets.push(CoverageSheet {
             path: String::from_str(self.alloc, scenario)?,
@@ -79,30 +73,22 @@ impl CoverageReport {
         list: &StartList,
         path: &str,
         rows: &[CoverageRow],
-    ) -> Result<usize, AllocError>
-        ensures place { IfOk result (λ place. place ≡ place_of path.now (map list_view self.old.lists.items)) }
-        ensures lists { OnOk result (map list_view self.new.lists.items
-            ≡ lists_with list.now path.now rows.now (map list_view self.old.lists.items)) }
-        ensures sheets { self.new.sheets ≡ self.old.sheets }
-    {
-        let known = self.lists.iter().position(|it| it.path.as_str() == path);
-        match known {
-            Some(place) => Ok(place),
-            None => {
-                let place = self.lists.len();
-                self.lists.push(ListRules {
-                    path: String::from_str(self.alloc, path)?,
-                    rules: rules_named(self.alloc, list, rows)?,
-                })?;
-                Ok(place)
+    ) -> Result<usize, AllocError> {
+        for (place, rules) in self.lists.as_slice().iter().enumerate() {
+            if rules.path.as_str() == path {
+                return Ok(place);
             }
         }
+        let place = self.lists.len();
+        self.lists.push(ListRules {
+            path: String::from_str(self.alloc, path)?,
+            rules: rules_named(self.alloc, list, rows)?,
+        })?;
+        Ok(place)
     }
 
     /// Returns the rows of both tables of the first scenario; their events are the same for each scenario.
-    pub(crate) fn tables(&self) -> &[CoverageRow]
-        ensures { result.now ≡ tables self.now.sheets.items }
-    {
+    pub(crate) fn tables(&self) -> &[CoverageRow] {
         match self.sheets.as_slice().first() {
             Some(sheet) => tables_of(sheet.rows.as_slice()),
             None => &[],
@@ -111,14 +97,15 @@ impl CoverageReport {
 
     /// Returns how many scenarios meet the row at a place of the tables.
     pub(crate) fn times(&self, place: usize) -> usize
-        ensures { result ≡ times self.now.sheets.items place }
+        ensures { result ≡ count_by (λ sheet. is_met_in sheet place) self.now.sheets.items }
     {
         times_in(self.sheets.as_slice(), place)
     }
 
     /// Returns in how many scenarios of a start list the rule decides whose row is at a place.
     pub(crate) fn times_decided(&self, list: usize, place: usize) -> usize
-        ensures { result ≡ times_decided self.now.sheets.items list place }
+        ensures { result ≡ count_by
+            (λ sheet. (sheet.list == list) && is_met_in sheet place) self.now.sheets.items }
     {
         times_of(self.sheets.as_slice(), list, place)
     }
@@ -141,14 +128,15 @@ impl CoverageSheet {
 
 // The number of these scenarios that meet the row at a place.
 fn times_in(sheets: &[CoverageSheet], place: usize) -> usize
-    ensures { result ≡ times sheets.now place }
+    ensures { result ≡ count_by (λ sheet. is_met_in sheet place) sheets.now }
 {
     sheets.iter().filter(|sheet| sheet.meets(place)).count()
 }
 
 // The same for the scenarios of a start list.
 fn times_of(sheets: &[CoverageSheet], list: usize, place: usize) -> usize
-    ensures { result ≡ times_decided sheets.now list place }
+    ensures { result ≡ count_by
+        (λ sheet. (sheet.list == list) && is_met_in sheet place) sheets.now }
 {
     sheets
         .iter()
@@ -157,9 +145,7 @@ fn times_of(sheets: &[CoverageSheet], list: usize, place: usize) -> usize
 }
 
 /// Returns the rows before the first row of a rule.
-pub(crate) fn tables_of(rows: &[CoverageRow]) -> &[CoverageRow]
-    ensures { result.now ≡ tables_of rows.now }
-{
+pub(crate) fn tables_of(rows: &[CoverageRow]) -> &[CoverageRow] {
     match rows.iter().position(|row| row.is_of_a_rule()) {
         Some(end) => &rows[..end],
         None => rows,
@@ -171,12 +157,10 @@ fn rules_named(
     alloc: Global,
     list: &StartList,
     rows: &[CoverageRow],
-) -> Result<Vec<NamedRule>, AllocError>
-    ensures { IfOk result (λ rules. map rule_view rules.items ≡ rules_from list.now 0 rows.now) }
-{
+) -> Result<Vec<NamedRule>, AllocError> {
     let mut rules = Vec::new(alloc);
-    for place in 0..rows.len() {
-        if let CoverageEvent::Decided(rule) = rows[place].event {
+    for (place, row) in rows.iter().enumerate() {
+        if let CoverageEvent::Decided(rule) = row.event {
             rules.push(NamedRule {
                 place,
                 name: rule_name(alloc, list, rule)?,
@@ -187,9 +171,7 @@ fn rules_named(
 }
 
 // The name of a rule: its place in its route, and whose route that is, unless it is the machine's.
-fn rule_name(alloc: Global, list: &StartList, rule: RulePlace) -> Result<String, AllocError>
-    ensures { IfOk result (λ name. string_bytes name ≡ rule_name list.now rule) }
-{
+fn rule_name(alloc: Global, list: &StartList, rule: RulePlace) -> Result<String, AllocError> {
     let place = rule.place;
     let (route, number) = match rule.route {
         RouteOwner::Own(number) => ("route", Some(number)),
@@ -201,11 +183,7 @@ fn rule_name(alloc: Global, list: &StartList, rule: RulePlace) -> Result<String,
         None => None,
     };
     match owner {
-        Some(entry) => {
-            let path = entry.to_path();
-            let path = path.as_str();
-            format!(in alloc; "{route}[{place}] of {path}")
-        }
+        Some(entry) => format!(in alloc; "{route}[{place}] of {}", entry.to_path()),
         None => format!(in alloc; "{route}[{place}]"),
     }
 }

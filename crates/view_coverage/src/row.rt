@@ -15,13 +15,8 @@ pub struct CoverageRow {
 }
 
 impl CoverageRow {
-    ghost use Rattle.std.specs.Prelude.{◌≡◌};
-    ghost use Rattle.view_coverage.specs.ReportTexts.{is_of_a_rule};
-
     /// Returns whether the row is that of a rule.
-    pub(crate) fn is_of_a_rule(&self) -> bool
-        ensures { result ≡ is_of_a_rule self.now }
-    {
+    pub(crate) fn is_of_a_rule(&self) -> bool {
         matches!(self.event, CoverageEvent::Decided(_))
     }
 }
