@@ -5,7 +5,7 @@ use list_parser::{BootFault, StartList};
 use serde_json::{Value, put};
 use std::alloc::Global;
 
-/// A start list's value, whose budgets are written anew, and where in it each entry stands.
+/// A start list's JSON value, in which budgets are replaced, and the place of each entry in it.
 #[derive(Drop)]
 pub(crate) struct Draft {
     value: Value,

@@ -34,7 +34,7 @@ pub(crate) fn funded_trial(
     Ok(trial)
 }
 
-/// Exactly the budgets, of no more than the most, under which none of a script's calls is in want.
+/// Returns exactly the budgets, up to the largest, under which none of a script's calls is short of quota.
 pub(crate) fn own_rows(
     alloc: Global,
     list: &StartList,

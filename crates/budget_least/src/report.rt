@@ -13,8 +13,8 @@ use list_parser::{Binary, BootFault, ListEntry, StartList};
 use std::alloc::Global;
 use trade_base::PAGE;
 
-/// What is asked: a start list, the text of a scenario, and whether sessions are given what the scenario donates, and not the
-/// least.
+/// A question: a start list, the text of a scenario, and whether sessions get what the scenario donates in place of the
+/// minimum.
 #[derive(Clone, Copy)]
 pub struct BudgetQuery<'a> {
     /// The start list.
@@ -35,8 +35,8 @@ pub struct BudgetReport<'a> {
 }
 
 impl<'a> BudgetReport<'a> {
-    /// Returns the answer to a question, by the run from where it begins: names stand for what is given and what the run binds. An
-    /// error is that of the start list, which may not boot, or that the host has no memory.
+    /// Returns the answer to a question, by the run from its start: names denote the given values and those that the run binds.
+    /// Fails with the start list's fault if the list doesn't boot, or if the host is out of memory.
     pub fn of(
         alloc: Global,
         question: BudgetQuery<'a>,

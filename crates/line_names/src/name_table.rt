@@ -58,7 +58,7 @@ impl NameTable {
         })
     }
 
-    /// What a name stands for: what is given, or else the newest that is bound to it.
+    /// Returns the value of a name: the given one, or else the newest that is bound to it.
     pub fn value(&self, name: &[u8]) -> Option<&[u8]>
         ensures { option_copied result ≡ value_of self.now name.now }
     {
@@ -132,7 +132,7 @@ fn copy_bindings(alloc: Global, bindings: &[Binding]) -> Result<Vec<Binding>, Al
     Ok(copies)
 }
 
-// What the newest binding of a name stands for.
+// Returns the value of the newest binding of a name.
 #[tactic(auto, using(crate::proofs::KnownLemmas::newests))]
 fn newest<'a>(bindings: &'a [Binding], name: &[u8]) -> Option<&'a [u8]>
     ensures { option_copied result ≡ newest name.now (map binding_of bindings.now) }

@@ -1,4 +1,4 @@
--- A scenario with the replies of its calls behind them, line for line.
+-- A scenario with the replies of its calls after them, line by line.
 use Rattle.std.specs.Prelude.{ℕ, ◌+◌, ◌-◌, ◌==◌, ◌&&◌, not, Bool, true, false, List, [], ◌∷◌, ◌++◌, length, take, drop, codes, nat_eq, slice_index, is_none, if◌then◌else◌, Option, Some, None}
 use Rattle.std.specs.List.{flat_map, list_all, list_any, slice_split}
 use Rattle.std.specs.Option.{unwrap_or}

@@ -34,12 +34,12 @@ pub struct Recording {
     pub unread: Vec<UnreadLine>,
 }
 
-/// Plays a scenario from where its run begins, and writes its own lines with the reply of each call behind it, and before
-/// it the log lines that the call finishes, as what is expected of it: of each call of which no reply is expected yet, or
-/// with `all` of each anew, whatever is expected of it. A line within rounds expects what holds in all of them: its reply,
-/// or where that is another one from round to round whether it refuses. Where a reply binds a name, what is expected stays
-/// as it is. Every other byte stays. A call whose line can't say what is expected of it, as one behind `!`, stays as it is.
-/// An error is that of the start list, which may not boot, or want of memory.
+/// Runs a scenario from its start, and writes its own lines. After each call without an expected reply it writes the reply, and
+/// before the call the log lines that the call finishes; with `all` it replaces the expectations of all calls. A line within
+/// rounds expects what holds in each round: its reply, or, if replies differ, whether it is refused. If a reply binds a name,
+/// the expectation of its line remains. A call whose line can't have an expectation, for example after `!`, remains too, and so
+/// does every other byte.
+/// Fails with the start list's fault if the list doesn't boot, or if the host is out of memory.
 #[tactic(auto, using(run_lines::proofs::MachineLemmas::listed_at_start))]
 pub fn record(
     alloc: Global,

@@ -7,7 +7,7 @@ use Rattle.line_steps.specs.ResolvedLines.ResolvedLine.{BadName, Follow, Log, Ca
 use Rattle.run_scenario.specs.LineSteps.{binds_names}
 use Rattle.run_scenario.specs.declared.scenario_end.ScenarioEnd.{ScenarioEnd}
 
--- a line takes memory of the host if it is told why it can't be filled or parsed, if it is a log line that is expected, and if it
+-- a line takes memory of the host if its fault is reported when it is filled or parsed, if it is an expected log line, and if it
 -- may bind a name; a call takes memory if the observer does
 abbrev pub takes_memory : Bool → ResolvedLine → Bool
 takes_memory calls (BadName fault) = true

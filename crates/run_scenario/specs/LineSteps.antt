@@ -105,7 +105,7 @@ abbrev pub AreBare : List (List ℕ) → Type 0
 AreBare [] = ⊤
 AreBare (line ∷ lines) = IsBare line × AreBare lines
 
--- what such a line is, for any values of names
+-- what this line is, for any values of names
 abbrev pub bare_content : List ℕ → Result FriendlyLine FriendlyFault → ResolvedLine
 bare_content line (Ok NoContent) = Nothing
 bare_content line (Ok (LogContent text)) = Log text

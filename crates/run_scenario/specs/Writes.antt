@@ -45,7 +45,7 @@ pub record IsRunFrom (turns : List (List ℕ) → List LineStep) (told behind : 
   pub counted : IfNone ending.fault (ending.lines ≡ length given)
   pub writes : WritesBoth ending.fault input given written now_written (told (turns given)) (behind (turns given))
 
--- behind a play that came to its end this is written, or a part of it where a write failed; behind another nothing
+-- after a run that reached its end this is written, or a part of it if a write failed; after any other run nothing
 abbrev pub WritesAfter : Option LineRunFault → Option LineRunFault → Option (List ℕ) → Option (List ℕ) → List ℕ → Type 0
 WritesAfter None None old new behind = Appends old new behind
 WritesAfter None (Some fault) old new behind = (fault ≡ WriteFault) × AppendsPart old new behind
@@ -60,11 +60,11 @@ abbrev pub IsWrittenBy : {T : Type 0} → Result T LineRunFault → Option (List
 IsWrittenBy (Ok done) old new text = Appends old new text
 IsWrittenBy (Err fault) old new text = (fault ≡ WriteFault) × AppendsPart old new text
 
--- the turns of a scenario's lines on the machine of a list, from its first stand on
+-- the steps of a scenario's lines on the machine of a list, from its first position on
 abbrev pub turns_on : Option (List ℕ) → RunPosition → Listed → List (List ℕ) → List LineStep
 turns_on only first listed lines = turns_of only (world_of listed) first lines
 
--- nothing stands there
+-- nothing is written
 abbrev pub nothing_told : List LineStep → List ℕ
 nothing_told turns = []
 

@@ -39,8 +39,8 @@ pub record SessionAccount : Type 0 where
   pub selector : ℕ
   pub account : Account
 
--- a row: the number of the call's line, the component, the call and its reply; the component's account after the call, if there is
--- such a component; the session that the call names with its account, if it is open; and the text of the call's bytes, if it has some
+-- a row: the number of the call's line, the component, the call and its reply; the component's account after the call, if a
+-- component has this name; the session that the call names with its account, if it is open; and the text of the call's bytes, if it has some
 pub record TraceRow : Type 0 where
   pub number : ℕ
   pub component : List ℕ

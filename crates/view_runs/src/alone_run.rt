@@ -1,4 +1,4 @@
-//! What one component is told in the whole run, and in a run of its own lines alone.
+//! The replies to one component in the whole run, and in a run of its own lines alone.
 ghost use Rattle.std.specs.Prelude.{◌≡◌, ◌≢◌, ◌≤◌, ◌∷◌, ◌++◌, ◌||◌, [], ℕ, List, codes, decimal, length, false, true, is_err, IfOk, IfErr, IfNone, IfSome, OnErr, OnOk, None, Some};
 ghost use Rattle.std.specs.Option.{option_map_or};
 ghost use Rattle.std.specs.Result.{result_err};
@@ -270,8 +270,8 @@ fn put_side<K: Sink>(
 /// writes how many these lines are, and that their answers are the same. They always are the same: each component's answers are
 /// those of its own run. Errors of lines are written as they are found.
 ///
-/// At a fault what was told by then is written, or where a write failed or the host has no room a part of it, from the front. It
-/// stops as `run` does.
+/// At a fault the output up to the fault is written, or a prefix of it if a write failed or the host is out of memory. It stops
+/// as `run` does.
 #[tactic(auto, using(run_lines::proofs::MachineLemmas::listed_at_start))]
 pub fn alone<S: Source, K: Sink, E: Sink>(
     alloc: Global,

@@ -30,7 +30,7 @@ pub struct TraceRow<'a> {
     pub call: &'a [u8],
     /// The reply.
     pub reply: &'a [u8],
-    /// The component's account after the call, if there is such a component.
+    /// The component's account after the call, if a component has this name.
     pub account: Option<Quotas>,
     /// The session that the call names, if it is open after the call.
     pub session: Option<SessionAccount>,

@@ -108,10 +108,10 @@ fn write_numbered<K: Sink>(
 /// its number. With `accounts` the account list is written after a run without a fault. Errors of lines are written as they are
 /// found.
 ///
-/// What is written is the transcript of the calls that the scenario's lines say, and the account list of the world after them;
-/// at a fault the transcript of the lines that were played, or where a write failed or the host has no room a part of these, from
-/// the front. It stops for the causes of the engine's run, or for want of room at a line that isn't read or that expects a log
-/// line. A device that had failed before is told, the outputs first, and none is touched then, nor where no machine is booted.
+/// The output is the transcript of the calls that the scenario's lines make, and the account list of the world after them. At a
+/// fault it is the transcript of the lines that were run, or a prefix of it if a write failed or the host is out of memory. It
+/// stops for the causes of the engine's run, or if the host is out of memory at a line that isn't read or that expects a log
+/// line. A device that had failed before is reported, the outputs first. Then, and if no machine boots, no device is touched.
 #[tactic(auto, using(run_lines::proofs::MachineLemmas::listed_at_start))]
 pub fn run<S: Source, K: Sink, E: Sink>(
     alloc: Global,
