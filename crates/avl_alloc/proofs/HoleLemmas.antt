@@ -1,8 +1,7 @@
 -- Places, and holes in words: what a store keeps of them.
-use Rattle.std.proofs.Common.{◌≡◌, ◌≢◌, ℕ, ◌+◌, ◌-◌, ◌*◌, ◌/◌, ◌%◌, ◌^◌, ◌<◌, ◌≤◌, true, false, refl, sym, ◌∙◌, subst, arith}
+use Rattle.std.proofs.Common.{◌≡◌, ◌≢◌, ℕ, ◌+◌, ◌-◌, ◌/◌, ◌%◌, ◌^◌, ◌<◌, ◌≤◌, true, false, refl, sym, ◌∙◌, subst, arith}
 use Rattle.std.specs.Prelude.{nat_lt, nat_le, ◌==◌, if◌then◌else◌}
 use Rattle.std.proofs.lemmas.Bool.Decides.{nat_tests}
-use Rattle.avl_tree.specs.declared.node.Links.{Links}
 use Rattle.avl_tree.specs.Tree.{Tree, Leaf, Node, tally, is_at, ranked}
 use Rattle.avl_tree.specs.View.{IsRelinked, Holds, AreNodes, covered}
 use Rattle.avl_tree.proofs.ViewLemmas.{nodes_in}

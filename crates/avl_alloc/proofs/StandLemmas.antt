@@ -8,7 +8,7 @@ use Rattle.own_model.specs.BestFit.{cut}
 use Rattle.avl_alloc.specs.declared.best_fit.BestFit.{BestFit}
 use Rattle.avl_alloc.specs.Words.{Words, with_word, within, IsNode, IsPlace}
 use Rattle.avl_tree.specs.Tree.{Tree, high, inserted, removed}
-use Rattle.avl_tree.specs.View.{AreNodes, Becomes, Stands, IsNew}
+use Rattle.avl_tree.specs.View.{Becomes, Stands, IsNew}
 use Rattle.avl_alloc.specs.FreeBlocks.{key, view_of, hole_plan, Fits}
 use Rattle.avl_alloc.specs.Layout.{Laid, weigh, none, bytes_of, hole_count}
 use Rattle.avl_alloc.specs.Context.{Context, heap_with, start_of, Stand, Turn, AreUsed, StandUsed, gap, filled, first_hole}

@@ -1,6 +1,5 @@
 -- How blocks become others: a hole taken out of the tree, used blocks made a hole, a used block cut.
 use Rattle.std.proofs.Common.{◌≡◌, ◌≢◌, ℕ, ◌+◌, ◌%◌, ◌<◌, ◌≤◌, refl, sym, ap, ◌∙◌, subst, arith, List, [], ◌∷◌, ◌++◌, length}
-use Rattle.std.proofs.lemmas.Bool.Decides.{nat_tests}
 use Rattle.std.proofs.lemmas.List.{append_assoc}
 use Rattle.own_model.specs.Heap.{Block, Used, Hole, bytes_in}
 use Rattle.avl_alloc.specs.declared.best_fit.BestFit.{BestFit}
@@ -10,7 +9,7 @@ use Rattle.avl_tree.specs.View.{AreNodes, Holds, Becomes, Stands, IsNew}
 use Rattle.avl_alloc.specs.FreeBlocks.{key, by_key, view_of, hole_plan, heads, links, cover}
 use Rattle.avl_alloc.specs.Layout.{Laid, weigh, none, whole, sizes_of, bytes_of, weigh_holes, IsLaidOut}
 use Rattle.avl_alloc.specs.Context.{Context, heap_with, start_of, around, Stand, Turn, AreUsed}
-use Rattle.avl_tree.proofs.TreeLemmas.{one, tally-inserted, tally-removed_le, inserted-grows, removed-shrinks, high_bound}
+use Rattle.avl_tree.proofs.TreeLemmas.{one, tally-inserted, tally-removed_le, high_bound}
 use Rattle.avl_tree.proofs.OrderLemmas.{same-same, tally-removed, inserted-ordered, removed-ordered, widened}
 use Rattle.avl_tree.proofs.ViewLemmas.{nodes_in}
 use Rattle.avl_tree.proofs.GrowLemmas.{nodes_with}

@@ -1,6 +1,5 @@
 -- Holes as nodes of a tree: words and places.
-use Rattle.std.specs.Prelude.{◌≡◌, ℕ, ◌+◌, ◌*◌, ◌^◌, ◌≤◌}
-use Rattle.avl_tree.specs.declared.node.Links.{Links}
+use Rattle.std.specs.Prelude.{ℕ, ◌+◌, ◌*◌, ◌^◌, ◌≤◌}
 use Rattle.avl_tree.specs.Tree.{Tree, tally}
 use Rattle.avl_tree.specs.View.{View, Plan}
 use Rattle.avl_alloc.specs.declared.free_blocks.FreeBlockKey.{FreeBlockKey}

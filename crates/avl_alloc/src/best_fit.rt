@@ -9,7 +9,7 @@ ghost use Rattle.avl_alloc.specs.Context.{Context, heap_with, Stand, StandSomewh
 ghost use Rattle.avl_alloc.specs.Walk.{block_there};
 ghost use Rattle.avl_alloc.specs.Found.{used_block, block_addr};
 
-use super::chunk::{Block, HOLE, USED, hole_at, set_header, set_state, walk};
+use super::chunk::{Block, HOLE, USED, hole_at, set_header, set_state};
 use super::free_blocks::{FreeBlockKey, FreeBlocks};
 use super::memory::{SPAN, WordMemory, load, place_of};
 use avl_tree::{find, insert, remove};
@@ -213,7 +213,7 @@ impl BestFit {
         if addr.offset >= self.sizes[addr.chunk] {
             return None;
         }
-        Some(walk(memory, addr.chunk, addr.offset))
+        Some(memory.walk(addr.chunk, addr.offset))
     }
 
     /// Allocates `size` bytes of the free block at a place. The remainder stays a free block, unless it is below the

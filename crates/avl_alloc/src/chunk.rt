@@ -1,15 +1,11 @@
 //! The blocks of a chunk, read and written by their headers.
-ghost use Rattle.std.specs.Prelude.{◌≡◌, ℕ, ◌+◌, ◌*◌, ◌%◌, ◌<◌, ◌≤◌, ◌==◌, if◌then◌else◌, List, length};
-ghost use Rattle.own_model.specs.Heap.{Block as ModelBlock, bytes_in};
-ghost use Rattle.avl_alloc.specs.Words.{IsNode, place_at, with_word};
-ghost use Rattle.avl_alloc.specs.Layout.{Laid, IsRoom};
-ghost use Rattle.avl_alloc.specs.Walk.{block_over};
+ghost use Rattle.std.specs.Prelude.{◌≡◌, ◌+◌, ◌≤◌, ◌==◌, if◌then◌else◌};
+ghost use Rattle.avl_alloc.specs.Words.{IsNode, with_word};
 
 use super::memory::{WordMemory, load, load_of, store};
-use trade_base::BLOCK_HEADER;
 
 /// The offset in a header of the word that has the block's state.
-const STATE: u64 = 8;
+pub const STATE: u64 = 8;
 
 /// The state of a free block.
 pub const HOLE: u64 = 0;
@@ -66,48 +62,4 @@ pub fn hole_at<M: WordMemory>(memory: &mut M, place: u64) -> u64
     } else {
         0
     }
-}
-
-/// Returns the block that contains an offset of a chunk, found by a walk over the headers from the chunk's first byte. It
-/// loads by chunk and offset, so that the chunk's words are looked up once. Each header's offset is visibly a multiple of
-/// 16, so that the compiler knows both words of a header to be in one page.
-pub fn walk<M: WordMemory>(memory: &mut M, chunk: usize, target: u64) -> Block
-    requires { (blocks : List ModelBlock) × Laid (M.word memory.old) (place_at chunk 0) blocks ×
-        IsRoom (M.bytes (M.rest memory.old)) (place_at chunk 0) (bytes_in blocks) ×
-        (target < bytes_in blocks) }
-    ensures reached { result.offset ≤ target }
-    ensures found { (blocks : List ModelBlock)
-        → Laid (M.word memory.old) (place_at chunk 0) blocks → target < bytes_in blocks
-        → result ≡ block_over 0 0 target blocks }
-    ensures words { M.word memory.new ≡ M.word memory.old }
-    ensures rest { M.rest memory.new ≡ M.rest memory.old }
-    ensures loads { (blocks : List ModelBlock)
-        → Laid (M.word memory.old) (place_at chunk 0) blocks → target < bytes_in blocks
-        → M.loads memory.new ≤ M.loads memory.old + 2 * length blocks }
-{
-    let mut offset = 0;
-    let mut before = 0;
-    'steps: loop {
-        let header = whole(offset);
-        let size = memory.load(chunk, header);
-        let used = memory.load(chunk, header + STATE) == USED;
-        if target < offset + size {
-            return Block {
-                offset,
-                size,
-                used,
-                before,
-            };
-        }
-        before = if used { 0 } else { size };
-        offset += size;
-    }
-}
-
-/// Returns the same offset, rounded to a multiple of 16. After inlining, the compiler knows that its low bits are 0.
-fn whole(offset: u64) -> u64
-    requires { offset % BLOCK_HEADER ≡ 0 }
-    ensures { result ≡ offset }
-{
-    offset / BLOCK_HEADER * BLOCK_HEADER
 }

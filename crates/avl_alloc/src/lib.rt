@@ -15,6 +15,7 @@ mod free_blocks;
 mod memory;
 mod theorems;
 
+pub use chunk::{Block, STATE, USED};
 pub use best_fit::{BestFit, BlockAddr, MOST_CHUNKS, UsedBlock, block_bytes};
 pub use memory::WordMemory;
 pub use theorems::{

@@ -1,6 +1,11 @@
 //! The words under the heap, denoted by their places.
-ghost use Rattle.std.specs.Prelude.{◌≡◌, ℕ, ◌+◌, ◌%◌, ◌<◌, ◌≤◌};
+ghost use Rattle.std.specs.Prelude.{◌≡◌, ℕ, ◌+◌, ◌*◌, ◌%◌, ◌<◌, ◌≤◌, List, length};
+ghost use Rattle.own_model.specs.Heap.{Block as ModelBlock, bytes_in};
 ghost use Rattle.avl_alloc.specs.Words.{IsWord, IsPlace, IsNode, place_at, with_word};
+ghost use Rattle.avl_alloc.specs.Layout.{Laid, IsRoom};
+ghost use Rattle.avl_alloc.specs.Walk.{block_over};
+
+use super::chunk::{Block, STATE, USED};
 
 /// Words of eight bytes at the multiples of 8 of numbered chunks.
 ///
@@ -35,6 +40,40 @@ pub trait WordMemory {
         ensures words { word self.new ≡ with_word (word self.old) (place_at chunk offset) value }
         ensures rest { rest self.new ≡ rest self.old }
         ensures loads { loads self.new ≡ loads self.old };
+
+    /// Returns the block that contains an offset of a chunk, found by a walk over the headers from the chunk's first byte.
+    /// It loads at most two words for each block.
+    fn walk(&mut self, chunk: usize, target: u64) -> Block
+        requires { (blocks : List ModelBlock) × Laid (word self.old) (place_at chunk 0) blocks ×
+            IsRoom (bytes (rest self.old)) (place_at chunk 0) (bytes_in blocks) ×
+            (target < bytes_in blocks) }
+        ensures reached { result.offset ≤ target }
+        ensures found { (blocks : List ModelBlock)
+            → Laid (word self.old) (place_at chunk 0) blocks → target < bytes_in blocks
+            → result ≡ block_over 0 0 target blocks }
+        ensures words { word self.new ≡ word self.old }
+        ensures rest { rest self.new ≡ rest self.old }
+        ensures loads { (blocks : List ModelBlock)
+            → Laid (word self.old) (place_at chunk 0) blocks → target < bytes_in blocks
+            → loads self.new ≤ loads self.old + 2 * length blocks }
+    {
+        let mut offset = 0;
+        let mut before = 0;
+        'steps: loop {
+            let size = self.load(chunk, offset);
+            let used = self.load(chunk, offset + STATE) == USED;
+            if target < offset + size {
+                return Block {
+                    offset,
+                    size,
+                    used,
+                    before,
+                };
+            }
+            before = if used { 0 } else { size };
+            offset += size;
+        }
+    }
 }
 
 /// The distance between the places of two consecutive chunks, and the maximum size of a chunk in bytes.

@@ -1,5 +1,5 @@
 -- A buffer while it is filled with the bytes of a run, a page or a part of one at a time.
-use Rattle.std.proofs.Common.{◌≡◌, ℕ, ◌+◌, ◌-◌, ◌/◌, ◌%◌, ◌≤◌, List, ◌++◌, length, take, drop, sym, ap, ◌∙◌, arith, rules}
+use Rattle.std.proofs.Common.{◌≡◌, ℕ, ◌+◌, ◌-◌, ◌*◌, ◌/◌, ◌%◌, ◌<◌, ◌≤◌, List, ◌++◌, length, take, drop, refl, sym, ap, ◌∙◌, arith, rules}
 use Rattle.std.specs.Prelude.{Option, slice_range}
 use Rattle.std.proofs.lemmas.List.{take_all}
 use Rattle.std.proofs.lemmas.Slice.{take-put_mid}
@@ -41,3 +41,10 @@ run_range pages table start count offset n run here = search (rules, range_piece
 pub filled_all : (buffer bytes : List ℕ) (offset done len : ℕ) → length buffer ≡ len → done ≤ length buffer → length buffer ≤ done → take done buffer ≡ take done (drop offset bytes) → buffer ≡ slice_range bytes offset (offset + len)
 filled_all buffer bytes offset done len size within all so_far =
     sym (take_all done buffer all) ∙ so_far ∙ sym (range_piece bytes offset len done (omega arith))
+
+-- a whole page is that range of the run
+pub run_page : (pages : List (Option (List ℕ))) (table : List PageNo) (start count i : ℕ) → IsRun pages table start count → i < count → slice_range (page_bytes pages (page_in table (start + i))) 0 4096 ≡ slice_range (run_bytes pages table start count) (i * 4096) (i * 4096 + 4096)
+run_page pages table start count i run below =
+    sym (run_piece pages table start count i 0 4096 run below (omega arith))
+    ∙ ap (λ k. take 4096 (drop k (run_bytes pages table start count))) (omega arith)
+    ∙ sym (range_piece (run_bytes pages table start count) (i * 4096) 4096 4096 refl)

@@ -17,7 +17,7 @@ ghost use Rattle.dataspace_core.specs.Store.{credited_part, PartBecomes, OpensPa
 
 use crate::dataspace::{Dataspace, size_of, space_under};
 use crate::page_runs::{
-    RunPlace, close_gap, copy_piece, give_run, load_run, no_pages, read_run, store_run, take_run,
+    RunPlace, close_gap, copy_piece, give_run, load_run, no_pages, read_run, run_page, store_run, take_run,
     write_run,
 };
 use crate::spaces::Spaces;
@@ -216,6 +216,18 @@ impl Memory {
             offset: to_offset as usize,
         };
         copy_piece(&mut self.pool, &self.table, source, target, count as usize);
+    }
+
+    /// Returns the 4096 bytes of the page of a dataspace that contains `offset`, as they are stored.
+    pub fn page(&self, ds: DsId, offset: u64) -> &[u8]
+        requires exists { Exists self.now ds.0 }
+        requires range { offset < length (space_at self.now ds.0).bytes }
+        ensures bytes { let start = offset / 4096 * 4096 in
+            result.now ≡ slice_range (space_at self.now ds.0).bytes start (start + 4096) }
+        ensures size { length result.now ≡ 4096 }
+    {
+        let run = space_under(&self.spaces, ds).run;
+        run_page(&self.pool, &self.table, run, offset as usize)
     }
 
     /// Loads the little-endian word of 8 bytes at `offset` of a dataspace. `offset` is a multiple of 8.

@@ -1,5 +1,5 @@
 //! Runs of pages: one table has the page numbers of all dataspaces, those of each dataspace contiguous.
-ghost use Rattle.std.specs.Prelude.{◌≡◌, ◌+◌, ◌*◌, ◌%◌, ◌^◌, ◌<◌, ◌≤◌, [], length, slice_range, vec_len, vec_capacity, IfOk};
+ghost use Rattle.std.specs.Prelude.{◌≡◌, ◌+◌, ◌*◌, ◌/◌, ◌%◌, ◌^◌, ◌<◌, ◌≤◌, [], length, slice_range, vec_len, vec_capacity, IfOk};
 ghost use Rattle.page_pool.specs.Pages.{free_count};
 ghost use Rattle.trade_base.specs.Word.{word_of, word_bytes};
 ghost use Rattle.dataspace_core.specs.Layout.{AreApart, IsRun, IsNewRun, IsGiven, IsClosed, IsPieceIn, IsWordIn, IsWritten, run_bytes};
@@ -141,6 +141,23 @@ pub(crate) fn copy_piece(
         to.offset % PAGE_BYTES,
         count,
     );
+}
+
+/// Returns the bytes of the page of a run that contains `offset`.
+pub(crate) fn run_page<'a>(
+    pool: &'a Pool,
+    table: &Vec<PageNo>,
+    run: PageRun,
+    offset: usize,
+) -> &'a [u8]
+    requires run { IsRun pool.now table.now.items run.start run.count }
+    requires range { offset < run.count * 4096 }
+    ensures bytes { let bytes = run_bytes pool.now table.now.items run.start run.count in
+        let start = offset / 4096 * 4096 in
+        result.now ≡ slice_range bytes start (start + 4096) }
+    ensures size { length result.now ≡ 4096 }
+{
+    pool.part(table[run.start + offset / PAGE_BYTES], 0, PAGE_BYTES)
 }
 
 /// Loads the word at `offset` of a run.

@@ -118,6 +118,17 @@ impl Pool {
         self.free += 1;
     }
 
+    /// Returns `count` bytes of a taken page from `offset` on.
+    pub fn part(&self, page: PageNo, offset: usize, count: usize) -> &[u8]
+        requires taken { IsTrue (is_taken self.now page.0) }
+        requires range { offset + count ≤ 4096 }
+        ensures bytes { result.now ≡ slice_range (page_bytes self.now page.0) offset (offset + count) }
+        ensures size { length (page_bytes self.now page.0) ≡ 4096 }
+    {
+        let start = page.0 as usize * PAGE_BYTES + offset;
+        &self.block.bytes()[start..start + count]
+    }
+
     /// Fills `buffer` with the bytes of a taken page from `offset` on.
     pub fn read(&self, page: PageNo, offset: usize, buffer: &mut [u8])
         requires taken { IsTrue (is_taken self.now page.0) }
@@ -126,8 +137,7 @@ impl Pool {
             buffer.new ≡ slice_range (page_bytes self.now page.0) offset end }
         ensures size { length (page_bytes self.now page.0) ≡ 4096 }
     {
-        let start = page.0 as usize * PAGE_BYTES + offset;
-        bytes::read(self.block.bytes(), start, buffer);
+        buffer.copy_from_slice(self.part(page, offset, buffer.len()));
     }
 
     /// Writes `part` to a taken page at `offset`, in bytes. Nothing else changes.

@@ -1,0 +1,28 @@
+-- The bytes are those of one page of the run.
+use Rattle.std.proofs.Common.{ℕ, ◌*◌, ◌/◌, ◌<◌, ap, ◌∙◌, length, arith}
+use Rattle.std.specs.Prelude.{slice_range}
+use Rattle.trade_base.proofs.BytesLemmas.{length-slice_range}
+use Rattle.dataspace_core.specs.Layout.{run_bytes}
+use Rattle.page_pool.specs.Pages.{page_bytes}
+use Rattle.dataspace_core.proofs.RunLemmas.{page_in_read, is_taken-held, length-run_bytes}
+use Rattle.dataspace_core.proofs.ReadLemmas.{run_page}
+use Rattle.dataspace_core.proofs.page_runs.run_page.Goals as goal
+
+below : (offset count : ℕ) → offset < count * 4096 → offset / 4096 < count
+below offset count range = omega arith
+
+pub part-requires-clause-taken : goal.part-requires-clause-taken
+part-requires-clause-taken c =
+    let here = below c.args.offset c.args.run.count c.requires.range in
+    rw (page_in_read c.args.table.now.items c.args.run.start c.args.run.count _ c.index.result.now c.requires.run.within here c.index.ensures)
+    (is_taken-held c.args.pool.now _ (c.requires.run.held _ here))
+
+pub returns : goal.returns
+returns c =
+    let here = below c.args.offset c.args.run.count c.requires.range in
+    let page = page_in_read c.args.table.now.items c.args.run.start c.args.run.count _ c.index.result.now c.requires.run.within here c.index.ensures in
+    let bytes = c.part.ensures.bytes ∙ ap (λ p. slice_range (page_bytes c.args.pool.now p) 0 4096) page
+    ∙ run_page c.args.pool.now c.args.table.now.items c.args.run.start c.args.run.count (c.args.offset / 4096) c.requires.run here in
+    let run = run_bytes c.args.pool.now c.args.table.now.items c.args.run.start c.args.run.count in
+    let long = length-run_bytes c.args.pool.now c.args.table.now.items c.args.run.start c.args.run.count c.requires.run.held in
+    record { bytes = bytes; size = ap length bytes ∙ length-slice_range run (c.args.offset / 4096 * 4096) 4096 (omega (arith, long, here)) }
