@@ -6,17 +6,8 @@ use Rattle.own_model.specs.Heap.{Used, Hole, bytes_in, IsBlockSize}
 use Rattle.avl_alloc.specs.declared.chunk.Block.{Block}
 use Rattle.avl_alloc.specs.Words.{Words, IsWord, place_at}
 use Rattle.avl_alloc.specs.Layout.{Laid, IsRoom}
-use Rattle.avl_alloc.specs.Walk.{block_over}
+use Rattle.avl_alloc.specs.Walk.{block_over, IsAhead}
 use Rattle.avl_alloc.proofs.HoleLemmas.{ltb-true, ltb-false}
-
--- the blocks that a walk has ahead of it, from an offset on
-pub record IsAhead (w : Words) (start from before target : ℕ) (blocks ahead : List heap.Block) (n k : ℕ) : Type 0 where
-  pub laid : Laid w (start + from) ahead
-  pub total : from + bytes_in ahead ≡ bytes_in blocks
-  pub even : from % 16 ≡ 0
-  pub reached : from ≤ target
-  pub same : block_over from before target ahead ≡ block_over 0 0 target blocks
-  pub few : n + 2 * length ahead ≤ k + 2 * length blocks
 
 pub ahead-start : (w : Words) (start target : ℕ) (blocks : List heap.Block) (n : ℕ) → Laid w start blocks → IsAhead w start 0 0 target blocks blocks n n
 ahead-start w start target blocks n laid = record {
@@ -130,3 +121,23 @@ module _ (w : Words) (start from before target : ℕ) (blocks : List heap.Block)
               few = omega (arith, is.few);
             })),
       )
+
+-- what is true of a walk that has loaded so many words is true of one that has loaded fewer
+pub ahead-fewer : (w : Words) (start from before target : ℕ) (blocks ahead : List heap.Block) (n m k : ℕ) → m ≤ n → IsAhead w start from before target blocks ahead n k → IsAhead w start from before target blocks ahead m k
+ahead-fewer w start from before target blocks ahead n m k le is =
+    record { laid = is.laid; total = is.total; even = is.even; reached = is.reached; same = is.same; few = omega (arith, le, is.few) }
+
+-- the block that is ahead is a whole one of the chunk
+pub record IsBlockThere (size from total : ℕ) : Type 0 where
+  pub even : size % 16 ≡ 0
+  pub least : 48 ≤ size
+  pub within : from + size ≤ total
+
+pub ahead-block : (w : Words) (start from before target : ℕ) (blocks ahead : List heap.Block) (n k : ℕ) → target < bytes_in blocks → IsAhead w start from before target blocks ahead n k → IsBlockThere (w (start + from)) from (bytes_in blocks)
+ahead-block w start from before target blocks [] n k inside is = let total = is.total in let reached = is.reached in absurd (omega arith)
+ahead-block w start from before target blocks (Used m ∷ rest) n k inside is =
+    let size = is.laid.0.size in let sized = is.laid.0.sized in
+    record { even = rw size sized.even; least = rw size sized.least; within = omega (arith, size, is.total) }
+ahead-block w start from before target blocks (Hole m ∷ rest) n k inside is =
+    let size = is.laid.0.size in let sized = is.laid.0.sized in
+    record { even = rw size sized.even; least = rw size sized.least; within = omega (arith, size, is.total) }

@@ -17,8 +17,8 @@ ghost use Rattle.dataspace_core.specs.Store.{credited_part, PartBecomes, OpensPa
 
 use crate::dataspace::{Dataspace, size_of, space_under};
 use crate::page_runs::{
-    RunPlace, close_gap, copy_piece, give_run, load_run, no_pages, read_run, run_page, store_run, take_run,
-    write_run,
+    RunPlace, close_gap, copy_piece, give_run, load_run, no_pages, read_run, run_page, store_run,
+    take_run, write_run,
 };
 use crate::spaces::Spaces;
 use page_pool::{PageNo, Pool};

@@ -38,7 +38,7 @@ use Rattle.heap_core.specs.declared.heap.Heap.{Heap}
 use Rattle.heap_core.specs.declared.words.Chunk.{Chunk}
 use Rattle.heap_core.specs.Blocks.{Adds}
 use Rattle.heap_core.specs.Calls.{Grows, Keeps}
-use Rattle.heap_core.specs.Heap.{IsLaid, IsSound, IsChunkAt, IsLargeAt, bytes_shown, chunk_at, heap_in, is_large_tag, keys_in, large_regions, payer_of, payloads_of, share_at, starts_in, words_in, HasLargeBlocks}
+use Rattle.heap_core.specs.Heap.{IsLaid, IsSound, IsChunkAt, bytes_shown, chunk_at, heap_in, is_large_tag, keys_in, large_regions, payer_of, payloads_of, share_at, starts_in, words_in, HasLargeBlocks}
 use Rattle.heap_core.specs.Words.{Around, is_among, are_bytes, around, bytes_in_store, keys_of, words_of, word_in, spaces_but, blank_if}
 use Rattle.heap_core.proofs.AddLemmas.{among_more, are_then, blocks_then, key_other, keys_more, other_space, paid_then, word_then, word_low, word_out}
 use Rattle.heap_core.proofs.AroundLemmas.{get-part, bytes_of-part, part_lengths, account_kept, around_becomes, words_of-part}

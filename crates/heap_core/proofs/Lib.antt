@@ -1,4 +1,5 @@
 pub mod WordsLemmas
+pub mod WalkLemmas
 pub mod ClearLemmas
 pub mod BlockLemmas
 pub mod PayloadLemmas

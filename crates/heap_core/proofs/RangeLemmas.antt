@@ -2,7 +2,6 @@
 use Rattle.std.proofs.Common.{◌≡◌, ◌≢◌, ℕ, ◌+◌, ◌-◌, ◌*◌, ◌<◌, ◌≤◌, true, List, length, get_or, refl, sym, ap, subst, ◌∙◌, ⊎_elim, ◌⊎◌, inl, inr, arith, rules, Some}
 use Rattle.std.proofs.lemmas.Bool.{cases_eq, cases_lt}
 use Rattle.std.proofs.lemmas.Bool.Decides.{nat_tests}
-use Rattle.std.proofs.lemmas.List.{same_lists, places}
 use Rattle.std.proofs.lemmas.Option.{none-some, same_Some}
 use Rattle.std.specs.Prelude.{None, slice_range}
 use Rattle.std.specs.Option.{option_map, option_or}
@@ -44,14 +43,9 @@ use Rattle.heap_core.proofs.PokedLemmas.{put_part}
 use Rattle.sliced_heap.proofs.ShareLemmas.{large_there, told_region, large_region}
 use Rattle.heap_core.proofs.StandLemmas.{chunk_blocks, chunk_bytes, chunk_total}
 use Rattle.heap_core.proofs.StayLemmas.{laid_stays, small, value_then}
-use Rattle.heap_core.proofs.WordsLemmas.{length_keys}
+use Rattle.heap_core.proofs.WordsLemmas.{length_keys, range_in}
 
 -- ---- reads
-
--- a range of a range of bytes
-range_in : (bytes : List ℕ) (before size from count : ℕ) → before + size ≤ length bytes → from + count ≤ size →
-    slice_range bytes (before + from) (before + from + count) ≡ slice_range (slice_range bytes before (before + size)) from (from + count)
-range_in bytes before size from count fits within = same_lists _ _ (search (rules, places)) (λ k d h. grind (arith, places))
 
 pub payload_read : PayloadsAreRead
 payload_read heap store regions ds offset address count held = grind (arith, nat_tests, range_in)

@@ -1,5 +1,5 @@
 -- A large block is taken: a new dataspace is attached, and entered.
-use Rattle.std.proofs.Common.{rules, ◌≡◌, ◌≢◌, ℕ, ◌+◌, ◌*◌, ◌/◌, ◌<◌, ◌≤◌, ◌++◌, false, [], ◌∷◌, length, sym, subst, ◌∙◌, true≢false, ◌⊎◌, arith, Some}
+use Rattle.std.proofs.Common.{rules, ◌≡◌, ℕ, ◌+◌, ◌*◌, ◌/◌, ◌<◌, ◌≤◌, ◌++◌, false, [], ◌∷◌, length, sym, subst, ◌∙◌, true≢false, ◌⊎◌, arith, Some}
 use Rattle.std.proofs.lemmas.Bool.{cases_lt}
 use Rattle.std.proofs.lemmas.Bool.Decides.{nat_tests}
 use Rattle.std.specs.Prelude.{None}

@@ -1,8 +1,8 @@
 -- Words of chunks: a load reads one, a store changes one and nothing around.
-use Rattle.std.proofs.Common.{rules, ◌≡◌, ◌≢◌, ℕ, zero, suc, ◌+◌, ◌%◌, ◌^◌, ◌<◌, ◌≤◌, ◌==◌, ◌&&◌, Bool, true, false, cond, List, [], ◌∷◌, length, take, drop, get_or, refl, sym, ap, subst, ◌∙◌, ⊎_elim, ◌⊎◌, inl, inr, arith}
+use Rattle.std.proofs.Common.{rules, ◌≡◌, ◌≢◌, ℕ, zero, suc, ◌+◌, ◌-◌, ◌%◌, ◌^◌, ◌<◌, ◌≤◌, ◌==◌, ◌&&◌, Bool, true, false, cond, List, [], ◌∷◌, length, take, drop, length-drop, min, get_or, refl, sym, ap, subst, ◌∙◌, ⊎_elim, ◌⊎◌, inl, inr, arith}
 use Rattle.std.proofs.lemmas.Bool.{cases_eq, cases_lt, and_parts}
 use Rattle.std.proofs.lemmas.Bool.Decides.{nat_tests}
-use Rattle.std.proofs.lemmas.List.{get_or-map, length-map}
+use Rattle.std.proofs.lemmas.List.{get_or-map, length-map, length-take, same_lists, places}
 use Rattle.std.proofs.lemmas.List.Folds.{list_any_at, list_all-append}
 use Rattle.std.specs.Prelude.{Option, Some, None, slice_range}
 use Rattle.std.specs.Option.{option_map, unwrap_or, IsSome}
@@ -70,6 +70,19 @@ bytes_dropped [] (suc n) h = refl
 bytes_dropped (x ∷ xs) zero h = h
 bytes_dropped (x ∷ xs) (suc n) h = bytes_dropped xs n (grind (arith, nat_tests))
 
+-- a range of a range of bytes
+pub range_in : (bytes : List ℕ) (before size from count : ℕ) → before + size ≤ length bytes → from + count ≤ size →
+    slice_range bytes (before + from) (before + from + count) ≡ slice_range (slice_range bytes before (before + size)) from (from + count)
+range_in bytes before size from count fits within = same_lists _ _ (search (rules, places)) (λ k d h. grind (arith, places))
+
+-- a range that has as many bytes as it should lies within them
+pub range_whole : (bytes : List ℕ) (from size : ℕ) → 0 < size → length (slice_range bytes from (from + size)) ≡ size → from + size ≤ length bytes
+range_whole bytes from size some long =
+    let left : from + size - from ≡ size = omega arith in
+    let taken : length (slice_range bytes from (from + size)) ≡ min (from + size - from) (length (drop from bytes)) = length-take (from + size - from) (drop from bytes) in
+    let dropped = length-drop from bytes in
+    omega (arith, some, left, long, taken, dropped)
+
 -- ---- how long the chunks are
 
 -- a dataspace with its bytes left out is as long
@@ -112,6 +125,16 @@ around_test false there n offset h = absurd (omega (arith, h))
 pub is_reached : (keys : List ℕ) (store : Store) (chunk offset : ℕ) → IsWord (bytes_around (around keys store)) chunk offset → IsReached keys store chunk offset
 unfolding bytes_around spaces_but
 is_reached keys store chunk offset h = grind (arith, nat_tests, around_test, size_blank, sound_chunks, size_some)
+
+room_test : (sound there : Bool) (n m : ℕ) → 0 < m → m ≤ (cond (sound && there) n 0) → m ≤ n
+room_test true true n m some h = h
+room_test true false n m some h = absurd (omega (arith, some, h))
+room_test false there n m some h = absurd (omega (arith, some, h))
+
+-- so many bytes of a chunk are words
+pub room_within : (keys : List ℕ) (store : Store) (chunk m : ℕ) → 0 < m → m ≤ bytes_around (around keys store) chunk → m ≤ length (bytes_in_store store (get_or keys chunk 0))
+unfolding bytes_around spaces_but
+room_within keys store chunk m some h = grind (arith, nat_tests, room_test, size_blank)
 
 -- ---- the word at a place
 

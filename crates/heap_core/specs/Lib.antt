@@ -1,4 +1,5 @@
 pub mod Words
+pub mod Walk
 pub mod Blocks
 pub mod Heap
 pub mod Lookup

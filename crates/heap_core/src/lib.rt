@@ -12,6 +12,7 @@ mod loads;
 mod lookup;
 mod release;
 mod theorems;
+mod walk;
 mod words;
 
 pub use heap::Heap;

@@ -4,7 +4,8 @@ ghost use Rattle.avl_alloc.specs.Words.{IsWord, place_at, with_word};
 ghost use Rattle.heap_core.specs.Blocks.{IsBlankOf};
 
 use crate::loads::Loads;
-use avl_alloc::WordMemory;
+use crate::walk::walk;
+use avl_alloc::{Block, WordMemory};
 use dataspace_core::Memory;
 use std::sync::ledger::{Blank, Ledger};
 use trade_base::DsId;
@@ -88,5 +89,10 @@ impl<L: Ledger> WordMemory for Words<'_, L> {
     fn store(&mut self, chunk: usize, offset: u64, value: u64) {
         let chunks = self.chunks;
         self.memory.store_word(chunks[chunk].ds, offset, value);
+    }
+
+    fn walk(&mut self, chunk: usize, target: u64) -> Block {
+        let chunks = self.chunks;
+        walk(self.memory, chunks[chunk].ds, target, &mut self.loads)
     }
 }

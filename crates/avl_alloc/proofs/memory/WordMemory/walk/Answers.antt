@@ -2,7 +2,8 @@ use Rattle.std.proofs.lemmas.Bool.Decides.{nat_tests}
 use Rattle.std.proofs.Common.{false, ◌≡◌, ◌+◌, ◌∙◌, ap, refl, sym, subst, arith, eqb}
 use Rattle.std.specs.Prelude.{if◌then◌else◌}
 use Rattle.avl_alloc.specs.Words.{IsWord, place_at}
-use Rattle.avl_alloc.proofs.WalkLemmas.{of_chunk, at_start, at_start_more, IsAhead, ahead-start, ahead-read, ahead-here, ahead-on, ahead-some}
+use Rattle.avl_alloc.specs.Walk.{IsAhead}
+use Rattle.avl_alloc.proofs.WalkLemmas.{of_chunk, at_start, at_start_more, ahead-start, ahead-read, ahead-here, ahead-on, ahead-some}
 use Rattle.avl_alloc.proofs.memory.WordMemory.walk.Goals as goal
 use Rattle.avl_alloc.proofs.memory.WordMemory.walk.Goals.{then-used, else-used}
 

@@ -2,7 +2,7 @@ use Rattle.std.proofs.Common.{◌≡◌, List, ◌+◌, ◌-◌, ◌<◌}
 use Rattle.own_model.specs.Heap.{Block, bytes_in}
 use Rattle.avl_alloc.specs.Words.{place_at}
 use Rattle.avl_alloc.specs.Layout.{Laid}
-use Rattle.avl_alloc.proofs.WalkLemmas.{IsAhead}
+use Rattle.avl_alloc.specs.Walk.{IsAhead}
 use Rattle.avl_alloc.proofs.memory.WordMemory.walk.Given as goal
 
 abbrev pub invariant-steps : goal.invariant-steps

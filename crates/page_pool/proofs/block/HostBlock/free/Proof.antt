@@ -30,7 +30,7 @@ use Rattle.core.proofs.alloc.Shapes.{after}
 use Rattle.core.proofs.atomic.Steps.{fm}
 use Rattle.std.proofs.raw_atomic.Walks.{proved_at, leaves}
 use Rattle.page_pool.proofs.Walks.{slot_at, then_runs, out_of_block, block_room, block_val, block_told, lease_val, lease_told}
-use Rattle.page_pool.specs.Ownership.{bytes_of, block_owns}
+use Rattle.page_pool.specs.Ownership.{bytes_of}
 use Rattle.page_pool.specs.contracts.block.HostBlock.free.{ended, clauses}
 use Rattle.page_pool.specs.contracts.block.HostBlock.free.Key.{name as #self}
 use Rattle.page_pool.proofs.block.HostBlock.free.Statement.{statement}

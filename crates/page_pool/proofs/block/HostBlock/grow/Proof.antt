@@ -7,15 +7,15 @@ use lib.WfN.{lt-wf_rel}
 use mathlib.Core.WellFounded.InvImage
 use seplogic.Ra.Ura.{Ura}
 use base.Fraction.{full_share}
-use base.Logic.{SProp, ent, sep, emp, never, id⊢}
-use base.Fml.{Lft, GName, Share, Fml, ftrue, fsep, feq, fat, froom, flft, fobs, fauth, fbor, fobor}
-use mir.Syntax.{Fn, Body, ty_int, named}
+use base.Logic.{SProp, ent, sep, never, id⊢}
+use base.Fml.{Lft, GName, Share, Fml, ftrue, fsep, feq, fat, froom, flft, fobs, fauth, fobor}
+use mir.Syntax.{Fn, Body, ty_int}
 use mir.Val.{Val, vptr, vint, vunit}
 use prog.Wp.{Env, Out, Wp, WpFn, at_return, after_seq, after_block, after_turn}
 use types.Logic.{Logic, sem}
 use contract.Monad.{fact}
 use contract.Running.{tables, tables_of}
-use types.Kit.{Item, any_q, ‵, raw, ◌⊛◌, prop, at_ret, ◌$◌, ◌∵◌, !, qed, by, move, keep, drop, use0, use1, use2, split, join, rewrite, regoal, fsplit, fsplit3, fjoin, fjoin3, feq_i, feq_l, suffices, frame, done}
+use types.Kit.{Item, any_q, ‵, raw, ◌⊛◌, prop, at_ret, ◌$◌, ◌∵◌, !, qed, move, keep, drop, use0, use1, use2, split, join, rewrite, regoal, fsplit, fsplit3, fjoin, fjoin3, feq_i, feq_l, suffices, frame, done}
 use types.Part.{whole, sub, look_in, store_in}
 use types.Run.{stop, fld, load, lit, unit_lit, bin, of_opd, init, assigns, assigns_last, first, blocks, skips, jumps, branches, exec, returns, enter, loops, again, Below}
 use types.ByLocal.{alloc_all, pass_all, free_all, look_at, get, through, sets, sets_last, env, holding, forget_but}

@@ -1,7 +1,6 @@
 -- The page is linked before the head.
 use Rattle.std.proofs.Common.{◌∙◌, length, ap, ◌+◌, ◌*◌, arith}
 use Rattle.trade_base.specs.Word.{word_bytes}
-use Rattle.trade_base.proofs.WordLemmas.{length-word_bytes}
 use Rattle.page_pool.specs.Layout.{linked}
 use Rattle.page_pool.proofs.PoolLemmas.{LiesIn-in_pool, PoolGave, give_taken, linked_are_few}
 use Rattle.trade_base.specs.Bytes.{with_bytes}

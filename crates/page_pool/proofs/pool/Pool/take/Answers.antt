@@ -3,7 +3,6 @@ use Rattle.std.proofs.Common.{◌≡◌, ℕ, List, ◌++◌, ◌+◌, length, �
 use Rattle.std.proofs.lemmas.Bool.Decides.{nat_tests}
 use Rattle.page_pool.specs.Pages.{zero_page}
 use Rattle.page_pool.specs.Layout.{linked}
-use Rattle.page_pool.proofs.PageLaws.{length-zero_page}
 use Rattle.page_pool.proofs.CallLemmas.{LiesIn-from_head}
 use Rattle.std.specs.Prelude.{replicate}
 use Rattle.page_pool.proofs.PoolLemmas.{PoolTook, take_head, take_next, zero_page_behind}
