@@ -1,7 +1,8 @@
 -- Dataspaces and their starts, read as one slab.
-use Rattle.std.proofs.Common.{◌≡◌, ◌≢◌, ℕ, zero, suc, ◌+◌, ◌<◌, ◌≤◌, cond, max, List, [], ◌∷◌, drop, length, get_or, set, Some, is_some, count_by, refl, sym, ap, subst, ◌∙◌, arith, get_or-set_other, rules}
+use Rattle.std.proofs.Common.{◌≡◌, ◌≢◌, ℕ, zero, suc, ◌+◌, ◌<◌, ◌≤◌, cond, max, List, [], ◌∷◌, drop, length, get_or, set, Some, is_some, count_by, refl, sym, ap, subst, ◌∙◌, arith, get_or-set_other, true≢false, rules}
 use Rattle.std.specs.Prelude.{Option, None}
-use Rattle.std.specs.Option.{option_map}
+use Rattle.std.specs.Option.{option_map, IsSome}
+use Rattle.std.proofs.lemmas.Option.{none-some, same_Some}
 use Rattle.std.proofs.lemmas.Bool.{cases_eq}
 use Rattle.std.proofs.lemmas.Grind.{get_or_after_one}
 use Rattle.std.proofs.lemmas.List.Sums.{sum_by-cons}
@@ -27,6 +28,21 @@ get_or-placed (slot ∷ slots) starts (suc key) =
 is_some-placed : (start : ℕ) (slot : Option DataspaceEntry) → is_some (option_map (placed_at start) slot) ≡ is_some slot
 is_some-placed start None = refl
 is_some-placed start (Some kept) = refl
+
+-- where something is kept there is its start
+start_some : (start : ℕ) (slot : Option DataspaceEntry) → IsSome slot → option_map (λ (d : Dataspace). d.run.start) (option_map (placed_at start) slot) ≡ Some start
+start_some start None there = absurd (true≢false (sym there))
+start_some start (Some kept) there = refl
+
+-- a dataspace of a known start
+pub record StartsAt (o : Option Dataspace) (start : ℕ) : Type 0 where
+  pub space : Dataspace
+  pub there : o ≡ Some space
+  pub same : space.run.start ≡ start
+
+pub starts_at : (o : Option Dataspace) (start : ℕ) → option_map (λ (d : Dataspace). d.run.start) o ≡ Some start → StartsAt o start
+starts_at None start is = absurd (none-some start is)
+starts_at (Some space) start is = record { space = space; there = refl; same = same_Some space.run.start start is }
 
 -- so there are as many
 count-placed : (slots : List (Option DataspaceEntry)) (starts : List ℕ) → count_by is_some (placed_slots slots starts) ≡ count_by is_some slots
@@ -56,6 +72,10 @@ module _ (kept : Slab DataspaceEntry) (starts : List ℕ) where
   -- what stands under a key
   pub get-placed : (key : ℕ) → slab.get (placed kept starts) key ≡ option_map (placed_at (get_or starts key 0)) (slab.get kept key)
   get-placed key = get_or-placed kept.slots starts key
+
+  -- and the start of what is kept
+  pub start-placed : (key : ℕ) → ContainsKey kept key → option_map (λ (d : Dataspace). d.run.start) (slab.get (placed kept starts) key) ≡ Some (get_or starts key 0)
+  start-placed key there = ap (option_map (λ (d : Dataspace). d.run.start)) (get-placed key) ∙ start_some (get_or starts key 0) (slab.get kept key) there
 
   -- where nothing is kept there is no dataspace
   pub get-placed_none : (key : ℕ) → slab.get kept key ≡ None → slab.get (placed kept starts) key ≡ None

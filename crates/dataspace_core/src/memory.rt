@@ -238,8 +238,8 @@ impl Memory {
         ensures { result
             ≡ word_of (slice_range (space_at self.now ds.0).bytes offset (offset + 8)) }
     {
-        let run = space_under(&self.spaces, ds).run;
-        load_run(&self.pool, &self.table, run, offset as usize)
+        let start = self.spaces.start(ds.0);
+        load_run(&self.pool, &self.table, start, offset as usize)
     }
 
     /// Stores `word` as 8 little-endian bytes at `offset` of a dataspace. Nothing else changes.
@@ -252,8 +252,8 @@ impl Memory {
             let after = part_with_bytes (part payer self.old) ds.0 offset (word_bytes word) in
             PartBecomes payer after self.old self.new }
     {
-        let run = space_under(&self.spaces, ds).run;
-        store_run(&mut self.pool, &self.table, run, offset as usize, word);
+        let start = self.spaces.start(ds.0);
+        store_run(&mut self.pool, &self.table, start, offset as usize, word);
     }
 
     /// Charges an account for one capability that belongs to no dataspace.

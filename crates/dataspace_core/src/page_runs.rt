@@ -1,5 +1,5 @@
 //! Runs of pages: one table has the page numbers of all dataspaces, those of each dataspace contiguous.
-ghost use Rattle.std.specs.Prelude.{◌≡◌, ◌+◌, ◌*◌, ◌/◌, ◌%◌, ◌^◌, ◌<◌, ◌≤◌, [], length, slice_range, vec_len, vec_capacity, IfOk};
+ghost use Rattle.std.specs.Prelude.{◌≡◌, ℕ, ◌+◌, ◌*◌, ◌/◌, ◌%◌, ◌^◌, ◌<◌, ◌≤◌, [], length, slice_range, vec_len, vec_capacity, IfOk};
 ghost use Rattle.page_pool.specs.Pages.{free_count};
 ghost use Rattle.trade_base.specs.Word.{word_of, word_bytes};
 ghost use Rattle.dataspace_core.specs.Layout.{AreApart, IsRun, IsNewRun, IsGiven, IsClosed, IsPieceIn, IsWordIn, IsWritten, run_bytes};
@@ -160,30 +160,29 @@ pub(crate) fn run_page<'a>(
     pool.part(table[run.start + offset / PAGE_BYTES], 0, PAGE_BYTES)
 }
 
-/// Loads the word at `offset` of a run.
-pub(crate) fn load_run(pool: &Pool, table: &Vec<PageNo>, run: PageRun, offset: usize) -> u64
-    requires run { IsRun pool.now table.now.items run.start run.count }
-    requires word { IsWordIn run.count offset }
-    ensures { let bytes = run_bytes pool.now table.now.items run.start run.count in
+/// Loads the word at `offset` of the run that starts at `start`.
+pub(crate) fn load_run(pool: &Pool, table: &Vec<PageNo>, start: usize, offset: usize) -> u64
+    requires { (count : ℕ) × IsRun pool.now table.now.items start count × IsWordIn count offset }
+    ensures { (count : ℕ) → IsRun pool.now table.now.items start count → IsWordIn count offset →
+        let bytes = run_bytes pool.now table.now.items start count in
         result ≡ word_of (slice_range bytes offset (offset + 8)) }
 {
-    let page = table[run.start + offset / PAGE_BYTES];
+    let page = table[start + offset / PAGE_BYTES];
     pool.load(page, offset % PAGE_BYTES)
 }
 
-/// Stores `word` at `offset` of a run.
+/// Stores `word` at `offset` of the run that starts at `start`.
 pub(crate) fn store_run(
     pool: &mut Pool,
     table: &Vec<PageNo>,
-    run: PageRun,
+    start: usize,
     offset: usize,
     word: u64,
 )
-    requires run { IsRun pool.old table.now.items run.start run.count }
-    requires word { IsWordIn run.count offset }
-    ensures { IsWritten pool.old pool.new table.now.items run.start run.count offset
-        (word_bytes word) }
+    requires { (count : ℕ) × IsRun pool.old table.now.items start count × IsWordIn count offset }
+    ensures { (count : ℕ) → IsRun pool.old table.now.items start count → IsWordIn count offset →
+        IsWritten pool.old pool.new table.now.items start count offset (word_bytes word) }
 {
-    let page = table[run.start + offset / PAGE_BYTES];
+    let page = table[start + offset / PAGE_BYTES];
     pool.store(page, offset % PAGE_BYTES, word);
 }

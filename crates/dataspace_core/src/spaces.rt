@@ -1,5 +1,6 @@
 //! The table of dataspaces, by their keys.
 ghost use Rattle.std.specs.Prelude.{◌≡◌, ◌+◌, ◌^◌, ◌<◌, ◌≤◌, [], Some, None, IfOk, length};
+ghost use Rattle.std.specs.Option.{option_map};
 ghost use Rattle.slab.specs.Slab.{ContainsKey, HasRoomFor, Updates, get};
 ghost use Rattle.dataspace_core.specs.Layout.{HasMovedDown, NoneLiesAfter};
 ghost use Rattle.dataspace_core.specs.Spaces.{HaveMoved, start_after as after};
@@ -79,6 +80,14 @@ impl Spaces {
                 count: kept.count,
             },
         }
+    }
+
+    /// Returns the start of the run of the dataspace stored under a key.
+    pub(crate) fn start(&self, key: usize) -> usize
+        requires { ContainsKey self.now key }
+        ensures { option_map (λ space. space.run.start) (get self.now key) ≡ Some result }
+    {
+        self.starts[key] as usize
     }
 
     /// Stores a dataspace under a new key and returns the key.

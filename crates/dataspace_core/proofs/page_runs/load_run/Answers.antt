@@ -1,5 +1,5 @@
 -- The word lies in one page of the run.
-use Rattle.std.proofs.Common.{ap, ◌∙◌, ◌+◌, ◌%◌}
+use Rattle.std.proofs.Common.{ap, ◌∙◌, ◌+◌, ◌%◌, arith}
 use Rattle.std.specs.Prelude.{slice_range}
 use Rattle.trade_base.specs.Word.{word_of}
 use Rattle.page_pool.specs.Pages.{page_bytes}
@@ -10,14 +10,15 @@ use Rattle.dataspace_core.proofs.page_runs.load_run.Goals as goal
 
 pub load-requires-clause-taken : goal.load-requires-clause-taken
 load-requires-clause-taken c =
-    let here = word_in_page c.args.run.count c.args.offset c.requires.word.aligned c.requires.word.within in
-    rw (page_in_read c.args.table.now.items c.args.run.start c.args.run.count _ c.index-page.result.now c.requires.run.within here.below c.index-page.ensures)
-    (is_taken-held c.args.pool.now _ (c.requires.run.held _ here.below))
+    let q = c.requires in
+    let here = word_in_page q.0 c.args.offset q.2.aligned q.2.within in
+    rw (page_in_read c.args.table.now.items c.args.start q.0 _ c.index-page.result.now q.1.within here.below c.index-page.ensures)
+    (is_taken-held c.args.pool.now _ (q.1.held _ here.below))
 
 pub returns : goal.returns
-returns c =
-    let here = word_in_page c.args.run.count c.args.offset c.requires.word.aligned c.requires.word.within in
-    let page = page_in_read c.args.table.now.items c.args.run.start c.args.run.count _ c.index-page.result.now c.requires.run.within here.below c.index-page.ensures in
+returns c count run word =
+    let here = word_in_page count c.args.offset word.aligned word.within in
+    let page = page_in_read c.args.table.now.items c.args.start count _ c.index-page.result.now run.within here.below c.index-page.ensures in
     c.load.ensures.word
     ∙ ap (λ p. word_of (slice_range (page_bytes c.args.pool.now p) (c.args.offset % 4096) (c.args.offset % 4096 + 8))) page
-    ∙ ap word_of (run_range c.args.pool.now c.args.table.now.items c.args.run.start c.args.run.count c.args.offset 8 c.requires.run here)
+    ∙ ap word_of (run_range c.args.pool.now c.args.table.now.items c.args.start count c.args.offset 8 run here)
