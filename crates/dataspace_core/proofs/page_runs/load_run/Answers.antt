@@ -1,5 +1,5 @@
 -- The word lies in one page of the run.
-use Rattle.std.proofs.Common.{ap, ◌∙◌, ◌+◌, ◌%◌, arith}
+use Rattle.std.proofs.Common.{ap, ◌∙◌, ◌+◌, ◌%◌}
 use Rattle.std.specs.Prelude.{slice_range}
 use Rattle.trade_base.specs.Word.{word_of}
 use Rattle.page_pool.specs.Pages.{page_bytes}
