@@ -21,7 +21,7 @@ def call_of(line, component, call, reply, account, session=None, session_account
 
 def trace_of(*calls):
     """Returns the calls as nethrywel trace --json prints them."""
-    return "".join(json.dumps({name: getattr(it, name) for name in Call.__slots__}) + "\n" for it in calls)
+    return "".join(json.dumps(it._asdict()) + "\n" for it in calls)
 
 
 @drawing

@@ -1,25 +1,16 @@
-"""What nethrywel prints with --json, as typed values. No value is computed again here."""
+"""What nethrywel prints with --json, as values of types. No value is computed again here. docs/reference/output.md has what
+each field is; one that an object doesn't have is None."""
 import json
-from dataclasses import dataclass
+from collections import namedtuple
+
+ACCOUNT = "ram_used ram_limit caps_used caps_limit"
+SESSION = "session session_ram_used session_ram_limit session_caps_used session_caps_limit"
 
 
-@dataclass(frozen=True, slots=True)
-class Call:
+class Call(namedtuple("Call", f"line component call reply {ACCOUNT} {SESSION}")):
     """A row of `trace`: a call, its reply, and the accounts of its component and of its session after it."""
 
-    line: int
-    component: str
-    call: str
-    reply: str
-    ram_used: int | None
-    ram_limit: int | None
-    caps_used: int | None
-    caps_limit: int | None
-    session: int | None
-    session_ram_used: int | None
-    session_ram_limit: int | None
-    session_caps_used: int | None
-    session_caps_limit: int | None
+    __slots__ = ()
 
     @property
     def is_refused(self):
@@ -27,75 +18,33 @@ class Call:
 
     @property
     def account(self):
-        return self.ram_used, self.ram_limit, self.caps_used, self.caps_limit
+        return self[4:8]
 
     @property
     def session_account(self):
-        return self.session_ram_used, self.session_ram_limit, self.session_caps_used, self.session_caps_limit
+        return self[9:13]
 
 
-@dataclass(frozen=True, slots=True)
-class Account:
-    """A line of `accounts`: an account or a session, or the reserve of the account before it, which has `ram` and `caps`
-    alone."""
-
-    kind: str
-    name: str
-    session: int | None
-    server: str | None
-    label: str | None
-    ram_used: int | None
-    ram_limit: int | None
-    ram_need: int | None
-    ram_peak: int | None
-    caps_used: int | None
-    caps_limit: int | None
-    caps_need: int | None
-    caps_peak: int | None
-    ram: int | None
-    caps: int | None
-
-
-@dataclass(frozen=True, slots=True)
-class Interval:
+class Interval(namedtuple("Interval", "component session line ram_from ram_below caps_from")):
     """A row of `least`: budgets of an account, or donations at an opening, that suffice."""
 
-    component: str
-    session: int | None
-    line: int | None
-    ram_from: int
-    ram_below: int | None
-    caps_from: int
+    __slots__ = ()
 
     def has(self, ram, caps):
         return self.ram_from <= ram and (self.ram_below is None or ram < self.ram_below) and self.caps_from <= caps
 
 
-@dataclass(frozen=True, slots=True)
-class Request:
-    """A session request of `tree`: labels that the same rules route."""
-
-    name: str
-    service: str
-    to: str | None
-    by: str
-    label: str | None
-
-
-@dataclass(frozen=True, slots=True)
-class Diagnostic:
-    """A fault, a finding, advice or a breach of `check`, or a diagnostic on standard error."""
-
-    kind: str | None
-    file: str | None
-    line: int | None
-    column: int | None
-    part: str | None
-    text: str
+# A line of `accounts`: an account or a session, or the reserve of the account before it, which has `ram` and `caps` alone.
+Account = namedtuple("Account", "kind name session server label ram_used ram_limit ram_need ram_peak"
+                     " caps_used caps_limit caps_need caps_peak ram caps")
+# A session request of `tree`: labels that the same rules route.
+Request = namedtuple("Request", "name service to by label")
+# A fault, a finding, advice or a breach of `check`, or a diagnostic on standard error.
+Diagnostic = namedtuple("Diagnostic", "kind file line column part text")
 
 
 def value_of(kind, document):
-    return kind(*map(document.get, kind.__slots__))
+    return kind(*map(document.get, kind._fields))
 
 
 def values_in(kind, text, *wanted):
