@@ -13,6 +13,7 @@ from urllib.parse import parse_qs, urlsplit
 import pytest
 from commands import PAGES, crawler_files, needs, script
 from conftest import running_desk
+from test_report import MACHINE
 
 pytestmark = needs(*PAGES)
 SMALL = {"list": "", "scenario": "alice quota\n"}
@@ -48,7 +49,7 @@ class Client:
         return self.ask("GET", path or f"/?token={self.token}", **{"Origin": None, **given})
 
     def post(self, path, body, **given):
-        return self.ask("POST", path, json.dumps(body).encode(), **given)
+        return self.ask("POST", path, body if isinstance(body, bytes) else json.dumps(body).encode(), **given)
 
     def expect(self, status, text, path, body, **given):
         found = self.post(path, body, **given)
@@ -105,10 +106,7 @@ def test_edits(client):
 
 
 def test_route_of_a_name_like_an_option(client):
-    log = {"name": "log", "quantum": "16K", "caps": 8, "provides": ["LOG"]}
-    dashed = {"name": "-v", "binary": "script", "quantum": "64K", "caps": 16, "route": [{"service": "LOG", "child": "log"}]}
-    machine = json.dumps({"machine": {"pages": 64, "caps": 64}, "start": [log, dashed]})
-    edit = client.read("/run", {"list": machine, "scenario": "-v quota => ram 0/65536 caps 0/16\n"})["edit"]
+    edit = client.read("/run", {"list": MACHINE.replace("alice", "-v"), "scenario": "-v quota => ram 0/65536 caps 0/16\n"})["edit"]
     client.expect(200, "leads to log", "/rest", {"edit": edit, "what": "route", "from": "-v", "service": "LOG", "label": ""})
 
 
@@ -120,6 +118,7 @@ def test_route_of_a_name_like_an_option(client):
     (400, "no request", "/example", {"name": "../../README"}),
     (400, "no request", "/save", {"list": "{}", "scenario": "", "sums": {"scenario": 1}}),
     (400, "no request", "/save", {"list": "{}", "scenario": "", "sums": {"../x": ""}}),
+    (400, "no request", "/run", b"[" * 100_000),
     (404, "nothing is here", "/none", SMALL),
     (200, "crawler", "/example", {"name": "friendly/crawler"}),
     (200, "invalid JSON", "/run", {"list": "[" * 5000, "scenario": ""}),
@@ -127,14 +126,10 @@ def test_route_of_a_name_like_an_option(client):
     (413, "65537 bytes, at most 65536", "/run", {"list": "", "policy": "#" * 65537, "scenario": ""}),
     (413, "1048577 bytes, at most 1048576", "/run", {"list": "", "scenario": "a" * 1048577}),
     (413, "1000001 lines, at most 1000000", "/run", {"list": "", "scenario": "\n" * 1000001}),
-], ids="command number list array path sum file unknown example deep long-list long-policy long-line lines".split())
+], ids="command number list array path sum file deep-request unknown example deep long-list long-policy long-line lines".split())
 def test_answers(client, status, text, path, body):
     """What is no request of the desk, what nests too deeply and what is too large is answered, without a traceback."""
     client.expect(status, text, path, body)
-
-
-def test_deep_request(client):
-    assert client.ask("POST", "/run", b"[" * 100_000)[0] == 400
 
 
 @pytest.mark.slow
