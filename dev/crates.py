@@ -1,6 +1,7 @@
 """What the tools of this folder share: the repository and its crates."""
 import re
 import sys
+from functools import cache
 from pathlib import Path
 
 TOP = Path(__file__).resolve().parent.parent
@@ -19,12 +20,9 @@ def dependencies():
 
 def below(rows):
     """Returns for each crate all crates below it, and the libraries of the toolchain that they name."""
-    known = {}
 
+    @cache
     def all_of(name):
-        if name not in known:
-            known[name] = set()
-            known[name].update(rows.get(name, []), *(all_of(it) for it in rows.get(name, [])))
-        return known[name]
+        return set(rows.get(name, [])).union(*map(all_of, rows.get(name, [])))
 
     return {name: all_of(name) for name in rows}

@@ -2,12 +2,9 @@
 import json
 import re
 import shutil
-import sys
 
 import pytest
-from commands import CRAWLER, SENSORS, TOP, environment, needs, tool
-
-sys.path.insert(0, str(TOP / "tools/lib"))
+from commands import CRAWLER, SENSORS, environment, needs, tool
 from nethrywel_tools.outputs import Call
 from nethrywel_tools.timelines import CLOSED, Timelines
 

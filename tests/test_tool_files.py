@@ -1,14 +1,10 @@
 """Files that tools write: whole or not at all, not over what another program wrote, and by one desk at a time."""
 import os
 import stat
-import sys
 import threading
 from concurrent.futures import ThreadPoolExecutor
 
 import pytest
-from commands import TOP
-
-sys.path.insert(0, str(TOP / "tools/lib"))
 from nethrywel_tools import files, saved_files
 
 

@@ -1,11 +1,8 @@
 """What report and desk show of a program's output: replies with their log lines, each script alone, and budgets."""
 import re
-import sys
 
 import pytest
 from commands import EXAMPLES, PAGES, TOP, environment, needs, on_terminal, script, tool
-
-sys.path.insert(0, str(TOP / "tools/lib"))
 from nethrywel_tools.page_data import PageData
 
 

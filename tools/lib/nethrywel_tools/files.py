@@ -4,6 +4,8 @@ import os
 import stat
 import tempfile
 
+from .command_line import Fault
+
 
 def sum_of(data):
     return hashlib.sha256(data).hexdigest()
@@ -12,6 +14,14 @@ def sum_of(data):
 def bytes_at(path):
     with open(path, "rb") as it:
         return it.read()
+
+
+def input_at(path):
+    """Returns what a file has that a command line names; a fault of the command line if it can't be read."""
+    try:
+        return bytes_at(path)
+    except OSError as fault:
+        raise Fault(f"{path}: {fault.strerror}", 2) from fault
 
 
 def mode_of(path):
