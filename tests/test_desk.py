@@ -33,15 +33,11 @@ class Client:
 
     def ask(self, method, path, text=b"", **given):
         """Returns the status and the text of a reply. A header that is None isn't sent."""
-        own = {"Host": self.at.netloc, "Origin": self.origin, "X_Token": self.token, "Content_Length": len(text)}
+        headers = {"Host": self.at.netloc, "Origin": self.origin, "X_Token": self.token, **given}
+        headers = {name.replace("_", "-"): value for name, value in headers.items() if value is not None}
         link = http.client.HTTPConnection(*self.address, timeout=600)
-        link.putrequest(method, path, skip_host=True)
-        for name, value in {**own, **given}.items():
-            if value is not None:
-                link.putheader(name.replace("_", "-"), str(value))
-        link.endheaders()
         with contextlib.suppress(BrokenPipeError, ConnectionResetError):
-            link.send(text)
+            link.request(method, path, text, headers)
         with contextlib.closing(link), link.getresponse() as answer:
             return answer.status, answer.read().decode()
 

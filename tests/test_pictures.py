@@ -83,7 +83,7 @@ def test_long_trace():
 
 
 def test_missing_package(tmp_path):
-    (tmp_path / "matplotlib.py").write_text("raise ImportError\n")
+    (tmp_path / "matplotlib.py").write_text("raise ModuleNotFoundError(name=__name__)\n")
     ran = PICTURE(stdin=trace_of(call_of(1, "a", "quota", "x", (0, 1, 0, 1))), env=environment(PYTHONPATH=tmp_path))
     assert ran == (1, "", "picture: python3-matplotlib isn't here; run dev/setup\n")
 

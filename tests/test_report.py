@@ -133,7 +133,7 @@ def test_deep_list(tmp_path):
                          ids=["report-jinja2", "report-tqdm", "desk-jinja2", "desk-waitress"])
 def test_missing_package(tmp_path, package, words):
     """Without a package report and desk say what to do, and write nothing."""
-    (tmp_path / f"{package}.py").write_text("raise ImportError\n")
+    (tmp_path / f"{package}.py").write_text("raise ModuleNotFoundError(name=__name__)\n")
     name, *words = [it.replace("{}", str(tmp_path / "page.html")) for it in words]
     ran = tool(f"tools/{name}")(*words, "friendly/notes.scenario", env=environment(PYTHONPATH=tmp_path))
     assert (ran.status, ran.out) == (1, "") and f"{package} isn't here; run dev/setup" in ran.err

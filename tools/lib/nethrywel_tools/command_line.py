@@ -50,13 +50,14 @@ def given_in(usage, about, arguments):
 
 def main(usage, about, work, *arguments, at_interrupt=130):
     """Runs a tool with what its command line gives, and ends with the status that it returns. A fault is printed with the tool's
-    name; an interrupt has a status of its own."""
+    name, and so is a package of Python that isn't installed; an interrupt has a status of its own."""
     name, given = given_in(usage, about, arguments)
     try:
         status = work(given) or 0
-    except Fault as it:
-        print(f"{name}: {it}", file=sys.stderr)
-        status = it.status
+    except (Fault, ModuleNotFoundError) as it:
+        fault = it if isinstance(it, Fault) else Missing(f"python3-{it.name}")
+        print(f"{name}: {fault}", file=sys.stderr)
+        status = fault.status
     except BrokenPipeError:
         os.dup2(os.open(os.devnull, os.O_WRONLY), sys.stdout.fileno())
         status = 141
@@ -71,8 +72,6 @@ def main(usage, about, work, *arguments, at_interrupt=130):
 def progress(name):
     """Returns a line on a terminal that says for how long a tool has run and what it does now; nothing if standard error is no
     terminal."""
-    try:
-        from tqdm import tqdm
-    except ImportError as fault:
-        raise Missing("python3-tqdm") from fault
+    from tqdm import tqdm
+
     return tqdm(bar_format=f"{name}: {{elapsed}}, {{desc}}", disable=None, leave=False, dynamic_ncols=True)

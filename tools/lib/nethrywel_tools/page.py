@@ -31,10 +31,8 @@ def script_text(value):
 
 def page(kind, title, data, sums, styles=(), scripts=(), sources="'none'"):
     """Returns the page's text. Only scripts that are in it with their sums run, and it connects to `sources` alone."""
-    try:
-        from jinja2 import Environment, FileSystemLoader
-    except ImportError as fault:
-        raise Missing("python3-jinja2") from fault
+    from jinja2 import Environment, FileSystemLoader
+
     scripts = [text_at(CHART_LIBRARY, "node-d3"), *map(own, VIEWS), *scripts]
     if any("</script" in it.lower() for it in scripts):
         raise Fault("a script has the end of a script in it")

@@ -6,15 +6,10 @@ import logging
 from http import HTTPStatus
 from urllib.parse import parse_qs
 
-from .command_line import Missing
-
-try:
-    from waitress import wasyncore
-    from waitress.channel import HTTPChannel
-    from waitress.parser import HTTPRequestParser, ParsingError
-    from waitress.server import TcpWSGIServer
-except ImportError as fault:
-    raise Missing("python3-waitress") from fault
+from waitress import wasyncore
+from waitress.channel import HTTPChannel
+from waitress.parser import HTTPRequestParser, ParsingError
+from waitress.server import TcpWSGIServer
 
 HEADER_BYTES, HEADER_SECONDS, IDLE_SECONDS = 16 << 10, 5, 60
 # Connections in all, and those of which no request had the token yet.
