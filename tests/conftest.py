@@ -161,6 +161,5 @@ def browser():
     """Returns a page of Chromium."""
     from chromium import Page
 
-    page = Page()
-    yield page
-    page.close()
+    with contextlib.closing(Page()) as page:
+        yield page
