@@ -5,8 +5,6 @@ import os
 import pty
 import resource
 import shutil
-import signal
-import socket
 import subprocess
 from pathlib import Path
 from typing import NamedTuple
@@ -117,19 +115,3 @@ def machine_of(scenario) -> list[str]:
     """Returns the option that names a scenario's start list, if it has one."""
     path = Path(scenario).with_suffix(".json")
     return ["--machine", str(path)] if (EXAMPLES / path).exists() else []
-
-
-def free_port() -> int:
-    with socket.socket() as it:
-        it.bind(("127.0.0.1", 0))
-        return it.getsockname()[1]
-
-
-def kill_tree(pid):
-    """Ends a process and all that it started, by their ids."""
-    for child in run("ps", "-o", "pid=", "--ppid", str(pid)).out.split():
-        kill_tree(int(child))
-    try:
-        os.kill(pid, signal.SIGKILL)
-    except ProcessLookupError:
-        pass

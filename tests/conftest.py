@@ -3,12 +3,13 @@ import contextlib
 import fcntl
 import os
 import signal
+import socket
 import subprocess
 import time
 from pathlib import Path
 
 import pytest
-from commands import EXAMPLES, TOP, Program, environment, free_port, limited
+from commands import EXAMPLES, TOP, Program, environment, limited
 from hypothesis import HealthCheck, settings
 
 # The same examples in each run, so that CI is deterministic; tests/run --random draws others, and more of them.
@@ -86,8 +87,10 @@ class Server:
     """An sshd on loopback, which knows one key and has a home in a folder."""
 
     def __init__(self, folder, name):
-        self.home, self.log, port = folder / name, folder / f"{name}.log", free_port()
+        self.home, self.log = folder / name, folder / f"{name}.log"
         self.home.mkdir()
+        with socket.create_server(("127.0.0.1", 0)) as free:
+            port = free.getsockname()[1]
         key = folder / "key"
         if not key.exists():
             subprocess.run(["ssh-keygen", "-q", "-t", "ed25519", "-N", "", "-f", key], check=True)

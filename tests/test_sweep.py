@@ -6,7 +6,7 @@ import time
 from pathlib import Path
 
 import pytest
-from commands import EXAMPLES, environment, kill_tree, limited, needs, on_terminal, swept_scenario, tool
+from commands import EXAMPLES, environment, limited, needs, on_terminal, run, swept_scenario, tool
 
 SWEEP = tool("tools/sweep")
 CRAWLER = EXAMPLES / "friendly/crawler.json"
@@ -58,10 +58,12 @@ def test_map(table):
 def test_killed(tmp_path, table):
     """A sweep that is killed continues with the points that it lacks, and its table is the same."""
     words, out = large(tmp_path, "--points", "10", "--jobs", "1"), tmp_path / "out"
-    with subprocess.Popen([SWEEP.path, *words], stdout=subprocess.DEVNULL, stderr=subprocess.DEVNULL) as ran:
+    streams = {"stdout": subprocess.DEVNULL, "stderr": subprocess.DEVNULL}
+    with subprocess.Popen([SWEEP.path, *words], start_new_session=True, **streams) as ran:
         while ran.poll() is None and not (out / "rows/3").exists():
             time.sleep(0.02)
-        kill_tree(ran.pid)
+        # (all processes of its session)
+        run("pkill", "-KILL", "-s", str(ran.pid)).ok()
     assert not (out / "points.csv").exists()
     before = (out / "rows/1").stat()
     assert table_of(out, words) == table
