@@ -13,7 +13,7 @@ import pytest
 
 TOP = Path(__file__).resolve().parent.parent
 CASES, EXAMPLES = TOP / "cases", TOP / "examples"
-ENGINE_CASES, NETHRYWEL_CASES = CASES / "engine", CASES / "nethrywel"
+ENGINE_CASES, NETHRYWEL_CASES, TOOL_CASES = (CASES / it for it in ("engine", "nethrywel", "tools"))
 PYTHON = "/usr/bin/python3"
 CRAWLER = ("--machine", "friendly/crawler.json")
 SENSORS = ("--machine", "friendly/sensors.json")

@@ -1,11 +1,12 @@
-"""The cases of cases/, and the examples: both programs print what the files say."""
+"""The cases of cases/, and the examples: both programs and the tools print what the files say."""
 import re
 
 import pytest
-from commands import CASES, CRAWLER, ENGINE_CASES, EXAMPLES, NETHRYWEL_CASES, PYTHON, SENSORS, TOP, Program, machine_of, run
+from commands import (CASES, CRAWLER, ENGINE_CASES, EXAMPLES, NETHRYWEL_CASES, PYTHON, SENSORS, TOOL_CASES, TOP, Program,
+                      machine_of, run, tool)
 
 KINDS = (".stdout", ".args", ".status", ".stderr")
-FOLDERS = [it for root in (ENGINE_CASES, NETHRYWEL_CASES) for it in sorted(root.iterdir()) if it.is_dir()]
+FOLDERS = [it for root in (ENGINE_CASES, NETHRYWEL_CASES, TOOL_CASES) for it in sorted(root.iterdir()) if it.is_dir()]
 
 
 def id_of(path):
@@ -44,6 +45,11 @@ def test_engine(engine, case):
 @pytest.mark.parametrize("case", cases(NETHRYWEL_CASES), ids=id_of)
 def test_nethrywel(nethrywel, case):
     check(nethrywel, case)
+
+
+@pytest.mark.parametrize("case", cases(TOOL_CASES), ids=id_of)
+def test_tool(case):
+    check(tool(f"tools/{case.parent.name}"), case)
 
 
 def test_second_build(engine, tmp_path):

@@ -49,16 +49,6 @@ def test_map():
 
 
 @drawing
-@pytest.mark.parametrize("words, text, why", [
-    ("", "a,b\n", "expected the output of nethrywel trace --json"), ("", "[]\n", "expected the output of nethrywel trace --json"),
-    ("", "", "the trace has no account"), ("--budgets", "[]", "there are no budgets"),
-    ("--budgets", "a,b\n", "expected the output of nethrywel least --json"),
-    ("--heat Q X", POINTS, "expected a table of tools/sweep over Q and X"), ("--heat Q D", "", "there are no points")])
-def test_refused(words, text, why):
-    assert PICTURE(*words.split(), stdin=text) == (1, "", f"picture: {why}\n")
-
-
-@drawing
 def test_many_accounts():
     """Each of 180 accounts has its name in the legend, and a colour of its own."""
     ran = PICTURE(stdin=trace_of(*(call_of(i, f"c{i}", "quota", "x", (i * 4096, 1 << 20, i, 256)) for i in range(1, 181))))

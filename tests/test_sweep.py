@@ -140,11 +140,3 @@ def test_trillion_points(tmp_path):
     out, axis = tmp_path / "out", "D=1..1000000000000"
     words = ["--machine", CRAWLER, "--scenario", swept_scenario(tmp_path), "--set", axis, "--out", out]
     assert SWEEP(*words, "--plan", "run", **limited(**{"as": 2_048_000_000})).out == f"10000000000 batches ({tmp_path}/out)\n"
-
-
-@pytest.mark.parametrize("words", [
-    "--set E=1,2 run", "--set D=9..1 run", "--set D=1,2 --points 0 run", "--set D=1 --machine none.json run", "--set D=1"])
-def test_refused(tmp_path, words):
-    scenario = EXAMPLES / "friendly/crawler.scenario"
-    ran = SWEEP("--machine", CRAWLER, "--scenario", scenario, "--out", tmp_path / "out", *words.split())
-    assert ran.status == 2 and ran.err
