@@ -3,6 +3,7 @@ read."""
 import hmac
 import json
 import logging
+import sys
 from http import HTTPStatus
 from urllib.parse import parse_qs
 
@@ -64,19 +65,31 @@ class Channel(HTTPChannel):
 
 
 class Server(TcpWSGIServer):
-    """The server of one page: it answers requests that have the token, and come by the printed address and from no other page."""
+    """The server of one page: it answers requests that have the token, and come by the printed address and from no other page.
+    `answer` returns status, value or body, and its kind."""
 
     channel_class = Channel
 
-    def __init__(self, app, token, largest):
-        self.token, self.largest = token, largest
+    def __init__(self, answer, token, largest):
+        self.answer, self.token, self.largest = answer, token, largest
         logging.getLogger("waitress").setLevel(logging.ERROR)
         super().__init__(
-            app, host="127.0.0.1", port=0, ident="desk", threads=THREADS, connection_limit=CONNECTIONS, cleanup_interval=1,
+            self.app, host="127.0.0.1", port=0, ident="desk", threads=THREADS, connection_limit=CONNECTIONS, cleanup_interval=1,
             channel_timeout=IDLE_SECONDS, max_request_header_size=HEADER_BYTES, max_request_body_size=largest + 1,
             asyncore_use_poll=True, log_socket_errors=False,
         )
         self.hosts = {f"{it}:{self.effective_port}" for it in ("127.0.0.1", "localhost")}
+
+    def app(self, asked, start):
+        """Answers a request, as waitress calls it; one that fails is printed in a line."""
+        try:
+            told = self.answer(asked)
+        except Exception as fault:
+            print(f"desk: a request failed: {type(fault).__name__}: {fault}", file=sys.stderr)
+            told = 500, {"why": "a fault of the desk"}
+        status, headers, body = Answer(*told).to_response()
+        start(status, headers)
+        return [body]
 
     def refusal(self, request):
         """Returns what answers a request that is refused by its header, or None."""
