@@ -9,21 +9,19 @@ from selenium.webdriver.chrome.service import Service
 SCRIPTS = Path(__file__).with_suffix(".js").read_text(encoding="utf-8")
 
 
-class Page:
+class Page(webdriver.Chrome):
     """A page of a headless Chromium."""
 
-    def __init__(self, width=1500):
+    run, close = webdriver.Chrome.execute_script, webdriver.Chrome.quit
+
+    def __init__(self):
         options = Options()
         for word in ("headless=new", "no-sandbox", "disable-gpu", "disable-dev-shm-usage", "no-first-run"):
             options.add_argument(f"--{word}")
-        options.add_argument(f"--window-size={width},900")
+        options.add_argument("--window-size=1500,900")
         options.set_capability("goog:loggingPrefs", {"browser": "ALL"})
-        self.driver = webdriver.Chrome(service=Service("/usr/bin/chromedriver"), options=options)
-        self.driver.set_script_timeout(600)
-
-    def run(self, script, *words):
-        """Runs a script and returns its value."""
-        return self.driver.execute_script(script, *words)
+        super().__init__(service=Service("/usr/bin/chromedriver"), options=options)
+        self.set_script_timeout(600)
 
     def call(self, name, *words):
         """Calls a function of chromium.js and returns its value."""
@@ -36,14 +34,14 @@ class Page:
         return self.run("return document.body.innerText")
 
     def find(self, selector):
-        return self.driver.find_element("css selector", selector)
+        return self.find_element("css selector", selector)
 
     def press(self, key):
-        self.driver.switch_to.active_element.send_keys(key)
+        self.switch_to.active_element.send_keys(key)
 
     def console(self):
         """Returns what was written on the console since the last call."""
-        return self.driver.get_log("browser")
+        return self.get_log("browser")
 
     def wait(self, holds, seconds=600):
         """Waits until a condition holds, and returns its value."""
@@ -55,7 +53,7 @@ class Page:
 
     def open(self, url):
         """Opens the page of a desk, and waits until all of it is shown."""
-        self.driver.get(url)
+        self.get(url)
         self.rest()
 
     def rest(self):
@@ -63,17 +61,14 @@ class Page:
 
     def edit(self, script):
         """Edits, and returns how many ms it took until the replies and until all was shown, and what the desk says of it."""
-        return self.driver.execute_async_script(f"{SCRIPTS}\nwatched(arguments[arguments.length - 1]);\n{script}")
+        return self.execute_async_script(f"{SCRIPTS}\nwatched(arguments[arguments.length - 1]);\n{script}")
 
     def emulate(self, width, height, scheme="light"):
         features = [{"name": "prefers-color-scheme", "value": scheme}]
-        self.driver.execute_cdp_cmd("Emulation.setEmulatedMedia", {"features": features})
+        self.execute_cdp_cmd("Emulation.setEmulatedMedia", {"features": features})
         size = {"width": width, "height": height, "deviceScaleFactor": 1, "mobile": False}
-        self.driver.execute_cdp_cmd("Emulation.setDeviceMetricsOverride", size)
+        self.execute_cdp_cmd("Emulation.setDeviceMetricsOverride", size)
 
     def emulate_nothing(self):
-        self.driver.execute_cdp_cmd("Emulation.clearDeviceMetricsOverride", {})
-        self.driver.execute_cdp_cmd("Emulation.setEmulatedMedia", {"features": []})
-
-    def close(self):
-        self.driver.quit()
+        self.execute_cdp_cmd("Emulation.clearDeviceMetricsOverride", {})
+        self.execute_cdp_cmd("Emulation.setEmulatedMedia", {"features": []})

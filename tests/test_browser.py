@@ -39,7 +39,7 @@ def opened(page, path):
     times = []
     for _ in range(3):
         began = time.monotonic()
-        page.driver.get(path.as_uri())
+        page.get(path.as_uri())
         page.run("return document.getElementById('page').getBoundingClientRect().height")
         times.append(time.monotonic() - began)
     return min(times)
