@@ -1,11 +1,14 @@
 -- Advice that is gathered, piece by piece and line by line.
-use Rattle.std.proofs.Common.{◌≡◌, ℕ, ◌+◌, false, List, [], ◌∷◌, ◌++◌, length, Option, sym, ap, ◌∙◌}
+use Rattle.std.proofs.Common.{◌≡◌, ℕ, ◌+◌, Bool, true, false, not, List, [], ◌∷◌, ◌++◌, length, Option, refl, sym, ap, ◌∙◌}
+use Rattle.std.specs.Prelude.{◌||◌, codes, if◌then◌else◌}
 use Rattle.std.proofs.lemmas.List.{append_assoc, map-append}
 use Rattle.std.specs.Borrow.{Bor}
 use Rattle.std.specs.List.{slice_split}
+use Rattle.std.specs.Str.{bytes_eq}
 use Rattle.own_model.specs.SessionArgs.{pieces_of}
 use Rattle.session_proto.specs.Pieces.{pieces_after}
-use Rattle.line_advice.specs.Advice.{Advice, advice_on, argument_advice, is_newline, lines_after, listed, pieces_advice, scenario_advice}
+use Rattle.line_friendly.specs.Friendly.{begins_as_call, content_of, is_meant}
+use Rattle.line_advice.specs.Advice.{Advice, advice_on, argument_advice, form_of, front_of, request_advice, is_newline, lines_after, listed, pieces_advice, scenario_advice}
 use Rattle.line_advice.specs.Views.{advice_view, advices, texts}
 use Rattle.line_advice.specs.declared.advice.LineAdvice.{LineAdvice as Told}
 
@@ -37,3 +40,19 @@ next_lines services number old new whole text line more was is finds =
     ap (λ found. found ++ left) finds
     ∙ append_assoc old (advice_on services number line) left
     ∙ ap (λ lines. old ++ scenario_advice services number lines) (sym is) ∙ was
+
+-- a line of another form than a session request's has none
+pub no_request : (services : List (List ℕ)) (number : ℕ) (line : List ℕ) → bytes_eq (form_of line) (codes "open") ≡ false
+    → bytes_eq (form_of line) (codes "upgrade") ≡ false → advice_on services number line ≡ []
+no_request services number line opens upgrades =
+    either (not (begins_as_call (content_of line)) || is_meant (content_of line))
+  where
+    front : List ℕ
+    front = front_of line
+
+    none : request_advice services number (form_of line) front ≡ []
+    none = rw opens (rw upgrades refl)
+
+    either : (left_out : Bool) → (if left_out then [] else request_advice services number (form_of line) front) ≡ []
+    either true = refl
+    either false = none

@@ -1,5 +1,5 @@
 -- What is probably not intended in the session requests of a scenario.
-use Rattle.std.specs.Prelude.{ℕ, ◌+◌, ◌-◌, ◌==◌, ◌&&◌, ◌||◌, not, Bool, true, false, List, [], ◌∷◌, ◌++◌, length, take, drop, codes, is_none, is_some, position, if◌then◌else◌, Option, Some, None}
+use Rattle.std.specs.Prelude.{ℕ, ◌+◌, ◌-◌, ◌==◌, ◌&&◌, ◌||◌, not, Bool, false, List, [], ◌∷◌, ◌++◌, length, take, drop, codes, is_none, is_some, position, if◌then◌else◌, Option, Some, None}
 use Rattle.std.specs.List.{before_first, list_all, list_any, slice_split}
 use Rattle.std.specs.Option.{unwrap_or}
 use Rattle.std.specs.Str.{bytes_eq, is_utf8}
@@ -103,22 +103,26 @@ abbrev pub rest_advice : ℕ → List ℕ → List ℕ → List Advice
 rest_advice line front rest =
     let text = drop 1 (next_word rest).rest in arguments_advice line (column_in front text) text
 
--- a request after its form: of `open` the service and the arguments, of `upgrade` the arguments after the selector
-abbrev pub request_advice : List (List ℕ) → ℕ → List ℕ → List ℕ → List ℕ → List Advice
-request_advice services line front form rest =
+-- a call is read in its tokens: the component, the form, and the rest
+abbrev pub form_of : List ℕ → List ℕ
+form_of line = (next_word (next_word (trimmed_line line)).rest).word
+
+abbrev pub after_form : List ℕ → List ℕ
+after_form line = (next_word (next_word (trimmed_line line)).rest).rest
+
+-- the form of a session request: of `open` the service and the arguments may be misspelt, of `upgrade` the arguments after the selector
+abbrev pub request_advice : List (List ℕ) → ℕ → List ℕ → List ℕ → List Advice
+request_advice services line form front =
+    let rest = after_form front in
     if bytes_eq form (codes "open") then
     service_advice services line (column_in front (skip_blanks rest)) rest ++ rest_advice line front rest
     else (if bytes_eq form (codes "upgrade") then rest_advice line front rest else [])
-
--- the call after its component
-abbrev pub call_advice : List (List ℕ) → ℕ → List ℕ → List ℕ → List Advice
-call_advice services line front call = request_advice services line front (next_word call).word (next_word call).rest
 
 -- a line has advice if it is a call, and its expected reply isn't meant
 abbrev pub advice_on : List (List ℕ) → ℕ → List ℕ → List Advice
 advice_on services number line =
     if not (begins_as_call (content_of line)) || is_meant (content_of line) then []
-    else call_advice services number (front_of line) (next_word (trimmed_line (front_of line))).rest
+    else request_advice services number (form_of line) (front_of line)
 
 abbrev pub is_newline : ℕ → Bool
 is_newline b = b == 10

@@ -2,7 +2,7 @@
 ghost use Rattle.std.specs.Prelude.{◌≡◌, ◌+◌, ◌-◌, ◌<◌, ◌≤◌, ◌^◌, ◌++◌, drop, length, take, OnOk};
 ghost use Rattle.std.specs.List.{list_any};
 ghost use Rattle.std.specs.Str.{bytes_eq};
-ghost use Rattle.line_advice.specs.Advice.{advice_on, column_in, front_of, rest_advice, service_advice};
+ghost use Rattle.line_advice.specs.Advice.{advice_on, after_form, column_in, form_of, front_of, rest_advice, service_advice};
 ghost use Rattle.line_advice.specs.Views.{advices, texts};
 
 use crate::advice::{AdviceReason, LineAdvice};
@@ -25,26 +25,32 @@ pub(crate) fn advise_line<'a>(
     ensures { OnOk result (advices found.new.items
         ≡ advices found.old.items ++ advice_on (texts services.now) number line.now) }
 {
+    let (form, _) = split_form(line);
+    let is_open = form == b"open".as_slice();
+    // Few lines have such a request, so that few are read to their end.
+    if !is_open && form != b"upgrade".as_slice() {
+        return Ok(());
+    }
     if !is_call_line(line) || is_meant(line) {
         return Ok(());
     }
     let front = front_of(line);
-    let (_, call) = next_word(trimmed_line(front));
-    let (form, rest) = next_word(call);
-    if form == b"open".as_slice() {
-        advise_service(
-            alloc,
-            services,
-            place_in(number, front, skip_blanks(rest)),
-            rest,
-            found,
-        )?;
-        advise_rest(alloc, number, front, rest, found)
-    } else if form == b"upgrade".as_slice() {
-        advise_rest(alloc, number, front, rest, found)
-    } else {
-        Ok(())
+    let (_, rest) = split_form(front);
+    if is_open {
+        let at = place_in(number, front, skip_blanks(rest));
+        advise_service(alloc, services, at, rest, found)?;
     }
+    advise_rest(alloc, number, front, rest, found)
+}
+
+// Returns the form of the call that a line makes, its second token, and the text after it.
+fn split_form(line: &[u8]) -> (&[u8], &[u8])
+    ensures form { result.0.now ≡ form_of line.now }
+    ensures rest { result.1.now ≡ after_form line.now }
+    ensures within { length result.1.now ≤ length line.now }
+{
+    let (_, call) = next_word(trimmed_line(line));
+    next_word(call)
 }
 
 // Adds the advice on a service at a place: the first token of a text. What is no name is none of a service, and is passed over.
