@@ -1,4 +1,5 @@
 pub mod TableLemmas
+pub mod DecisionLemmas
 pub mod TrailLemmas
 pub mod WaysLemmas
 pub mod WishLemmas

@@ -1,10 +1,8 @@
--- The components that several paths denote, path by path.
+-- The components that several texts denote, text by text.
 use Rattle.std.proofs.Common.{Bor, ◌≡◌, ◌≤◌, ℕ, ◌<◌, ◌+◌, suc, Bool, List, [], ◌∷◌, ◌++◌, length, drop, map, get_or, Option, Some, None, Result, Ok, Err, refl, sym, subst, ap, ◌∙◌, arith}
 use Rattle.std.specs.Prelude.{IfSome, if◌then◌else◌}
 use Rattle.std.proofs.lemmas.List.{append-nil, append_assoc, drop_all, drop_more}
-use Rattle.own_model.specs.Listed.{Listed}
-use Rattle.list_reach.specs.Paths.{PathFault, joined, numbers_below, numbers_of_path, numbers_of_paths, trimmed}
-use Rattle.list_reach.specs.declared.component_numbers.ComponentKind.{ComponentKind}
+use Rattle.list_reach.specs.Paths.{PathFault, joined, joined_all, numbers_below}
 
 next : (n : ℕ) → suc n ≡ n + 1
 next n = omega arith
@@ -23,33 +21,44 @@ joined_joined : (one two : List ℕ) (more : Result (List ℕ) PathFault) → jo
 joined_joined one two (Ok more) = ap Ok (sym (append_assoc one two more))
 joined_joined one two (Err why) = refl
 
--- what the paths that are left denote
-abbrev pub left_of : Listed → ComponentKind → List (Bor (List ℕ)) → Result (List ℕ) PathFault
-left_of list sought paths = numbers_of_paths list sought (map (λ path. path.now) paths)
+-- what the texts that are left denote
+abbrev pub left_of : (List ℕ → Result (List ℕ) PathFault) → List (Bor (List ℕ)) → Result (List ℕ) PathFault
+left_of numbers texts = joined_all numbers (map (λ text. text.now) texts)
 
-module _ (list : Listed) (sought : ComponentKind) (whole : Result (List ℕ) PathFault) (found : List ℕ) (paths : List (Bor (List ℕ))) (place : ℕ) (path : Bor (List ℕ))
-    (less : place < length paths) (so : whole ≡ joined (Ok found) (left_of list sought (drop place paths))) (at : path ≡ get_or paths place path) where
-  next_path : whole ≡ joined (Ok found) (joined (numbers_of_path list sought (trimmed path.now)) (left_of list sought (drop (place + 1) paths)))
-  next_path =
-      so ∙ ap (λ xs. joined (Ok found) (left_of list sought xs))
-      (drop_more paths place path less ∙ ap (λ (p : Bor (List ℕ)). p ∷ drop (place + 1) paths) (sym at))
+module _ (numbers : List ℕ → Result (List ℕ) PathFault) (whole : Result (List ℕ) PathFault) (found : List ℕ) (texts : List (Bor (List ℕ))) (place : ℕ) (text : Bor (List ℕ))
+    (less : place < length texts) (so : whole ≡ joined (Ok found) (left_of numbers (drop place texts))) (at : text ≡ get_or texts place text) where
+  next_text : whole ≡ joined (Ok found) (joined (numbers text.now) (left_of numbers (drop (place + 1) texts)))
+  next_text =
+      so ∙ ap (λ xs. joined (Ok found) (left_of numbers xs))
+      (drop_more texts place text less ∙ ap (λ (p : Bor (List ℕ)). p ∷ drop (place + 1) texts) (sym at))
 
-  -- the next path is found
-  pub path_found : (more all : List ℕ) → numbers_of_path list sought (trimmed path.now) ≡ Ok more → all ≡ found ++ more
-      → whole ≡ joined (Ok all) (left_of list sought (drop (place + 1) paths))
-  path_found more all is add =
-      next_path ∙ ap (λ r. joined (Ok found) (joined r (left_of list sought (drop (place + 1) paths)))) is
-      ∙ joined_joined found more (left_of list sought (drop (place + 1) paths))
-      ∙ ap (λ (ns : List ℕ). joined (Ok ns) (left_of list sought (drop (place + 1) paths))) (sym add)
+  -- the next text denotes some
+  pub text_found : (more all : List ℕ) → numbers text.now ≡ Ok more → all ≡ found ++ more
+      → whole ≡ joined (Ok all) (left_of numbers (drop (place + 1) texts))
+  text_found more all is add =
+      next_text ∙ ap (λ r. joined (Ok found) (joined r (left_of numbers (drop (place + 1) texts)))) is
+      ∙ joined_joined found more (left_of numbers (drop (place + 1) texts))
+      ∙ ap (λ (ns : List ℕ). joined (Ok ns) (left_of numbers (drop (place + 1) texts))) (sym add)
 
-  -- the next path denotes nobody
-  pub path_lost : (fault : Option PathFault) → IfSome fault (λ why. numbers_of_path list sought (trimmed path.now) ≡ Err why)
+  -- the next text denotes nobody
+  pub text_lost : (fault : Option PathFault) → IfSome fault (λ why. numbers text.now ≡ Err why)
       → IfSome fault (λ why. whole ≡ Err why)
-  path_lost None is = is
-  path_lost (Some why) is = next_path ∙ ap (λ r. joined (Ok found) (joined r (left_of list sought (drop (place + 1) paths)))) is
+  text_lost None is = is
+  text_lost (Some why) is = next_text ∙ ap (λ r. joined (Ok found) (joined r (left_of numbers (drop (place + 1) texts)))) is
 
--- no path is left
-pub paths_end : (list : Listed) (sought : ComponentKind) (whole : Result (List ℕ) PathFault) (found : List ℕ) (paths : List (Bor (List ℕ))) (place : ℕ)
-    → length paths ≤ place → whole ≡ joined (Ok found) (left_of list sought (drop place paths)) → whole ≡ Ok found
-paths_end list sought whole found paths place end so =
-    so ∙ ap (λ xs. joined (Ok found) (left_of list sought xs)) (drop_all place paths end) ∙ ap Ok (append-nil found)
+-- no text is left
+pub texts_end : (numbers : List ℕ → Result (List ℕ) PathFault) (whole : Result (List ℕ) PathFault) (found : List ℕ) (texts : List (Bor (List ℕ))) (place : ℕ)
+    → length texts ≤ place → whole ≡ joined (Ok found) (left_of numbers (drop place texts)) → whole ≡ Ok found
+texts_end numbers whole found texts place end so =
+    so ∙ ap (λ xs. joined (Ok found) (left_of numbers xs)) (drop_all place texts end) ∙ ap Ok (append-nil found)
+
+-- either of two faults, the first one first
+pub joined_faults : (one two : Result (List ℕ) PathFault) (numbers : List ℕ) (fault : Option PathFault) → one ≡ Ok numbers
+    → IfSome fault (λ why. two ≡ Err why) → IfSome fault (λ why. joined one two ≡ Err why)
+joined_faults one two numbers None is why = why
+joined_faults one two numbers (Some fault) is why = ap (λ r. joined r two) is ∙ ap (λ r. joined (Ok numbers) r) why
+
+pub first_fault : (one two : Result (List ℕ) PathFault) (fault : Option PathFault) → IfSome fault (λ why. one ≡ Err why)
+    → IfSome fault (λ why. joined one two ≡ Err why)
+first_fault one two None why = why
+first_fault one two (Some fault) why = ap (λ r. joined r two) why

@@ -7,7 +7,6 @@ use Rattle.std.proofs.lemmas.List.Elements.{All-contains}
 use Rattle.std.proofs.lemmas.List.Sums.{AllPass-from_list_all}
 use Rattle.own_model.specs.Listed.{Listed}
 use Rattle.list_reach.specs.Reach.{AllRouted, IsShortest, NoneRouted, SomeNotRouted}
-use Rattle.list_labels.specs.GivenLabels.{leads_to}
 use Rattle.list_labels.specs.Closure.{KeptLabel}
 use Rattle.list_reach.specs.ClientReach.{AreRoutes, IsBest, IsLeast, is_child, is_shorter, leads}
 use Rattle.list_labels.specs.Representatives.{IsTold, RepresentAll}

@@ -1,6 +1,10 @@
 pub mod Reach
 pub mod ClientReach
 pub mod Table
+pub mod Rows
+pub mod RouteQuery
+pub mod ScriptDecisions
+pub mod AllPaths
 pub mod Paths
 pub mod RequestTheorems
 pub mod Deciding

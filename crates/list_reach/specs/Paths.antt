@@ -1,5 +1,6 @@
 -- Which components a path denotes: a `*` is 42, a `,` is 44 and a `/` is 47.
-use Rattle.std.specs.Prelude.{◌≡◌, ℕ, ◌-◌, ◌&&◌, ◌||◌, ◌==◌, zero, suc, not, Bool, true, false, List, [], ◌∷◌, ◌++◌, length, position, take, drop, nat_eq, if◌then◌else◌, Option, Some, None, is_some, IfSome, Result, Ok, Err}
+use Rattle.std.specs.Prelude.{◌≡◌, ℕ, ◌-◌, ◌&&◌, ◌||◌, ◌==◌, zero, suc, not, Bool, true, false, List, [], ◌∷◌, ◌++◌, length, map, position, take, drop, nat_eq, if◌then◌else◌, Option, Some, None, is_some, IfSome, Result, Ok, Err}
+use Rattle.std.specs.Borrow.{Bor}
 use Rattle.std.specs.Char.{is_ascii_whitespace}
 use Rattle.std.specs.List.{list_any, prefix_len, suffix_len, slice_get, slice_split, starts_with, ends_with}
 use Rattle.std.specs.Option.{option_map, unwrap_or}
@@ -107,14 +108,18 @@ trimmed text = trimmed_end (drop (prefix_len is_ascii_whitespace text) text)
 abbrev pub pieces : ℕ → List ℕ → List (List ℕ)
 pieces byte text = slice_split (λ b. b == byte) text
 
-abbrev pub numbers_of_paths : Listed → ComponentKind → List (List ℕ) → Result (List ℕ) PathFault
-numbers_of_paths list sought [] = Ok []
-numbers_of_paths list sought (path ∷ paths) =
-    joined (numbers_of_path list sought (trimmed path)) (numbers_of_paths list sought paths)
+-- what each of some texts denotes, one after the other, or the first fault
+abbrev pub joined_all : (List ℕ → Result (List ℕ) PathFault) → List (List ℕ) → Result (List ℕ) PathFault
+joined_all numbers [] = Ok []
+joined_all numbers (text ∷ texts) = joined (numbers text) (joined_all numbers texts)
 
 -- the numbers of all that paths denote, which commas separate, or why the first that denotes none does so
 abbrev pub numbers_of : Listed → ComponentKind → List ℕ → Result (List ℕ) PathFault
-numbers_of list sought text = numbers_of_paths list sought (pieces 44 text)
+numbers_of list sought text = joined_all (λ path. numbers_of_path list sought (trimmed path)) (pieces 44 text)
+
+-- and those of several texts
+abbrev pub numbers_of_all : Listed → ComponentKind → List (Bor (List ℕ)) → Result (List ℕ) PathFault
+numbers_of_all list sought texts = joined_all (numbers_of list sought) (map (λ text. text.now) texts)
 
 -- the fault of a path; none if the host is out of memory
 abbrev pub fault_of : Unnamed → Option PathFault

@@ -88,19 +88,6 @@ pub fn numbers<'a>(
     Ok(found)
 }
 
-/// Adds the numbers of all components of a kind that paths denote; commas separate the paths. Errors are those of `numbers`.
-pub(crate) fn add_paths<'a>(
-    alloc: Global,
-    list: &StartList,
-    found: &mut Vec<usize>,
-    paths: &'a [u8],
-    sought: ComponentKind,
-) -> Result<(), Unnamed<'a>> {
-    let more = numbers(alloc, list, paths, sought)?;
-    found.extend_from_slice(more.as_slice())?;
-    Ok(())
-}
-
 // The numbers of all that a path denotes.
 fn numbers_of_path<'a>(
     alloc: Global,

@@ -13,6 +13,7 @@ mod reach_table;
 mod route_decisions;
 mod route_path;
 mod route_summary;
+mod script_decisions;
 mod texts;
 mod theorems;
 
@@ -26,4 +27,5 @@ pub use reach_table::{ReachCell, ReachCsv, ReachTable};
 pub use route_decisions::{RouteDecision, RouteDecisions};
 pub use route_path::{RoutePath, RoutePathFault};
 pub use route_summary::RouteSummary;
+pub use script_decisions::ScriptDecisions;
 pub use theorems::requests_are_answered;

@@ -1,8 +1,9 @@
 //! The scripts and servers that a command selects.
-ghost use Rattle.std.specs.Prelude.{◌≡◌};
-ghost use Rattle.list_reach.specs.Paths.{is_chosen, names, same_number};
+ghost use Rattle.std.specs.Prelude.{◌≡◌, ◌==◌, ◌||◌, not, [], length, Ok, IfErr, IfOk};
+ghost use Rattle.list_reach.specs.Paths.{GivesReason, is_chosen, joined, names, numbers_of_all, same_number};
+ghost use Rattle.list_reach.specs.declared.component_numbers.ComponentKind.TheVariants.{Script as Scripts, Server as Servers};
 
-use crate::component_numbers::{ComponentKind, Unnamed, add_paths};
+use crate::component_numbers::{ComponentKind, Unnamed, numbers};
 use list_parser::StartList;
 use std::alloc::Global;
 
@@ -15,7 +16,10 @@ pub struct ReachFilter {
 
 impl ReachFilter {
     /// Returns the filter that selects all scripts and all servers.
-    pub fn all(alloc: Global) -> ReachFilter {
+    pub fn all(alloc: Global) -> ReachFilter
+        ensures from { result.from.items ≡ [] }
+        ensures to { result.to.items ≡ [] }
+    {
         ReachFilter {
             from: Vec::new(alloc),
             to: Vec::new(alloc),
@@ -29,15 +33,27 @@ impl ReachFilter {
         list: &StartList,
         from: &[&'a str],
         to: &[&'a str],
-    ) -> Result<ReachFilter, Unnamed<'a>> {
+    ) -> Result<ReachFilter, Unnamed<'a>>
+        ensures from { IfOk result (λ filter.
+            numbers_of_all list.now Scripts from.now
+            ≡ Ok filter.from.items) }
+        ensures to { IfOk result (λ filter.
+            numbers_of_all list.now Servers to.now
+            ≡ Ok filter.to.items) }
+        ensures fault { IfErr result (λ fault. GivesReason (joined
+            (numbers_of_all list.now Scripts from.now)
+            (numbers_of_all list.now Servers to.now)) fault) }
+    {
         Ok(ReachFilter {
-            from: all_named(alloc, list, from, ComponentKind::Script)?,
-            to: all_named(alloc, list, to, ComponentKind::Server)?,
+            from: all_numbers(alloc, list, from, ComponentKind::Script)?,
+            to: all_numbers(alloc, list, to, ComponentKind::Server)?,
         })
     }
 
     /// Returns whether the filter names some scripts or some servers.
-    pub fn is_narrow(&self) -> bool {
+    pub fn is_narrow(&self) -> bool
+        ensures { result ≡ (not (length self.now.from.items == 0) || not (length self.now.to.items == 0)) }
+    {
         !self.from.is_empty() || !self.to.is_empty()
     }
 
@@ -56,16 +72,20 @@ impl ReachFilter {
     }
 }
 
-// The numbers of all that some texts name.
-fn all_named<'a>(
+// The numbers of all components of a kind that some texts denote, each with paths that commas separate.
+fn all_numbers<'a>(
     alloc: Global,
     list: &StartList,
     texts: &[&'a str],
     sought: ComponentKind,
-) -> Result<Vec<usize>, Unnamed<'a>> {
+) -> Result<Vec<usize>, Unnamed<'a>>
+    ensures found { IfOk result (λ found. numbers_of_all list.now sought texts.now ≡ Ok found.items) }
+    ensures fault { IfErr result (GivesReason (numbers_of_all list.now sought texts.now)) }
+{
     let mut found = Vec::new(alloc);
-    for paths in texts {
-        add_paths(alloc, list, &mut found, paths.as_bytes(), sought)?;
+    for place in 0..texts.len() {
+        let more = numbers(alloc, list, texts[place].as_bytes(), sought)?;
+        found.extend_from_slice(more.as_slice())?;
     }
     Ok(found)
 }

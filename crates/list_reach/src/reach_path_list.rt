@@ -1,18 +1,21 @@
 //! Each path by which scripts reach servers: a label, and the rules that route it to the server.
-ghost use Rattle.std.specs.Prelude.{◌≡◌, ◌<◌, length, All, IfOk, IfSome, OnOk, Some};
-ghost use Rattle.list_reach.specs.Deciding.{AreDecisions, IsDecision};
+ghost use Rattle.std.specs.Prelude.{◌≡◌, ◌<◌, length, All, IfOk, OnOk};
+ghost use Rattle.list_reach.specs.AllPaths.{AddsPaths, AreAllPaths, reached, reached_of, selected_child};
+ghost use Rattle.list_reach.specs.Deciding.{IsDecision};
+ghost use Rattle.list_reach.specs.Paths.{is_chosen};
+ghost use Rattle.list_reach.specs.ScriptDecisions.{IsDecided};
 ghost use Rattle.list_reach.specs.Table.{IsReachPath};
 
 use crate::reach_filter::ReachFilter;
-use crate::route_decisions::{RouteDecision, RouteDecisions};
+use crate::route_decisions::RouteDecision;
 use crate::route_path::RoutePath;
 use crate::route_summary::RouteSummary;
+use crate::script_decisions::ScriptDecisions;
 use crate::texts::PathText;
-use list_labels::{ClientLabel, SessionRequests};
-use list_parser::{Binary, StartList};
+use list_labels::ClientLabel;
+use list_parser::StartList;
 use std::alloc::{AllocError, Global};
 use std::fmt;
-use trade_base::SERVICES;
 
 /// A label that is routed from a script to a server, with the rules by which it is routed.
 #[derive(Drop)]
@@ -45,13 +48,13 @@ impl<'a> ReachPathList<'a> {
         chosen: &ReachFilter,
     ) -> Result<ReachPathList<'a>, AllocError>
         ensures list { IfOk result (λ told. told.list.now ≡ list.now) }
-        ensures ways { IfOk result (λ told. All (IsReachPath list.now) told.ways.items) }
+        ensures ways { IfOk result (λ told. AreAllPaths list.now (is_chosen chosen.now.from.items)
+            (is_chosen chosen.now.to.items) told.ways.items) }
     {
+        let found = ScriptDecisions::all(alloc, list, chosen)?;
         let mut ways = Vec::new(alloc);
-        for client in 0..list.entries().len() {
-            if chosen.has_script(client) {
-                add_client(alloc, &mut ways, list, chosen, client)?;
-            }
+        for place in 0..found.len() {
+            add_paths(alloc, &mut ways, list, chosen, &found[place])?;
         }
         Ok(ReachPathList { list, ways })
     }
@@ -64,100 +67,58 @@ impl<'a> ReachPathList<'a> {
     }
 }
 
-// The paths of a component, if it is a script.
-fn add_client<'a>(
+// Adds the paths of the decisions on a script's requests for a service.
+#[tactic(auto, using(crate::proofs::TableLemmas::paths_none, crate::proofs::TableLemmas::paths_then))]
+fn add_paths<'a>(
     alloc: Global,
     ways: &mut Vec<ReachPath<'a>>,
     list: &'a StartList,
     chosen: &ReachFilter,
-    client: usize,
+    one: &ScriptDecisions<'_>,
 ) -> Result<(), AllocError>
-    requires client { client < length list.now.entries }
-    requires ways { All (IsReachPath list.now) ways.old.items }
-    ensures { OnOk result (All (IsReachPath list.now) ways.new.items) }
+    requires decided { IsDecided list.now one.now }
+    requires told { All (IsReachPath list.now) ways.old.items }
+    ensures { OnOk result (AddsPaths list.now ways.old.items
+        (reached_of (is_chosen chosen.now.to.items) one.now) ways.new.items) }
 {
-    if list.entries()[client].binary() != Binary::Script {
-        return Ok(());
-    }
-    for place in 0..SERVICES.len() {
-        add_service(alloc, ways, list, chosen, client, SERVICES[place].name())?;
-    }
-    Ok(())
-}
-
-// The paths of a client for one service.
-fn add_service<'a>(
-    alloc: Global,
-    ways: &mut Vec<ReachPath<'a>>,
-    list: &'a StartList,
-    chosen: &ReachFilter,
-    client: usize,
-    service: &'static str,
-) -> Result<(), AllocError>
-    requires client { client < length list.now.entries }
-    requires ways { All (IsReachPath list.now) ways.old.items }
-    ensures { OnOk result (All (IsReachPath list.now) ways.new.items) }
-{
-    let wishes = SessionRequests {
-        list,
-        client,
-        service: service.as_bytes(),
-    };
-    let found = RouteDecisions::of(alloc, wishes)?;
-    add_ways(alloc, ways, wishes, chosen, service, found.as_slice())
-}
-
-// The paths of those decisions that route to a selected server.
-fn add_ways<'a>(
-    alloc: Global,
-    ways: &mut Vec<ReachPath<'a>>,
-    wishes: SessionRequests<'a>,
-    chosen: &ReachFilter,
-    service: &'static str,
-    trails: &[RouteDecision],
-) -> Result<(), AllocError>
-    requires client { wishes.client < length wishes.list.now.entries }
-    requires service { wishes.service.now ≡ service.now }
-    requires trails { AreDecisions wishes.list.now wishes.client service.now trails.now }
-    requires ways { All (IsReachPath wishes.list.now) ways.old.items }
-    ensures { OnOk result (All (IsReachPath wishes.entry.list.now) ways.new.items) }
-{
+    let trails = one.decisions.as_slice();
     for place in 0..trails.len() {
-        add_way(alloc, ways, wishes, chosen, service, &trails[place])?;
+        add_path(alloc, ways, list, chosen, one, &trails[place])?;
     }
     Ok(())
 }
 
-// The path of a decision, if it routes to a selected server.
-#[tactic(auto, using(crate::proofs::TableLemmas::ways_more))]
-fn add_way<'a>(
+// Adds the path of a decision on a script's requests for a service, if it routes to a selected server.
+#[tactic(auto, using(crate::proofs::TableLemmas::paths_none, crate::proofs::TableLemmas::paths_one))]
+fn add_path<'a>(
     alloc: Global,
     ways: &mut Vec<ReachPath<'a>>,
-    wishes: SessionRequests<'a>,
+    list: &'a StartList,
     chosen: &ReachFilter,
-    service: &'static str,
+    one: &ScriptDecisions<'_>,
     trail: &RouteDecision,
 ) -> Result<(), AllocError>
-    requires client { wishes.client < length wishes.list.now.entries }
-    requires service { wishes.service.now ≡ service.now }
-    requires trail { IsDecision wishes.list.now wishes.client service.now trail.now }
-    requires ways { All (IsReachPath wishes.list.now) ways.old.items }
-    ensures { OnOk result (All (IsReachPath wishes.entry.list.now) ways.new.items) }
+    requires client { one.now.client < length list.now.entries }
+    requires trail { IsDecision list.now one.now.client one.now.service.now trail.now }
+    requires told { All (IsReachPath list.now) ways.old.items }
+    ensures { OnOk result (AddsPaths list.now ways.old.items
+        (reached (is_chosen chosen.now.to.items) one.now.client one.now.service.now trail.now)
+        ways.new.items) }
 {
-    let Some(server) = server_of(chosen, trail) else {
+    let Some(server) = selected_child(chosen, trail.child()) else {
         return Ok(());
     };
     let label = trail.label().copy();
     let course = RoutePath::of(
         alloc,
-        wishes.list,
-        wishes.client,
-        wishes.service,
+        list,
+        one.client,
+        one.service.as_bytes(),
         label.as_bytes(),
     )?;
     ways.push(ReachPath {
-        client: wishes.client,
-        service,
+        client: one.client,
+        service: one.service,
         server,
         label,
         course,
@@ -165,11 +126,11 @@ fn add_way<'a>(
     Ok(())
 }
 
-// The server to which a decision routes, if the server is selected.
-fn server_of(chosen: &ReachFilter, trail: &RouteDecision) -> Option<usize>
-    ensures { IfSome result (λ server. trail.now.child ≡ Some server) }
+// The server to which a decision routes, if it is selected.
+fn selected_child(chosen: &ReachFilter, child: Option<usize>) -> Option<usize>
+    ensures { result ≡ selected_child (is_chosen chosen.now.to.items) child }
 {
-    match trail.child() {
+    match child {
         Some(server) if chosen.has_server(server) => Some(server),
         _ => None,
     }

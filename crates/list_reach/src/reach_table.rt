@@ -1,17 +1,22 @@
 //! Which scripts reach which servers, as a table.
-ghost use Rattle.std.specs.Prelude.{◌≡◌, ◌<◌, length, All, IfOk, OnOk};
+ghost use Rattle.std.specs.Prelude.{◌≡◌, ◌<◌, [], ◌∷◌, length, map, All, IfOk, OnOk};
+ghost use Rattle.std.specs.List.{enumerate_from, flat_map};
+ghost use Rattle.trade_base.specs.Service.{services};
+ghost use Rattle.list_reach.specs.Paths.{is_chosen};
+ghost use Rattle.list_reach.specs.Rows.{AddsRows, provider_rows, row_of, rows, script_rows, service_rows};
 ghost use Rattle.list_reach.specs.Table.{IsTrue};
 ghost use Rattle.list_reach.specs.ClientReach.{AreRoutes};
 
 use crate::client_reach::{ClientReach, Reach};
 use crate::comparison::RouteComparison;
+use crate::component_numbers::{ComponentKind, is_sought};
 use crate::reach_filter::ReachFilter;
 use crate::texts::PathText;
 use list_labels::{ClientLabel, LabelSet, SessionRequests};
-use list_parser::{Binary, StartList};
+use list_parser::{ListEntry, StartList};
 use std::alloc::{AllocError, Global};
 use std::fmt;
-use trade_base::SERVICES;
+use trade_base::{SERVICES, Service};
 
 /// The maximum number of bytes of a set of labels in a row of a table; a longer set is below the table.
 const LONGEST_SHOWN: usize = 40;
@@ -76,6 +81,8 @@ impl<'a> ReachTable<'a> {
     /// Returns the table of all scripts and servers of a start list. Fails if the host is out of memory.
     pub fn of(alloc: Global, list: &'a StartList) -> Result<ReachTable<'a>, AllocError>
         ensures list { IfOk result (λ table. table.list.now ≡ list.now) }
+        ensures rows { IfOk result (λ table. map row_of table.cells.items
+            ≡ rows list.now (is_chosen []) (is_chosen [])) }
         ensures cells { IfOk result (λ table. All (IsTrue list.now) table.cells.items) }
     {
         ReachTable::narrowed(alloc, list, &ReachFilter::all(alloc))
@@ -88,13 +95,14 @@ impl<'a> ReachTable<'a> {
         chosen: &ReachFilter,
     ) -> Result<ReachTable<'a>, AllocError>
         ensures list { IfOk result (λ table. table.list.now ≡ list.now) }
+        ensures rows { IfOk result (λ table. map row_of table.cells.items
+            ≡ rows list.now (is_chosen chosen.now.from.items) (is_chosen chosen.now.to.items)) }
         ensures cells { IfOk result (λ table. All (IsTrue list.now) table.cells.items) }
     {
         let mut cells = Vec::new(alloc);
-        for client in 0..list.entries().len() {
-            if chosen.has_script(client) {
-                add_client(alloc, &mut cells, list, chosen, client)?;
-            }
+        let entries = list.entries();
+        for (client, entry) in entries.iter().enumerate() {
+            add_script(alloc, &mut cells, list, chosen, client, entry)?;
         }
         let sets = long_sets(alloc, cells.as_slice())?;
         Ok(ReachTable { list, cells, sets })
@@ -113,8 +121,32 @@ impl<'a> ReachTable<'a> {
     }
 }
 
-// The cells of a component, if it is a script.
-fn add_client(
+// Adds the cells of an entry, if it is a selected script.
+#[tactic(auto, using(crate::proofs::TableLemmas::adds_none))]
+fn add_script(
+    alloc: Global,
+    cells: &mut Vec<ReachCell>,
+    list: &StartList,
+    chosen: &ReachFilter,
+    client: usize,
+    entry: &ListEntry,
+) -> Result<(), AllocError>
+    requires client { client < length list.now.entries }
+    requires cells { All (IsTrue list.now) cells.old.items }
+    ensures { OnOk result (AddsRows list.now cells.old.items
+        (script_rows list.now (is_chosen chosen.now.from.items) (is_chosen chosen.now.to.items)
+        (client, entry.now)) cells.new.items) }
+{
+    if chosen.has_script(client) && is_sought(entry, ComponentKind::Script) {
+        add_services(alloc, cells, list, chosen, client)
+    } else {
+        Ok(())
+    }
+}
+
+// Adds the cells of a script.
+#[tactic(auto, using(crate::proofs::TableLemmas::adds_none, crate::proofs::TableLemmas::adds_then))]
+fn add_services(
     alloc: Global,
     cells: &mut Vec<ReachCell>,
     list: &StartList,
@@ -123,30 +155,32 @@ fn add_client(
 ) -> Result<(), AllocError>
     requires client { client < length list.now.entries }
     requires cells { All (IsTrue list.now) cells.old.items }
-    ensures { OnOk result (All (IsTrue list.now) cells.new.items) }
+    ensures { OnOk result (AddsRows list.now cells.old.items
+        (flat_map (service_rows list.now (is_chosen chosen.now.to.items) client) services)
+        cells.new.items) }
 {
-    if list.entries()[client].binary() != Binary::Script {
-        return Ok(());
-    }
-    for place in 0..SERVICES.len() {
-        add_service(alloc, cells, list, chosen, client, SERVICES[place].name())?;
+    let services = SERVICES.as_slice();
+    for place in 0..services.len() {
+        add_service(alloc, cells, list, chosen, client, services[place])?;
     }
     Ok(())
 }
 
-// The cells of a client for one service.
+// Adds the cells of a script for one service.
 fn add_service(
     alloc: Global,
     cells: &mut Vec<ReachCell>,
     list: &StartList,
     chosen: &ReachFilter,
     client: usize,
-    service: &'static str,
+    service: Service,
 ) -> Result<(), AllocError>
     requires client { client < length list.now.entries }
     requires cells { All (IsTrue list.now) cells.old.items }
-    ensures { OnOk result (All (IsTrue list.now) cells.new.items) }
+    ensures { OnOk result (AddsRows list.now cells.old.items
+        (service_rows list.now (is_chosen chosen.now.to.items) client service) cells.new.items) }
 {
+    let service = service.name();
     let wishes = SessionRequests {
         list,
         client,
@@ -163,7 +197,8 @@ fn add_service(
     add_cells(cells, chosen, &found)
 }
 
-// The cells of a client for one service, by the reach of its requests.
+// Adds the cells of a script for one service, by the reach of its requests.
+#[tactic(auto, using(crate::proofs::TableLemmas::adds_none, crate::proofs::TableLemmas::adds_then))]
 fn add_cells(
     cells: &mut Vec<ReachCell>,
     chosen: &ReachFilter,
@@ -172,31 +207,33 @@ fn add_cells(
     requires ways { AreRoutes found.now.list.now found.now.client found.now.service.now
         found.now.ways }
     requires cells { All (IsTrue found.now.list.now) cells.old.items }
-    ensures { OnOk result (All (IsTrue found.now.list.now) cells.new.items) }
+    ensures { OnOk result (AddsRows found.now.list.now cells.old.items
+        (flat_map (provider_rows (is_chosen chosen.now.to.items) found.now.client
+        found.now.service.now) (enumerate_from 0 found.now.list.now.entries)) cells.new.items) }
 {
-    for server in 0..found.list.entries().len() {
-        add_cell(cells, chosen, found, server)?;
+    let entries = found.list.entries();
+    for (server, entry) in entries.iter().enumerate() {
+        if chosen.has_server(server) && entry.offers(entry.home(), found.service.as_bytes()) {
+            add_cell(cells, found, server)?;
+        }
     }
     Ok(())
 }
 
-// The cell of a client and a server, if the server is selected and provides the service.
+// Adds the cell of a script and a server.
+#[tactic(auto, using(crate::proofs::TableLemmas::adds_one))]
 fn add_cell(
     cells: &mut Vec<ReachCell>,
-    chosen: &ReachFilter,
     found: &ServiceReach<'_>,
     server: usize,
 ) -> Result<(), AllocError>
-    requires server { server < length found.now.list.now.entries }
     requires ways { AreRoutes found.now.list.now found.now.client found.now.service.now
         found.now.ways }
     requires cells { All (IsTrue found.now.list.now) cells.old.items }
-    ensures { OnOk result (All (IsTrue found.now.list.now) cells.new.items) }
+    ensures { OnOk result (AddsRows found.now.list.now cells.old.items
+        (record { client = found.now.client; service = found.now.service.now; server = server }
+        ∷ []) cells.new.items) }
 {
-    let entry = &found.list.entries()[server];
-    if !chosen.has_server(server) || !entry.offers(entry.home(), found.service.as_bytes()) {
-        return Ok(());
-    }
     let alloc = found.alloc;
     let reach = found.ways.reach(server);
     let labels = found.sets.gained(alloc, None, Some(server))?.labels;

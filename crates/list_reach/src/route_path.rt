@@ -1,11 +1,13 @@
 //! The route path of one session request: which rules decide it, list by list outward, and the server to which they route it.
-ghost use Rattle.std.specs.Prelude.{◌≡◌, ◌<◌, ◌≤◌, length, IfOk};
+ghost use Rattle.std.specs.Prelude.{◌≡◌, ◌<◌, ◌≤◌, length, IfErr, IfOk, IfSome};
 ghost use Rattle.list_labels.specs.RouteSteps.{route_steps_of};
 ghost use Rattle.list_labels.specs.GivenLabels.{leads_to};
+ghost use Rattle.list_reach.specs.RouteQuery.{Answers, IsWhy, script_named};
 
+use crate::component_numbers::{ComponentKind, is_sought};
 use crate::texts::{EntryRuleText, PathText};
-use list_labels::{ByteText, LONGEST_GIVEN, RouteStep, route_steps_of};
-use list_parser::{Binary, ListEntry, Rule, StartList, Target};
+use list_labels::{ByteText, RouteStep, route_steps_of};
+use list_parser::{ListEntry, Rule, StartList, Target};
 use list_routes::route;
 use session_proto::SessionArgs;
 use std::alloc::{AllocError, Global};
@@ -33,6 +35,7 @@ impl<'a> RoutePath<'a> {
     ) -> Result<RoutePath<'a>, AllocError>
         requires client { client < length list.now.entries }
         requires label { length label.now ≤ 64 }
+        ensures client { IfOk result (λ course. course.client ≡ client) }
         ensures child { IfOk result (λ course. course.child
             ≡ leads_to list.now client service.now label.now) }
         ensures hops { IfOk result (λ course. course.hops.items
@@ -54,15 +57,17 @@ impl<'a> RoutePath<'a> {
         client: &[u8],
         service: &[u8],
         args: &[u8],
-    ) -> Result<RoutePath<'a>, RoutePathFault> {
-        let Some(client) = list.find(client) else {
+    ) -> Result<RoutePath<'a>, RoutePathFault>
+        ensures answers { IfOk result (Answers list.now client.now service.now args.now) }
+        ensures fault { IfErr result (IsWhy list.now client.now args.now) }
+    {
+        let Some(client) = script_named(list, client) else {
             return Err(RoutePathFault::Nobody);
         };
-        if list.entries()[client].binary() != Binary::Script {
-            return Err(RoutePathFault::Nobody);
-        }
-        let label = label_in(args)?;
-        match RoutePath::of(alloc, list, client, service, label) {
+        let Ok(args) = SessionArgs::read(args) else {
+            return Err(RoutePathFault::BadArgs);
+        };
+        match RoutePath::of(alloc, list, client, service, args.label()) {
             Ok(course) => Ok(course),
             Err(_) => Err(RoutePathFault::NoMemory),
         }
@@ -108,16 +113,16 @@ pub enum RoutePathFault {
     NoMemory,
 }
 
-// The label of a session's arguments, or the empty label if there are no arguments.
-fn label_in(args: &[u8]) -> Result<&[u8], RoutePathFault>
-    ensures { IfOk result (λ label. length label.now ≤ 64) }
+// The number of the script of a path.
+fn script_named(list: &StartList, path: &[u8]) -> Option<usize>
+    ensures named { result ≡ script_named list.now path.now }
+    ensures within { IfSome result (λ client. client < length list.now.entries) }
 {
-    if args.is_empty() {
-        return Ok(args);
-    }
-    match SessionArgs::read(args) {
-        Ok(found) if found.label().len() <= LONGEST_GIVEN => Ok(found.label()),
-        _ => Err(RoutePathFault::BadArgs),
+    let client = list.find(path)?;
+    if is_sought(&list.entries()[client], ComponentKind::Script) {
+        Some(client)
+    } else {
+        None
     }
 }
 

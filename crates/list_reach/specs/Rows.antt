@@ -1,0 +1,43 @@
+-- What a table has rows for: each selected script, each service, and each selected server that provides it.
+use Rattle.std.specs.Prelude.{◌≡◌, ℕ, ◌&&◌, Bool, List, [], ◌∷◌, ◌++◌, map, if◌then◌else◌, All}
+use Rattle.std.specs.List.{enumerate_from, flat_map}
+use Rattle.trade_base.specs.declared.service.Service.{Service}
+use Rattle.trade_base.specs.Service.{service_name, services}
+use Rattle.own_model.specs.Listed.{Listed, ListedEntry, offers}
+use Rattle.list_reach.specs.Paths.{runs_script}
+use Rattle.list_reach.specs.Table.{IsTrue}
+use Rattle.list_reach.specs.declared.reach_table.ReachCell.{ReachCell}
+
+-- a script, a service, and a server
+pub record Row : Type 0 where
+  pub client : ℕ
+  pub service : List ℕ
+  pub server : ℕ
+
+abbrev pub row_of : ReachCell → Row
+row_of cell = record { client = cell.client; service = cell.service.now; server = cell.server }
+
+-- an entry, by its number, has a row if it is a selected server that provides the service
+abbrev pub provider_rows : (ℕ → Bool) → ℕ → List ℕ → ℕ × ListedEntry → List Row
+provider_rows servers client service entry =
+    if servers entry.0 && offers entry.1.home service entry.1 then record { client = client; service = service; server = entry.0 } ∷ []
+    else []
+
+-- a script's rows for a service, server by server
+abbrev pub service_rows : Listed → (ℕ → Bool) → ℕ → Service → List Row
+service_rows list servers client service =
+    flat_map (provider_rows servers client (service_name service)) (enumerate_from 0 list.entries)
+
+-- the rows of an entry, by its number, if it is a selected script: service by service
+abbrev pub script_rows : Listed → (ℕ → Bool) → (ℕ → Bool) → ℕ × ListedEntry → List Row
+script_rows list scripts servers entry =
+    if scripts entry.0 && runs_script entry.1.binary then flat_map (service_rows list servers entry.0) services else []
+
+-- the rows of a table, script by script
+abbrev pub rows : Listed → (ℕ → Bool) → (ℕ → Bool) → List Row
+rows list scripts servers = flat_map (script_rows list scripts servers) (enumerate_from 0 list.entries)
+
+-- cells for these rows are added, and each cell is true
+pub record AddsRows (list : Listed) (old : List ReachCell) (more : List Row) (new : List ReachCell) : Type 0 where
+  pub added : map row_of new ≡ map row_of old ++ more
+  pub told : All (IsTrue list) new
