@@ -1,9 +1,14 @@
 //! The components of a start list, and the servers to which their session requests are routed, as a graph.
+ghost use Rattle.std.specs.Prelude.{◌≡◌, [], IfOk};
+ghost use Rattle.list_reach.specs.Paths.{is_chosen};
+ghost use Rattle.list_reach.specs.ScriptDecisions.{AreAllDecisions};
+
 use crate::node::TreeNode;
-use crate::script_decisions::ScriptDecision;
+use crate::script_decision::ScriptDecision;
 use crate::tree::ListTree;
 use list_parser::{Binary, ListEntry, StartList};
 use list_parts::{left_of, show_within};
+use list_reach::ScriptDecisions;
 use std::alloc::{AllocError, Global};
 use std::fmt;
 
@@ -17,7 +22,11 @@ pub struct ListGraph<'a> {
 
 impl<'a> ListGraph<'a> {
     /// Returns the graph of a start list. Fails if the host is out of memory.
-    pub fn of(alloc: Global, list: &'a StartList) -> Result<ListGraph<'a>, AllocError> {
+    pub fn of(alloc: Global, list: &'a StartList) -> Result<ListGraph<'a>, AllocError>
+        ensures list { IfOk result (λ graph. graph.tree.list.now ≡ list.now) }
+        ensures decisions { IfOk result
+            (λ graph. AreAllDecisions list.now (is_chosen []) graph.tree.decisions.items) }
+    {
         Ok(ListGraph {
             tree: ListTree::of(alloc, list)?,
         })
@@ -36,9 +45,7 @@ impl fmt::Display for ListGraph<'_> {
         )?;
         self.show_nodes(f)?;
         for one in self.tree.decisions.as_slice() {
-            for trail in one.trails() {
-                show_edge(f, &one.decision(trail))?;
-            }
+            show_edges(f, list, one)?;
         }
         f.write_str("}\n")
     }
@@ -74,13 +81,33 @@ impl ListGraph<'_> {
         depth: usize,
     ) -> fmt::Result {
         let mut decisions = self.tree.decisions.as_slice().iter();
-        if !decisions.any(|one| one.entry.home() == init && one.denies()) {
+        if !decisions.any(|one| one.entry.home() == init && denies(one)) {
             return Ok(());
         }
         show_margin(f, depth)?;
         show_denied(f, self.tree.list, init)?;
         f.write_str(" [shape=plaintext, fontcolor=gray, label=\"denied\"];\n")
     }
+}
+
+// Whether some requests of a script for a service are denied.
+fn denies(one: &ScriptDecisions<'_>) -> bool {
+    one.decisions
+        .as_slice()
+        .iter()
+        .any(|trail| trail.child().is_none())
+}
+
+// The edges of the decisions on a script's requests for a service.
+fn show_edges<'a, W: fmt::Write>(
+    f: &mut fmt::Formatter<W>,
+    list: &'a StartList,
+    one: &'a ScriptDecisions<'a>,
+) -> fmt::Result {
+    for trail in one.decisions.as_slice() {
+        show_edge(f, &ScriptDecision::of(list, one, trail))?;
+    }
+    Ok(())
 }
 
 // The edge of a decision, from the client to a server, or to the node of what its list has denied.

@@ -8,7 +8,7 @@
 
 mod graph;
 mod node;
-mod script_decisions;
+mod script_decision;
 mod tree;
 
 pub use graph::ListGraph;

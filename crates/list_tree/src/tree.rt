@@ -1,8 +1,13 @@
 //! The components of a start list, and the servers to which their session requests are routed, as text and as documents.
+ghost use Rattle.std.specs.Prelude.{◌≡◌, [], IfOk};
+ghost use Rattle.list_reach.specs.Paths.{is_chosen};
+ghost use Rattle.list_reach.specs.ScriptDecisions.{AreAllDecisions};
+
 use crate::node::{ExtraBudget, TreeNode};
-use crate::script_decisions::{ScriptDecision, ScriptDecisions, all_decisions};
+use crate::script_decision::ScriptDecision;
 use list_parser::{ListEntry, StartList};
 use list_parts::{InitQuotas, kept, left_of, show_within};
+use list_reach::{ReachFilter, ScriptDecisions};
 use std::alloc::{AllocError, Global};
 use std::fmt;
 use view_json::{JsonField, Listing};
@@ -19,11 +24,15 @@ pub struct ListTree<'a> {
 
 impl<'a> ListTree<'a> {
     /// Returns the tree of a start list. Fails if the host is out of memory.
-    pub fn of(alloc: Global, list: &'a StartList) -> Result<ListTree<'a>, AllocError> {
+    pub fn of(alloc: Global, list: &'a StartList) -> Result<ListTree<'a>, AllocError>
+        ensures list { IfOk result (λ tree. tree.list.now ≡ list.now) }
+        ensures decisions { IfOk result
+            (λ tree. AreAllDecisions list.now (is_chosen []) tree.decisions.items) }
+    {
         Ok(ListTree {
             list,
             inits: kept(list),
-            decisions: all_decisions(alloc, list)?,
+            decisions: ScriptDecisions::all(alloc, list, &ReachFilter::all(alloc))?,
         })
     }
 
@@ -67,9 +76,7 @@ impl<'a> ListTree<'a> {
     ) -> Result<(), AllocError> {
         for one in self.decisions.as_slice() {
             if one.client == number {
-                for trail in one.trails() {
-                    add_decision(alloc, listing, &one.decision(trail))?;
-                }
+                add_requests(alloc, listing, self.list, one)?;
             }
         }
         Ok(())
@@ -83,9 +90,7 @@ impl<'a> ListTree<'a> {
     ) -> fmt::Result {
         for one in self.decisions.as_slice() {
             if one.client == number {
-                for trail in one.trails() {
-                    show_decision(f, &one.decision(trail))?;
-                }
+                show_requests(f, self.list, one)?;
             }
         }
         Ok(())
@@ -121,6 +126,18 @@ fn show_node<W: fmt::Write>(f: &mut fmt::Formatter<W>, node: &TreeNode<'_>) -> f
         Some(_) => f.write_str(", provides nothing\n"),
         None => f.write_str("\n"),
     }
+}
+
+// The decisions on a script's requests for a service.
+fn show_requests<'a, W: fmt::Write>(
+    f: &mut fmt::Formatter<W>,
+    list: &'a StartList,
+    one: &'a ScriptDecisions<'a>,
+) -> fmt::Result {
+    for trail in one.decisions.as_slice() {
+        show_decision(f, &ScriptDecision::of(list, one, trail))?;
+    }
+    Ok(())
 }
 
 // The server to which requests are routed, by which rules, and with which label, if others are routed elsewhere.
@@ -182,6 +199,19 @@ fn add_node(alloc: Global, listing: &mut Listing, node: &TreeNode<'_>) -> Result
         None => {}
     }
     listing.add(members.as_slice())
+}
+
+// Adds the decisions on a script's requests for a service.
+fn add_requests<'a>(
+    alloc: Global,
+    listing: &mut Listing,
+    list: &'a StartList,
+    one: &'a ScriptDecisions<'a>,
+) -> Result<(), AllocError> {
+    for trail in one.decisions.as_slice() {
+        add_decision(alloc, listing, &ScriptDecision::of(list, one, trail))?;
+    }
+    Ok(())
 }
 
 // Adds a decision.

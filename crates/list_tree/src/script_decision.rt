@@ -1,97 +1,11 @@
-//! Which rules decide a script's session requests for a service, list by list outward.
-ghost use Rattle.std.specs.Prelude.{◌<◌, length};
+//! Which rules decide some of a script's session requests for a service, list by list outward.
+ghost use Rattle.std.specs.Prelude.{◌≡◌};
 
-use list_labels::{ClientLabel, SessionRequests};
-use list_parser::{Binary, ListEntry, Rule, StartList};
+use list_labels::ClientLabel;
+use list_parser::{ListEntry, Rule, StartList};
 use list_parts::QuotedText;
-use list_reach::{RouteDecision, RouteDecisions};
-use std::alloc::{AllocError, Global};
+use list_reach::{RouteDecision, ScriptDecisions};
 use std::fmt;
-use trade_base::SERVICES;
-
-/// The decisions on the requests of a script for a service.
-#[derive(Drop)]
-pub(crate) struct ScriptDecisions<'a> {
-    list: &'a StartList,
-    /// The number of the script.
-    pub client: usize,
-    /// The script.
-    pub entry: &'a ListEntry,
-    service: &'static str,
-    trails: RouteDecisions,
-}
-
-/// Decides the requests of each script for each service, script by script. Fails if the host is out of memory.
-pub(crate) fn all_decisions(
-    alloc: Global,
-    list: &StartList,
-) -> Result<Vec<ScriptDecisions<'_>>, AllocError> {
-    let mut found = Vec::new(alloc);
-    for client in 0..list.entries().len() {
-        add_client(alloc, &mut found, list, client)?;
-    }
-    Ok(found)
-}
-
-// The same for a component, if it is a script.
-fn add_client<'a>(
-    alloc: Global,
-    found: &mut Vec<ScriptDecisions<'a>>,
-    list: &'a StartList,
-    client: usize,
-) -> Result<(), AllocError>
-    requires { client < length list.now.entries }
-{
-    let entry = &list.entries()[client];
-    if entry.binary() != Binary::Script {
-        return Ok(());
-    }
-    for place in 0..SERVICES.len() {
-        let service = SERVICES[place].name();
-        let wishes = SessionRequests {
-            list,
-            client,
-            service: service.as_bytes(),
-        };
-        let trails = RouteDecisions::of(alloc, wishes)?;
-        found.push(ScriptDecisions {
-            list,
-            client,
-            entry,
-            service,
-            trails,
-        })?;
-    }
-    Ok(())
-}
-
-impl ScriptDecisions<'_> {
-    /// Returns the route decisions, each once, with the shorter labels first.
-    pub(crate) fn trails(&self) -> &[RouteDecision] {
-        self.trails.as_slice()
-    }
-
-    /// Returns a route decision together with its client and its service.
-    pub(crate) fn decision<'a>(&'a self, trail: &'a RouteDecision) -> ScriptDecision<'a> {
-        let label = if self.trails().len() == 1 {
-            None
-        } else {
-            Some(trail.label())
-        };
-        ScriptDecision {
-            list: self.list,
-            client: self.entry,
-            service: self.service,
-            trail,
-            label,
-        }
-    }
-
-    /// Returns whether some requests of the script for the service are denied.
-    pub(crate) fn denies(&self) -> bool {
-        self.trails().iter().any(|trail| trail.child().is_none())
-    }
-}
 
 /// The requests of a client for a service that the same rules decide.
 #[derive(Clone, Copy)]
@@ -109,6 +23,28 @@ pub(crate) struct ScriptDecision<'a> {
 }
 
 impl<'a> ScriptDecision<'a> {
+    /// Returns one of the decisions on a script's requests for a service.
+    pub(crate) fn of(
+        list: &'a StartList,
+        one: &'a ScriptDecisions<'a>,
+        trail: &'a RouteDecision,
+    ) -> ScriptDecision<'a>
+        ensures { result.client.now ≡ one.entry.now.entry.now }
+    {
+        let label = if one.decisions.as_slice().len() == 1 {
+            None
+        } else {
+            Some(trail.label())
+        };
+        ScriptDecision {
+            list,
+            client: one.entry,
+            service: one.service,
+            trail,
+            label,
+        }
+    }
+
     /// Returns the server to which the requests are routed, or none if they are denied.
     pub(crate) fn server(&self) -> Option<&'a ListEntry> {
         self.list.entries().get(self.trail.child()?)
