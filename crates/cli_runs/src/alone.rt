@@ -125,6 +125,18 @@ fn comparison_status(compared: AloneComparison) -> u8
     }
 }
 
+// Returns a writer to a destination, or one that drops all.
+fn writer_unless<'a>(rt: &HostRuntime, is_dropped: bool, place: OutputStream<'a>) -> Writer<'a> {
+    plain_writer(
+        rt,
+        if is_dropped {
+            OutputStream::Dropped
+        } else {
+            place
+        },
+    )
+}
+
 // The run of a script.
 #[derive(Clone, Copy)]
 struct One<'a> {
@@ -148,22 +160,9 @@ impl<'a> One<'a> {
             start,
         };
         let mut reader = Input::new(Origin::Held(self.lines.bytes()));
-        let mut writer = plain_writer(
-            rt,
-            if all.summary {
-                OutputStream::Dropped
-            } else {
-                OutputStream::text(rt)
-            },
-        );
-        let mut complaints = plain_writer(
-            rt,
-            if self.silent {
-                OutputStream::Dropped
-            } else {
-                OutputStream::Complained(rt.stderr())
-            },
-        );
+        let mut writer = writer_unless(rt, all.summary, OutputStream::text(rt));
+        let complained = OutputStream::Complained(rt.stderr());
+        let mut complaints = writer_unless(rt, self.silent, complained);
         let compared = alone(
             rt.alloc(),
             play,

@@ -138,32 +138,24 @@ fn answer(
         Some(FileRequest::Unbuffer) => return reply_gone(session.take_back(memory, map), reply),
         Some(
             FileRequest::Put {
-                file,
+                file: name,
                 offset,
                 place,
                 len,
             },
         ) => {
-            let range = FileRange {
-                name: file,
-                offset,
-                len,
-            };
+            let range = FileRange { name, offset, len };
             reply_count(session.put(memory, map, &range, place), reply);
         }
         Some(
             FileRequest::Get {
-                file,
+                file: name,
                 offset,
                 place,
                 len,
             },
         ) => {
-            let range = FileRange {
-                name: file,
-                offset,
-                len,
-            };
+            let range = FileRange { name, offset, len };
             reply_count(session.get(memory, map, &range, place), reply);
         }
     }
