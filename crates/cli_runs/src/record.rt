@@ -76,7 +76,7 @@ fn warn(
     form: DiagnosticForm,
     text: &[u8],
 ) -> Result<usize, AllocError> {
-    let warnings = Warnings::of(rt, machine.list(), wanted.scenario, text)?;
+    let warnings = Warnings::of(rt, machine.list(), None, wanted.scenario, text)?;
     warnings.report(rt, form, false)?;
     Ok(warnings.count())
 }

@@ -158,7 +158,7 @@ fn play_whole(rt: &HostRuntime, machine: &Machine<'_>, scene: RunRequest<'_>, te
     warned_status(scene.strict, warnings, status)
 }
 
-// Prints the warnings about the lines of a scenario whose transcript is printed, and returns how many there are. The error is out
+// Prints the warnings about the lines of a scenario that are run for a transcript, and returns how many there are. The error is out
 // of memory.
 fn warn(
     rt: &HostRuntime,
@@ -166,10 +166,10 @@ fn warn(
     scene: RunRequest<'_>,
     text: &[u8],
 ) -> Result<usize, AllocError> {
-    let RunView::Run(_, coloring) = scene.viewing else {
+    let RunView::Run(options, coloring) = scene.viewing else {
         return Ok(0);
     };
-    let warnings = Warnings::of(rt, machine.list(), scene.scenario, text)?;
+    let warnings = Warnings::of(rt, machine.list(), options.only, scene.scenario, text)?;
     warnings.report(rt, scene.settings.form, coloring.err)?;
     Ok(warnings.count())
 }

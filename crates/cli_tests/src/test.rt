@@ -309,7 +309,7 @@ fn run_text(
     let scenario = case.scenario;
     match unfold(rt.alloc(), text, case.settings.known(rt.alloc())?) {
         Ok(lines) => {
-            let warnings = Warnings::of(rt, case.machine.list(), scenario, text)?;
+            let warnings = Warnings::of(rt, case.machine.list(), None, scenario, text)?;
             let origin = Origin::Held(lines.bytes());
             let trial = run_from(rt, case, origin, lines.marks(), coverings)?;
             warned(rt, &warnings, case.strict, trial)

@@ -8,6 +8,7 @@ use Rattle.std.specs.Str.{bytes_eq}
 use Rattle.own_model.specs.SessionArgs.{pieces_of}
 use Rattle.session_proto.specs.Pieces.{pieces_after}
 use Rattle.line_friendly.specs.Friendly.{begins_as_call, content_of, is_meant}
+use Rattle.line_steps.specs.ResolvedLines.{is_skipped}
 use Rattle.line_advice.specs.Advice.{Advice, advice_on, argument_advice, form_of, front_of, request_advice, is_newline, lines_after, listed, pieces_advice, scenario_advice}
 use Rattle.line_advice.specs.Views.{advice_view, advices, texts}
 use Rattle.line_advice.specs.declared.advice.LineAdvice.{LineAdvice as Told}
@@ -31,21 +32,21 @@ next_pieces line column old new whole text piece more was is finds =
     ∙ ap (λ pieces. old ++ pieces_advice line column pieces) (sym is) ∙ was
 
 -- and so is that on the first line
-pub next_lines : (services : List (List ℕ)) (number : ℕ) (old new whole : List Advice) (text line : List ℕ) (more : Option (List ℕ))
-    → old ++ scenario_advice services number (slice_split is_newline text) ≡ whole
-    → slice_split is_newline text ≡ line ∷ lines_after more → new ≡ old ++ advice_on services number line
-    → new ++ scenario_advice services (number + 1) (lines_after more) ≡ whole
-next_lines services number old new whole text line more was is finds =
-    let left : List Advice = scenario_advice services (number + 1) (lines_after more) in
+pub next_lines : (services : List (List ℕ)) (only : Option (List ℕ)) (number : ℕ) (old new whole : List Advice) (text line : List ℕ) (more : Option (List ℕ))
+    → old ++ scenario_advice services only number (slice_split is_newline text) ≡ whole
+    → slice_split is_newline text ≡ line ∷ lines_after more → new ≡ old ++ advice_on services only number line
+    → new ++ scenario_advice services only (number + 1) (lines_after more) ≡ whole
+next_lines services only number old new whole text line more was is finds =
+    let left : List Advice = scenario_advice services only (number + 1) (lines_after more) in
     ap (λ found. found ++ left) finds
-    ∙ append_assoc old (advice_on services number line) left
-    ∙ ap (λ lines. old ++ scenario_advice services number lines) (sym is) ∙ was
+    ∙ append_assoc old (advice_on services only number line) left
+    ∙ ap (λ lines. old ++ scenario_advice services only number lines) (sym is) ∙ was
 
 -- a line of another form than a session request's has none
-pub no_request : (services : List (List ℕ)) (number : ℕ) (line : List ℕ) → bytes_eq (form_of line) (codes "open") ≡ false
-    → bytes_eq (form_of line) (codes "upgrade") ≡ false → advice_on services number line ≡ []
-no_request services number line opens upgrades =
-    either (not (begins_as_call (content_of line)) || is_meant (content_of line))
+pub no_request : (services : List (List ℕ)) (only : Option (List ℕ)) (number : ℕ) (line : List ℕ) → bytes_eq (form_of line) (codes "open") ≡ false
+    → bytes_eq (form_of line) (codes "upgrade") ≡ false → advice_on services only number line ≡ []
+no_request services only number line opens upgrades =
+    either (is_skipped only line || (not (begins_as_call (content_of line)) || is_meant (content_of line)))
   where
     front : List ℕ
     front = front_of line

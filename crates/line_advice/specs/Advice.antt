@@ -8,6 +8,7 @@ use Rattle.own_model.specs.Text.{is_name}
 use Rattle.text_near_words.specs.Near.{nearest}
 use Rattle.line_friendly.specs.Friendly.{arrow_of, begins_as_call, content_of, end_of, is_meant, trimmed_line}
 use Rattle.line_friendly.specs.Words.{next_word, skip_blanks}
+use Rattle.line_steps.specs.ResolvedLines.{is_skipped}
 use Rattle.line_advice.specs.declared.key.ArgumentKey.{ArgumentKey}
 use Rattle.line_advice.specs.declared.key.ArgumentKey.TheVariants.{RamQuota, CapQuota, Label}
 
@@ -118,10 +119,10 @@ request_advice services line form front =
     service_advice services line (column_in front (skip_blanks rest)) rest ++ rest_advice line front rest
     else (if bytes_eq form (codes "upgrade") then rest_advice line front rest else [])
 
--- a line has advice if it is a call, and its expected reply isn't meant
-abbrev pub advice_on : List (List ℕ) → ℕ → List ℕ → List Advice
-advice_on services number line =
-    if not (begins_as_call (content_of line)) || is_meant (content_of line) then []
+-- a line has advice if it is run, is a call, and its expected reply isn't meant
+abbrev pub advice_on : List (List ℕ) → Option (List ℕ) → ℕ → List ℕ → List Advice
+advice_on services only number line =
+    if is_skipped only line || (not (begins_as_call (content_of line)) || is_meant (content_of line)) then []
     else request_advice services number (form_of line) (front_of line)
 
 abbrev pub is_newline : ℕ → Bool
@@ -132,7 +133,7 @@ abbrev pub lines_after : Option (List ℕ) → List (List ℕ)
 lines_after None = []
 lines_after (Some text) = slice_split is_newline text
 
--- and each line of a scenario has its own, from this number on
-abbrev pub scenario_advice : List (List ℕ) → ℕ → List (List ℕ) → List Advice
-scenario_advice services number [] = []
-scenario_advice services number (line ∷ lines) = advice_on services number line ++ scenario_advice services (number + 1) lines
+-- and each line of a scenario has its own, from this number on; if the lines of one component alone are run, others have none
+abbrev pub scenario_advice : List (List ℕ) → Option (List ℕ) → ℕ → List (List ℕ) → List Advice
+scenario_advice services only number [] = []
+scenario_advice services only number (line ∷ lines) = advice_on services only number line ++ scenario_advice services only (number + 1) lines

@@ -1,6 +1,6 @@
 //! Advice on a scenario's lines: session requests that have probably another effect than intended.
 //!
-//! `cli_base` calls it, for `run`, `record` and `test`. For example `advise(alloc, &list, text)?` has an unknown service at column
+//! `cli_base` calls it, for `run`, `record` and `test`. For example `advise(alloc, &list, None, text)?` has an unknown service at column
 //! 12 for the line `alice open LGO ram_quota=8K => Service_denied`, which a run finds no fault with.
 #![tactic(auto)]
 

@@ -1,6 +1,7 @@
 //! Advice on a line.
 ghost use Rattle.std.specs.Prelude.{◌≡◌, ◌+◌, ◌-◌, ◌<◌, ◌≤◌, ◌^◌, ◌++◌, drop, length, take, OnOk};
 ghost use Rattle.std.specs.List.{list_any};
+ghost use Rattle.std.specs.Option.{option_copied};
 ghost use Rattle.std.specs.Str.{bytes_eq};
 ghost use Rattle.line_advice.specs.Advice.{advice_on, after_form, column_in, form_of, front_of, rest_advice, service_advice};
 ghost use Rattle.line_advice.specs.Views.{advices, texts};
@@ -11,19 +12,22 @@ use crate::near::near_in;
 use line_friendly::{
     arrow_of, end_of, is_call_line, is_meant, next_word, skip_blanks, trimmed_line,
 };
+use line_steps::is_skipped;
 use std::alloc::{AllocError, Global};
 use text_codec::is_name;
 
-/// Adds the advice on the line with this number. A line whose expected reply is meant has none. Fails if the host is out of memory.
+/// Adds the advice on the line with this number. A line whose expected reply is meant has none, nor has one that is skipped if the
+/// lines of the component `only` alone are run. Fails if the host is out of memory.
 pub(crate) fn advise_line<'a>(
     alloc: Global,
     services: &[&'a str],
+    only: Option<&[u8]>,
     number: usize,
     line: &'a [u8],
     found: &mut Vec<LineAdvice<'a>>,
 ) -> Result<(), AllocError>
-    ensures { OnOk result (advices found.new.items
-        ≡ advices found.old.items ++ advice_on (texts services.now) number line.now) }
+    ensures { OnOk result (advices found.new.items ≡ advices found.old.items
+        ++ advice_on (texts services.now) (option_copied only.entry) number line.now) }
 {
     let (form, _) = split_form(line);
     let is_open = form == b"open".as_slice();
@@ -31,7 +35,7 @@ pub(crate) fn advise_line<'a>(
     if !is_open && form != b"upgrade".as_slice() {
         return Ok(());
     }
-    if !is_call_line(line) || is_meant(line) {
+    if is_skipped(only, line) || !is_call_line(line) || is_meant(line) {
         return Ok(());
     }
     let front = front_of(line);

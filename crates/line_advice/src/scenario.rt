@@ -13,35 +13,38 @@ use list_parser::StartList;
 use std::alloc::{AllocError, Global};
 use text_codec::find_byte;
 
-/// Returns the advice on the lines of a scenario's text, in their order, by the services of a start list. A line in rounds has its
-/// advice once. Fails if the host is out of memory.
+/// Returns the advice on the lines of a scenario's text, in their order, by the services of a start list; on those of the component
+/// `only` alone, if it is some. A line in rounds has its advice once. Fails if the host is out of memory.
 pub fn advise<'a>(
     alloc: Global,
     list: &StartList,
+    only: Option<&[u8]>,
     text: &'a [u8],
 ) -> Result<Vec<LineAdvice<'a>>, AllocError>
     ensures { IfOk result (λ found. advices found.items
-        ≡ scenario_advice (services_of list.now.entries) 1 (slice_split is_newline text.now)) }
+        ≡ scenario_advice (services_of list.now.entries) (option_copied only.entry) 1
+        (slice_split is_newline text.now)) }
 {
     let services = services_of(alloc, list)?;
-    advise_lines(alloc, services.as_slice(), text)
+    advise_lines(alloc, services.as_slice(), only, text)
 }
 
-// Returns the advice on the lines of a text, where a start list offers these services.
+// Returns the advice on the lines of a text that are run, where a start list offers these services.
 fn advise_lines<'a>(
     alloc: Global,
     services: &[&'a str],
+    only: Option<&[u8]>,
     text: &'a [u8],
 ) -> Result<Vec<LineAdvice<'a>>, AllocError>
     ensures { IfOk result (λ found. advices found.items
-        ≡ scenario_advice (texts services.now) 1 (slice_split is_newline text.now)) }
+        ≡ scenario_advice (texts services.now) (option_copied only.entry) 1 (slice_split is_newline text.now)) }
 {
     let mut found = Vec::new(alloc);
     let mut number = 1;
     let mut rest = Some(text);
     while let Some(lines) = rest {
         let (line, more) = split_line(lines);
-        advise_line(alloc, services, number, line, &mut found)?;
+        advise_line(alloc, services, only, number, line, &mut found)?;
         number += 1;
         rest = more;
     }
