@@ -1,5 +1,5 @@
 -- What a line of a scenario is, once the values of its names are known.
-use Rattle.std.specs.Prelude.{ℕ, ◌+◌, ◌-◌, ◌&&◌, not, Bool, false, List, length, nat_le, if◌then◌else◌, Option, Some, None, Result, Ok, Err}
+use Rattle.std.specs.Prelude.{ℕ, ◌+◌, ◌-◌, ◌&&◌, not, Bool, true, false, List, length, nat_le, if◌then◌else◌, Option, Some, None, Result, Ok, Err}
 use Rattle.std.specs.Str.{bytes_eq}
 use Rattle.own_model.specs.Text.{is_path}
 use Rattle.own_model.specs.Transcript.{longest_line}
@@ -72,3 +72,17 @@ resolved_line only known line =
     if nat_le (length line) longest_line
     then (if is_skipped only line then Skipped else resolved_by known line (filled known line))
     else TooLong
+
+-- ---- lines that can't be parsed
+
+-- a line is too long, or a name, the directive or the call in it has a fault
+abbrev pub is_unread : ResolvedLine → Bool
+is_unread TooLong = true
+is_unread (BadName fault) = true
+is_unread (Misplaced column) = true
+is_unread (BadLine fault) = true
+is_unread Skipped = false
+is_unread (Follow directive) = false
+is_unread Nothing = false
+is_unread (Log text) = false
+is_unread (Call made call reply) = false

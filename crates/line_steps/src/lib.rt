@@ -9,7 +9,9 @@
 mod line_resolution;
 mod resolved_line;
 mod run_position;
+mod unread_line;
 
 pub use line_resolution::{LineBuffers, is_skipped, resolve};
 pub use resolved_line::{ResolvedLine, ScenarioCall};
 pub use run_position::RunPosition;
+pub use unread_line::{UnreadLine, UnreadMessage, UnreadReason};

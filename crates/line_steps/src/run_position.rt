@@ -5,7 +5,7 @@ ghost use Rattle.line_names.specs.Views.{directive_view, filled_view};
 ghost use Rattle.line_steps.specs.RunPosition.{arrived, arrived_at, first_position, position_following, is_due, passed};
 
 use line_names::{Directive, FilledLine, NameTable, RoundMark};
-use std::alloc::AllocError;
+use std::alloc::{AllocError, Global};
 use std::marker::Model;
 
 /// The position of a run in its scenario: the number of the next line, the values of names, and the marks of rounds that are
@@ -41,6 +41,17 @@ impl<'m> RunPosition<'m> {
             number,
             known,
             ahead,
+        })
+    }
+
+    /// Returns a copy of the position, from which the same scenario can be run again. The error is that the host is out of memory.
+    pub fn copy(&self, alloc: Global) -> Result<RunPosition<'m>, AllocError>
+        ensures { IfOk result (λ copy. copy ≡ self.now) }
+    {
+        Ok(RunPosition {
+            number: self.number,
+            known: self.known.copy(alloc)?,
+            ahead: self.ahead,
         })
     }
 

@@ -11,9 +11,7 @@ mod recorded_call;
 mod recorded_text;
 mod recording;
 mod recording_run;
-mod unread_line;
 mod writing;
 
 pub use pieces::first_piece;
 pub use recording::{Recording, Scenario, record};
-pub use unread_line::{UnreadLine, UnreadMessage, UnreadReason};

@@ -9,9 +9,8 @@ ghost use Rattle.run_record.specs.Recorded.{recorded};
 
 use crate::line_marks::LineMarks;
 use crate::recording_run::RecordingRun;
-use crate::unread_line::UnreadLine;
 use init_core::boot;
-use line_steps::RunPosition;
+use line_steps::{RunPosition, UnreadLine};
 use list_parser::{BootFault, StartList};
 use pd_core::{Core, Router};
 use std::alloc::Global;

@@ -17,10 +17,11 @@ use crate::line_marks::LineMarks;
 use crate::pieces::first_piece;
 use crate::recorded_call::RecordedCall;
 use crate::recording::Recording;
-use crate::unread_line::{UnreadLine, UnreadReason};
 use core_calls::Reply;
 use line_names::NameTable;
-use line_steps::{LineBuffers, ResolvedLine, RunPosition, ScenarioCall, resolve};
+use line_steps::{
+    LineBuffers, ResolvedLine, RunPosition, ScenarioCall, UnreadLine, UnreadReason, resolve,
+};
 use list_parser::{BootFault, StartList};
 use pd_core::{Core, Router};
 use run_lines::{LineAnswer, LineDispatcher};

@@ -1,5 +1,9 @@
 //! Lines that can't be parsed.
+ghost use Rattle.std.specs.Prelude.{◌≡◌, is_some};
+ghost use Rattle.line_steps.specs.ResolvedLines.{is_unread};
+ghost use Rattle.line_steps.specs.ResolvedViews.{resolved_view};
 
+use crate::resolved_line::ResolvedLine;
 use line_friendly::FriendlyFault;
 use line_names::{DirectiveFault, NameFault};
 use std::fmt;
@@ -60,4 +64,23 @@ pub struct UnreadLine {
     pub number: u64,
     /// The reason why it can't be parsed.
     pub why: UnreadReason,
+}
+
+impl ResolvedLine<'_> {
+    /// Returns the reason why the line can't be parsed, or nothing if it can.
+    pub fn unread(&self) -> Option<UnreadReason>
+        ensures { is_some result ≡ is_unread (resolved_view self.now) }
+    {
+        match self {
+            ResolvedLine::TooLong => Some(UnreadReason::TooLong),
+            ResolvedLine::BadName(fault) => Some(UnreadReason::Name(*fault)),
+            ResolvedLine::Misplaced(column, why) => Some(UnreadReason::Misplaced(*column, *why)),
+            ResolvedLine::BadLine(fault) => Some(UnreadReason::Fault(*fault)),
+            ResolvedLine::Skipped
+            | ResolvedLine::Directive(_)
+            | ResolvedLine::Nothing
+            | ResolvedLine::Log(_)
+            | ResolvedLine::Call(_) => None,
+        }
+    }
 }
