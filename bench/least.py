@@ -1,7 +1,8 @@
 #!/usr/bin/env python3
 """least.py PROGRAM [SCENARIOS] [SEED]: draws scenarios of one script, and compares the rows of `PROGRAM least --csv` with what
 `PROGRAM run` answers under many budgets: all page counts, the bytes at, one below and one above each row's ends, and
-capabilities from 0 to 20. Of a session the donation varies, and every other account has enough."""
+capabilities from 0 to 20. Of a session the donation varies, and every other account has enough. The same scenario with names for
+its selectors has the same rows, also on a list whose budgets rarely suffice."""
 import csv, io, json, os, random, re, subprocess, sys, tempfile
 
 PAGE = 4096
@@ -197,6 +198,33 @@ def check_session(nethrywel, draw, calls, rows, opening, most):
     return None, looked
 
 
+def named(calls, replies):
+    """The lines of a script in which selectors are names that replies bind, by what it is answered where all is ample."""
+    lines, names = [], {}
+    for place, (call, reply) in enumerate(zip(calls, replies)):
+        word, *rest = call.split(" ", 1)
+        if word in ("free", "capfree", "call", "upgrade", "close"):
+            selector, *rest = rest[0].split(" ", 1)
+            call = " ".join((word, names.get(selector, selector), *rest))
+        bound = re.fullmatch(r"(?:OK )?cap (\d+)", reply)
+        if bound:
+            names[bound[1]] = f"$n{place}"
+            call += f" => {reply[: -len(bound[1])]}$n{place}"
+        lines.append(f"s0 {call}")
+    return lines
+
+
+def check_names(nethrywel, draw, calls, rows, reserve):
+    """The difference that names make to the rows of a script, if there is one."""
+    ample = [donating(call, 64 * PAGE, 40) if call.startswith("open") else call for call in calls]
+    (replies,) = nethrywel.replies(machine([(1000 * PAGE, 1000)], reserve), [ample])
+    poor = (draw.choice((0, 1, 3, 8)) * PAGE, draw.choice((0, 1, 2, 5)))
+    lines = named(calls, replies)
+    nethrywel.write(machine([poor], reserve), lines)
+    found = nethrywel.rows()
+    return None if found == rows else "\n".join([f"with names, given {poor}:", *lines, str(rows), str(found)])
+
+
 def check(nethrywel, draw):
     """A scenario's difference, if it has one, and how many budgets were looked at."""
     calls = calls_of(draw)
@@ -210,6 +238,9 @@ def check(nethrywel, draw):
     rewritten = nethrywel.told("least", "--machine", nethrywel.list, "--scenario", nethrywel.scenario).splitlines()
     most = 150 * PAGE
     looked = 0
+    differs = check_names(nethrywel, draw, calls, least, reserve)
+    if differs:
+        return differs, looked
     for rows, said in ((donated[("s0", "")] if ("s0", "") in donated else [], calls), (least.get(("s0", ""), []), [line[3:] for line in rewritten])):
         differs, more = check_account(nethrywel, draw, said, rows, reserve, most)
         looked += more

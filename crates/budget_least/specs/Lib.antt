@@ -4,3 +4,4 @@ pub mod BudgetIntervals
 pub mod Alike
 pub mod Own
 pub mod OpenedSessions
+pub mod Measured

@@ -116,4 +116,16 @@ impl AccountBudgets {
     pub fn least(&self) -> Option<Budget> {
         self.found.least()
     }
+
+    /// Returns the minimum of the last interval, which has no end: no larger budget is short of quota.
+    pub(crate) fn safe(&self) -> Option<Budget> {
+        let last = self.rows().last()?;
+        if last.ram_below.is_some() {
+            return None;
+        }
+        Some(Budget {
+            ram: last.ram_from,
+            caps: last.caps_from,
+        })
+    }
 }

@@ -1,5 +1,5 @@
 //! Machines on which one component alone has a budget.
-ghost use Rattle.std.specs.Prelude.{◌≡◌, ◌<◌, ◌^◌, length, IfOk};
+ghost use Rattle.std.specs.Prelude.{◌≡◌, ◌-◌, ◌<◌, ◌^◌, length, IfOk};
 ghost use Rattle.budget_meter.specs.Needs.{amounts_of};
 ghost use Rattle.list_parser.specs.Budgets.{but_budgets};
 ghost use Rattle.budget_least.specs.Alike.{IsFunded};
@@ -7,7 +7,7 @@ ghost use Rattle.budget_least.specs.Alike.{IsFunded};
 use budget_meter::Budget;
 use list_parser::StartList;
 use std::alloc::{AllocError, Global};
-use trade_base::{Caps, Ram};
+use trade_base::{Caps, PAGE, Ram};
 
 /// The most pages of a machine, and the most capabilities.
 pub(crate) const LARGEST: u32 = 4096;
@@ -62,6 +62,30 @@ fn fund_inits(machine: &mut StartList, component: usize, ram: Ram, caps: Caps)
     while init > 0 {
         machine.set_budget(init - 1, ram, caps);
         init = machine.home(init - 1);
+    }
+}
+
+/// Returns a copy of a list on the largest machine, in which a component has the whole machine, less its reserve. No other component
+/// has a budget or a reserve.
+pub(crate) fn ample(
+    alloc: Global,
+    list: &StartList,
+    component: usize,
+) -> Result<StartList, AllocError>
+    requires { component < length list.now.entries }
+{
+    let most = most_beside(reserve_of(list, component));
+    funded(alloc, list, component, most)
+}
+
+/// Returns the most that a component can have in addition to its reserve: the largest machine's.
+pub(crate) fn most_beside(reserve: Budget) -> Budget
+    ensures ram { result.ram ≡ 16777216 - reserve.ram }
+    ensures caps { result.caps ≡ 4096 - reserve.caps }
+{
+    Budget {
+        ram: (u64::from(LARGEST) * PAGE).saturating_sub(reserve.ram),
+        caps: u64::from(LARGEST).saturating_sub(reserve.caps),
     }
 }
 

@@ -5,12 +5,14 @@
 #![tactic(auto)]
 
 mod account_budgets;
+mod ample_client;
 mod binding_run;
 mod budget_intervals;
 mod documents;
 mod donation;
 mod draft;
 mod funded;
+mod line_donations;
 mod lines_by_component;
 mod opened_sessions;
 mod own_run;
@@ -21,11 +23,13 @@ mod script_search;
 mod session_intervals;
 mod session_trial;
 mod trial;
+mod unmeasured_line;
+mod written_donation;
 
 pub use account_budgets::{AccountBudgets, GivenBudget, SessionKey};
 pub use budget_intervals::{BudgetGap, BudgetInterval, Likeness};
 pub use budget_meter::Budget;
-pub use lines_by_component::{MisreadLine, MisreadMessage, MisreadReason};
 pub use report::{BudgetQuery, BudgetReport};
 pub use report_text::BudgetCsv;
 pub use trial::{RefusedLine, Shortage, SkippedLine};
+pub use unmeasured_line::{UnmeasuredLine, UnmeasuredMessage, UnmeasuredReason};

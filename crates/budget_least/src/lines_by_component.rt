@@ -1,21 +1,24 @@
 //! The lines of a scenario, component by component.
 ghost use Rattle.std.specs.Prelude.{◌≡◌, Some};
 ghost use Rattle.core_calls.specs.Call.{model_call, IsWellFormed};
-ghost use Rattle.line_grammar.specs.Read.{IsReadAs};
-ghost use Rattle.line_steps.specs.ResolvedViews.{HasParsedCall};
 ghost use Rattle.budget_least.specs.Steps.{with_args};
 
-use crate::binding_run::BindingRun;
+use crate::binding_run::{BindingBudgets, BindingRun};
+use crate::donation::args_with;
+use crate::line_donations::LineDonations;
+use crate::trial::SHORTAGES;
+use crate::unmeasured_line::{LineNumbers, UnmeasuredLine, UnmeasuredReason};
+use crate::written_donation::can_donate;
+use budget_meter::Budget;
 use core_calls::Call;
-use init_core::boot;
-use line_friendly::{FriendlyFault, meets};
+use init_core::route;
+use line_friendly::{meets, next_word, trimmed_line};
 use line_grammar::read_line;
-use line_names::NameFault;
-use line_steps::{LineBuffers, ResolvedLine, RunPosition, ScenarioCall, resolve};
+use line_names::token_at;
+use line_steps::{LineBuffers, ResolvedLine, RunPosition, ScenarioCall, UnreadReason, resolve};
 use list_parser::{BootFault, StartList};
-use pd_core::{Core, Router};
+use session_proto::SessionArgs;
 use std::alloc::{AllocError, Global};
-use std::fmt;
 use text_codec::find_byte;
 
 /// A line that a component says.
@@ -25,9 +28,15 @@ pub(crate) struct ComponentLine {
     pub(crate) number: u64,
     /// Whether its refusal is expected, so that it is left out.
     pub(crate) is_left_out: bool,
+    /// Whether the expected refusal may be a shortage of quota.
+    may_be_short: bool,
     /// The line as the engine parses it.
     line: Vec<u8>,
-    /// The arguments with which it opens a session, if they differ from the written ones.
+    /// Whether the scenario's line can be written with another donation.
+    can_donate: bool,
+    /// The donation that was set for it, if one was.
+    donation: Option<Budget>,
+    /// The arguments with that donation.
     args: Option<Vec<u8>>,
 }
 
@@ -60,9 +69,30 @@ impl ComponentLine {
         }
     }
 
-    /// Sets the arguments with which the line opens its session from now on.
-    pub(crate) fn open_with(&mut self, args: Vec<u8>) {
-        self.args = Some(args);
+    /// Returns the quota that the call of the line asks for, if the refusal of the call may be a shortage.
+    pub(crate) fn asked(&self, asked: Option<Budget>) -> Option<Budget> {
+        if self.may_be_short { asked } else { None }
+    }
+
+    /// Returns whether a line makes the same call, or is left out too.
+    pub(crate) fn is_like(&self, other: &ComponentLine) -> bool {
+        self.number == other.number
+            && self.is_left_out == other.is_left_out
+            && self.line.as_slice() == other.line.as_slice()
+    }
+
+    /// Sets the donation with which the line opens its session from now on, if the line can be written with it. The error is that
+    /// the host is out of memory.
+    pub(crate) fn donate(&mut self, alloc: Global, donation: Budget) -> Result<(), AllocError> {
+        if !self.can_donate {
+            return Ok(());
+        }
+        if let Some(Call::Open { args, .. }) = self.said() {
+            let args = args_with(alloc, donation, args)?;
+            self.donation = Some(donation);
+            self.args = Some(args);
+        }
+        Ok(())
     }
 
     /// Returns the arguments with which it opens a session, if they differ from the written ones.
@@ -86,88 +116,116 @@ fn opening_with<'a>(call: Call<'a>, args: &'a [u8]) -> Call<'a>
     }
 }
 
-/// The reason why a line can't be parsed.
-#[derive(Clone, Copy, PartialEq, Eq)]
-pub enum MisreadReason {
-    /// The line has a fault.
-    Line(FriendlyFault),
-    /// A name in the line has a fault.
-    Name(NameFault),
-}
-
-impl MisreadReason {
-    /// Returns the column of the fault in its line, from 1 on.
-    pub fn column(self) -> usize {
-        match self {
-            MisreadReason::Line(fault) => fault.column,
-            MisreadReason::Name(fault) => fault.column,
-        }
-    }
-
-    /// Returns the message about this text of the line, which begins at the column.
-    pub fn about(self, text: &str) -> MisreadMessage<'_> {
-        MisreadMessage { why: self, text }
-    }
-}
-
-/// The reason why a line can't be parsed, as text for people.
+/// A line that changes with the budgets.
 #[derive(Clone, Copy)]
-pub struct MisreadMessage<'a> {
-    why: MisreadReason,
-    text: &'a str,
+pub(crate) struct ChangedLine {
+    component: usize,
+    number: u64,
 }
 
-impl fmt::Display for MisreadMessage<'_> {
-    fn fmt<W: fmt::Write>(&self, f: &mut fmt::Formatter<W>) -> fmt::Result {
-        match self.why {
-            MisreadReason::Line(fault) => write!(f, "{}", fault.reason.about(self.text)),
-            MisreadReason::Name(fault) => write!(f, "{}", fault.reason.about(self.text)),
-        }
-    }
-}
-
-/// A line that can't be parsed.
-#[derive(Clone, Copy)]
-pub struct MisreadLine {
-    /// The number of the scenario's line, from 1 on.
-    pub number: u64,
-    /// The fault of the line.
-    pub why: MisreadReason,
-}
-
-/// The lines of each component, and the lines that can't be parsed.
+/// The lines of each component, and the lines that aren't measured.
 #[derive(Drop)]
 pub(crate) struct LinesByComponent {
     pub(crate) steps: Vec<Vec<ComponentLine>>,
-    pub(crate) misread: Vec<MisreadLine>,
+    pub(crate) unmeasured: Vec<UnmeasuredLine>,
+    /// The numbers of lines that aren't measured.
+    numbers: LineNumbers,
 }
 
 impl LinesByComponent {
-    /// Reads the unfolded text of a scenario, by the components of a list, and fills its lines with what the run on the machine
-    /// binds. The error is that of the boot, or that the host is out of memory.
+    ghost use Rattle.std.specs.Prelude.{◌≡◌, OnOk, length, suc};
+    ghost use Rattle.line_steps.specs.ResolvedLines.{is_unread};
+    ghost use Rattle.line_steps.specs.ResolvedViews.{resolved_view, HasParsedCall};
+    ghost use Rattle.line_grammar.specs.Read.{IsReadAs};
+    ghost use Rattle.budget_least.specs.Measured.{counted};
+
+    /// Reads the unfolded text of a scenario, by the components of a list, and fills its lines with what a run with these budgets
+    /// binds. The error is that of a boot, or that the host is out of memory.
     pub(crate) fn read(
         alloc: Global,
         list: &StartList,
         text: &[u8],
         start: RunPosition<'_>,
+        budgets: BindingBudgets<'_>,
     ) -> Result<LinesByComponent, BootFault> {
-        let mut core = boot(alloc, list)?;
-        LinesByComponent::on(alloc, list, &mut core, text, start)
-    }
-
-    // Reads the lines by the run on a machine that has just booted.
-    fn on<R: Router + Drop>(
-        alloc: Global,
-        list: &StartList,
-        core: &mut Core<R>,
-        text: &[u8],
-        start: RunPosition<'_>,
-    ) -> Result<LinesByComponent, BootFault> {
-        let binds = find_byte(b'$', text).is_some();
-        let mut run = BindingRun::new(alloc, list, core, start, binds)?;
+        let mut run = BindingRun::new(alloc, list, start, budgets, has_names(text))?;
         let mut lines = LinesByComponent::empty(alloc, list.count())?;
         lines.add_all(alloc, &mut run, text)?;
         Ok(lines)
+    }
+
+    /// Returns the places of lines that differ in another reading of the same scenario. The error is that the host is out of
+    /// memory.
+    pub(crate) fn changed(
+        &self,
+        alloc: Global,
+        other: &LinesByComponent,
+    ) -> Result<Vec<ChangedLine>, AllocError> {
+        let mut changed = Vec::new(alloc);
+        for component in 0..self.steps.len() {
+            let (steps, others) = (self.of(component), other.of(component));
+            for place in 0..steps.len().max(others.len()) {
+                if let Some(number) = changed_number(steps.get(place), others.get(place)) {
+                    changed.push(ChangedLine { component, number })?;
+                }
+            }
+        }
+        Ok(changed)
+    }
+
+    /// Adds lines to those that aren't measured, since they change with the budgets. The error is that the host is out of memory.
+    pub(crate) fn leave_changed(
+        &mut self,
+        alloc: Global,
+        changed: &[ChangedLine],
+    ) -> Result<(), AllocError> {
+        for line in changed {
+            self.unmeasured.push(UnmeasuredLine {
+                number: line.number,
+                component: Some(line.component),
+                why: UnmeasuredReason::Unsettled,
+                token: String::new(alloc),
+                is_again: self.numbers.add(line.number)?,
+            })?;
+        }
+        Ok(())
+    }
+
+    /// Sets the donations of lines that open sessions. The error is that the host is out of memory.
+    pub(crate) fn donate(
+        &mut self,
+        alloc: Global,
+        donations: &LineDonations,
+    ) -> Result<(), AllocError> {
+        for steps in self.steps.as_mut_slice() {
+            for step in steps.as_mut_slice() {
+                if let Some(donation) = donations.of(step.number) {
+                    step.donate(alloc, donation)?;
+                }
+            }
+        }
+        Ok(())
+    }
+
+    /// Returns the donations that were set, by the numbers of lines. The error is that the host is out of memory.
+    pub(crate) fn donations(&self, alloc: Global) -> Result<Vec<Option<Budget>>, AllocError> {
+        let mut donations = Vec::new(alloc);
+        for steps in self.steps.as_slice() {
+            for step in steps.as_slice() {
+                if let Some(donation) = step.donation {
+                    set_donation(&mut donations, step.number as usize, donation)?;
+                }
+            }
+        }
+        Ok(donations)
+    }
+
+    /// Returns the lines of a component.
+    pub(crate) fn of(&self, component: usize) -> &[ComponentLine] {
+        match self.steps.get(component) {
+            Some(steps) => steps.as_slice(),
+            None => &[],
+        }
     }
 
     // Returns no lines for this number of components.
@@ -178,68 +236,104 @@ impl LinesByComponent {
         }
         Ok(LinesByComponent {
             steps,
-            misread: Vec::new(alloc),
+            unmeasured: Vec::new(alloc),
+            numbers: LineNumbers::new(alloc),
         })
     }
 
     // Adds the lines of a text.
-    fn add_all<R: Router + Drop>(
+    fn add_all(
         &mut self,
         alloc: Global,
-        run: &mut BindingRun<'_, '_, R>,
+        run: &mut BindingRun<'_, '_, '_>,
         text: &[u8],
     ) -> Result<(), BootFault> {
         let mut buffers = LineBuffers::new();
         for line in text.split(|byte| *byte == b'\n') {
             let number = run.position.pass();
             let resolved = resolve(None, run.position.known(), line, &mut buffers);
-            self.add(alloc, run, number, resolved)?;
+            self.take(alloc, run, line, number, resolved)?;
             run.position.arrive()?;
         }
         Ok(())
     }
 
-    // Adds a line with the values of its names.
-    fn add<R: Router + Drop>(
+    // Takes a line with the values of its names, which is measured exactly if it can be parsed.
+    fn take(
         &mut self,
         alloc: Global,
-        run: &mut BindingRun<'_, '_, R>,
+        run: &mut BindingRun<'_, '_, '_>,
+        line: &[u8],
         number: u64,
         resolved: ResolvedLine<'_>,
     ) -> Result<(), BootFault>
         requires { HasParsedCall resolved }
+        ensures { OnOk result (length self.new.unmeasured.items
+            ≡ counted (is_unread (resolved_view resolved.entry)) (length self.old.unmeasured.items)) }
+    {
+        match resolved.unread() {
+            Some(why) => self.leave(alloc, run.list, line, number, why),
+            None => self.add(alloc, run, line, number, resolved),
+        }
+    }
+
+    // Adds a line that can't be parsed to those that aren't measured.
+    fn leave(
+        &mut self,
+        alloc: Global,
+        list: &StartList,
+        line: &[u8],
+        number: u64,
+        why: UnreadReason,
+    ) -> Result<(), BootFault>
+        ensures { OnOk result (length self.new.unmeasured.items
+            ≡ suc (length self.old.unmeasured.items)) }
+    {
+        let (name, _) = next_word(trimmed_line(line));
+        let token = token_at(line, why.column());
+        self.unmeasured.push(UnmeasuredLine {
+            number,
+            component: list.find(name),
+            why: UnmeasuredReason::Unread(why),
+            token: String::from_utf8_lossy(alloc, token)?,
+            is_again: self.numbers.add(number)?,
+        })?;
+        Ok(())
+    }
+
+    // Adds a line with the values of its names.
+    fn add(
+        &mut self,
+        alloc: Global,
+        run: &mut BindingRun<'_, '_, '_>,
+        line: &[u8],
+        number: u64,
+        resolved: ResolvedLine<'_>,
+    ) -> Result<(), BootFault>
+        requires { HasParsedCall resolved }
+        ensures { OnOk result (self.new.unmeasured ≡ self.old.unmeasured) }
     {
         match resolved {
-            ResolvedLine::BadName(fault) => self.misread_at(number, MisreadReason::Name(fault)),
             ResolvedLine::Directive(directive) => {
                 run.position.follow(directive)?;
                 Ok(())
             }
-            ResolvedLine::Call(call) => self.add_call(alloc, run, number, &call),
-            ResolvedLine::BadLine(fault) => self.misread_at(number, MisreadReason::Line(fault)),
-            ResolvedLine::TooLong
-            | ResolvedLine::Skipped
-            | ResolvedLine::Misplaced(..)
-            | ResolvedLine::Nothing
-            | ResolvedLine::Log(_) => Ok(()),
+            ResolvedLine::Call(call) => self.add_call(alloc, run, line, number, &call),
+            _ => Ok(()),
         }
     }
 
-    // Records that a line can't be parsed.
-    fn misread_at(&mut self, number: u64, why: MisreadReason) -> Result<(), BootFault> {
-        self.misread.push(MisreadLine { number, why })?;
-        Ok(())
-    }
-
-    // Adds a call to the component whose name it has.
-    fn add_call<R: Router + Drop>(
+    // Adds a call to the component whose name it has. A call whose refusal is expected isn't made.
+    fn add_call(
         &mut self,
         alloc: Global,
-        run: &mut BindingRun<'_, '_, R>,
+        run: &mut BindingRun<'_, '_, '_>,
+        line: &[u8],
         number: u64,
         call: &ScenarioCall<'_>,
     ) -> Result<(), BootFault>
         requires { IsReadAs call.now.line.now call.now.call }
+        ensures { OnOk result (self.new.unmeasured ≡ self.old.unmeasured) }
     {
         let Some(said) = call.call else {
             return Ok(());
@@ -247,14 +341,21 @@ impl LinesByComponent {
         let Some(component) = run.list.find(said.name) else {
             return Ok(());
         };
-        run.answer(component, said.call, &call.filled)?;
+        let is_left_out = expects_refusal(call.reply);
+        if !is_left_out {
+            let place = self.of(component).len();
+            run.answer(alloc, component, place, said.call, &call.filled)?;
+        }
         let mut kept = Vec::new(alloc);
         kept.extend_from_slice(call.line)?;
         if let Some(steps) = self.steps.get_mut(component) {
             steps.push(ComponentLine {
                 number,
-                is_left_out: expects_refusal(call.reply),
+                is_left_out,
+                may_be_short: may_be_short(call.reply) && is_routed(run.list, component, said.call),
                 line: kept,
+                can_donate: can_donate(line),
+                donation: None,
                 args: None,
             })?;
         }
@@ -262,10 +363,62 @@ impl LinesByComponent {
     }
 }
 
+// Sets the donation of the line of a number.
+fn set_donation(
+    donations: &mut Vec<Option<Budget>>,
+    number: usize,
+    donation: Budget,
+) -> Result<(), AllocError> {
+    for _ in donations.len()..number.saturating_add(1) {
+        donations.push(None)?;
+    }
+    if let Some(line) = donations.get_mut(number) {
+        *line = Some(donation);
+    }
+    Ok(())
+}
+
+// Returns the number of a line, if another reading hasn't the same line at its place.
+fn changed_number(step: Option<&ComponentLine>, other: Option<&ComponentLine>) -> Option<u64> {
+    match (step, other) {
+        (Some(step), Some(other)) if step.is_like(other) => None,
+        (Some(step), _) | (None, Some(step)) => Some(step.number),
+        (None, None) => None,
+    }
+}
+
+/// Returns whether names may be in a text.
+pub(crate) fn has_names(text: &[u8]) -> bool {
+    find_byte(b'$', text).is_some()
+}
+
 // Returns whether the refusal of a line is expected.
 fn expects_refusal(reply: Option<&[u8]>) -> bool {
     match reply {
         Some(expected) => expected == b"refused".as_slice() || meets(expected, b"refused"),
         None => false,
+    }
+}
+
+// Returns whether the refusal that a line expects may be a shortage of quota.
+fn may_be_short(reply: Option<&[u8]>) -> bool {
+    let Some(expected) = reply else {
+        return false;
+    };
+    for shortage in SHORTAGES {
+        if meets(shortage.reply().as_bytes(), expected) {
+            return true;
+        }
+    }
+    false
+}
+
+// Returns whether a call isn't denied by the routes of a list.
+fn is_routed(list: &StartList, component: usize, call: Call<'_>) -> bool {
+    match call {
+        Call::Open { service, args } if component < list.count() => {
+            route(list, component, service, SessionArgs::label_given(args)).is_some()
+        }
+        _ => true,
     }
 }

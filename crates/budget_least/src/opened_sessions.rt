@@ -1,23 +1,17 @@
 //! The lines of a component that reach each of its sessions, if every account is ample.
 ghost use Rattle.core_calls.specs.Call.{IsWellFormed};
 
-use crate::donation::args_with;
+use crate::ample_client::AmpleClient;
 use crate::lines_by_component::ComponentLine;
 use budget_meter::{Budget, named_by};
-use core_calls::{Call, FileError, Outcome, Reply, ServiceOutcome};
+use core_calls::Call;
 use init_core::boot;
 use list_parser::{BootFault, StartList};
-use pd_core::{Core, Router};
+use pd_core::Router;
 use std::alloc::{AllocError, Global};
-
-/// The minimum donation with which a session opens, in bytes and capabilities.
-const LEAST_DONATION: Budget = Budget { ram: 4096, caps: 2 };
 
 /// The number of selectors of a component, with 0, which is none.
 const SELECTORS: usize = 4097;
-
-/// The most upgrades for one request that is refused.
-const MOST_UPGRADES: usize = 128;
 
 /// A session that a component opens.
 #[derive(Drop)]
@@ -51,24 +45,9 @@ impl OpenedSessions {
         component: usize,
         steps: &[ComponentLine],
     ) -> Result<OpenedSessions, BootFault> {
-        let mut core = boot(alloc, list)?;
-        OpenedSessions::on(alloc, &mut core, component, steps)
-    }
-
-    // Returns the sessions on a machine that has just booted.
-    fn on<R: Router + Drop>(
-        alloc: Global,
-        core: &mut Core<R>,
-        component: usize,
-        steps: &[ComponentLine],
-    ) -> Result<OpenedSessions, BootFault> {
-        let mut reply = Reply::boot(alloc)?;
+        let core = boot(alloc, list)?;
+        let mut client = AmpleClient::new(alloc, core, component)?;
         let mut sessions = OpenedSessions::none(alloc)?;
-        let mut client = AmpleClient {
-            core,
-            component,
-            reply: &mut reply,
-        };
         sessions.follow(alloc, &mut client, steps)?;
         Ok(sessions)
     }
@@ -85,7 +64,7 @@ impl OpenedSessions {
     fn follow<R: Router + Drop>(
         &mut self,
         alloc: Global,
-        client: &mut AmpleClient<'_, R>,
+        client: &mut AmpleClient<R>,
         steps: &[ComponentLine],
     ) -> Result<(), BootFault> {
         for (place, step) in steps.iter().enumerate() {
@@ -108,37 +87,25 @@ impl OpenedSessions {
     fn go_on<R: Router + Drop>(
         &mut self,
         alloc: Global,
-        client: &mut AmpleClient<'_, R>,
+        client: &mut AmpleClient<R>,
         call: Call<'_>,
         place: usize,
     ) -> Result<(), BootFault>
         requires { IsWellFormed call }
     {
+        client.make(alloc, call)?;
         match call {
-            Call::Open { service, args } => self.open(alloc, client, service, args, place),
-            Call::CallSession { selector, .. } => {
-                client.request(selector, call);
+            Call::Open { args, .. } => self.open(alloc, client, args, place),
+            Call::CallSession { selector, .. } => self.reach(selector, place),
+            Call::Upgrade { selector, args } if client.is_done() => {
+                self.raise(selector, args);
                 self.reach(selector, place)
             }
-            Call::Upgrade { selector, args } => {
-                client.step(call);
-                if client.is_done() {
-                    self.raise(selector, args);
-                    self.reach(selector, place)?;
-                }
+            Call::Close(selector) if client.is_done() => {
+                self.set_owner(selector, None);
                 Ok(())
             }
-            Call::Close(selector) => {
-                client.step(call);
-                if client.is_done() {
-                    self.set_owner(selector, None);
-                }
-                Ok(())
-            }
-            _ => {
-                client.step(call);
-                Ok(())
-            }
+            _ => Ok(()),
         }
     }
 
@@ -150,28 +117,15 @@ impl OpenedSessions {
         }
     }
 
-    // Opens a session, with enough for itself.
+    // Records the session that was opened, if one was.
     fn open<R: Router + Drop>(
         &mut self,
         alloc: Global,
-        client: &mut AmpleClient<'_, R>,
-        service: &[u8],
+        client: &AmpleClient<R>,
         args: &[u8],
         step: usize,
     ) -> Result<(), BootFault> {
-        let Some(donation) = named_by(args) else {
-            return Ok(());
-        };
-        let enough = Budget {
-            ram: donation.ram.max(LEAST_DONATION.ram),
-            caps: donation.caps.max(LEAST_DONATION.caps),
-        };
-        let args = args_with(alloc, enough, args)?;
-        client.step(Call::Open {
-            service,
-            args: args.as_slice(),
-        });
-        let Some(selector) = client.selector() else {
+        let (Some(donation), Some(selector)) = (named_by(args), client.selector()) else {
             return Ok(());
         };
         let count = self.count();
@@ -221,68 +175,5 @@ impl OpenedSessions {
             opened.raised.ram = opened.raised.ram.saturating_add(more.ram);
             opened.raised.caps = opened.raised.caps.saturating_add(more.caps);
         }
-    }
-}
-
-// A component with an ample account.
-#[derive(Drop)]
-struct AmpleClient<'a, R: Router + Drop> {
-    core: &'a mut Core<R>,
-    component: usize,
-    reply: &'a mut Reply,
-}
-
-impl<R: Router + Drop> AmpleClient<'_, R> {
-    ghost use Rattle.core_calls.specs.Call.{IsWellFormed};
-
-    // Makes a call.
-    fn step(&mut self, call: Call<'_>)
-        requires { IsWellFormed call }
-    {
-        if self.component < self.core.count() {
-            self.core.step(self.component, call, self.reply);
-        }
-    }
-
-    // Makes a request of a session, again after each upgrade while the session's account refuses it.
-    fn request(&mut self, selector: u64, call: Call<'_>)
-        requires { IsWellFormed call }
-    {
-        for _ in 0..MOST_UPGRADES {
-            self.step(call);
-            let args = match lack_of(self.reply.outcome()) {
-                Some(args) => args,
-                None => return,
-            };
-            self.step(Call::Upgrade { selector, args });
-            if !self.is_done() {
-                return;
-            }
-        }
-    }
-
-    // Returns whether the last call is done.
-    fn is_done(&self) -> bool {
-        matches!(self.reply.outcome(), Outcome::Done)
-    }
-
-    // Returns the selector in the reply to the last call, if it has one.
-    fn selector(&self) -> Option<u64> {
-        match self.reply.outcome() {
-            Outcome::Selected(selector) => Some(u64::from(selector.0)),
-            _ => None,
-        }
-    }
-}
-
-// Returns the donation of an upgrade for a session whose account is short of quota.
-fn lack_of(outcome: Outcome) -> Option<&'static [u8]> {
-    let Outcome::Served(ServiceOutcome::Refused(error)) = outcome else {
-        return None;
-    };
-    match error {
-        FileError::OutOfRam => Some(b"ram_quota=256K".as_slice()),
-        FileError::OutOfCaps => Some(b"cap_quota=16".as_slice()),
-        _ => None,
     }
 }

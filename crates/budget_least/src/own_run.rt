@@ -126,7 +126,7 @@ impl<'a, R: Router + Drop> OwnRun<'a, R> {
         if step.is_left_out {
             let account = self.core.account(self.component);
             self.trial
-                .leave_out(step.number, account, call_amounts(call))?;
+                .leave_out(step.number, account, step.asked(call_amounts(call)))?;
             return Ok(true);
         }
         if is_exit(call) {

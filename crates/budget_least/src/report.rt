@@ -2,16 +2,22 @@
 ghost use Rattle.std.specs.Prelude.{◌<◌, ◌^◌, length};
 
 use crate::account_budgets::AccountBudgets;
+use crate::binding_run::BindingBudgets;
 use crate::draft::Draft;
-use crate::lines_by_component::{ComponentLine, LinesByComponent, MisreadLine};
+use crate::line_donations::LineDonations;
+use crate::lines_by_component::{ComponentLine, LinesByComponent, has_names};
 use crate::report_text::BudgetCsv;
-use crate::script_search::ScriptSearch;
+use crate::script_search::{ScriptSearch, ScriptSessions};
+use crate::unmeasured_line::UnmeasuredLine;
+use crate::written_donation::with_donation;
 use budget_meter::Budget;
-use core_calls::Call;
 use line_steps::RunPosition;
 use list_parser::{Binary, BootFault, ListEntry, StartList};
 use std::alloc::Global;
 use trade_base::PAGE;
+
+/// The most runs with minimum budgets.
+const MOST_READINGS: usize = 8;
 
 /// A question: a start list, the text of a scenario, and whether sessions get what the scenario donates in place of the
 /// minimum.
@@ -25,6 +31,28 @@ pub struct BudgetQuery<'a> {
     pub as_donated: bool,
 }
 
+impl BudgetQuery<'_> {
+    // Returns the budgets of the first run that binds names.
+    fn ample(self) -> BindingBudgets<'static> {
+        if self.as_donated {
+            BindingBudgets::AsDonated
+        } else {
+            BindingBudgets::Ample
+        }
+    }
+
+    // Returns the lines of the scenario, with the names that a run from the start with these budgets binds.
+    fn lines(
+        self,
+        alloc: Global,
+        start: &RunPosition<'_>,
+        budgets: BindingBudgets<'_>,
+    ) -> Result<LinesByComponent, BootFault> {
+        let start = start.copy(alloc)?;
+        LinesByComponent::read(alloc, self.list, self.scenario, start, budgets)
+    }
+}
+
 /// The budgets that each account of a scenario needs: the components in the order of the start list, the sessions of each before
 /// its own account.
 #[derive(Drop)]
@@ -35,38 +63,89 @@ pub struct BudgetReport<'a> {
 }
 
 impl<'a> BudgetReport<'a> {
-    /// Returns the answer to a question, by the run from its start: names denote the given values and those that the run binds.
-    /// Fails with the start list's fault if the list doesn't boot, or if the host is out of memory.
+    /// Returns the answer to a question. Names denote the given values, and those that a run from the start with the minimum
+    /// budgets binds.
+    /// The list needn't boot. Fails with `QuotaExceeded` if a script's own budget is larger than the largest machine's, and with
+    /// `NoMemory` if the host is out of memory.
     pub fn of(
         alloc: Global,
         question: BudgetQuery<'a>,
         start: RunPosition<'_>,
     ) -> Result<BudgetReport<'a>, BootFault> {
-        let scene = LinesByComponent::read(alloc, question.list, question.scenario, start)?;
-        let mut report = BudgetReport {
-            list: question.list,
-            accounts: Vec::new(alloc),
-            scene,
-        };
-        report.add_accounts(alloc, question.as_donated)?;
+        let lines = question.lines(alloc, &start, question.ample())?;
+        let mut report = BudgetReport::with(alloc, question, lines)?;
+        if has_names(question.scenario) {
+            report.settle(alloc, question, &start)?;
+        }
         report.sum_inits();
         Ok(report)
     }
 
-    // Adds the accounts of all components, without what inits need.
+    // Returns the accounts that these lines need, without what inits need.
+    fn with(
+        alloc: Global,
+        question: BudgetQuery<'a>,
+        lines: LinesByComponent,
+    ) -> Result<BudgetReport<'a>, BootFault> {
+        let mut report = BudgetReport {
+            list: question.list,
+            accounts: Vec::new(alloc),
+            scene: lines,
+        };
+        report.add_accounts(alloc, question.as_donated)?;
+        Ok(report)
+    }
+
+    // Measures the lines again as a run with the minimum budgets fills them, until they stay the same. Lines that still change
+    // aren't measured.
+    fn settle(
+        &mut self,
+        alloc: Global,
+        question: BudgetQuery<'a>,
+        start: &RunPosition<'_>,
+    ) -> Result<(), BootFault> {
+        for left in (0..MOST_READINGS).rev() {
+            let minimum = BindingBudgets::Minimum {
+                accounts: self.accounts.as_slice(),
+                steps: self.scene.steps.as_slice(),
+            };
+            let lines = question.lines(alloc, start, minimum)?;
+            let changed = self.scene.changed(alloc, &lines)?;
+            if changed.is_empty() {
+                return Ok(());
+            }
+            if left == 0 {
+                self.scene.leave_changed(alloc, changed.as_slice())?;
+            } else {
+                *self = BudgetReport::with(alloc, question, lines)?;
+            }
+        }
+        Ok(())
+    }
+
+    // Adds the accounts of all components, without what inits need. The lines donate what their sessions need before scripts' own
+    // accounts are measured, unless they donate what the scenario says.
     fn add_accounts(&mut self, alloc: Global, as_donated: bool) -> Result<(), BootFault> {
         let list = self.list;
+        let mut scripts = Vec::new(alloc);
+        let mut donations = LineDonations::new(alloc);
         for component in 0..list.count() {
-            if let Some(steps) = self.scene.steps.get_mut(component) {
-                add_component(
-                    alloc,
-                    as_donated,
-                    list,
-                    component,
-                    steps.as_mut_slice(),
-                    &mut self.accounts,
-                )?;
+            let script = sessions_of(alloc, list, component, self.scene.of(component))?;
+            if let Some(script) = &script {
+                donations.add_all(script.accounts.as_slice())?;
             }
+            scripts.push(script)?;
+        }
+        if !as_donated {
+            self.scene.donate(alloc, &donations)?;
+        }
+        for component in 0..list.count() {
+            let script = match scripts.get_mut(component) {
+                Some(script) => script.take(),
+                None => None,
+            };
+            let steps = self.scene.of(component);
+            add_component(alloc, list, component, steps, script, &mut self.accounts)?;
         }
         Ok(())
     }
@@ -113,9 +192,9 @@ impl<'a> BudgetReport<'a> {
         Some(self.list.entries().get(component)?.home())
     }
 
-    /// Returns the lines of the scenario that can't be parsed.
-    pub fn misread(&self) -> &[MisreadLine] {
-        self.scene.misread.as_slice()
+    /// Returns the lines of the scenario that aren't measured, in the order in which the run comes to them.
+    pub fn unmeasured(&self) -> &[UnmeasuredLine] {
+        self.scene.unmeasured.as_slice()
     }
 
     /// Returns the accounts, the sessions of each component before its own account.
@@ -145,103 +224,84 @@ impl<'a> BudgetReport<'a> {
         draft.text(alloc)
     }
 
-    /// Returns the text of the report's scenario, with the minimum donations. Lines that are run in several rounds stay, and so
-    /// do lines with names in their arguments. The error is that the host is out of memory.
+    /// Returns the text of the report's scenario, with the donations that were measured. A line of a round donates the same in each
+    /// iteration. The error is that the host is out of memory.
     pub fn scenario(&self, alloc: Global, text: &[u8]) -> Result<Vec<u8>, BootFault> {
+        let donations = self.scene.donations(alloc)?;
         let mut told = Vec::new(alloc);
-        let donating = self.donating(alloc)?;
-        let mut number = 0u64;
+        let mut number = 0usize;
         for line in text.split(|byte| *byte == b'\n') {
             if number > 0 {
                 told.push(b'\n')?;
             }
             number = number.saturating_add(1);
-            match only_one(donating.as_slice(), number) {
-                Some(step) => add_donating(&mut told, line, step)?,
-                None => told.extend_from_slice(line)?,
+            match donations.get(number) {
+                Some(Some(donation)) => {
+                    told.extend_from_slice(with_donation(alloc, line, *donation)?.as_slice())?;
+                }
+                _ => told.extend_from_slice(line)?,
             }
         }
         Ok(told)
     }
+}
 
-    // Returns the lines that open a session with other arguments than written.
-    fn donating(&self, alloc: Global) -> Result<Vec<&ComponentLine>, BootFault> {
-        let mut found = Vec::new(alloc);
-        for steps in self.scene.steps.as_slice() {
-            for step in steps.as_slice() {
-                if step.args().is_some() {
-                    found.push(step)?;
-                }
-            }
+// Returns what the sessions of a component need, if it is a script.
+fn sessions_of(
+    alloc: Global,
+    list: &StartList,
+    component: usize,
+    steps: &[ComponentLine],
+) -> Result<Option<ScriptSessions>, BootFault>
+    requires { component < length list.now.entries }
+{
+    match search_of(list, component) {
+        Some(search) => {
+            let sessions = search.sessions(alloc, steps)?;
+            Ok(Some(sessions))
         }
-        Ok(found)
+        None => Ok(None),
     }
 }
 
-// Adds the accounts of a component.
+// Adds the accounts of a component, the sessions of a script before its own.
 fn add_component(
     alloc: Global,
-    as_donated: bool,
     list: &StartList,
     component: usize,
-    steps: &mut [ComponentLine],
+    steps: &[ComponentLine],
+    sessions: Option<ScriptSessions>,
     accounts: &mut Vec<AccountBudgets>,
 ) -> Result<(), BootFault>
     requires { component < length list.now.entries }
 {
+    let (Some(search), Some(sessions)) = (search_of(list, component), sessions) else {
+        let given = budget_of(&list.entries()[component]);
+        let nothing = Some(Budget { ram: 0, caps: 0 });
+        accounts.push(AccountBudgets::idle(alloc, component, given, nothing)?)?;
+        return Ok(());
+    };
+    let own = search.own(alloc, steps, &sessions.given)?;
+    for account in sessions.accounts {
+        accounts.push(account)?;
+    }
+    accounts.push(own)?;
+    Ok(())
+}
+
+// Returns the search for the budgets of a component, if it is a script.
+fn search_of(list: &StartList, component: usize) -> Option<ScriptSearch<'_>>
+    requires { component < length list.now.entries }
+{
     let entry = &list.entries()[component];
-    let given = budget_of(entry);
-    if entry.binary() == Binary::Script {
-        let script = ScriptSearch {
-            list,
-            component,
-            given,
-            as_donated,
-        };
-        return script.add(alloc, steps, accounts);
+    if entry.binary() != Binary::Script {
+        return None;
     }
-    let nothing = Some(Budget { ram: 0, caps: 0 });
-    accounts.push(AccountBudgets::idle(alloc, component, given, nothing)?)?;
-    Ok(())
-}
-
-// Returns the step of a line, if it is the only one of that line.
-fn only_one<'a>(donating: &[&'a ComponentLine], number: u64) -> Option<&'a ComponentLine> {
-    let mut found = None;
-    for step in donating {
-        if step.number == number {
-            if found.is_some() {
-                return None;
-            }
-            found = Some(*step);
-        }
-    }
-    found
-}
-
-// Adds a line with other arguments in place of the written ones.
-fn add_donating(told: &mut Vec<u8>, line: &[u8], step: &ComponentLine) -> Result<(), BootFault> {
-    if let (Some(Call::Open { args, .. }), Some(others)) = (step.said(), step.args()) {
-        if let Some((front, behind)) = split_around(line, args) {
-            told.extend_from_slice(front)?;
-            told.extend_from_slice(others)?;
-            told.extend_from_slice(behind)?;
-            return Ok(());
-        }
-    }
-    told.extend_from_slice(line)?;
-    Ok(())
-}
-
-// Returns the text of a line before and after a piece, if the line has the piece.
-fn split_around<'a>(line: &'a [u8], piece: &[u8]) -> Option<(&'a [u8], &'a [u8])> {
-    for start in 0..line.len() {
-        let (front, rest) = line.split_at(start);
-        if let Some(behind) = rest.strip_prefix(piece) {
-            return Some((front, behind));
-        }
-    }
-    None
+    Some(ScriptSearch {
+        list,
+        component,
+        given: budget_of(entry),
+    })
 }
 
 // The budget of an entry.

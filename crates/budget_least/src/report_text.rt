@@ -19,6 +19,7 @@ impl fmt::Display for BudgetReport<'_> {
             show_rows(f, account.rows())?;
             f.write_str("\n")?;
             show_beside(f, account)?;
+            self.show_unmeasured(f, account)?;
         }
         Ok(())
     }
@@ -35,6 +36,23 @@ impl BudgetReport<'_> {
             Some(entry) => write!(f, "{}", entry.to_path()),
             None => Ok(()),
         }
+    }
+}
+
+impl BudgetReport<'_> {
+    // Writes the lines that aren't measured, if the account is a component's own.
+    fn show_unmeasured<W: fmt::Write>(
+        &self,
+        f: &mut fmt::Formatter<W>,
+        account: &AccountBudgets,
+    ) -> fmt::Result {
+        for line in self.unmeasured() {
+            if line.is_told_of(account) {
+                let (number, reason) = (line.number, line.reason());
+                write!(f, "  line {number} isn't measured: {reason}\n")?;
+            }
+        }
+        Ok(())
     }
 }
 
@@ -71,7 +89,7 @@ fn show_row<W: fmt::Write>(f: &mut fmt::Formatter<W>, row: &BudgetInterval) -> f
     }
 }
 
-// Writes the lines after the intervals.
+// Writes the lines after the intervals, except those that aren't measured.
 fn show_beside<W: fmt::Write>(f: &mut fmt::Formatter<W>, account: &AccountBudgets) -> fmt::Result {
     if account.rows().is_empty() {
         if let Some(refused) = account.found.refused {
@@ -172,7 +190,7 @@ pub struct BudgetCsv<'a> {
 
 impl fmt::Display for BudgetCsv<'_> {
     fn fmt<W: fmt::Write>(&self, f: &mut fmt::Formatter<W>) -> fmt::Result {
-        f.write_str("component,session,line,ram_from,ram_below,caps_from\n")?;
+        f.write_str("component,session,line,ram_from,ram_below,caps_from,unmeasured\n")?;
         for account in self.report.accounts() {
             for row in account.rows() {
                 self.show_row(f, account, row)?;
@@ -200,8 +218,30 @@ impl BudgetCsv<'_> {
         }
         let (from, caps) = (row.ram_from, row.caps_from);
         match row.ram_below {
-            Some(below) => write!(f, "{from},{below},{caps}\n"),
-            None => write!(f, "{from},,{caps}\n"),
+            Some(below) => write!(f, "{from},{below},{caps},")?,
+            None => write!(f, "{from},,{caps},")?,
         }
+        self.show_unmeasured(f, account)?;
+        f.write_str("\n")
+    }
+
+    // The numbers of the account's lines that aren't measured, separated by blanks.
+    fn show_unmeasured<W: fmt::Write>(
+        &self,
+        f: &mut fmt::Formatter<W>,
+        account: &AccountBudgets,
+    ) -> fmt::Result {
+        let mut is_first = true;
+        for line in self.report.unmeasured() {
+            if line.is_told_of(account) {
+                if !is_first {
+                    f.write_str(" ")?;
+                }
+                is_first = false;
+                let number = line.number;
+                write!(f, "{number}")?;
+            }
+        }
+        Ok(())
     }
 }

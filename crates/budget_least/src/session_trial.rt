@@ -356,7 +356,7 @@ impl<R: Router + Drop> SessionClient<R> {
             (is_some run.new.trial.refused) run.new.heard.meter) }
     {
         if step.is_left_out {
-            run.leave_out(step.number, self.account(), request)?;
+            run.leave_out(step, self.account(), request)?;
             return Ok(true);
         }
         self.step(Call::CallSession {
@@ -416,7 +416,7 @@ impl SessionRun {
     // Leaves a request out, by the quota that it asks of the session's account.
     fn leave_out(
         &mut self,
-        line: u64,
+        step: &ComponentLine,
         account: Option<Quotas>,
         request: &[u8],
     ) -> Result<(), BootFault>
@@ -424,9 +424,11 @@ impl SessionRun {
         ensures heard { self.new.heard ≡ self.old.heard }
     {
         match account {
-            Some(account) => self
-                .trial
-                .leave_out(line, account, self.heard.asked(request)),
+            Some(account) => self.trial.leave_out(
+                step.number,
+                account,
+                step.asked(self.heard.asked(request)),
+            ),
             None => Ok(()),
         }
     }

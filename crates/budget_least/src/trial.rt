@@ -23,6 +23,16 @@ pub enum Shortage {
     DonatedCaps,
 }
 
+/// All shortages.
+pub(crate) const SHORTAGES: [Shortage; 6] = [
+    Shortage::Ram,
+    Shortage::Caps,
+    Shortage::SessionRam,
+    Shortage::SessionCaps,
+    Shortage::DonatedRam,
+    Shortage::DonatedCaps,
+];
+
 impl Shortage {
     /// Returns the text of the reply that the caller gets.
     pub fn reply(self) -> &'static str {

@@ -1,14 +1,13 @@
 //! The command `least`: the sufficient budgets of a scenario's accounts.
-use budget_least::{BudgetQuery, BudgetReport};
+ghost use Rattle.std.specs.Prelude.{◌≡◌, if◌then◌else◌, length, nat_lt};
+
+use budget_least::{BudgetQuery, BudgetReport, UnmeasuredLine};
 use cli_base::{
-    LineStarts, Machine, Settings, Spot, UNWRITTEN, made_or_status, print_documents,
-    report_boot_fault, report_error, scenario_text, status_of, summarize_errors, unfolded,
-    unread_status,
+    Machine, Settings, Spot, UNWRITTEN, print_documents, report_boot_fault, report_error,
+    scenario_text, status_of, summarize_errors, unfolded, unread_status,
 };
 use cli_options::LeastOptions;
 use init_core::BootFault;
-use line_names::token_at;
-use std::alloc::AllocError;
 use std::io;
 use std::io::Write;
 use view_diagnostics::DiagnosticForm;
@@ -46,7 +45,7 @@ impl BudgetFormat {
 }
 
 /// Prints the sufficient budgets of a scenario's accounts on the machine of a start list, or on the built-in machine. Returns the
-/// exit status: 0, 3 if a line is no call, 2 if the list is refused.
+/// exit status: 0, 3 if a line isn't measured, 2 if the list is refused.
 pub fn print_minimum_budgets(
     rt: &HostRuntime,
     asked: &LeastOptions<'_>,
@@ -89,7 +88,7 @@ fn least_on(
     }
 }
 
-// Prints the lines of a scenario's text that are no calls, and then a report. Returns the exit status.
+// Prints why lines of a scenario's text aren't measured, and then a report. Returns the exit status.
 fn tell_report(
     rt: &HostRuntime,
     machine: &[u8],
@@ -98,36 +97,26 @@ fn tell_report(
     form: DiagnosticForm,
     report: BudgetReport<'_>,
 ) -> u8 {
-    let misread = tell_misread(rt, form, asked.scenario, text, &report);
-    let status = match made_or_status(rt, misread) {
-        Ok(status) | Err(status) => status,
-    };
+    let status = tell_unmeasured(rt, form, asked.scenario, report.unmeasured());
     let told = tell(rt, machine, text, BudgetFormat::asked(asked), report);
     if told == 0 { status } else { told }
 }
 
-// Prints the lines of a scenario's text that are no calls, and returns the exit status.
-fn tell_misread(
+// Prints why lines of a scenario aren't measured, and returns the exit status: 3 if there are any, else 0.
+fn tell_unmeasured(
     rt: &HostRuntime,
     form: DiagnosticForm,
     scenario: &str,
-    text: &[u8],
-    report: &BudgetReport<'_>,
-) -> Result<u8, AllocError> {
-    let all = report.misread();
-    if all.is_empty() {
-        return Ok(unread_status(0));
+    lines: &[UnmeasuredLine],
+) -> u8
+    ensures { result ≡ (if nat_lt 0 (length lines.now) then 3 else 0) }
+{
+    for line in lines {
+        let spot = Spot::byte(scenario, line.number, line.column());
+        report_error(rt, form, spot, &line.message());
     }
-    let lines = LineStarts::of(rt, text)?;
-    for misread in all {
-        let column = misread.why.column();
-        let token = token_at(lines.line(misread.number), column);
-        let token = String::from_utf8_lossy(rt.alloc(), token)?;
-        let spot = Spot::byte(scenario, misread.number, column);
-        report_error(rt, form, spot, &misread.why.about(token.as_str()));
-    }
-    summarize_errors(rt, form, all.len() as u64);
-    Ok(unread_status(all.len()))
+    summarize_errors(rt, form, lines.len() as u64);
+    unread_status(lines.len())
 }
 
 // Prints a report in a form, and returns the exit status.

@@ -1,0 +1,106 @@
+//! The donations of the lines that open sessions.
+
+use crate::account_budgets::AccountBudgets;
+use budget_meter::Budget;
+use std::alloc::{AllocError, Global};
+
+/// The donation of a line, by the sessions that it opens.
+#[derive(Clone, Copy)]
+enum LineDonation {
+    /// The line opens no session.
+    Unused,
+    /// Each session of the line has this minimum. From this donation on, all larger ones suffice for each.
+    Alike { least: Budget, safe: Budget },
+    /// The minima of its sessions differ. From this donation on, all larger ones suffice for each.
+    Unlike { safe: Budget },
+    /// No donation suffices for a session of the line.
+    Insufficient,
+}
+
+impl LineDonation {
+    // Returns the donation of a line that opens one more session.
+    fn with(self, account: &AccountBudgets) -> LineDonation {
+        let (Some(least), Some(safe)) = (account.least(), account.safe()) else {
+            return LineDonation::Insufficient;
+        };
+        match self {
+            LineDonation::Unused => LineDonation::Alike { least, safe },
+            LineDonation::Alike {
+                least: other,
+                safe: more,
+            } => {
+                let safe = larger(safe, more);
+                if least == other {
+                    LineDonation::Alike { least, safe }
+                } else {
+                    LineDonation::Unlike { safe }
+                }
+            }
+            LineDonation::Unlike { safe: more } => LineDonation::Unlike {
+                safe: larger(safe, more),
+            },
+            LineDonation::Insufficient => LineDonation::Insufficient,
+        }
+    }
+
+    // Returns what the line donates, if a donation suffices for each of its sessions.
+    fn donation(self) -> Option<Budget> {
+        match self {
+            LineDonation::Alike { least, .. } => Some(least),
+            LineDonation::Unlike { safe } => Some(safe),
+            LineDonation::Unused | LineDonation::Insufficient => None,
+        }
+    }
+}
+
+// Returns the larger RAM and the larger number of capabilities of two budgets.
+fn larger(one: Budget, other: Budget) -> Budget {
+    Budget {
+        ram: one.ram.max(other.ram),
+        caps: one.caps.max(other.caps),
+    }
+}
+
+/// The donations of all lines of a scenario: a line of a round donates the same in each iteration.
+#[derive(Drop)]
+pub(crate) struct LineDonations {
+    /// The donations by the numbers of lines.
+    lines: Vec<LineDonation>,
+}
+
+impl LineDonations {
+    /// Returns the donations before the first session.
+    pub(crate) fn new(alloc: Global) -> LineDonations {
+        LineDonations {
+            lines: Vec::new(alloc),
+        }
+    }
+
+    /// Adds sessions, by what their accounts need. The error is that the host is out of memory.
+    pub(crate) fn add_all(&mut self, accounts: &[AccountBudgets]) -> Result<(), AllocError> {
+        for account in accounts {
+            self.add(account)?;
+        }
+        Ok(())
+    }
+
+    // Adds a session.
+    fn add(&mut self, account: &AccountBudgets) -> Result<(), AllocError> {
+        let Some(session) = account.session() else {
+            return Ok(());
+        };
+        let place = session.line as usize;
+        for _ in self.lines.len()..place.saturating_add(1) {
+            self.lines.push(LineDonation::Unused)?;
+        }
+        if let Some(line) = self.lines.get_mut(place) {
+            *line = line.with(account);
+        }
+        Ok(())
+    }
+
+    /// Returns the donation of the line of a number: the minimum of its sessions, or the lowest from which on all suffice for each.
+    pub(crate) fn of(&self, number: u64) -> Option<Budget> {
+        self.lines.get(number as usize)?.donation()
+    }
+}

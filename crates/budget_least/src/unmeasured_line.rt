@@ -1,0 +1,134 @@
+//! Lines that aren't measured.
+
+use crate::account_budgets::AccountBudgets;
+use line_names::NameReason;
+use line_steps::UnreadReason;
+use std::alloc::{AllocError, Global};
+use std::fmt;
+
+/// The reason why a line isn't measured.
+#[derive(Clone, Copy, PartialEq, Eq)]
+pub enum UnmeasuredReason {
+    /// The line can't be parsed.
+    Unread(UnreadReason),
+    /// A name in the line has another value in a run with the minimum budgets.
+    Unsettled,
+}
+
+/// A line of a scenario that isn't measured.
+#[derive(Drop)]
+pub struct UnmeasuredLine {
+    /// The number of the scenario's line, from 1 on.
+    pub number: u64,
+    /// The component that makes the call of the line, if the line begins with the name of one.
+    pub component: Option<usize>,
+    /// The reason why it isn't measured.
+    pub why: UnmeasuredReason,
+    /// The text of the line which the reason is about.
+    pub(crate) token: String,
+    /// Whether the line isn't measured in an earlier iteration of its round either.
+    pub(crate) is_again: bool,
+}
+
+impl UnmeasuredLine {
+    /// Returns whether the line is named with an account: a component's own, once.
+    pub(crate) fn is_told_of(&self, account: &AccountBudgets) -> bool {
+        !self.is_again && account.session().is_none() && self.component == Some(account.component())
+    }
+
+    /// Returns the column of the fault in the line, from 1 on.
+    pub fn column(&self) -> usize {
+        match self.why {
+            UnmeasuredReason::Unread(why) => why.column(),
+            UnmeasuredReason::Unsettled => 1,
+        }
+    }
+
+    /// Returns the message of the diagnostic about the line.
+    pub fn message(&self) -> UnmeasuredMessage<'_> {
+        UnmeasuredMessage { line: self }
+    }
+
+    /// Returns the reason in the words of the account's block.
+    pub(crate) fn reason(&self) -> UnmeasuredWords<'_> {
+        UnmeasuredWords { line: self }
+    }
+}
+
+/// The message of the diagnostic about a line that isn't measured.
+#[derive(Clone, Copy)]
+pub struct UnmeasuredMessage<'a> {
+    line: &'a UnmeasuredLine,
+}
+
+impl fmt::Display for UnmeasuredMessage<'_> {
+    fn fmt<W: fmt::Write>(&self, f: &mut fmt::Formatter<W>) -> fmt::Result {
+        match self.line.why {
+            UnmeasuredReason::Unread(why) => write!(f, "{}", why.about(self.line.token.as_str())),
+            UnmeasuredReason::Unsettled => {
+                f.write_str("a name in this line has another value with the minimum budgets")
+            }
+        }
+    }
+}
+
+/// The reason why a line isn't measured, in the block of an account.
+#[derive(Clone, Copy)]
+pub(crate) struct UnmeasuredWords<'a> {
+    line: &'a UnmeasuredLine,
+}
+
+impl fmt::Display for UnmeasuredWords<'_> {
+    fn fmt<W: fmt::Write>(&self, f: &mut fmt::Formatter<W>) -> fmt::Result {
+        match self.line.why {
+            UnmeasuredReason::Unsettled => f.write_str(
+                "a name in it has another value with the minimum",
+            ),
+            UnmeasuredReason::Unread(why) if is_unbound(why) => {
+                let name = self.line.token.as_str();
+                write!(f, "{name} is unbound")
+            }
+            UnmeasuredReason::Unread(_) => f.write_str("it can't be parsed"),
+        }
+    }
+}
+
+// Returns whether a name in the line has no value.
+fn is_unbound(why: UnreadReason) -> bool {
+    match why {
+        UnreadReason::Name(fault) => fault.reason == NameReason::UnknownName,
+        _ => false,
+    }
+}
+
+/// The numbers of lines that aren't measured.
+#[derive(Drop)]
+pub(crate) struct LineNumbers {
+    /// Whether the line of each number, from 0 on, is among them.
+    has: Vec<bool>,
+}
+
+impl LineNumbers {
+    /// Returns no numbers.
+    pub(crate) fn new(alloc: Global) -> LineNumbers {
+        LineNumbers {
+            has: Vec::new(alloc),
+        }
+    }
+
+    /// Adds a number, and returns whether it was there. The error is that the host is out of memory.
+    pub(crate) fn add(&mut self, number: u64) -> Result<bool, AllocError> {
+        let place = number as usize;
+        for _ in self.has.len()..place.saturating_add(1) {
+            self.has.push(false)?;
+        }
+        match self.has.get_mut(place) {
+            Some(has) => {
+                let was = *has;
+                *has = true;
+                Ok(was)
+            }
+            None => Ok(true),
+        }
+    }
+}

@@ -1,0 +1,148 @@
+"""What `nethrywel least` writes for a scenario with names is answered as the scenario expects, and nothing less is."""
+import itertools
+import json
+
+from hypothesis import given
+from hypothesis import strategies as st
+
+SERVERS = [{"name": "log", "quantum": "0", "caps": 0, "provides": ["LOG"]},
+           {"name": "files", "quantum": "0", "caps": 0, "provides": ["File_system"]}]
+
+
+def machine(budgets):
+    """Returns a start list in which each script has a budget."""
+    scripts = [{"name": name, "binary": "script", "quantum": str(ram), "caps": caps} for name, (ram, caps) in budgets.items()]
+    return json.dumps({"machine": {"pages": 4096, "caps": 4096}, "default-route": [{"any-service": True, "any-child": True}],
+                       "start": SERVERS + scripts})
+
+
+class Script:
+    """The lines of a script, each of which is granted if its accounts suffice, and the names of what the script has."""
+
+    def __init__(self, name, pick, numbers):
+        self.name, self.pick, self.numbers = name, pick, numbers
+        self.pages, self.blocks, self.slices, self.objects, self.sessions = [], [], [], [], {}
+
+    def binds(self, call, form, names):
+        """Returns the line of a call whose reply binds a new name, which is added to others."""
+        names.append(f"${self.name}{next(self.numbers)}")
+        return f"{self.name} {call} => {form} {names[-1]}"
+
+    def ends(self, call, names):
+        """Returns the line of a call that gives back what a name denotes, or a line that binds one if there is none."""
+        if not names:
+            return self.alloc()
+        return f"{self.name} {call} {names.pop(self.pick(range(len(names))))} => ok"
+
+    def donation(self):
+        return f"ram_quota={self.pick((1, 4096, 9000, 16384, 40960))}, cap_quota={self.pick((1, 2, 3, 6))}"
+
+    def session(self):
+        return self.pick(sorted(self.sessions)) if self.sessions else None
+
+    def alloc(self):
+        return self.binds(f"alloc {self.pick((1, 4096, 9000, 65536))}", "cap", self.pages)
+
+    def open(self):
+        names = []
+        line = self.binds(f"open File_system {self.donation()}", "cap", names)
+        self.sessions[names[0]] = {}
+        return line
+
+    def request(self):
+        """Returns the line of a request to a session, or one that opens a session if there is none."""
+        at = self.session()
+        if at is None:
+            return self.open()
+        files = self.sessions[at]
+        if not files or self.pick((True, False)):
+            files[f"f{next(self.numbers)}"] = 0
+            return f"{self.name} call {at} CREATE {list(files)[-1]} => OK"
+        file, more = self.pick(sorted(files)), self.pick((1, 40, 3000))
+        line = f"{self.name} call {at} WRITE {file} {files[file]} {'61' * more} => OK {more}"
+        files[file] += more
+        return line
+
+    def lends(self):
+        """Returns lines that use a session's buffer and give it back."""
+        at = self.session()
+        if at is None:
+            return [self.open()]
+        names = []
+        return [self.binds(f"call {at} BUFFER {self.pick((1, 5000))}", "OK cap", names),
+                self.binds(f"attach {names[0]}", "at", names), f"{self.name} poke {names[1]} 61 => ok",
+                f"{self.name} call {at} UNBUFFER => OK"]
+
+    def round(self):
+        """Returns lines of a round, in which a session needs more each time."""
+        names = []
+        opening = self.binds(f"open File_system {self.donation()}", "cap", names)
+        lent = self.binds(f"call {names[0]} BUFFER $n+{self.pick((1, 4096))}", "OK cap", names)
+        return ["@repeat 2 as n", opening, lent, f"{self.name} close {names[0]} => ok", "@end"]
+
+    def close(self):
+        at = self.session()
+        if at is None:
+            return self.open()
+        del self.sessions[at]
+        return f"{self.name} close {at} => ok"
+
+    def lines(self):
+        """Returns the lines of one more step."""
+        return self.pick((
+            lambda: [self.alloc()],
+            lambda: [self.ends("free", self.pages)],
+            lambda: [self.binds("capalloc", "cap", self.objects)],
+            lambda: [self.ends("capfree", self.objects)],
+            lambda: [self.binds(f"new {self.pick((1, 2000, 9000, 20000))}", "at", self.blocks)],
+            lambda: [self.ends("del", self.blocks)],
+            lambda: [self.binds(f"snew {self.pick((1, 8000))}", "at", self.slices)],
+            lambda: [self.ends("sdel", self.slices)],
+            lambda: [self.open()],
+            lambda: [self.request()],
+            lambda: [self.request()],
+            self.lends,
+            self.round,
+            lambda: [self.close()],
+            lambda: [f"{self.name} alloc 17M => refused"],
+        ))()
+
+
+@st.composite
+def drawn(draw):
+    """Draws the budgets of two scripts, which often don't suffice, and a scenario with names."""
+    numbers = itertools.count(1)
+    scripts = [Script(name, lambda of: draw(st.sampled_from(of)), numbers) for name in ("a", "b")]
+    budgets = {it.name: draw(st.sampled_from(((4096, 2), (16384, 4), (65536, 12)))) for it in scripts}
+    chosen = draw(st.lists(st.sampled_from(scripts), min_size=6, max_size=24))
+    return budgets, [line for it in chosen for line in it.lines()]
+
+
+def less(budgets):
+    """Yields these budgets with a byte or a capability less of one script."""
+    for name, (ram, caps) in budgets.items():
+        yield from ({**budgets, name: it} for it in ((ram - 1, caps), (ram, caps - 1)) if min(it) >= 0)
+
+
+def test_names(nethrywel, tmp_path_factory):
+    @given(drawn())
+    def check(it):
+        budgets, lines = it
+        folder = tmp_path_factory.mktemp("least")
+        given_list, scenario, list_, least = (folder / name for name in ("given.json", "scenario", "least.json", "least"))
+        given_list.write_text(machine(budgets))
+        scenario.write_text("".join(f"{line}\n" for line in lines))
+        words = ["least", "--machine", given_list, scenario]
+        list_.write_text(nethrywel(*words, "--list").ok())
+        least.write_text(nethrywel(*words, "--scenario").ok())
+        nethrywel("run", "--machine", list_, least).ok()
+        # The address of a block depends on the budget, so a smaller budget may name other blocks.
+        if any(" new " in line for line in lines):
+            return
+        minimum = {entry["name"]: (int(entry["quantum"].replace("K", "")) * (1024 if "K" in entry["quantum"] else 1), entry["caps"])
+                   for entry in json.loads(list_.read_text())["start"] if entry.get("binary") == "script"}
+        for smaller in less(minimum):
+            list_.write_text(machine(smaller))
+            assert nethrywel("run", "--machine", list_, least).status == 3, smaller
+
+    check()
