@@ -1,19 +1,19 @@
 //! The command `diff`: differences between two start lists.
-ghost use Rattle.std.specs.Prelude.{◌≡◌, ◌||◌, if◌then◌else◌, nat_lt, not};
+ghost use Rattle.std.specs.Prelude.{◌≡◌, if◌then◌else◌};
 
+use crate::review::review;
 use budget_least::{AccountBudgets, Budget, BudgetQuery, BudgetReport};
 use cli_base::{
     Origin, OutputStream, REFUSED, ReadFailure, Settings, Spot, StopMessage, UNWRITTEN,
-    made_or_status, plain_writer, read_list, report_error, spot_of, status_of, tell_fault,
-    unfolded,
+    made_or_status, plain_writer, report_error, spot_of, status_of, unfolded,
 };
 use cli_engine::Input;
 use cli_options::DiffOptions;
 use init_core::{BootFault, ListEntry, StartList};
 use line_rounds::UnfoldedText;
 use list_diff::{
-    ComponentNeed, ListDifferences, NeedChange, QuotaAmounts, ReachSide, ReplyChange,
-    changed_replies, changes, lacks, leads,
+    ComponentNeed, LineResult, ListDifferences, NeedChange, QuotaAmounts, ReachSide, ReplyChange,
+    changed_replies, changes, lacks, leads, line_results,
 };
 use list_reach::ReachTable;
 use list_review::Review;
@@ -24,60 +24,109 @@ use std::alloc::{AllocError, Global};
 use std::io::Write;
 use std::{fs, io};
 use view_diagnostics::DiagnosticForm;
-use view_json::Listing;
 use view_runs::answers;
 
 /// The exit status if something is changed.
 const CHANGED: u8 = 4;
 
 /// Prints the differences between two start lists, and with a scenario those of its replies, as lines or documents of JSON.
-/// Returns the exit status: 0 if nothing is changed, 4 if something is, 2 if a list is refused.
+/// Returns the exit status: 0 if nothing is changed, 4 if something is, 2 if a list is refused or the scenario can't be opened.
 pub fn compare_lists(rt: &HostRuntime, asked: &DiffOptions<'_>, form: DiagnosticForm) -> u8 {
-    let before = ListFile::at(rt, form, asked.before);
-    let after = ListFile::at(rt, form, asked.after);
+    let settings = Settings::without_values(form);
+    let before = ListFile::at(rt, asked.before, settings);
+    let after = ListFile::at(rt, asked.after, settings);
     match (&before, &after) {
-        (Some(before), Some(after)) => compare_policies(rt, before, after, asked.scenario, form),
+        (Some(before), Some(after)) => match asked.scenario {
+            Some(path) => match compare_scenario(rt, (before, after), path, settings) {
+                Ok(status) | Err(status) => status,
+            },
+            None => tell(rt, (before, after), &[], &[], settings.form),
+        },
         _ => REFUSED,
     }
 }
 
-// Compares two lists, with the replies of a scenario on both if there is one.
-fn compare_policies(
+// Compares two lists with the replies of a scenario on both. The error is the exit status of a scenario that isn't run.
+fn compare_scenario(
     rt: &HostRuntime,
-    before: &ListFile<'_>,
-    after: &ListFile<'_>,
-    scenario: Option<&str>,
-    form: DiagnosticForm,
-) -> u8 {
-    match scenario {
-        Some(path) => tell_played(rt, path, before, after, form),
-        None => tell(rt, before, after, &DiffRuns::nothing(rt.alloc()), form),
+    (before, after): (&ListFile<'_>, &ListFile<'_>),
+    path: &str,
+    settings: Settings<'_>,
+) -> Result<u8, u8> {
+    let text = scenario_file(rt, path, settings.form)?;
+    let lines = &unfolded(rt, path, &text, settings)?;
+    let was = RunInput {
+        list: before,
+        path,
+        lines,
+    };
+    let now = RunInput {
+        list: after,
+        path,
+        lines,
+    };
+    compare_runs(rt, was, now, settings)
+}
+
+// Returns the text of a scenario's file. If it can't be read, prints why and returns the exit status 2.
+fn scenario_file(rt: &HostRuntime, path: &str, form: DiagnosticForm) -> Result<Vec<u8>, u8> {
+    match fs::read(rt, path) {
+        Ok(text) => Ok(text),
+        Err(error) => {
+            let unread = ReadFailure::Closed(error);
+            report_error(rt, form, Spot::nowhere(), &unread.about(path));
+            Err(REFUSED)
+        }
     }
 }
 
-// Runs a scenario on both lists, and prints all differences.
-fn tell_played(
+// What is run on one side: a scenario, by its path and its unfolded text, on a start list.
+#[derive(Clone, Copy)]
+struct RunInput<'a> {
+    list: &'a ListFile<'a>,
+    path: &'a str,
+    lines: &'a UnfoldedText<'a>,
+}
+
+// Runs the scenarios of both sides, and prints all differences. Returns the exit status, as the error if a scenario can't be run
+// to its end.
+fn compare_runs(
     rt: &HostRuntime,
-    path: &str,
-    before: &ListFile<'_>,
-    after: &ListFile<'_>,
-    form: DiagnosticForm,
-) -> u8 {
-    match play_both(rt, form, path, before, after) {
-        Ok(played) => tell(rt, before, after, &played, form),
-        Err(status) => status,
-    }
+    was: RunInput<'_>,
+    now: RunInput<'_>,
+    settings: Settings<'_>,
+) -> Result<u8, u8> {
+    let (olds, news) = (
+        answers_on(rt, was, settings)?,
+        answers_on(rt, now, settings)?,
+    );
+    let old_lines = results_on(rt, was, olds.as_slice(), settings)?;
+    let new_lines = results_on(rt, now, news.as_slice(), settings)?;
+    let (had, has) = (needs(rt, was, settings)?, needs(rt, now, settings)?);
+    let alloc = rt.alloc();
+    let lacks = made_or_status(rt, lacks(alloc, had.as_slice(), has.as_slice()))?;
+    let replies = changed_replies(alloc, old_lines.as_slice(), new_lines.as_slice());
+    let replies = made_or_status(rt, replies)?;
+    let lists = (was.list, now.list);
+    Ok(tell(
+        rt,
+        lists,
+        lacks.as_slice(),
+        replies.as_slice(),
+        settings.form,
+    ))
 }
 
 // Prints all differences, and returns the exit status.
 fn tell(
     rt: &HostRuntime,
-    before: &ListFile<'_>,
-    after: &ListFile<'_>,
-    played: &DiffRuns<'_>,
+    (before, after): (&ListFile<'_>, &ListFile<'_>),
+    lacks: &[NeedChange<'_>],
+    replies: &[ReplyChange<'_>],
     form: DiagnosticForm,
 ) -> u8 {
-    match made_or_status(rt, differences(rt.alloc(), before, after, played, form)) {
+    let lists = (before.review.list(), after.review.list());
+    match made_or_status(rt, differences(rt.alloc(), lists, lacks, replies, form)) {
         Ok(told) => told.print(rt),
         Err(status) => status,
     }
@@ -102,25 +151,6 @@ impl DiffText {
     }
 }
 
-// The replies of a scenario on both lists, and the shortfalls of components.
-#[derive(Drop)]
-struct DiffRuns<'a> {
-    before: Vec<Exchange>,
-    after: Vec<Exchange>,
-    lacks: Vec<NeedChange<'a>>,
-}
-
-impl<'a> DiffRuns<'a> {
-    // Returns no replies and no shortfalls, for a comparison without a scenario.
-    fn nothing(alloc: Global) -> DiffRuns<'a> {
-        DiffRuns {
-            before: Vec::new(alloc),
-            after: Vec::new(alloc),
-            lacks: Vec::new(alloc),
-        }
-    }
-}
-
 // A start list that boots.
 #[derive(Drop)]
 struct ListFile<'a> {
@@ -130,32 +160,22 @@ struct ListFile<'a> {
 
 impl<'a> ListFile<'a> {
     // Reads the start list of a path. If the list can't be read or has a fault, prints why and returns none.
-    fn at(rt: &HostRuntime, form: DiagnosticForm, path: &'a str) -> Option<ListFile<'a>> {
-        match read_list(rt, path) {
-            Ok(text) => match Review::read(rt.alloc(), &text) {
-                Ok(review) => Some(ListFile { path, review }),
-                Err(fault) => {
-                    tell_fault(rt, form, path, &fault);
-                    None
-                }
-            },
-            Err(why) => {
-                report_error(rt, form, Spot::nowhere(), &why.about(path));
-                None
-            }
+    fn at(rt: &HostRuntime, path: &'a str, settings: Settings<'_>) -> Option<ListFile<'a>> {
+        match review(rt, path, settings) {
+            Some(review) => Some(ListFile { path, review }),
+            None => None,
         }
     }
 }
 
-// Compares entries, reachability, needs and replies of two lists.
+// Compares entries and reachability of two lists, in addition to these needs and replies.
 fn differences(
     alloc: Global,
-    before: &ListFile<'_>,
-    after: &ListFile<'_>,
-    played: &DiffRuns<'_>,
+    (before, after): (&StartList, &StartList),
+    lacks: &[NeedChange<'_>],
+    replies: &[ReplyChange<'_>],
     form: DiagnosticForm,
 ) -> Result<DiffText, AllocError> {
-    let (before, after) = (before.review.list(), after.review.list());
     let olds = ReachTable::of(alloc, before)?;
     let news = ReachTable::of(alloc, after)?;
     let was = ReachSide {
@@ -166,42 +186,24 @@ fn differences(
         list: after,
         cells: news.cells(),
     };
-    compare(alloc, was, now, played, form)
-}
-
-// Compares two lists by the cells of their tables of reachability.
-fn compare<'a>(
-    alloc: Global,
-    was: ReachSide<'a>,
-    now: ReachSide<'a>,
-    played: &'a DiffRuns<'a>,
-    form: DiagnosticForm,
-) -> Result<DiffText, AllocError> {
-    let changes = changes(alloc, was.list, now.list)?;
+    let changes = changes(alloc, before, after)?;
     let leads = leads(alloc, was, now)?;
-    let replies = changed_replies(alloc, played.before.as_slice(), played.after.as_slice())?;
     let told = ListDifferences {
-        before: was.list,
-        after: now.list,
+        before,
+        after,
         changes: changes.as_slice(),
         leads: leads.as_slice(),
+        lacks,
+        replies,
     };
-    let lacks = played.lacks.as_slice();
     Ok(DiffText {
         text: if form == DiagnosticForm::Json {
-            documents(alloc, told, lacks, replies.as_slice())?
+            told.documents(alloc)?
         } else {
-            lines(alloc, told, lacks, replies.as_slice())?
+            told.lines(alloc)?
         },
-        is_changed: is_changed(told.is_empty(), lacks.len(), replies.len()),
+        is_changed: !told.is_empty(),
     })
-}
-
-// Returns whether something is changed: the lists, so many shortfalls, or so many replies.
-fn is_changed(is_same_list: bool, lacks: usize, replies: usize) -> bool
-    ensures { result ≡ (not is_same_list || nat_lt 0 lacks || nat_lt 0 replies) }
-{
-    !is_same_list || lacks > 0 || replies > 0
 }
 
 // Returns the exit status of a comparison: 4 if something is changed, else 0.
@@ -211,97 +213,24 @@ fn diff_status(is_changed: bool) -> u8
     if is_changed { CHANGED } else { 0 }
 }
 
-// Returns a line for each difference.
-fn lines(
-    alloc: Global,
-    told: ListDifferences<'_>,
-    lacks: &[NeedChange<'_>],
-    replies: &[ReplyChange<'_>],
-) -> Result<Vec<u8>, AllocError> {
-    let mut text = told.to_string(alloc)?.into_bytes();
-    for lack in lacks {
-        text.extend_from_slice(lack.to_string(alloc)?.as_bytes())?;
-    }
-    for reply in replies {
-        reply.add_line(alloc, &mut text)?;
-    }
-    Ok(text)
-}
-
-// Returns a document for each difference.
-fn documents(
-    alloc: Global,
-    told: ListDifferences<'_>,
-    lacks: &[NeedChange<'_>],
-    replies: &[ReplyChange<'_>],
-) -> Result<Vec<u8>, AllocError> {
-    let mut listing = Listing::new(alloc);
-    told.list(alloc, &mut listing)?;
-    for lack in lacks {
-        lack.list(&mut listing)?;
-    }
-    for reply in replies {
-        reply.list(&mut listing)?;
-    }
-    listing.into_text()
-}
-
-// Runs a scenario on both lists. Returns the exit status if the scenario can't be run to its end.
-fn play_both<'a>(
-    rt: &HostRuntime,
-    form: DiagnosticForm,
-    path: &str,
-    before: &'a ListFile<'_>,
-    after: &'a ListFile<'_>,
-) -> Result<DiffRuns<'a>, u8> {
-    let settings = Settings::without_values(form);
-    let scenario = match fs::read(rt, path) {
-        Ok(scenario) => scenario,
-        Err(error) => {
-            let unread = ReadFailure::Closed(error);
-            report_error(rt, form, Spot::nowhere(), &unread.about(path));
-            return Err(REFUSED);
-        }
-    };
-    let lines = unfolded(rt, path, &scenario, settings)?;
-    Ok(DiffRuns {
-        before: answers_on(rt, form, path, &lines, before)?,
-        after: answers_on(rt, form, path, &lines, after)?,
-        lacks: lacks_of(rt, form, &lines, before, after)?,
-    })
-}
-
-// Returns the shortfalls of components under either list.
-fn lacks_of<'a>(
-    rt: &HostRuntime,
-    form: DiagnosticForm,
-    lines: &UnfoldedText<'_>,
-    before: &'a ListFile<'_>,
-    after: &'a ListFile<'_>,
-) -> Result<Vec<NeedChange<'a>>, u8> {
-    let had = needs(rt, form, lines, before)?;
-    let has = needs(rt, form, lines, after)?;
-    made_or_status(rt, lacks(rt.alloc(), had.as_slice(), has.as_slice()))
-}
-
 // Returns the needs of a list's components for a scenario. If no machine boots or the host is out of memory, returns the exit
 // status. The scenario itself states the donations of sessions, so they aren't computed.
 fn needs<'a>(
     rt: &HostRuntime,
-    form: DiagnosticForm,
-    lines: &UnfoldedText<'_>,
-    policy: &'a ListFile<'_>,
+    run: RunInput<'a>,
+    settings: Settings<'_>,
 ) -> Result<Vec<ComponentNeed<'a>>, u8> {
     let alloc = rt.alloc();
-    let start = Settings::without_values(form).start_or_status(rt, lines.marks())?;
+    let list = run.list.review.list();
+    let start = settings.start_or_status(rt, run.lines.marks())?;
     let question = BudgetQuery {
-        list: policy.review.list(),
-        scenario: lines.bytes(),
+        list,
+        scenario: run.lines.bytes(),
         as_donated: true,
     };
     match BudgetReport::of(alloc, question, start) {
-        Ok(report) => made_or_status(rt, needs_told(alloc, &report, policy.review.list())),
-        Err(fault) => Err(tell_unplayed(rt, form, policy.path, &fault)),
+        Ok(report) => made_or_status(rt, needs_told(alloc, &report, list)),
+        Err(fault) => Err(tell_unplayed(rt, settings.form, run.list.path, &fault)),
     }
 }
 
@@ -349,27 +278,50 @@ fn means_of(budget: Budget) -> QuotaAmounts {
 // the scenario are ignored.
 fn answers_on(
     rt: &HostRuntime,
-    form: DiagnosticForm,
-    path: &str,
-    lines: &UnfoldedText<'_>,
-    policy: &ListFile<'_>,
+    run: RunInput<'_>,
+    settings: Settings<'_>,
 ) -> Result<Vec<Exchange>, u8> {
-    let settings = Settings::without_values(form);
     let play = ScenarioInput {
-        list: policy.review.list(),
-        scenario: settings.subject(path),
-        start: settings.start_or_status(rt, lines.marks())?,
+        list: run.list.review.list(),
+        scenario: settings.subject(run.path),
+        start: settings.start_or_status(rt, run.lines.marks())?,
     };
-    let mut reader = Input::new(Origin::Held(lines.bytes()));
+    let mut reader = Input::new(Origin::Held(run.lines.bytes()));
     let mut nowhere = plain_writer(rt, OutputStream::Dropped);
     let mut complaints = plain_writer(rt, OutputStream::Dropped);
+    let form = settings.form;
     match answers(rt.alloc(), play, &mut reader, &mut nowhere, &mut complaints) {
         Ok(answered) => match answered.ending.fault {
-            Some(fault) => Err(tell_stopped(rt, form, path, answered.ending.lines, fault)),
+            Some(fault) => Err(tell_stopped(rt, form, run.path, answered.ending.lines, fault)),
             None => Ok(answered.exchanges),
         },
-        Err(fault) => Err(tell_unplayed(rt, form, policy.path, &fault)),
+        Err(fault) => Err(tell_unplayed(rt, form, run.list.path, &fault)),
     }
+}
+
+// Returns what came of each line of a scenario on a list, by its answered calls there. If the host is out of memory, prints that
+// and returns the exit status.
+fn results_on<'a>(
+    rt: &HostRuntime,
+    run: RunInput<'a>,
+    exchanges: &'a [Exchange],
+    settings: Settings<'_>,
+) -> Result<Vec<LineResult<'a>>, u8> {
+    let start = settings.start_or_status(rt, run.lines.marks())?;
+    let lines = made_or_status(rt, split_lines(rt.alloc(), run.lines.bytes()))?;
+    made_or_status(
+        rt,
+        line_results(rt.alloc(), start, lines.as_slice(), exchanges),
+    )
+}
+
+// Returns the lines of a text, without their newlines. A text that ends with a newline has an empty line at its end.
+fn split_lines(alloc: Global, text: &[u8]) -> Result<Vec<&[u8]>, AllocError> {
+    let mut lines = Vec::new(alloc);
+    for line in text.split(|byte| *byte == b'\n') {
+        lines.push(line)?;
+    }
+    Ok(lines)
 }
 
 // Prints the fault that stopped a run after so many lines, and returns the exit status.

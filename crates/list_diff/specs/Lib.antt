@@ -1,1 +1,5 @@
 pub mod Changes
+pub mod Differences
+pub mod LineResults
+pub mod Needs
+pub mod Replies

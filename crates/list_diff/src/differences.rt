@@ -1,11 +1,17 @@
 //! Differences as people read them.
+ghost use Rattle.std.specs.Prelude.{◌≡◌};
+ghost use Rattle.list_diff.specs.Differences.{nothing_differs, same_machine};
+
 use crate::entry_changes::EntryChange;
+use crate::need_changes::NeedChange;
 use crate::reach_changes::ReachChange;
+use crate::reply_changes::ReplyChange;
 use list_parser::{ListEntry, StartList};
 use list_reach::WitnessedSet;
+use std::alloc::{AllocError, Global};
 use std::fmt;
 
-/// The differences between two start lists, printed one per line.
+/// The differences between two start lists, and between the runs of a scenario on both.
 #[derive(Clone, Copy)]
 pub struct ListDifferences<'a> {
     /// The start list before.
@@ -16,21 +22,48 @@ pub struct ListDifferences<'a> {
     pub changes: &'a [EntryChange],
     /// The labels that are routed to a server on one list alone.
     pub leads: &'a [ReachChange<'a>],
+    /// The components whose budgets suffice for the scenario before and not after.
+    pub lacks: &'a [NeedChange<'a>],
+    /// The lines of the scenario whose replies differ.
+    pub replies: &'a [ReplyChange<'a>],
 }
 
 impl ListDifferences<'_> {
-    /// Returns whether there is no difference between the two lists.
-    pub fn is_empty(&self) -> bool {
-        self.has_same_machine() && self.changes.is_empty() && self.leads.is_empty()
+    /// Returns whether there is no difference: the machine is the same, and each other part is empty.
+    pub fn is_empty(&self) -> bool
+        ensures { result ≡ nothing_differs self.now }
+    {
+        self.has_same_machine()
+            && self.changes.is_empty()
+            && self.leads.is_empty()
+            && self.lacks.is_empty()
+            && self.replies.is_empty()
     }
 
     /// Returns whether both lists have the same pages and capabilities.
-    pub(crate) fn has_same_machine(&self) -> bool {
+    pub(crate) fn has_same_machine(&self) -> bool
+        ensures { result ≡ same_machine self.now.before.now self.now.after.now }
+    {
         self.before.pages() == self.after.pages() && self.before.caps() == self.after.caps()
     }
 }
 
-/// Writes a line for each difference: `-` before what was removed, `+` before what was added, and `~` before what changed.
+impl ListDifferences<'_> {
+    /// Returns a line for each difference: `-` before what was removed, `+` before what was added, and `~` before what changed.
+    /// Fails if the host is out of memory.
+    pub fn lines(&self, alloc: Global) -> Result<Vec<u8>, AllocError> {
+        let mut text = self.to_string(alloc)?.into_bytes();
+        for lack in self.lacks {
+            text.extend_from_slice(lack.to_string(alloc)?.as_bytes())?;
+        }
+        for reply in self.replies {
+            reply.add_line(alloc, &mut text)?;
+        }
+        Ok(text)
+    }
+}
+
+/// Writes the lines of the lists alone, without those of a scenario.
 impl fmt::Display for ListDifferences<'_> {
     fn fmt<W: fmt::Write>(&self, f: &mut fmt::Formatter<W>) -> fmt::Result {
         if !self.has_same_machine() {

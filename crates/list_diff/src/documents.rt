@@ -31,18 +31,25 @@ static WERE: [&str; 6] = [
 ];
 
 impl ListDifferences<'_> {
-    /// Adds a JSON document for each line that is printed of the differences. Fails if the host is out of memory.
-    pub fn list(&self, alloc: Global, listing: &mut Listing) -> Result<(), AllocError> {
+    /// Returns a JSON document for each line that is printed of the differences. Fails if the host is out of memory.
+    pub fn documents(&self, alloc: Global) -> Result<Vec<u8>, AllocError> {
+        let mut listing = Listing::new(alloc);
         if !self.has_same_machine() {
-            add_machine(listing, self.before, self.after)?;
+            add_machine(&mut listing, self.before, self.after)?;
         }
         for change in self.changes {
-            self.add_change(alloc, listing, *change)?;
+            self.add_change(alloc, &mut listing, *change)?;
         }
         for lead in self.leads {
-            add_lead(alloc, listing, lead)?;
+            add_lead(alloc, &mut listing, lead)?;
         }
-        Ok(())
+        for lack in self.lacks {
+            lack.list(&mut listing)?;
+        }
+        for reply in self.replies {
+            reply.list(alloc, &mut listing)?;
+        }
+        listing.into_text()
     }
 
     // Adds the change of an entry.

@@ -6,13 +6,16 @@ mod differences;
 mod documents;
 mod entry_changes;
 mod label_sets;
+mod line_outcomes;
 mod need_changes;
 mod reach_changes;
 mod reply_changes;
+mod reply_texts;
 
 pub use differences::ListDifferences;
 pub use entry_changes::{EntryChange, changes};
 pub use label_sets::label_documents;
+pub use line_outcomes::{LineFault, LineOutcome, LineResult, line_results};
 pub use need_changes::{ComponentNeed, NeedChange, QuotaAmounts, lacks};
 pub use reach_changes::{ReachChange, ReachSide, leads};
 pub use reply_changes::{ReplyChange, changed_replies};

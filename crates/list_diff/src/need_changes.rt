@@ -1,4 +1,7 @@
 //! Needs that aren't covered any more.
+ghost use Rattle.std.specs.Prelude.{◌≡◌, ◌++◌, IfOk, OnOk};
+ghost use Rattle.list_diff.specs.Needs.{need_of, shortfall, shortfall_from, shortfalls};
+
 use std::alloc::{AllocError, Global};
 use std::fmt;
 use view_json::{JsonField, Listing};
@@ -40,23 +43,37 @@ pub fn lacks<'a>(
     alloc: Global,
     before: &[ComponentNeed<'a>],
     after: &[ComponentNeed<'a>],
-) -> Result<Vec<NeedChange<'a>>, AllocError> {
+) -> Result<Vec<NeedChange<'a>>, AllocError>
+    ensures { IfOk result (λ found. found.items ≡ shortfalls before.now after.now) }
+{
     let mut found = Vec::new(alloc);
     for now in after {
-        if let (false, Some(was)) = (now.is_covered, need_of(before, now.name)) {
-            if was.is_covered {
-                found.push(NeedChange {
-                    now: *now,
-                    had: was.has,
-                })?;
-            }
-        }
+        add_shortfall(&mut found, *now, need_of(before, now.name))?;
     }
     Ok(found)
 }
 
+// Adds a component if its need isn't covered and was covered before.
+fn add_shortfall<'a>(
+    found: &mut Vec<NeedChange<'a>>,
+    now: ComponentNeed<'a>,
+    was: Option<ComponentNeed<'a>>,
+) -> Result<(), AllocError>
+    ensures { OnOk result (found.new.items
+        ≡ found.old.items ++ shortfall_from now.entry was.entry) }
+{
+    if let Some(was) = was {
+        if was.is_covered && !now.is_covered {
+            found.push(NeedChange { now, had: was.has })?;
+        }
+    }
+    Ok(())
+}
+
 // The need of the component of a path.
-fn need_of<'a>(needs: &[ComponentNeed<'a>], name: &[u8]) -> Option<ComponentNeed<'a>> {
+fn need_of<'a>(needs: &[ComponentNeed<'a>], name: &[u8]) -> Option<ComponentNeed<'a>>
+    ensures { result ≡ need_of needs.now name.now }
+{
     for need in needs {
         if need.name == name {
             return Some(*need);

@@ -1,75 +1,180 @@
 //! Replies of a scenario that differ on two machines.
-use run_exchanges::Exchange;
-use std::alloc::{AllocError, Global};
-use view_json::{JsonField, Listing};
+ghost use Rattle.std.specs.Prelude.{◌≡◌, ◌+◌, ◌++◌, ◌<◌, IfOk, OnOk, length};
+ghost use Rattle.std.specs.Option.{option_copied};
+ghost use Rattle.list_diff.specs.Replies.{AreChanges, IsStep, behind_if, change_of, changes_by_place, first_if, has_new, has_old, reply_to, same_reply, text_of};
 
-/// A call of a scenario whose replies differ on two machines.
+use crate::line_outcomes::{LineOutcome, LineResult};
+use std::alloc::{AllocError, Global};
+
+/// The maximum number of lines between which lines of both texts are aligned again.
+const NEAREST: usize = 32;
+
+/// A line of a scenario with what came of it on two machines, if these differ: the replies do, or only one machine answers it.
 #[derive(Clone, Copy)]
 pub struct ReplyChange<'a> {
-    was: &'a Exchange,
-    now: &'a Exchange,
+    /// The line on the machine before, if the scenario has it there.
+    pub was: Option<LineResult<'a>>,
+    /// The line on the machine after, if the scenario has it there.
+    pub now: Option<LineResult<'a>>,
 }
 
-/// Returns the calls of a scenario whose replies differ on two machines. It compares up to the first line that only one machine
-/// answers, such as one with a name that no reply bound on the other. Fails if the host is out of memory.
+/// A step from one text to another.
+#[derive(Clone, Copy)]
+pub(crate) enum AlignmentStep {
+    /// The first line of both texts stays.
+    Kept,
+    /// The first line of the text before is removed.
+    Removed,
+    /// The first line of the text after is added.
+    Added,
+}
+
+impl AlignmentStep {
+    // Returns whether the step takes a line of the text before.
+    fn has_old(self) -> bool
+        ensures { result ≡ has_old self }
+    {
+        match self {
+            AlignmentStep::Kept | AlignmentStep::Removed => true,
+            AlignmentStep::Added => false,
+        }
+    }
+
+    // Returns whether the step takes a line of the text after.
+    fn has_new(self) -> bool
+        ensures { result ≡ has_new self }
+    {
+        match self {
+            AlignmentStep::Kept | AlignmentStep::Added => true,
+            AlignmentStep::Removed => false,
+        }
+    }
+}
+
+/// Returns the lines whose replies differ on two machines, or that one machine alone answers, in order. If both texts are the same,
+/// each line is aligned with itself. Else lines of the same text are aligned, and any other line is removed or added: after a line
+/// that differs, the texts are aligned again at the nearest lines that are the same. Fails if the host is out of memory.
 pub fn changed_replies<'a>(
     alloc: Global,
-    before: &'a [Exchange],
-    after: &'a [Exchange],
-) -> Result<Vec<ReplyChange<'a>>, AllocError> {
+    before: &[LineResult<'a>],
+    after: &[LineResult<'a>],
+) -> Result<Vec<ReplyChange<'a>>, AllocError>
+    ensures aligned { IfOk result (λ found. AreChanges before.now after.now found.items) }
+    ensures same { IfOk result (λ found. text_of before.now ≡ text_of after.now
+        → found.items ≡ changes_by_place before.now after.now) }
+{
     let mut found = Vec::new(alloc);
-    for (was, now) in before.iter().zip(after) {
-        if was.number() != now.number() {
-            break;
-        }
-        if was.answer().text != now.answer().text {
-            found.push(ReplyChange { was, now })?;
-        }
+    let (mut rest, mut rest_after) = (before, after);
+    while !rest.is_empty() || !rest_after.is_empty() {
+        let step = next_step(rest, rest_after);
+        let was = first_if(step.has_old(), rest);
+        add_change(&mut found, was, first_if(step.has_new(), rest_after))?;
+        rest = behind_if(step.has_old(), rest);
+        rest_after = behind_if(step.has_new(), rest_after);
     }
     Ok(found)
 }
 
-impl ReplyChange<'_> {
-    /// Adds a line of text: the number of the scenario's line, the call, its reply after, and its reply before. Fails if the host
-    /// is out of memory.
-    pub fn add_line(&self, alloc: Global, told: &mut Vec<u8>) -> Result<(), AllocError> {
-        let (was, now) = (self.was, self.now);
-        let number = now.number();
-        told.extend_from_slice(format!(in alloc; "~ {number}: ")?.as_bytes())?;
-        add_all(
-            told,
-            &[
-                now.name(),
-                b" ",
-                now.call(),
-                b" => ",
-                now.answer().text,
-                b" (was: ",
-                was.answer().text,
-                b")\n",
-            ],
-        )
-    }
-
-    /// Adds a JSON document with the line's number, the call and both replies. Fails if the host is out of memory.
-    pub fn list(&self, listing: &mut Listing) -> Result<(), AllocError> {
-        let (was, now) = (self.was, self.now);
-        listing.add(&[
-            ("kind", JsonField::Word("reply")),
-            ("change", JsonField::Word("~")),
-            ("line", JsonField::Number(now.number())),
-            ("name", JsonField::Text(now.name())),
-            ("call", JsonField::Text(now.call())),
-            ("reply", JsonField::Text(now.answer().text)),
-            ("was_reply", JsonField::Text(was.answer().text)),
-        ])
+// Returns the first line if a step takes it.
+fn first_if<'a>(is_taken: bool, lines: &[LineResult<'a>]) -> Option<LineResult<'a>>
+    ensures { result ≡ first_if is_taken lines.now }
+{
+    match lines.first() {
+        Some(line) if is_taken => Some(*line),
+        _ => None,
     }
 }
 
-// Adds pieces of a text.
-fn add_all(told: &mut Vec<u8>, pieces: &[&[u8]]) -> Result<(), AllocError> {
-    for piece in pieces {
-        told.extend_from_slice(piece)?;
+// Returns the lines without the first if a step takes it.
+fn behind_if<'b, 'a>(is_taken: bool, lines: &'b [LineResult<'a>]) -> &'b [LineResult<'a>]
+    ensures { result.now ≡ behind_if is_taken lines.now }
+{
+    if is_taken && !lines.is_empty() {
+        &lines[1..]
+    } else {
+        lines
+    }
+}
+
+// Returns the next step from one text to another. Lines that both texts begin with stay. Else the step leads to the nearest lines
+// that are the same, or if there are none it shortens the longer text.
+fn next_step(before: &[LineResult<'_>], after: &[LineResult<'_>]) -> AlignmentStep
+    requires { 0 < length before.now + length after.now }
+    ensures { IsStep before.now after.now result }
+{
+    if after.is_empty() {
+        AlignmentStep::Removed
+    } else if before.is_empty() {
+        AlignmentStep::Added
+    } else if before[0].line == after[0].line {
+        AlignmentStep::Kept
+    } else if is_removal(before, after) {
+        AlignmentStep::Removed
+    } else {
+        AlignmentStep::Added
+    }
+}
+
+// Returns whether a line is removed on the way to the nearest lines that are the same, or from the longer text if there are none.
+fn is_removal(before: &[LineResult<'_>], after: &[LineResult<'_>]) -> bool {
+    for distance in 1..NEAREST {
+        if let Some(removed) = removed_within(before, after, distance) {
+            return removed > 0;
+        }
+    }
+    before.len() >= after.len()
+}
+
+// Returns how many lines are removed, if lines are the same after so many lines that are removed or added.
+fn removed_within(
+    before: &[LineResult<'_>],
+    after: &[LineResult<'_>],
+    distance: usize,
+) -> Option<usize> {
+    for removed in 0..=distance {
+        if let (Some(was), Some(now)) = (before.get(removed), after.get(distance - removed)) {
+            if was.line == now.line {
+                return Some(removed);
+            }
+        }
+    }
+    None
+}
+
+// Adds a line if the machines answer it differently.
+fn add_change<'a>(
+    found: &mut Vec<ReplyChange<'a>>,
+    was: Option<LineResult<'a>>,
+    now: Option<LineResult<'a>>,
+) -> Result<(), AllocError>
+    ensures { OnOk result (found.new.items ≡ found.old.items ++ change_of was.entry now.entry) }
+{
+    if !is_same_reply(reply_of(was), reply_of(now)) {
+        found.push(ReplyChange { was, now })?;
     }
     Ok(())
+}
+
+// Returns the reply to a line, if it was answered.
+fn reply_of<'a>(line: Option<LineResult<'a>>) -> Option<&'a [u8]>
+    ensures { option_copied result ≡ reply_to line.entry }
+{
+    match line {
+        Some(line) => match line.outcome {
+            LineOutcome::Answered(exchange) => Some(exchange.answer().text),
+            LineOutcome::Faulty(_) | LineOutcome::Silent => None,
+        },
+        None => None,
+    }
+}
+
+// Returns whether two replies are the same, or there is none.
+fn is_same_reply(was: Option<&[u8]>, now: Option<&[u8]>) -> bool
+    ensures { result ≡ same_reply (option_copied was.entry) (option_copied now.entry) }
+{
+    match (was, now) {
+        (Some(was), Some(now)) => was == now,
+        (None, None) => true,
+        _ => false,
+    }
 }
