@@ -70,7 +70,7 @@ def labels_of(shapes):
 TRACE = ("line component call reply ram_used ram_limit caps_used caps_limit session session_ram_used session_ram_limit"
          " session_caps_used session_caps_limit text").split()
 REACH = "from service to reach label labels witness".split()
-LEAST = "component session line ram_from ram_below caps_from".split()
+LEAST = "component session line ram_from ram_below caps_from unmeasured".split()
 
 
 @pytest.mark.parametrize("columns, words", [
@@ -80,6 +80,9 @@ LEAST = "component session line ram_from ram_below caps_from".split()
 def test_rows_as_json(nethrywel, columns, words):
     """A table has the same rows as JSON and as comma-separated values."""
     found = documents(nethrywel, *words)
-    for it in found if columns is REACH else ():
-        it["labels"] = labels_of(it["labels"])
+    for it in found:
+        if columns is REACH:
+            it["labels"] = labels_of(it["labels"])
+        elif columns is LEAST:
+            it["unmeasured"] = " ".join(str(line["line"]) for line in it["unmeasured"])
     assert cells_of(found, *columns) == rows_of(nethrywel(words[0], *["--csv"] * (columns is not TRACE), *words[1:]).out)
