@@ -1,5 +1,5 @@
 -- A run of pages while a part is put into its bytes.
-use Rattle.std.proofs.Common.{◌≡◌, ◌≢◌, ℕ, ◌+◌, ◌*◌, ◌-◌, ◌/◌, ◌%◌, ◌<◌, ◌≤◌, List, [], ◌++◌, length, set, take, drop, Some, ap, ◌∙◌, ◌⊎◌, inl, inr, arith, rules}
+use Rattle.std.proofs.Common.{◌≡◌, ◌≢◌, ℕ, ◌+◌, ◌*◌, ◌-◌, ◌/◌, ◌%◌, ◌<◌, ◌≤◌, List, [], ◌++◌, length, set, take, drop, Some, ap, sym, subst, ◌∙◌, ◌⊎◌, inl, inr, arith, rules}
 use Rattle.std.specs.Prelude.{Option}
 use Rattle.std.proofs.Math.Seq.{take-add}
 use Rattle.std.proofs.lemmas.Bool.{cases_eq}
@@ -81,3 +81,15 @@ pub IsWritten-word : (pages : List (Option (List ℕ))) (table : List PageNo) (s
     free_count new_pages ≡ free_count pages → IsWritten pages new_pages table start count offset (word_bytes word)
 IsWritten-word pages table start count offset word run here free =
     IsWritten-part pages table start count offset (word_bytes word) run (rw (length-word_bytes word) here) free
+
+-- a word more is written after a part of one page
+pub IsWritten-word_more : (old_pages pages new_pages : List (Option (List ℕ))) (table : List PageNo) (start count offset : ℕ) (part : List ℕ) (word page at : ℕ) → IsRun old_pages table start count → IsWritten old_pages pages table start count offset part →
+    IsInPage count offset (length part + 8) → page ≡ page_in table (start + offset / 4096) → at ≡ offset % 4096 + length part →
+    new_pages ≡ set pages page (Some (with_bytes (page_bytes pages page) at (word_bytes word))) → free_count new_pages ≡ free_count pages →
+    IsWritten old_pages new_pages table start count offset (part ++ word_bytes word)
+IsWritten-word_more old_pages pages new_pages table start count offset part word page at run so_far here page_is at_is is free =
+    let put : ℕ → ℕ → List (Option (List ℕ)) = λ p k. set pages p (Some (with_bytes (page_bytes pages p) k (word_bytes word))) in
+    let there : new_pages ≡ put (page_in table (start + offset / 4096)) (offset % 4096 + length part) = is ∙ ap (λ p. put p at) page_is ∙ ap (put (page_in table (start + offset / 4096))) at_is in
+    subst (λ p. IsWritten old_pages p table start count offset (part ++ word_bytes word)) (sym there)
+    (IsWritten-more old_pages pages table start count offset (offset / 4096) (offset % 4096 + length part) part (word_bytes word) run so_far here.below
+    (omega (arith, here.place)) (omega (arith, here.fits, length-word_bytes word)) (subst (λ p. free_count p ≡ free_count pages) there free))

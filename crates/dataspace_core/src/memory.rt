@@ -1,5 +1,5 @@
 //! Dataspaces over a pool of pages and the books of accounts.
-ghost use Rattle.std.specs.Prelude.{◌≡◌, ◌≢◌, ◌+◌, ◌*◌, ◌/◌, ◌%◌, ◌^◌, ◌<◌, ◌≤◌, length, if◌then◌else◌, Some, None, IsSome, IfOk, IfErr, IfSome, OnOk, OnErr, slice_range};
+ghost use Rattle.std.specs.Prelude.{◌≡◌, ◌≢◌, ◌+◌, ◌*◌, ◌/◌, ◌%◌, ◌^◌, ◌<◌, ◌≤◌, ◌++◌, length, if◌then◌else◌, Some, None, IsSome, IfOk, IfErr, IfSome, OnOk, OnErr, slice_range};
 ghost use Rattle.std.specs.Result.{result_err};
 ghost use Rattle.std.specs.FinMap.{get, len};
 ghost use Rattle.trade_base.specs.Page.{is_valid_size, page_of};
@@ -18,7 +18,7 @@ ghost use Rattle.dataspace_core.specs.Store.{credited_part, PartBecomes, OpensPa
 use crate::dataspace::{Dataspace, size_of, space_under};
 use crate::page_runs::{
     RunPlace, close_gap, copy_piece, give_run, load_run, no_pages, read_run, run_page, store_run,
-    take_run, write_run,
+    store_run_words, take_run, write_run,
 };
 use crate::spaces::Spaces;
 use page_pool::{PageNo, Pool};
@@ -226,8 +226,8 @@ impl Memory {
             result.now ≡ slice_range (space_at self.now ds.0).bytes start (start + 4096) }
         ensures size { length result.now ≡ 4096 }
     {
-        let run = space_under(&self.spaces, ds).run;
-        run_page(&self.pool, &self.table, run, offset as usize)
+        let start = self.spaces.start(ds.0);
+        run_page(&self.pool, &self.table, start, offset as usize)
     }
 
     /// Loads the little-endian word of 8 bytes at `offset` of a dataspace. `offset` is a multiple of 8.
@@ -254,6 +254,20 @@ impl Memory {
     {
         let start = self.spaces.start(ds.0);
         store_run(&mut self.pool, &self.table, start, offset as usize, word);
+    }
+
+    /// Stores three words as 24 little-endian bytes at `offset` of a dataspace, in one page. `offset` is a multiple of 8.
+    /// Nothing else changes.
+    pub fn store_words(&mut self, ds: DsId, offset: u64, words: (u64, u64, u64))
+        requires exists { Exists self.old ds.0 }
+        requires aligned { offset % 8 ≡ 0 }
+        requires page { offset % 4096 + 24 ≤ 4096 }
+        requires range { offset + 24 ≤ length (space_at self.old ds.0).bytes }
+        ensures { let bytes = word_bytes words.0 ++ word_bytes words.1 ++ word_bytes words.2 in
+            self.new ≡ with_bytes_at self.old ds.0 offset bytes }
+    {
+        let start = self.spaces.start(ds.0);
+        store_run_words(&mut self.pool, &self.table, start, offset as usize, words);
     }
 
     /// Charges an account for one capability that belongs to no dataspace.

@@ -1,5 +1,5 @@
 //! Runs of pages: one table has the page numbers of all dataspaces, those of each dataspace contiguous.
-ghost use Rattle.std.specs.Prelude.{◌≡◌, ℕ, ◌+◌, ◌*◌, ◌/◌, ◌%◌, ◌^◌, ◌<◌, ◌≤◌, [], length, slice_range, vec_len, vec_capacity, IfOk};
+ghost use Rattle.std.specs.Prelude.{◌≡◌, ℕ, ◌+◌, ◌*◌, ◌/◌, ◌%◌, ◌^◌, ◌<◌, ◌≤◌, ◌++◌, [], length, slice_range, vec_len, vec_capacity, IfOk};
 ghost use Rattle.page_pool.specs.Pages.{free_count};
 ghost use Rattle.trade_base.specs.Word.{word_of, word_bytes};
 ghost use Rattle.dataspace_core.specs.Layout.{AreApart, IsRun, IsNewRun, IsGiven, IsClosed, IsPieceIn, IsWordIn, IsWritten, run_bytes};
@@ -143,21 +143,21 @@ pub(crate) fn copy_piece(
     );
 }
 
-/// Returns the bytes of the page of a run that contains `offset`.
+/// Returns the bytes of the page that contains `offset` of the run that starts at `start`.
 pub(crate) fn run_page<'a>(
     pool: &'a Pool,
     table: &Vec<PageNo>,
-    run: PageRun,
+    start: usize,
     offset: usize,
 ) -> &'a [u8]
-    requires run { IsRun pool.now table.now.items run.start run.count }
-    requires range { offset < run.count * 4096 }
-    ensures bytes { let bytes = run_bytes pool.now table.now.items run.start run.count in
-        let start = offset / 4096 * 4096 in
-        result.now ≡ slice_range bytes start (start + 4096) }
+    requires { (count : ℕ) × IsRun pool.now table.now.items start count × (offset < count * 4096) }
+    ensures bytes { (count : ℕ) → IsRun pool.now table.now.items start count → offset < count * 4096 →
+        let bytes = run_bytes pool.now table.now.items start count in
+        let from = offset / 4096 * 4096 in
+        result.now ≡ slice_range bytes from (from + 4096) }
     ensures size { length result.now ≡ 4096 }
 {
-    pool.part(table[run.start + offset / PAGE_BYTES], 0, PAGE_BYTES)
+    pool.part(table[start + offset / PAGE_BYTES], 0, PAGE_BYTES)
 }
 
 /// Loads the word at `offset` of the run that starts at `start`.
@@ -185,4 +185,25 @@ pub(crate) fn store_run(
 {
     let page = table[start + offset / PAGE_BYTES];
     pool.store(page, offset % PAGE_BYTES, word);
+}
+
+/// Stores three words that lie in one page, at `offset` of the run that starts at `start`.
+pub(crate) fn store_run_words(
+    pool: &mut Pool,
+    table: &Vec<PageNo>,
+    start: usize,
+    offset: usize,
+    words: (u64, u64, u64),
+)
+    requires { (count : ℕ) × IsRun pool.old table.now.items start count ×
+        IsPieceIn count offset 24 × (offset % 8 ≡ 0) }
+    ensures { (count : ℕ) → IsRun pool.old table.now.items start count → IsPieceIn count offset 24 →
+        let bytes = word_bytes words.0 ++ word_bytes words.1 ++ word_bytes words.2 in
+        IsWritten pool.old pool.new table.now.items start count offset bytes }
+{
+    let page = table[start + offset / PAGE_BYTES];
+    let place = offset % PAGE_BYTES;
+    pool.store(page, place, words.0);
+    pool.store(page, place + 8, words.1);
+    pool.store(page, place + 16, words.2);
 }

@@ -13,16 +13,22 @@ below offset count range = omega arith
 
 pub part-requires-clause-taken : goal.part-requires-clause-taken
 part-requires-clause-taken c =
-    let here = below c.args.offset c.args.run.count c.requires.range in
-    rw (page_in_read c.args.table.now.items c.args.run.start c.args.run.count _ c.index.result.now c.requires.run.within here c.index.ensures)
-    (is_taken-held c.args.pool.now _ (c.requires.run.held _ here))
+    let q = c.requires in
+    let here = below c.args.offset q.0 q.2 in
+    rw (page_in_read c.args.table.now.items c.args.start q.0 _ c.index.result.now q.1.within here c.index.ensures)
+    (is_taken-held c.args.pool.now _ (q.1.held _ here))
 
-pub returns : goal.returns
-returns c =
-    let here = below c.args.offset c.args.run.count c.requires.range in
-    let page = page_in_read c.args.table.now.items c.args.run.start c.args.run.count _ c.index.result.now c.requires.run.within here c.index.ensures in
-    let bytes = c.part.ensures.bytes ∙ ap (λ p. slice_range (page_bytes c.args.pool.now p) 0 4096) page
-    ∙ run_page c.args.pool.now c.args.table.now.items c.args.run.start c.args.run.count (c.args.offset / 4096) c.requires.run here in
-    let run = run_bytes c.args.pool.now c.args.table.now.items c.args.run.start c.args.run.count in
-    let long = length-run_bytes c.args.pool.now c.args.table.now.items c.args.run.start c.args.run.count c.requires.run.held in
-    record { bytes = bytes; size = ap length bytes ∙ length-slice_range run (c.args.offset / 4096 * 4096) 4096 (omega (arith, long, here)) }
+pub returns-clause-bytes : goal.returns-clause-bytes
+returns-clause-bytes c count run range =
+    let here = below c.args.offset count range in
+    let page = page_in_read c.args.table.now.items c.args.start count _ c.index.result.now run.within here c.index.ensures in
+    c.part.ensures.bytes ∙ ap (λ p. slice_range (page_bytes c.args.pool.now p) 0 4096) page
+    ∙ run_page c.args.pool.now c.args.table.now.items c.args.start count (c.args.offset / 4096) run here
+
+pub returns-clause-size : goal.returns-clause-size
+returns-clause-size c =
+    let q = c.requires in
+    let run = run_bytes c.args.pool.now c.args.table.now.items c.args.start q.0 in
+    let long = length-run_bytes c.args.pool.now c.args.table.now.items c.args.start q.0 q.1.held in
+    let here = below c.args.offset q.0 q.2 in
+    ap length (returns-clause-bytes c q.0 q.1 q.2) ∙ length-slice_range run (c.args.offset / 4096 * 4096) 4096 (omega (arith, long, here))
