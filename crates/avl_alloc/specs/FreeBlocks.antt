@@ -2,8 +2,9 @@
 use Rattle.std.specs.Prelude.{ℕ, ◌+◌, ◌*◌, ◌^◌, ◌≤◌}
 use Rattle.avl_tree.specs.Tree.{Tree, tally}
 use Rattle.avl_tree.specs.View.{View, Plan}
+use Rattle.avl_tree.specs.declared.node.Links.{Links}
 use Rattle.avl_alloc.specs.declared.free_blocks.FreeBlockKey.{FreeBlockKey}
-use Rattle.avl_alloc.specs.Words.{Words, within}
+use Rattle.avl_alloc.specs.Words.{Words, with_word, within}
 
 -- holes come by size, and those of one size by place: the order as one number
 abbrev pub key : ℕ → ℕ → ℕ
@@ -13,10 +14,19 @@ key place size = size * 2 ^ 64 + place
 abbrev pub rank_of : FreeBlockKey → ℕ
 rank_of it = key it.place it.size
 
+-- the links and the height of the hole at a place: three words after its header
+abbrev pub links_at : Words → ℕ → Links
+links_at words a = record { left = words (a + 16); right = words (a + 24); high = words (a + 32) }
+
+-- the words with other links at a place
+abbrev pub with_links : Words → ℕ → Links → Words
+with_links words a links =
+    with_word (with_word (with_word words (a + 16) links.left) (a + 24) links.right) (a + 32) links.high
+
 -- the words as a tree's functions see them: a hole's size is in its header, its links and its height after it
 abbrev pub view_of : Words → View ℕ
 view_of words = record {
-  links = λ a. record { left = words (a + 16); right = words (a + 24); high = words (a + 32) };
+  links = links_at words;
   rank = λ a. key a (words a);
   rest = words;
 }

@@ -2,18 +2,9 @@
 ghost use Rattle.std.specs.Prelude.{◌≡◌, nat_lt};
 ghost use Rattle.avl_alloc.specs.FreeBlocks.{key};
 
-use super::memory::{WordMemory, load, load_of, store};
+use super::memory::{HIGH, LEFT, RIGHT, WordMemory, load, load_links, load_of, store_links};
 use avl_tree::{Links, Nodes, SearchStep};
 use std::marker::PhantomData;
-
-/// The offset of the left child in a free block, in bytes.
-const LEFT: u64 = 16;
-
-/// The offset of the right child in a free block, in bytes.
-const RIGHT: u64 = 24;
-
-/// The offset of the subtree's height in a free block, in bytes.
-const HIGH: u64 = 32;
 
 /// The order of free blocks: by size, and by place for equal sizes.
 #[derive(Clone, Copy)]
@@ -81,10 +72,7 @@ impl<M: WordMemory> Nodes for FreeBlocks<M> {
     }
 
     fn links(&self, memory: &mut M, node: u64) -> Links {
-        let left = load_of(memory, node, LEFT);
-        let right = load_of(memory, node, RIGHT);
-        let high = load_of(memory, node, HIGH);
-        Links { left, right, high }
+        load_links(memory, node)
     }
 
     fn high(&self, memory: &mut M, node: u64) -> u64 {
@@ -92,9 +80,7 @@ impl<M: WordMemory> Nodes for FreeBlocks<M> {
     }
 
     fn set_links(&self, memory: &mut M, node: u64, links: Links) {
-        store(memory, node + LEFT, links.left);
-        store(memory, node + RIGHT, links.right);
-        store(memory, node + HIGH, links.high);
+        store_links(memory, node, links);
     }
 
     ghost keeps_same = { λ holes memory. refl };

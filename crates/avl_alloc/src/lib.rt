@@ -17,7 +17,7 @@ mod theorems;
 
 pub use best_fit::{BestFit, BlockAddr, MOST_CHUNKS, UsedBlock, block_bytes};
 pub use chunk::{Block, STATE, USED};
-pub use memory::WordMemory;
+pub use memory::{HIGH, LEFT, RIGHT, WordMemory};
 pub use theorems::{
     best_hole_is_found, blocks_lie_apart, chunks_have_sizes, heap_stays, holes_are_joined,
     payloads_are_free,

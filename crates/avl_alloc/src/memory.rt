@@ -2,10 +2,21 @@
 ghost use Rattle.std.specs.Prelude.{◌≡◌, ℕ, ◌+◌, ◌*◌, ◌%◌, ◌<◌, ◌≤◌, List, length};
 ghost use Rattle.own_model.specs.Heap.{Block as ModelBlock, bytes_in};
 ghost use Rattle.avl_alloc.specs.Words.{IsWord, IsPlace, IsNode, place_at, with_word};
+ghost use Rattle.avl_alloc.specs.FreeBlocks.{links_at, with_links};
 ghost use Rattle.avl_alloc.specs.Layout.{Laid, IsRoom};
 ghost use Rattle.avl_alloc.specs.Walk.{block_over};
 
 use super::chunk::{Block, STATE, USED};
+use avl_tree::Links;
+
+/// The offset of the left child in a free block, in bytes.
+pub const LEFT: u64 = 16;
+
+/// The offset of the right child in a free block, in bytes.
+pub const RIGHT: u64 = 24;
+
+/// The offset of the subtree's height in a free block, in bytes.
+pub const HIGH: u64 = 32;
 
 /// Words of eight bytes at the multiples of 8 of numbered chunks.
 ///
@@ -40,6 +51,34 @@ pub trait WordMemory {
         ensures words { word self.new ≡ with_word (word self.old) (place_at chunk offset) value }
         ensures rest { rest self.new ≡ rest self.old }
         ensures loads { loads self.new ≡ loads self.old };
+
+    /// Loads the links and the height of the free block at an offset of a chunk.
+    fn load_links(&mut self, chunk: usize, offset: u64) -> Links
+        requires even { offset % 16 ≡ 0 }
+        requires node { IsWord (bytes (rest self.old)) chunk (offset + 32) }
+        ensures links { result ≡ links_at (word self.old) (place_at chunk offset) }
+        ensures words { word self.new ≡ word self.old }
+        ensures rest { rest self.new ≡ rest self.old }
+        ensures loads { loads self.new ≡ loads self.old + 3 }
+    {
+        let left = self.load(chunk, offset + LEFT);
+        let right = self.load(chunk, offset + RIGHT);
+        let high = self.load(chunk, offset + HIGH);
+        Links { left, right, high }
+    }
+
+    /// Stores the links and the height of the free block at an offset of a chunk. No other word changes.
+    fn store_links(&mut self, chunk: usize, offset: u64, links: Links)
+        requires even { offset % 16 ≡ 0 }
+        requires node { IsWord (bytes (rest self.old)) chunk (offset + 32) }
+        ensures words { word self.new ≡ with_links (word self.old) (place_at chunk offset) links }
+        ensures rest { rest self.new ≡ rest self.old }
+        ensures loads { loads self.new ≡ loads self.old }
+    {
+        self.store(chunk, offset + LEFT, links.left);
+        self.store(chunk, offset + RIGHT, links.right);
+        self.store(chunk, offset + HIGH, links.high);
+    }
 
     /// Returns the block that contains an offset of a chunk, found by a walk over the headers from the chunk's first byte.
     /// It loads at most two words for each block.
@@ -120,4 +159,25 @@ pub fn store<M: WordMemory>(memory: &mut M, place: u64, value: u64)
     ensures loads { M.loads memory.new ≡ M.loads memory.old }
 {
     memory.store((place / SPAN - 1) as usize, place % SPAN, value);
+}
+
+/// Loads the links and the height of the free block at a place.
+pub fn load_links<M: WordMemory>(memory: &mut M, place: u64) -> Links
+    requires { IsNode (M.bytes (M.rest memory.old)) place }
+    ensures links { result ≡ links_at (M.word memory.old) place }
+    ensures words { M.word memory.new ≡ M.word memory.old }
+    ensures rest { M.rest memory.new ≡ M.rest memory.old }
+    ensures loads { M.loads memory.new ≡ M.loads memory.old + 3 }
+{
+    memory.load_links((place / SPAN - 1) as usize, place % SPAN)
+}
+
+/// Stores the links and the height of the free block at a place.
+pub fn store_links<M: WordMemory>(memory: &mut M, place: u64, links: Links)
+    requires { IsNode (M.bytes (M.rest memory.old)) place }
+    ensures words { M.word memory.new ≡ with_links (M.word memory.old) place links }
+    ensures rest { M.rest memory.new ≡ M.rest memory.old }
+    ensures loads { M.loads memory.new ≡ M.loads memory.old }
+{
+    memory.store_links((place / SPAN - 1) as usize, place % SPAN, links);
 }

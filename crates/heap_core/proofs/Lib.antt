@@ -1,5 +1,6 @@
 pub mod WordsLemmas
 pub mod WalkLemmas
+pub mod LinksLemmas
 pub mod ClearLemmas
 pub mod BlockLemmas
 pub mod PayloadLemmas

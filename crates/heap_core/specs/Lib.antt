@@ -1,5 +1,6 @@
 pub mod Words
 pub mod Walk
+pub mod Links
 pub mod Blocks
 pub mod Heap
 pub mod Lookup

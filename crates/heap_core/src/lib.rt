@@ -8,6 +8,7 @@ mod blocks;
 mod clear;
 mod growth;
 mod heap;
+mod links;
 mod loads;
 mod lookup;
 mod release;

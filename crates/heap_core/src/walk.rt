@@ -76,20 +76,20 @@ fn walk_page<L: Ledger>(page: &[u8], step: Step, target: u64, loads: &mut Loads<
     let outside = step.offset;
     let mut before = step.next - start;
     let mut offset = before;
-    let mut next = following(page, offset, loads);
+    let mut next = next_offset(page, offset, loads);
     // Three headers at a time: the offsets take turns, and none is copied to another one.
     'headers: while next < end {
-        let second = following(page, next, loads);
+        let second = next_offset(page, next, loads);
         if second >= end {
             return step_in_page(start, outside, offset, next, second);
         }
-        let third = following(page, second, loads);
+        let third = next_offset(page, second, loads);
         if third >= end {
             return step_in_page(start, outside, next, second, third);
         }
         before = second;
         offset = third;
-        next = following(page, third, loads);
+        next = next_offset(page, third, loads);
     }
     step_in_page(start, outside, before, offset, next)
 }
@@ -114,7 +114,7 @@ fn step_in_page(start: u64, outside: u64, before: u64, offset: u64, next: u64) -
 }
 
 /// Returns the offset of the block after the block at an offset of a page. It loads one word.
-fn following<L: Ledger>(page: &[u8], offset: u64, loads: &mut Loads<L>) -> u64
+fn next_offset<L: Ledger>(page: &[u8], offset: u64, loads: &mut Loads<L>) -> u64
     requires within { offset + 8 ≤ length page.now }
     requires short { offset + word_of (slice_range page.now offset (offset + 8)) < 2 ^ 64 }
     ensures next { result ≡ offset + word_of (slice_range page.now offset (offset + 8)) }
@@ -145,7 +145,7 @@ fn hole_before<L: Ledger>(memory: &Memory, ds: DsId, step: Step, loads: &mut Loa
 
 /// Loads the little-endian word of 8 bytes at an offset of a page.
 #[tactic(auto, unfolding(trade_base::specs::Word::word_of))]
-fn word_at(page: &[u8], offset: u64) -> u64
+pub(crate) fn word_at(page: &[u8], offset: u64) -> u64
     requires { offset + 8 ≤ length page.now }
     ensures { result ≡ word_of (slice_range page.now offset (offset + 8)) }
 {

@@ -3,9 +3,11 @@ ghost use Rattle.std.specs.Prelude.{◌≡◌, ℕ, ◌+◌, ◌<◌};
 ghost use Rattle.avl_alloc.specs.Words.{IsWord, place_at, with_word};
 ghost use Rattle.heap_core.specs.Blocks.{IsBlankOf};
 
+use crate::links::{load_links, store_links};
 use crate::loads::Loads;
 use crate::walk::walk;
 use avl_alloc::{Block, WordMemory};
+use avl_tree::Links;
 use dataspace_core::Memory;
 use std::sync::ledger::{Blank, Ledger};
 use trade_base::DsId;
@@ -89,6 +91,17 @@ impl<L: Ledger> WordMemory for Words<'_, L> {
     fn store(&mut self, chunk: usize, offset: u64, value: u64) {
         let chunks = self.chunks;
         self.memory.store_word(chunks[chunk].ds, offset, value);
+    }
+
+    fn load_links(&mut self, chunk: usize, offset: u64) -> Links {
+        let chunks = self.chunks;
+        load_links(self.memory, chunks[chunk].ds, offset, &mut self.loads)
+    }
+
+    fn store_links(&mut self, chunk: usize, offset: u64, links: Links) {
+        let chunks = self.chunks;
+        let Links { left, right, high } = links;
+        store_links(self.memory, chunks[chunk].ds, offset, left, right, high);
     }
 
     fn walk(&mut self, chunk: usize, target: u64) -> Block {

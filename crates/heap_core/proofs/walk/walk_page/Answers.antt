@@ -6,8 +6,8 @@ use Rattle.heap_core.proofs.WalkLemmas.{before_end, first_next, first_on, page_n
 use Rattle.heap_core.proofs.walk.walk_page.Goals as goal
 
 -- the first header of the page
-pub following-next-requires : goal.following-next-requires
-following-next-requires g c =
+pub next_offset-next-requires : goal.next_offset-next-requires
+next_offset-next-requires g c =
     let q = c.requires.walking in
     let it = first_next c.args.page.now q.0 q.1 c.args.target q.3 c.args.step.next q.4 c.args.step _ q.2 refl c.requires.ahead q.5 in
     record { within = omega (arith, it.within, c.requires.size); short = omega (arith, it.end, q.6) }
@@ -17,50 +17,50 @@ headers-init g c = record {
   on = omega arith;
   order = omega arith;
   walking = λ w start k blocks is was.
-      first_on c.args.page.now w start c.args.target blocks c.args.step.next is c.args.step _ k refl c.requires.ahead was _ _ c.following-next.ensures.next c.following-next.ensures.loads;
+      first_on c.args.page.now w start c.args.target blocks c.args.step.next is c.args.step _ k refl c.requires.ahead was _ _ c.next_offset-next.ensures.next c.next_offset-next.ensures.loads;
 }
 
 -- the three headers of a step of the loop
 
-pub following-second-requires : goal.following-second-requires
-following-second-requires g c =
+pub next_offset-second-requires : goal.next_offset-second-requires
+next_offset-second-requires g c =
     let q = c.requires.walking in
     let ahead0 = before_end c.args.step.next c.args.target _ c.headers.next c.min-end.ensures c.requires.ahead c.headers-test.true in
     let walk0 = c.headers.invariant.walking q.0 q.1 q.2 q.3 q.4 q.5 in
     let it = page_next c.args.page.now q.0 q.1 c.args.target q.3 c.args.step.next q.4 c.args.step.offset c.headers.before c.headers.offset c.headers.next _ q.2 ahead0 walk0 in
     record { within = omega (arith, it.within, c.requires.size); short = omega (arith, it.end, q.6) }
 
-pub following-third-requires : goal.following-third-requires
-following-third-requires g c =
+pub next_offset-third-requires : goal.next_offset-third-requires
+next_offset-third-requires g c =
     let q = c.requires.walking in
     let ahead0 = before_end c.args.step.next c.args.target _ c.headers.next c.min-end.ensures c.requires.ahead c.headers-test.true in
-    let ahead1 = before_end c.args.step.next c.args.target _ c.following-second.result c.min-end.ensures c.requires.ahead c.if-second-end.false in
+    let ahead1 = before_end c.args.step.next c.args.target _ c.next_offset-second.result c.min-end.ensures c.requires.ahead c.if-second-end.false in
     let walk0 = c.headers.invariant.walking q.0 q.1 q.2 q.3 q.4 q.5 in
-    let walk1 = page_on c.args.page.now q.0 q.1 c.args.target q.3 c.args.step.next q.4 c.args.step.offset c.headers.before c.headers.offset c.headers.next _ q.2 ahead0 walk0 _ _ c.following-second.ensures.next c.following-second.ensures.loads in
-    let it = page_next c.args.page.now q.0 q.1 c.args.target q.3 c.args.step.next q.4 c.args.step.offset c.headers.offset c.headers.next c.following-second.result _ q.2 ahead1 walk1 in
+    let walk1 = page_on c.args.page.now q.0 q.1 c.args.target q.3 c.args.step.next q.4 c.args.step.offset c.headers.before c.headers.offset c.headers.next _ q.2 ahead0 walk0 _ _ c.next_offset-second.ensures.next c.next_offset-second.ensures.loads in
+    let it = page_next c.args.page.now q.0 q.1 c.args.target q.3 c.args.step.next q.4 c.args.step.offset c.headers.offset c.headers.next c.next_offset-second.result _ q.2 ahead1 walk1 in
     record { within = omega (arith, it.within, c.requires.size); short = omega (arith, it.end, q.6) }
 
-pub following-next-requires-in-headers : goal.following-next-requires-in-headers
-following-next-requires-in-headers g c =
+pub next_offset-next-requires-in-headers : goal.next_offset-next-requires-in-headers
+next_offset-next-requires-in-headers g c =
     let q = c.requires.walking in
     let ahead0 = before_end c.args.step.next c.args.target _ c.headers.next c.min-end.ensures c.requires.ahead c.headers-test.true in
-    let ahead1 = before_end c.args.step.next c.args.target _ c.following-second.result c.min-end.ensures c.requires.ahead c.if-second-end.false in
-    let ahead2 = before_end c.args.step.next c.args.target _ c.following-third.result c.min-end.ensures c.requires.ahead c.if-third-end.false in
+    let ahead1 = before_end c.args.step.next c.args.target _ c.next_offset-second.result c.min-end.ensures c.requires.ahead c.if-second-end.false in
+    let ahead2 = before_end c.args.step.next c.args.target _ c.next_offset-third.result c.min-end.ensures c.requires.ahead c.if-third-end.false in
     let walk0 = c.headers.invariant.walking q.0 q.1 q.2 q.3 q.4 q.5 in
-    let walk1 = page_on c.args.page.now q.0 q.1 c.args.target q.3 c.args.step.next q.4 c.args.step.offset c.headers.before c.headers.offset c.headers.next _ q.2 ahead0 walk0 _ _ c.following-second.ensures.next c.following-second.ensures.loads in
-    let walk2 = page_on c.args.page.now q.0 q.1 c.args.target q.3 c.args.step.next q.4 c.args.step.offset c.headers.offset c.headers.next c.following-second.result _ q.2 ahead1 walk1 _ _ c.following-third.ensures.next c.following-third.ensures.loads in
-    let it = page_next c.args.page.now q.0 q.1 c.args.target q.3 c.args.step.next q.4 c.args.step.offset c.headers.next c.following-second.result c.following-third.result _ q.2 ahead2 walk2 in
+    let walk1 = page_on c.args.page.now q.0 q.1 c.args.target q.3 c.args.step.next q.4 c.args.step.offset c.headers.before c.headers.offset c.headers.next _ q.2 ahead0 walk0 _ _ c.next_offset-second.ensures.next c.next_offset-second.ensures.loads in
+    let walk2 = page_on c.args.page.now q.0 q.1 c.args.target q.3 c.args.step.next q.4 c.args.step.offset c.headers.offset c.headers.next c.next_offset-second.result _ q.2 ahead1 walk1 _ _ c.next_offset-third.ensures.next c.next_offset-third.ensures.loads in
+    let it = page_next c.args.page.now q.0 q.1 c.args.target q.3 c.args.step.next q.4 c.args.step.offset c.headers.next c.next_offset-second.result c.next_offset-third.result _ q.2 ahead2 walk2 in
     record { within = omega (arith, it.within, c.requires.size); short = omega (arith, it.end, q.6) }
 
 pub headers-preserved : goal.headers-preserved
 headers-preserved g c =
     let q = c.requires.walking in
     let ahead0 = before_end c.args.step.next c.args.target _ c.headers.next c.min-end.ensures c.requires.ahead c.headers-test.true in
-    let ahead1 = before_end c.args.step.next c.args.target _ c.following-second.result c.min-end.ensures c.requires.ahead c.if-second-end.false in
-    let ahead2 = before_end c.args.step.next c.args.target _ c.following-third.result c.min-end.ensures c.requires.ahead c.if-third-end.false in
+    let ahead1 = before_end c.args.step.next c.args.target _ c.next_offset-second.result c.min-end.ensures c.requires.ahead c.if-second-end.false in
+    let ahead2 = before_end c.args.step.next c.args.target _ c.next_offset-third.result c.min-end.ensures c.requires.ahead c.if-third-end.false in
     let walk0 = c.headers.invariant.walking q.0 q.1 q.2 q.3 q.4 q.5 in
-    let walk1 = page_on c.args.page.now q.0 q.1 c.args.target q.3 c.args.step.next q.4 c.args.step.offset c.headers.before c.headers.offset c.headers.next _ q.2 ahead0 walk0 _ _ c.following-second.ensures.next c.following-second.ensures.loads in
-    let walk2 = page_on c.args.page.now q.0 q.1 c.args.target q.3 c.args.step.next q.4 c.args.step.offset c.headers.offset c.headers.next c.following-second.result _ q.2 ahead1 walk1 _ _ c.following-third.ensures.next c.following-third.ensures.loads in
+    let walk1 = page_on c.args.page.now q.0 q.1 c.args.target q.3 c.args.step.next q.4 c.args.step.offset c.headers.before c.headers.offset c.headers.next _ q.2 ahead0 walk0 _ _ c.next_offset-second.ensures.next c.next_offset-second.ensures.loads in
+    let walk2 = page_on c.args.page.now q.0 q.1 c.args.target q.3 c.args.step.next q.4 c.args.step.offset c.headers.offset c.headers.next c.next_offset-second.result _ q.2 ahead1 walk1 _ _ c.next_offset-third.ensures.next c.next_offset-third.ensures.loads in
     let there0 = step_there q.0 q.1 c.args.target q.3 _ _ q.2 walk0 in let least0 = there0.least in let end0 = there0.end in
     let there1 = step_there q.0 q.1 c.args.target q.3 _ _ q.2 walk1 in let least1 = there1.least in let end1 = there1.end in
     let there2 = step_there q.0 q.1 c.args.target q.3 _ _ q.2 walk2 in let least2 = there2.least in let end2 = there2.end in
@@ -70,9 +70,9 @@ headers-preserved g c =
       order = omega (arith, least2);
       walking = λ w start k blocks is was.
           let walk0 = c.headers.invariant.walking w start k blocks is was in
-          let walk1 = page_on c.args.page.now w start c.args.target blocks c.args.step.next is c.args.step.offset c.headers.before c.headers.offset c.headers.next _ k ahead0 walk0 _ _ c.following-second.ensures.next c.following-second.ensures.loads in
-          let walk2 = page_on c.args.page.now w start c.args.target blocks c.args.step.next is c.args.step.offset c.headers.offset c.headers.next c.following-second.result _ k ahead1 walk1 _ _ c.following-third.ensures.next c.following-third.ensures.loads in
-          let walk3 = page_on c.args.page.now w start c.args.target blocks c.args.step.next is c.args.step.offset c.headers.next c.following-second.result c.following-third.result _ k ahead2 walk2 _ _ c.following-next-in-headers.ensures.next c.following-next-in-headers.ensures.loads in
+          let walk1 = page_on c.args.page.now w start c.args.target blocks c.args.step.next is c.args.step.offset c.headers.before c.headers.offset c.headers.next _ k ahead0 walk0 _ _ c.next_offset-second.ensures.next c.next_offset-second.ensures.loads in
+          let walk2 = page_on c.args.page.now w start c.args.target blocks c.args.step.next is c.args.step.offset c.headers.offset c.headers.next c.next_offset-second.result _ k ahead1 walk1 _ _ c.next_offset-third.ensures.next c.next_offset-third.ensures.loads in
+          let walk3 = page_on c.args.page.now w start c.args.target blocks c.args.step.next is c.args.step.offset c.headers.next c.next_offset-second.result c.next_offset-third.result _ k ahead2 walk2 _ _ c.next_offset-next-in-headers.ensures.next c.next_offset-next-in-headers.ensures.loads in
           walk3;
     }
 
@@ -80,12 +80,12 @@ pub headers-smaller : goal.headers-smaller
 headers-smaller g c =
     let q = c.requires.walking in
     let ahead0 = before_end c.args.step.next c.args.target _ c.headers.next c.min-end.ensures c.requires.ahead c.headers-test.true in
-    let ahead1 = before_end c.args.step.next c.args.target _ c.following-second.result c.min-end.ensures c.requires.ahead c.if-second-end.false in
-    let ahead2 = before_end c.args.step.next c.args.target _ c.following-third.result c.min-end.ensures c.requires.ahead c.if-third-end.false in
+    let ahead1 = before_end c.args.step.next c.args.target _ c.next_offset-second.result c.min-end.ensures c.requires.ahead c.if-second-end.false in
+    let ahead2 = before_end c.args.step.next c.args.target _ c.next_offset-third.result c.min-end.ensures c.requires.ahead c.if-third-end.false in
     let walk0 = c.headers.invariant.walking q.0 q.1 q.2 q.3 q.4 q.5 in
-    let walk1 = page_on c.args.page.now q.0 q.1 c.args.target q.3 c.args.step.next q.4 c.args.step.offset c.headers.before c.headers.offset c.headers.next _ q.2 ahead0 walk0 _ _ c.following-second.ensures.next c.following-second.ensures.loads in
-    let walk2 = page_on c.args.page.now q.0 q.1 c.args.target q.3 c.args.step.next q.4 c.args.step.offset c.headers.offset c.headers.next c.following-second.result _ q.2 ahead1 walk1 _ _ c.following-third.ensures.next c.following-third.ensures.loads in
-    let walk3 = page_on c.args.page.now q.0 q.1 c.args.target q.3 c.args.step.next q.4 c.args.step.offset c.headers.next c.following-second.result c.following-third.result _ q.2 ahead2 walk2 _ _ c.following-next-in-headers.ensures.next c.following-next-in-headers.ensures.loads in
+    let walk1 = page_on c.args.page.now q.0 q.1 c.args.target q.3 c.args.step.next q.4 c.args.step.offset c.headers.before c.headers.offset c.headers.next _ q.2 ahead0 walk0 _ _ c.next_offset-second.ensures.next c.next_offset-second.ensures.loads in
+    let walk2 = page_on c.args.page.now q.0 q.1 c.args.target q.3 c.args.step.next q.4 c.args.step.offset c.headers.offset c.headers.next c.next_offset-second.result _ q.2 ahead1 walk1 _ _ c.next_offset-third.ensures.next c.next_offset-third.ensures.loads in
+    let walk3 = page_on c.args.page.now q.0 q.1 c.args.target q.3 c.args.step.next q.4 c.args.step.offset c.headers.next c.next_offset-second.result c.next_offset-third.result _ q.2 ahead2 walk2 _ _ c.next_offset-next-in-headers.ensures.next c.next_offset-next-in-headers.ensures.loads in
     let there0 = step_there q.0 q.1 c.args.target q.3 _ _ q.2 walk0 in let least0 = there0.least in let end0 = there0.end in
     let there1 = step_there q.0 q.1 c.args.target q.3 _ _ q.2 walk1 in let least1 = there1.least in let end1 = there1.end in
     let there2 = step_there q.0 q.1 c.args.target q.3 _ _ q.2 walk2 in let least2 = there2.least in let end2 = there2.end in
@@ -99,7 +99,7 @@ step_in_page-requires g c =
     let q = c.requires.walking in
     let ahead0 = before_end c.args.step.next c.args.target _ c.headers.next c.min-end.ensures c.requires.ahead c.headers-test.true in
     let walk0 = c.headers.invariant.walking q.0 q.1 q.2 q.3 q.4 q.5 in
-    let walk1 = page_on c.args.page.now q.0 q.1 c.args.target q.3 c.args.step.next q.4 c.args.step.offset c.headers.before c.headers.offset c.headers.next _ q.2 ahead0 walk0 _ _ c.following-second.ensures.next c.following-second.ensures.loads in
+    let walk1 = page_on c.args.page.now q.0 q.1 c.args.target q.3 c.args.step.next q.4 c.args.step.offset c.headers.before c.headers.offset c.headers.next _ q.2 ahead0 walk0 _ _ c.next_offset-second.ensures.next c.next_offset-second.ensures.loads in
     let there0 = step_there q.0 q.1 c.args.target q.3 _ _ q.2 walk0 in let least0 = there0.least in let end0 = there0.end in
     let there1 = step_there q.0 q.1 c.args.target q.3 _ _ q.2 walk1 in let least1 = there1.least in let end1 = there1.end in
     let on = c.headers.invariant.on in let order = c.headers.invariant.order in
@@ -110,7 +110,7 @@ returns-then-second-end-clause-on g c =
     let q = c.requires.walking in
     let ahead0 = before_end c.args.step.next c.args.target _ c.headers.next c.min-end.ensures c.requires.ahead c.headers-test.true in
     let walk0 = c.headers.invariant.walking q.0 q.1 q.2 q.3 q.4 q.5 in
-    let walk1 = page_on c.args.page.now q.0 q.1 c.args.target q.3 c.args.step.next q.4 c.args.step.offset c.headers.before c.headers.offset c.headers.next _ q.2 ahead0 walk0 _ _ c.following-second.ensures.next c.following-second.ensures.loads in
+    let walk1 = page_on c.args.page.now q.0 q.1 c.args.target q.3 c.args.step.next q.4 c.args.step.offset c.headers.before c.headers.offset c.headers.next _ q.2 ahead0 walk0 _ _ c.next_offset-second.ensures.next c.next_offset-second.ensures.loads in
     let there0 = step_there q.0 q.1 c.args.target q.3 _ _ q.2 walk0 in let least0 = there0.least in let end0 = there0.end in
     let there1 = step_there q.0 q.1 c.args.target q.3 _ _ q.2 walk1 in let least1 = there1.least in let end1 = there1.end in
     let on = c.headers.invariant.on in let order = c.headers.invariant.order in
@@ -120,8 +120,8 @@ pub returns-then-second-end-clause-walking : goal.returns-then-second-end-clause
 returns-then-second-end-clause-walking g c w start k blocks is was =
     let ahead0 = before_end c.args.step.next c.args.target _ c.headers.next c.min-end.ensures c.requires.ahead c.headers-test.true in
     let walk0 = c.headers.invariant.walking w start k blocks is was in
-    let walk1 = page_on c.args.page.now w start c.args.target blocks c.args.step.next is c.args.step.offset c.headers.before c.headers.offset c.headers.next _ k ahead0 walk0 _ _ c.following-second.ensures.next c.following-second.ensures.loads in
-    subst (λ s. IsWalking w start c.args.target blocks s c.following-second.new.loads k) (sym c.step_in_page.ensures) walk1
+    let walk1 = page_on c.args.page.now w start c.args.target blocks c.args.step.next is c.args.step.offset c.headers.before c.headers.offset c.headers.next _ k ahead0 walk0 _ _ c.next_offset-second.ensures.next c.next_offset-second.ensures.loads in
+    subst (λ s. IsWalking w start c.args.target blocks s c.next_offset-second.new.loads k) (sym c.step_in_page.ensures) walk1
 
 -- at the second one
 
@@ -129,10 +129,10 @@ pub step_in_page-requires-then-third-end-clause-next : goal.step_in_page-require
 step_in_page-requires-then-third-end-clause-next g c =
     let q = c.requires.walking in
     let ahead0 = before_end c.args.step.next c.args.target _ c.headers.next c.min-end.ensures c.requires.ahead c.headers-test.true in
-    let ahead1 = before_end c.args.step.next c.args.target _ c.following-second.result c.min-end.ensures c.requires.ahead c.if-second-end.false in
+    let ahead1 = before_end c.args.step.next c.args.target _ c.next_offset-second.result c.min-end.ensures c.requires.ahead c.if-second-end.false in
     let walk0 = c.headers.invariant.walking q.0 q.1 q.2 q.3 q.4 q.5 in
-    let walk1 = page_on c.args.page.now q.0 q.1 c.args.target q.3 c.args.step.next q.4 c.args.step.offset c.headers.before c.headers.offset c.headers.next _ q.2 ahead0 walk0 _ _ c.following-second.ensures.next c.following-second.ensures.loads in
-    let walk2 = page_on c.args.page.now q.0 q.1 c.args.target q.3 c.args.step.next q.4 c.args.step.offset c.headers.offset c.headers.next c.following-second.result _ q.2 ahead1 walk1 _ _ c.following-third.ensures.next c.following-third.ensures.loads in
+    let walk1 = page_on c.args.page.now q.0 q.1 c.args.target q.3 c.args.step.next q.4 c.args.step.offset c.headers.before c.headers.offset c.headers.next _ q.2 ahead0 walk0 _ _ c.next_offset-second.ensures.next c.next_offset-second.ensures.loads in
+    let walk2 = page_on c.args.page.now q.0 q.1 c.args.target q.3 c.args.step.next q.4 c.args.step.offset c.headers.offset c.headers.next c.next_offset-second.result _ q.2 ahead1 walk1 _ _ c.next_offset-third.ensures.next c.next_offset-third.ensures.loads in
     let there0 = step_there q.0 q.1 c.args.target q.3 _ _ q.2 walk0 in let least0 = there0.least in let end0 = there0.end in
     let there1 = step_there q.0 q.1 c.args.target q.3 _ _ q.2 walk1 in let least1 = there1.least in let end1 = there1.end in
     let there2 = step_there q.0 q.1 c.args.target q.3 _ _ q.2 walk2 in let least2 = there2.least in let end2 = there2.end in
@@ -143,10 +143,10 @@ pub returns-then-third-end-clause-on : goal.returns-then-third-end-clause-on
 returns-then-third-end-clause-on g c =
     let q = c.requires.walking in
     let ahead0 = before_end c.args.step.next c.args.target _ c.headers.next c.min-end.ensures c.requires.ahead c.headers-test.true in
-    let ahead1 = before_end c.args.step.next c.args.target _ c.following-second.result c.min-end.ensures c.requires.ahead c.if-second-end.false in
+    let ahead1 = before_end c.args.step.next c.args.target _ c.next_offset-second.result c.min-end.ensures c.requires.ahead c.if-second-end.false in
     let walk0 = c.headers.invariant.walking q.0 q.1 q.2 q.3 q.4 q.5 in
-    let walk1 = page_on c.args.page.now q.0 q.1 c.args.target q.3 c.args.step.next q.4 c.args.step.offset c.headers.before c.headers.offset c.headers.next _ q.2 ahead0 walk0 _ _ c.following-second.ensures.next c.following-second.ensures.loads in
-    let walk2 = page_on c.args.page.now q.0 q.1 c.args.target q.3 c.args.step.next q.4 c.args.step.offset c.headers.offset c.headers.next c.following-second.result _ q.2 ahead1 walk1 _ _ c.following-third.ensures.next c.following-third.ensures.loads in
+    let walk1 = page_on c.args.page.now q.0 q.1 c.args.target q.3 c.args.step.next q.4 c.args.step.offset c.headers.before c.headers.offset c.headers.next _ q.2 ahead0 walk0 _ _ c.next_offset-second.ensures.next c.next_offset-second.ensures.loads in
+    let walk2 = page_on c.args.page.now q.0 q.1 c.args.target q.3 c.args.step.next q.4 c.args.step.offset c.headers.offset c.headers.next c.next_offset-second.result _ q.2 ahead1 walk1 _ _ c.next_offset-third.ensures.next c.next_offset-third.ensures.loads in
     let there0 = step_there q.0 q.1 c.args.target q.3 _ _ q.2 walk0 in let least0 = there0.least in let end0 = there0.end in
     let there1 = step_there q.0 q.1 c.args.target q.3 _ _ q.2 walk1 in let least1 = there1.least in let end1 = there1.end in
     let there2 = step_there q.0 q.1 c.args.target q.3 _ _ q.2 walk2 in let least2 = there2.least in let end2 = there2.end in
@@ -156,11 +156,11 @@ returns-then-third-end-clause-on g c =
 pub returns-then-third-end-clause-walking : goal.returns-then-third-end-clause-walking
 returns-then-third-end-clause-walking g c w start k blocks is was =
     let ahead0 = before_end c.args.step.next c.args.target _ c.headers.next c.min-end.ensures c.requires.ahead c.headers-test.true in
-    let ahead1 = before_end c.args.step.next c.args.target _ c.following-second.result c.min-end.ensures c.requires.ahead c.if-second-end.false in
+    let ahead1 = before_end c.args.step.next c.args.target _ c.next_offset-second.result c.min-end.ensures c.requires.ahead c.if-second-end.false in
     let walk0 = c.headers.invariant.walking w start k blocks is was in
-    let walk1 = page_on c.args.page.now w start c.args.target blocks c.args.step.next is c.args.step.offset c.headers.before c.headers.offset c.headers.next _ k ahead0 walk0 _ _ c.following-second.ensures.next c.following-second.ensures.loads in
-    let walk2 = page_on c.args.page.now w start c.args.target blocks c.args.step.next is c.args.step.offset c.headers.offset c.headers.next c.following-second.result _ k ahead1 walk1 _ _ c.following-third.ensures.next c.following-third.ensures.loads in
-    subst (λ s. IsWalking w start c.args.target blocks s c.following-third.new.loads k) (sym c.step_in_page-then-third-end.ensures) walk2
+    let walk1 = page_on c.args.page.now w start c.args.target blocks c.args.step.next is c.args.step.offset c.headers.before c.headers.offset c.headers.next _ k ahead0 walk0 _ _ c.next_offset-second.ensures.next c.next_offset-second.ensures.loads in
+    let walk2 = page_on c.args.page.now w start c.args.target blocks c.args.step.next is c.args.step.offset c.headers.offset c.headers.next c.next_offset-second.result _ k ahead1 walk1 _ _ c.next_offset-third.ensures.next c.next_offset-third.ensures.loads in
+    subst (λ s. IsWalking w start c.args.target blocks s c.next_offset-third.new.loads k) (sym c.step_in_page-then-third-end.ensures) walk2
 
 -- or at the third one
 
