@@ -1,5 +1,5 @@
 //! Rebalancing of a node over two trees whose heights differ by at most two, by rotations.
-ghost use Rattle.std.specs.Prelude.{◌≡◌, ℕ, ◌+◌, ◌*◌, ◌≤◌};
+ghost use Rattle.std.specs.Prelude.{◌≡◌, ℕ, ◌+◌, ◌*◌, ◌≤◌, Some};
 ghost use Rattle.avl_tree.specs.Tree.{Tree, Node, high, balanced, rotated_right, rotated_left};
 ghost use Rattle.avl_tree.specs.View.{AreNodes};
 ghost use Rattle.avl_tree.specs.Made.{IsSlope, IsLeftNew, IsRightNew, Forms, Reforms, IsSame};
@@ -8,7 +8,9 @@ use super::node::{Nodes, Subtree};
 use super::subtree::{fork, subtree_of, subtrees_of};
 
 /// Builds a balanced tree of a node between two trees, and returns it. The heights of the two trees differ by at most
-/// two, and those within each tree by at most one.
+/// two, and those within each tree by at most one. Most nodes need no rotation: this test and `fork` are inlined into the
+/// callers, and the rotations are not.
+#[inline(always)]
 pub(crate) fn balance<N: Nodes>(
     nodes: &N,
     memory: &mut N::Memory,
@@ -36,6 +38,7 @@ pub(crate) fn balance<N: Nodes>(
 }
 
 /// Builds the tree if the left tree is higher by two, by a single or double rotation to the right.
+#[inline(never)]
 fn turn_right<N: Nodes>(
     nodes: &N,
     memory: &mut N::Memory,
@@ -68,6 +71,7 @@ fn turn_right<N: Nodes>(
 }
 
 /// Builds the tree if the right tree is higher by two, by a single or double rotation to the left.
+#[inline(never)]
 fn turn_left<N: Nodes>(
     nodes: &N,
     memory: &mut N::Memory,
@@ -118,6 +122,27 @@ pub(crate) fn with_left<N: Nodes>(
     ensures loads { N.loads memory.new ≤ N.loads memory.old + 8 * N.cost }
 {
     let left = left?;
+    replace_left(nodes, memory, node, left)
+}
+
+/// Replaces the left subtree of a node by another tree and rebalances. Returns `None` if the result has the root and the
+/// height that the node's tree had.
+fn replace_left<N: Nodes>(
+    nodes: &N,
+    memory: &mut N::Memory,
+    node: u64,
+    left: Subtree,
+) -> Option<Subtree>
+    requires { (l l' : Tree) × (s h : ℕ) × (r : Tree) ×
+        IsLeftNew N.plan (N.view nodes.now memory.old) l l' node s h r (Some left) ×
+        AreNodes (N.IsNode nodes.now memory.old) (Node l' node s h r) }
+    ensures made { (l l' : Tree) (s h : ℕ) (r : Tree) →
+        IsLeftNew N.plan (N.view nodes.now memory.old) l l' node s h r (Some left) →
+        Reforms N.plan (N.view nodes.now memory.old) (N.view nodes.now memory.new)
+        (Node l node s h r) (balanced l' node s r) result }
+    ensures keeps { N.Keeps nodes.now memory.old memory.new }
+    ensures loads { N.loads memory.new ≤ N.loads memory.old + 8 * N.cost }
+{
     let links = nodes.links(memory, node);
     let right = subtree_of(nodes, memory, links.right);
     let tree = balance(nodes, memory, left, node, right);
@@ -143,6 +168,27 @@ pub(crate) fn with_right<N: Nodes>(
     ensures loads { N.loads memory.new ≤ N.loads memory.old + 8 * N.cost }
 {
     let right = right?;
+    replace_right(nodes, memory, node, right)
+}
+
+/// Replaces the right subtree of a node by another tree and rebalances. Returns `None` if the result has the root and the
+/// height that the node's tree had.
+fn replace_right<N: Nodes>(
+    nodes: &N,
+    memory: &mut N::Memory,
+    node: u64,
+    right: Subtree,
+) -> Option<Subtree>
+    requires { (l : Tree) × (s h : ℕ) × (r r' : Tree) ×
+        IsRightNew N.plan (N.view nodes.now memory.old) l node s h r r' (Some right) ×
+        AreNodes (N.IsNode nodes.now memory.old) (Node l node s h r') }
+    ensures made { (l : Tree) (s h : ℕ) (r r' : Tree) →
+        IsRightNew N.plan (N.view nodes.now memory.old) l node s h r r' (Some right) →
+        Reforms N.plan (N.view nodes.now memory.old) (N.view nodes.now memory.new)
+        (Node l node s h r) (balanced l node s r') result }
+    ensures keeps { N.Keeps nodes.now memory.old memory.new }
+    ensures loads { N.loads memory.new ≤ N.loads memory.old + 8 * N.cost }
+{
     let links = nodes.links(memory, node);
     let left = subtree_of(nodes, memory, links.left);
     let tree = balance(nodes, memory, left, node, right);
