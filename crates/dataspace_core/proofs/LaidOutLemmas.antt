@@ -3,7 +3,7 @@ use Rattle.std.proofs.lemmas.Bool.Decides.{nat_tests}
 use Rattle.std.proofs.Common.{◌≡◌, ◌≢◌, ℕ, ◌+◌, ◌-◌, ◌*◌, ◌<◌, ◌≤◌, cond, true, List, length, get_or, Option, Some, None, refl, sym, ap, subst, ◌∙◌, inl, inr, ◌⊎◌, arith, true≢false, rules}
 use Rattle.std.specs.Option.{option_map}
 use Rattle.std.specs.FinMap.{insert, remove}
-use Rattle.std.proofs.lemmas.Bool.{cases_eq, le-leb}
+use Rattle.std.proofs.lemmas.Bool.{cases_lt, cases_eq, le-leb}
 use Rattle.std.proofs.lemmas.Option.{none-some, same_Some}
 use Rattle.trade_base.specs.Bytes.{with_bytes}
 use Rattle.page_pool.specs.Pages.{is_taken, page_bytes}
@@ -61,6 +61,14 @@ module _ (pages : List (Option (List ℕ))) (table : List PageNo) (spaces : Slab
   ends_behind other x found apart some behind =
       let past = starts_behind d.run.start d.run.count x.run.start x.run.count (no_place other x found apart) behind some in
       omega (arith, past, some, laid_out.within other x found)
+
+  -- another one that has a page doesn't start within its run
+  pub starts_outside : (other : ℕ) (x : Dataspace) → slab.get spaces other ≡ Some x → other ≢ ds → 0 < x.run.count → (x.run.start ≤ d.run.start) ⊎ (d.run.start + d.run.count ≤ x.run.start)
+  starts_outside other x found apart some =
+      elim (cases_lt d.run.start x.run.start) [
+        | inl behind ↦ inr (starts_behind d.run.start d.run.count x.run.start x.run.count (no_place other x found apart) behind some)
+        | inr front ↦ inl front
+      ]
 
 -- where no dataspace lies behind the gap none moves
 module _ (gap : PageRun) (spaces : Slab Dataspace) (front : NoneLiesAfter gap spaces) where

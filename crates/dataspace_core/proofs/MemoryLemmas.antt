@@ -24,11 +24,11 @@ use Rattle.quota_core.specs.Books.{Books, IsOpen, account_at, fresh_books, with_
 use Rattle.quota_core.proofs.BooksLaws.{account_there}
 use Rattle.quota_core.proofs.SlabMap.{map_of-empty, get-map_of_at, get-map_of_none, ContainsKey-map_of, len-map_of}
 use Rattle.dataspace_core.specs.Store.{Store, Space, fresh_store, room_in, Exists, space_at, with_space, without_space, with_bytes_at, OpensPart, RaisesPart, ClosesPart}
-use Rattle.dataspace_core.specs.Layout.{IsNewRun, IsGiven, IsClosed, IsWritten, IsRun, HasMovedDown, NoneLiesAfter, run_bytes, space_of, store_of}
+use Rattle.dataspace_core.specs.Layout.{IsNewRun, IsGiven, IsClosed, IsWritten, IsRun, HasMovedDown, NoneLiesAfter, NoneLiesIn, run_bytes, space_of, store_of}
 use Rattle.dataspace_core.specs.Paid.{IsPaid, IsSound, size_of}
 use Rattle.dataspace_core.specs.declared.dataspace.Dataspace.{Dataspace}
 use Rattle.dataspace_core.proofs.PartLemmas.{space_at-some, opens-with_child, raises-with_moved, closes-without_account}
-use Rattle.dataspace_core.proofs.LaidOutLemmas.{IsRun-laid_out, length-space_of, IsLaidOut-insert, map_of-insert_space, IsLaidOut-remove, map_of-remove_space, IsLaidOut-written, map_of-written, after_remove, ends_behind}
+use Rattle.dataspace_core.proofs.LaidOutLemmas.{IsRun-laid_out, length-space_of, IsLaidOut-insert, map_of-insert_space, IsLaidOut-remove, map_of-remove_space, IsLaidOut-written, map_of-written, after_remove, ends_behind, starts_outside}
 use Rattle.dataspace_core.proofs.PaidLemmas.{free_covers, places_cover, size_fits, use_covers, payer_apart, IsPaid-more, IsPaid-less, IsPaid-same, IsPaid-opened, IsPaid-raised, IsPaid-closed, pays_for_none, IsPaid-fresh}
 
 -- the same facts of equal memories
@@ -184,6 +184,12 @@ module _ {books : Books} {pool : List (Option (List ℕ))} {table : List PageNo}
         | inl behind ↦ absurd (omega (arith, closed.shorter, last, ends_behind pool table spaces sound.laid_out ds d there q x old.1 old.0 (page_there q x old.1) behind))
         | inr front ↦ front
       ]
+
+  -- and none of them starts within its run
+  pub none_within : (ds : ℕ) (d : Dataspace) → slab.get spaces ds ≡ Some d → {left : Slab Dataspace} → Updates spaces left ds None → NoneLiesIn d.run left
+  none_within ds d there {left} updates = λ q x found.
+      let old = after_remove spaces left ds updates q x found in
+      starts_outside pool table spaces sound.laid_out ds d there q x old.1 old.0 (page_there q x old.1)
 
   -- ---- a dataspace comes
 

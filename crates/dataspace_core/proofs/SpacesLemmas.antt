@@ -1,14 +1,14 @@
 -- Dataspaces and their starts, read as one slab.
-use Rattle.std.proofs.Common.{◌≡◌, ◌≢◌, ℕ, zero, suc, ◌+◌, ◌<◌, ◌≤◌, cond, max, List, [], ◌∷◌, drop, length, get_or, set, Some, is_some, count_by, refl, sym, ap, subst, ◌∙◌, arith, get_or-set_other, true≢false, rules}
+use Rattle.std.proofs.Common.{◌≡◌, ◌≢◌, ◌⊎◌, inl, inr, ℕ, zero, suc, ◌+◌, ◌-◌, ◌<◌, ◌≤◌, true, false, cond, max, min, nat_le, List, [], ◌∷◌, drop, length, get_or, set, Some, is_some, count_by, refl, sym, ap, subst, ◌∙◌, arith, get_or-set_other, true≢false, rules}
 use Rattle.std.specs.Prelude.{Option, None}
 use Rattle.std.specs.Option.{option_map, IsSome}
 use Rattle.std.proofs.lemmas.Option.{none-some, same_Some}
-use Rattle.std.proofs.lemmas.Bool.{cases_eq}
+use Rattle.std.proofs.lemmas.Bool.{cases_eq, le-leb, leb-true}
 use Rattle.std.proofs.lemmas.Grind.{get_or_after_one}
 use Rattle.std.proofs.lemmas.List.Sums.{sum_by-cons}
 use Rattle.slab.specs.Slab.{Slab, ContainsKey, Updates, HasRoomFor, slab_len}
 use Rattle.slab.specs.Slab as slab
-use Rattle.dataspace_core.specs.Layout.{moved_down, HasMovedDown}
+use Rattle.dataspace_core.specs.Layout.{moved_down, HasMovedDown, NoneLiesIn}
 use Rattle.dataspace_core.specs.Spaces.{placed_at, placed_slots, placed, IsPlaced, start_after, HaveMoved}
 use Rattle.dataspace_core.specs.declared.dataspace.Dataspace.{Dataspace}
 use Rattle.dataspace_core.specs.declared.page_runs.PageRun.{PageRun}
@@ -66,6 +66,17 @@ module _ (from by key : ℕ) (old starts : List ℕ) (so_far : HaveMoved from by
   pub rest-more : (k : ℕ) → key + 1 ≤ k → get_or (set starts key start) k 0 ≡ get_or old k 0
   rest-more k past = let differs : k ≢ key = omega arith in get_or-set_other starts key k start 0 differs ∙ rest k (omega arith)
 
+-- a start outside of the gap stays, or moves by the whole gap
+start_closed : (from by start : ℕ) → (start ≤ from) ⊎ (from + by ≤ start) → start_after from by start ≡ cond (nat_le start from) start (start - by)
+start_closed from by start (inl front) =
+    let stays : start - min (start - from) by ≡ start = omega arith in
+    stays ∙ sym (ap (λ b. cond b start (start - by)) (le-leb start from front))
+start_closed from by start (inr behind) =
+    elim (nat_le start from) as (λ b. nat_le start from ≡ b → start - min (start - from) by ≡ cond b start (start - by)) [
+      | true ↦ λ e. let front = leb-true _ _ e in let stays : start - min (start - from) by ≡ start = omega arith in stays
+      | false ↦ λ e. let moves : start - min (start - from) by ≡ start - by = omega arith in moves
+    ] refl
+
 -- ---- the slab
 
 module _ (kept : Slab DataspaceEntry) (starts : List ℕ) where
@@ -113,14 +124,18 @@ module _ (kept : Slab DataspaceEntry) (starts : List ℕ) where
   -- the starts move
   module _ (used from by : ℕ) (is : IsPlaced kept starts used) (new_starts : List ℕ) (moved : HaveMoved from by used starts new_starts) where
     -- what stands under a key that is kept
-    moved_at : (key : ℕ) (slot : Option DataspaceEntry) → slab.get kept key ≡ slot → (gap : PageRun) → from ≡ gap.start → by ≡ gap.count → option_map (placed_at (get_or new_starts key 0)) slot ≡ option_map (moved_down gap) (option_map (placed_at (get_or starts key 0)) slot)
-    moved_at key None there gap start count = refl
-    moved_at key (Some k) there gap start count =
-        ap (λ s. Some (placed_at s k)) (moved.each key (is.below key (ap is_some there)) ∙ ap (λ f. start_after f by (get_or starts key 0)) start ∙ ap (λ b. start_after gap.start b (get_or starts key 0)) count)
+    moved_at : (key : ℕ) (slot : Option DataspaceEntry) → slab.get kept key ≡ slot → (gap : PageRun) → NoneLiesIn gap (placed kept starts) → from ≡ gap.start → by ≡ gap.count → option_map (placed_at (get_or new_starts key 0)) slot ≡ option_map (moved_down gap) (option_map (placed_at (get_or starts key 0)) slot)
+    moved_at key None there gap clear start count = refl
+    moved_at key (Some k) there gap clear start count =
+        ap (λ s. Some (placed_at s k))
+        (moved.each key (is.below key (ap is_some there))
+        ∙ ap (λ f. start_after f by (get_or starts key 0)) start
+        ∙ ap (λ b. start_after gap.start b (get_or starts key 0)) count
+        ∙ start_closed gap.start gap.count (get_or starts key 0) (clear key (placed_at (get_or starts key 0) k) (get-placed_some key k there)))
 
-    pub placed-moved : (gap : PageRun) → from ≡ gap.start → by ≡ gap.count → HasMovedDown gap (placed kept starts) (placed kept new_starts)
-    placed-moved gap start count = record {
-      each = λ key. get_or-placed kept.slots new_starts key ∙ moved_at key (slab.get kept key) refl gap start count ∙ ap (option_map (moved_down gap)) (sym (get-placed key));
+    pub placed-moved : (gap : PageRun) → NoneLiesIn gap (placed kept starts) → from ≡ gap.start → by ≡ gap.count → HasMovedDown gap (placed kept starts) (placed kept new_starts)
+    placed-moved gap clear start count = record {
+      each = λ key. get_or-placed kept.slots new_starts key ∙ moved_at key (slab.get kept key) refl gap clear start count ∙ ap (option_map (moved_down gap)) (sym (get-placed key));
     }
 
     pub IsPlaced-moved : IsPlaced kept new_starts used

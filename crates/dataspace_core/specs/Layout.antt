@@ -1,5 +1,5 @@
 -- How the pages of dataspaces lie in one table. No public clause cites this module.
-use Rattle.std.specs.Prelude.{◌≡◌, ◌≢◌, ℕ, zero, suc, ◌+◌, ◌-◌, ◌*◌, ◌%◌, ◌<◌, ◌≤◌, nat_lt, nat_le, false, true, List, [], ◌++◌, length, Option, Some, None, slice_index_or, if◌then◌else◌}
+use Rattle.std.specs.Prelude.{◌≡◌, ◌⊎◌, ◌≢◌, ℕ, zero, suc, ◌+◌, ◌-◌, ◌*◌, ◌%◌, ◌<◌, ◌≤◌, nat_lt, nat_le, false, true, List, [], ◌++◌, length, Option, Some, None, slice_index_or, if◌then◌else◌}
 use Rattle.std.specs.Option.{option_map}
 use Rattle.trade_base.specs.Bytes.{with_bytes}
 use Rattle.page_pool.specs.Pages.{free_count, is_taken, page_bytes, zero_page}
@@ -82,6 +82,10 @@ pub record HasMovedDown (gap : PageRun) (spaces new_spaces : Slab Dataspace) : T
 -- no dataspace lies after the gap
 abbrev pub NoneLiesAfter : PageRun → Slab Dataspace → Type 0
 NoneLiesAfter gap spaces = (ds : ℕ) (d : Dataspace) → get spaces ds ≡ Some d → d.run.start ≤ gap.start
+
+-- no dataspace starts within the gap
+abbrev pub NoneLiesIn : PageRun → Slab Dataspace → Type 0
+NoneLiesIn gap spaces = (ds : ℕ) (d : Dataspace) → get spaces ds ≡ Some d → (d.run.start ≤ gap.start) ⊎ (gap.start + gap.count ≤ d.run.start)
 
 -- so many bytes, one at least, are at an offset of so many pages, in one of them
 pub record IsPieceIn (count offset bytes : ℕ) : Type 0 where

@@ -1,5 +1,5 @@
 -- How dataspaces are kept: the start of each is stored separately. No public clause cites this module.
-use Rattle.std.specs.Prelude.{◌≡◌, ℕ, ◌-◌, ◌<◌, ◌≤◌, nat_le, List, [], ◌∷◌, drop, length, Option, slice_index, if◌then◌else◌}
+use Rattle.std.specs.Prelude.{◌≡◌, ℕ, ◌-◌, ◌<◌, ◌≤◌, min, List, [], ◌∷◌, drop, length, Option, slice_index}
 use Rattle.std.specs.Option.{option_map}
 use Rattle.slab.specs.Slab.{Slab, ContainsKey}
 use Rattle.dataspace_core.specs.declared.dataspace.Dataspace.{Dataspace}
@@ -24,9 +24,10 @@ pub record IsPlaced (kept : Slab DataspaceEntry) (starts : List ℕ) (used : ℕ
   pub within : used ≤ length starts
   pub below : (key : ℕ) → ContainsKey kept key → key < used
 
--- where a run starts once a gap from this start on, of so many entries, is closed
+-- where a run starts once a gap from this start on, of so many entries, is closed: so much earlier, but where the gap was
+-- at the earliest
 abbrev pub start_after : ℕ → ℕ → ℕ → ℕ
-start_after from by start = if nat_le start from then start else start - by
+start_after from by start = start - min (start - from) by
 
 -- the starts in front of a key have moved
 pub record HaveMoved (from by used : ℕ) (starts new_starts : List ℕ) : Type 0 where

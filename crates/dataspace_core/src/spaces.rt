@@ -2,7 +2,7 @@
 ghost use Rattle.std.specs.Prelude.{◌≡◌, ◌+◌, ◌^◌, ◌<◌, ◌≤◌, [], Some, None, IfOk, length};
 ghost use Rattle.std.specs.Option.{option_map};
 ghost use Rattle.slab.specs.Slab.{ContainsKey, HasRoomFor, Updates, get};
-ghost use Rattle.dataspace_core.specs.Layout.{HasMovedDown, NoneLiesAfter};
+ghost use Rattle.dataspace_core.specs.Layout.{HasMovedDown, NoneLiesAfter, NoneLiesIn};
 ghost use Rattle.dataspace_core.specs.Spaces.{HaveMoved, start_after as after};
 
 use crate::dataspace::Dataspace;
@@ -124,6 +124,7 @@ impl Spaces {
     /// the gap was closed.
     pub(crate) fn move_down(&mut self, gap: PageRun, entries: usize)
         requires none { entries ≤ gap.start → NoneLiesAfter gap self.old }
+        requires within { NoneLiesIn gap self.old }
         requires small { gap.start + gap.count < 2 ^ 16 }
         ensures moved { HasMovedDown gap self.old self.new }
         ensures capacity { self.new.capacity ≡ self.old.capacity }
@@ -143,7 +144,7 @@ fn kept_under(kept: &Slab<DataspaceEntry>, key: usize) -> DataspaceEntry
     *kept.get(key).unwrap()
 }
 
-/// Moves those of the first `used` starts that are greater than `from` down by `by`.
+/// Moves those of the first `used` starts that are greater than `from` down by `by`, but not below `from`.
 fn move_starts(starts: &mut [u16], used: usize, from: u16, by: u16)
     requires { used ≤ length starts.old }
     ensures { HaveMoved from by used starts.old starts.new }
@@ -153,9 +154,10 @@ fn move_starts(starts: &mut [u16], used: usize, from: u16, by: u16)
     }
 }
 
-/// Returns a run's start after a gap is closed. It has no branch, so that the compiler moves eight starts at once.
+/// Returns a run's start after a gap is closed. It has no branch and no selection, so that the compiler moves eight
+/// starts at once by three operations.
 fn start_after(from: u16, by: u16, start: u16) -> u16
     ensures { result ≡ after from by start }
 {
-    start.saturating_sub(if start > from { by } else { 0 })
+    start - start.saturating_sub(from).min(by)
 }

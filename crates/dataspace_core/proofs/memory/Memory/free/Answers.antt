@@ -3,7 +3,7 @@ use Rattle.std.proofs.Common.{ap, ◌∙◌, arith}
 use Rattle.own_model.proofs.NatMapLemmas.{value_at}
 use Rattle.dataspace_core.specs.Store.{Store, without_space}
 use Rattle.dataspace_core.proofs.PartLemmas.{becomes-without_space}
-use Rattle.dataspace_core.proofs.MemoryLemmas.{key_there, is_found, payer_open, ram_covered, caps_covered, none_behind, leaves-free}
+use Rattle.dataspace_core.proofs.MemoryLemmas.{key_there, is_found, payer_open, ram_covered, caps_covered, none_behind, none_within, leaves-free}
 use Rattle.dataspace_core.proofs.memory.Memory.free.Goals as goal
 
 pub remove-space-requires : goal.remove-space-requires
@@ -19,6 +19,9 @@ close_gap-requires c =
 pub move_down-requires-clause-none : goal.move_down-requires-clause-none
 move_down-requires-clause-none c = λ last.
     none_behind c.self.invariant c.args.ds.0 c.remove-space.result c.remove-space.ensures.value c.remove-space.ensures.updates c.close_gap.ensures.closed (omega (arith, last, c.close_gap.new.table.ok))
+
+pub move_down-requires-clause-within : goal.move_down-requires-clause-within
+move_down-requires-clause-within c = none_within c.self.invariant c.args.ds.0 c.remove-space.result c.remove-space.ensures.value c.remove-space.ensures.updates
 
 pub move_down-requires-clause-small : goal.move_down-requires-clause-small
 move_down-requires-clause-small c =
