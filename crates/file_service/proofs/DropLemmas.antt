@@ -16,9 +16,9 @@ use Rattle.own_model.specs.Sliced.{block_size}
 use Rattle.own_model.proofs.NatMapLemmas.{get-remove}
 use Rattle.sliced_heap.specs.Chain.{is_listed}
 use Rattle.file_service.specs.Calls.{payload_in, content_given, HasBytes}
-use Rattle.file_service.specs.Files.{file_at, StandAt}
+use Rattle.file_service.specs.Files.{file_at, link_in, nodes_from, StandAt}
 use Rattle.file_service.specs.SoundHeaps.{Stock}
-use Rattle.file_service.specs.Index.{ChangesTails, IsNamed, KeepsPlace, LeadsBack, previous_at}
+use Rattle.file_service.specs.Index.{ChangesTails, IsAmong, IsNamed, KeepsPlace, LeadsBack, previous_at, remembered_without}
 use Rattle.file_service.specs.Node.{FileNode}
 use Rattle.file_service.specs.Session.{IsFound, KeepsOwn, LinksTo, Serves, Unlists, served_in}
 use Rattle.file_service.specs.declared.session.FileSession.{FileSession}
@@ -28,7 +28,9 @@ use Rattle.file_service.proofs.LinkLemmas.{listed_append, last_listed, once_apar
 use Rattle.file_service.proofs.NodeKeptLemmas.{indexed_by, place_same, place_then}
 use Rattle.file_service.proofs.RemoveLemmas.{stand_removed, files_removed}
 use Rattle.file_service.proofs.ReplaceLemmas.{credited_is}
-use Rattle.file_service.proofs.SearchLemmas.{found_named, found_long, found_file, found_content}
+use Rattle.file_service.proofs.KeptLemmas.{blocks_are, listed_nonzero}
+use Rattle.file_service.proofs.RecentLemmas.{among_without}
+use Rattle.file_service.proofs.SearchLemmas.{found_named, found_long, found_file, found_content, in_blocks, link_some}
 use Rattle.file_service.proofs.ServeLemmas.{serves_done, drop_done, file_name}
 use Rattle.file_service.proofs.TailFileLemmas.{account_same, files_tails, found_tails}
 
@@ -51,12 +53,13 @@ pub record IsUnlisted (session : FileSession) (old was : Stock) (root : ℕ) (na
   pub named : IsNamed root was.nodes (found.before ++ found.behind)
   pub back : LeadsBack (previous_at was.nodes) 0 (found.before ++ found.behind)
   pub served : served_in (Drop name) session was ≡ served_in (Drop name) session old
+  pub remembered : IsAmong session.recent (found.before ++ address ∷ found.behind)
 
 pub is_unlisted : (session later : FileSession) (old was : Stock) (name : List ℕ) (previous address : ℕ) (node : FileNode) →
-    IsFound session.first session.last old.nodes old.contents name (previous_at old.nodes address) address node → previous ≡ previous_at old.nodes address → ChangesTails old was → Unlists session later address old was →
+    IsAmong session.recent (nodes_from session.first old.nodes) → IsFound session.first session.last old.nodes old.contents name (previous_at old.nodes address) address node → previous ≡ previous_at old.nodes address → ChangesTails old was → Unlists session later address old was →
     IsUnlisted session old was later.root name previous address node
 unfolding found_tails
-is_unlisted session later old was name previous address node was_found is tails unlists =
+is_unlisted session later old was name previous address node recent was_found is tails unlists =
     let from = subst (λ p. IsFound session.first session.last old.nodes old.contents name p address node) (sym is) was_found in
     let lists = unlists from.before from.behind from.stand in
     let all : List ℕ = from.before ++ address ∷ from.behind in
@@ -67,6 +70,7 @@ is_unlisted session later old was name previous address node was_found is tails 
       named = lists.0;
       back = lists.1;
       served = λ i. request_served (Some (Drop name)) (files i) (account i);
+      remembered = subst (IsAmong session.recent) (blocks_are session.first session.last old.nodes old.contents all from.stand) recent;
     }
 
 -- nothing is credited
@@ -92,7 +96,8 @@ module _ (session later : FileSession) (was linked given : Stock) (name : List �
     pub given_there : 0 < node.size → IsSome (get given.contents node.content)
     given_there some = grind (arith, nat_tests, found_content session.first session.last was.nodes was.contents name previous address node found some)
 
-    module _ (last_is : later.last ≡ cond (eqb session.last address) previous session.last) (own : KeepsOwn session later) where
+    module _ (last_is : later.last ≡ cond (eqb session.last address) previous session.last) (recent : IsAmong session.recent (found.before ++ address ∷ found.behind))
+        (recent_is : later.recent ≡ remembered_without session.recent address node.next) (own : KeepsOwn session later) where
       abbrev pub file : File
       file = file_at was.nodes was.contents address
 
@@ -109,15 +114,24 @@ module _ (session later : FileSession) (was linked given : Stock) (name : List �
           (record {
             blocks = found.before ++ found.behind;
             stand = stand new without gone;
-            indexed = indexed_by later.first later.last later.root new.nodes new.contents (found.before ++ found.behind) (stand new without gone)
+            indexed = indexed_by later.first later.last later.root later.recent new.nodes new.contents (found.before ++ found.behind) (stand new without gone)
                 (named_kept later.root was.nodes new.nodes (found.before ++ found.behind) (λ b t. let p = places new without b t in record { name = p.name; padded = p.padded }) (λ b t. (places new without b t).links) named)
-                (back_kept (previous_at was.nodes) (previous_at new.nodes) 0 (found.before ++ found.behind) (λ b t. (places new without b t).previous) back);
+                (back_kept (previous_at was.nodes) (previous_at new.nodes) 0 (found.before ++ found.behind) (λ b t. (places new without b t).previous) back)
+                remembered;
           })
           own
         where
           stand : (new : Stock) → new.nodes ≡ without_block address linked.nodes → ((a : ℕ) → (0 < node.size → a ≢ node.content) → get new.contents a ≡ get was.contents a) →
               StandAt later.first later.last new.nodes new.contents (found.before ++ found.behind)
           stand new without gone = stand_removed session.first session.last was.nodes linked.nodes new.nodes was.contents new.contents name previous address node found later.first later.last links without last_is gone
+
+          -- what is remembered is at its place
+          remembered : IsAmong later.recent (found.before ++ found.behind)
+          remembered =
+              let some = listed_nonzero session.first session.last was.nodes was.contents (found.before ++ address ∷ found.behind) found.stand address (in_blocks session.first session.last was.nodes was.contents name previous address node found) in
+              let next = ap (λ (n : FileNode). n.next) found.node_is ∙ sym (link_some session.first was.nodes address some) in
+              subst (λ r. IsAmong r (found.before ++ found.behind)) (sym recent_is)
+              (among_without (link_in session.first was.nodes) 0 node.next session.recent found.before found.behind address (once_later 0 (found.before ++ address ∷ found.behind) found.stand.line.once) found.stand.line.leads next recent)
 
           -- the others keep their places
           places : (new : Stock) → new.nodes ≡ without_block address linked.nodes → (b : ℕ) → is_listed (found.before ++ found.behind) b ≡ true → KeepsPlace was.nodes new.nodes b

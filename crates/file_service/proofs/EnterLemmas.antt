@@ -1,5 +1,6 @@
 -- A new file's node, linked to by the last one, is entered in the tree.
 use Rattle.std.proofs.Common.{◌≡◌, ◌≢◌, ℕ, ◌^◌, true, false, List, [], ◌∷◌, ◌++◌, sym, ap, subst, ◌∙◌, arith}
+use Rattle.std.specs.Prelude.{Option}
 use Rattle.std.proofs.lemmas.Bool.Decides.{nat_tests}
 use Rattle.std.specs.FinMap.{insert}
 use Rattle.own_model.specs.NatMap.{NatMap}
@@ -7,19 +8,21 @@ use Rattle.own_model.specs.OwnHeap.{OwnHeap}
 use Rattle.sliced_heap.specs.Chain.{is_listed}
 use Rattle.file_service.specs.Files.{node_at, nodes_from, StandAt}
 use Rattle.file_service.specs.SoundHeaps.{Stock}
-use Rattle.file_service.specs.Index.{AreFiles, CanEnter, ChangesTree, Enters, IsPadded, KeepsPlace, previous_at}
+use Rattle.file_service.specs.Index.{AreFiles, IsAmong, CanEnter, ChangesTree, Enters, IsPadded, KeepsPlace, previous_at}
 use Rattle.file_service.specs.Links.{last_of}
 use Rattle.file_service.specs.Node.{FileNode, rank_of}
+use Rattle.file_service.specs.declared.session.RecentFile.{RecentFile}
 use Rattle.file_service.specs.Session.{LinksTo, IsFresh}
 use Rattle.file_service.proofs.AppendLemmas.{stand_new, stored_payload}
 use Rattle.file_service.proofs.BackLemmas.{back_appended}
 use Rattle.file_service.proofs.IndexLemmas.{few_below, named_kept}
 use Rattle.file_service.proofs.KeptLemmas.{blocks_are}
 use Rattle.file_service.proofs.LinkLemmas.{listed_first, listed_later, once_later, unlisted}
+use Rattle.file_service.proofs.RecentLemmas.{among_appended}
 use Rattle.file_service.proofs.NodeKeptLemmas.{back_of, indexed_by, named_of, place_same, place_then}
 use Rattle.file_service.proofs.TailFileLemmas.{stand_tails}
 
-module _ (first last root : ℕ) (nodes mid linked : OwnHeap) (contents : NatMap (List ℕ)) (files : AreFiles first last root nodes contents)
+module _ (first last root : ℕ) {recent : Option RecentFile} (nodes mid linked : OwnHeap) (contents : NatMap (List ℕ)) (files : AreFiles first last root recent nodes contents)
     (block : ℕ) (fresh : IsFresh first nodes block) (payload : List ℕ) (stored : mid ≡ record nodes { payloads = insert nodes.payloads block payload })
     (name : List ℕ) (back : node_at mid block ≡ record { next = 0; content = 0; size = 0; name = name }) (padded : IsPadded mid block)
     (first_later : ℕ) (links : LinksTo first last block first_later mid linked)
@@ -60,7 +63,7 @@ module _ (first last root : ℕ) (nodes mid linked : OwnHeap) (contents : NatMap
     few = few_below (2 ^ 64) files.blocks (once_later 0 files.blocks files.stand.line.once) (λ b t. files.indexed.named.small b (ap (λ xs. is_listed xs b) are ∙ t));
   }
 
-module _ (first last root : ℕ) (nodes mid : OwnHeap) (contents : NatMap (List ℕ)) (linked now : Stock) (files : AreFiles first last root nodes contents)
+module _ (first last root : ℕ) {recent : Option RecentFile} (nodes mid : OwnHeap) (contents : NatMap (List ℕ)) (linked now : Stock) (files : AreFiles first last root recent nodes contents)
     (block : ℕ) (fresh : IsFresh first nodes block) (payload : List ℕ) (stored : mid ≡ record nodes { payloads = insert nodes.payloads block payload })
     (name : List ℕ) (back : node_at mid block ≡ record { next = 0; content = 0; size = 0; name = name }) (padded : IsPadded mid block) (previous : previous_at mid block ≡ last)
     (first_later : ℕ) (links : LinksTo first last block first_later mid linked.nodes) (contents_are : linked.contents ≡ contents)
@@ -74,7 +77,7 @@ module _ (first last root : ℕ) (nodes mid : OwnHeap) (contents : NatMap (List 
       subst (λ c. StandAt first_later block linked.nodes c (files.blocks ++ block ∷ [])) (sym contents_are)
       (stand_new first last nodes mid linked.nodes contents files.blocks files.stand block fresh payload stored name back padded.there first_later links)
 
-  pub are_appended : AreFiles first_later block later_root now.nodes now.contents
+  pub are_appended : AreFiles first_later block later_root recent now.nodes now.contents
   are_appended =
       let stand = stand_tails first_later block linked now tree.tails (files.blocks ++ block ∷ []) stand_linked in
       let enter = can_enter first last root nodes mid linked.nodes contents files block fresh payload stored name back padded first_later links new in
@@ -83,6 +86,7 @@ module _ (first last root : ℕ) (nodes mid : OwnHeap) (contents : NatMap (List 
       record {
         blocks = files.blocks ++ block ∷ [];
         stand = stand;
-        indexed = indexed_by first_later block later_root now.nodes now.contents (files.blocks ++ block ∷ []) stand (enters files.blocks enter)
-            (back_appended (previous_at nodes) (previous_at now.nodes) 0 block files.blocks (λ b t. tree.previous b ∙ (place_of b t).previous) its_back was);
+        indexed = indexed_by first_later block later_root recent now.nodes now.contents (files.blocks ++ block ∷ []) stand (enters files.blocks enter)
+            (back_appended (previous_at nodes) (previous_at now.nodes) 0 block files.blocks (λ b t. tree.previous b ∙ (place_of b t).previous) its_back was)
+            (among_appended recent files.blocks block (subst (IsAmong recent) (blocks_are first last nodes contents files.blocks files.stand) files.indexed.remembered));
       }

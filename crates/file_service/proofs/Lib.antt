@@ -26,6 +26,10 @@ pub mod TailFileLemmas
 pub mod UnlistLemmas
 pub mod LinkBackLemmas
 pub mod NextLemmas
+pub mod FollowLemmas
+pub mod PageLemmas
+pub mod RecentLemmas
+pub mod AddressLemmas
 pub mod NewContentLemmas
 pub mod EnterLemmas
 pub mod NameReadLemmas

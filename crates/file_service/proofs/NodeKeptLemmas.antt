@@ -1,6 +1,7 @@
 -- What a block's node keeps of the tree and of the link back, while its payload stays, or the bytes that stand for it are others.
 use Rattle.std.proofs.Common.{◌≡◌, ℕ, ◌+◌, ◌^◌, ◌<◌, ◌≤◌, List, [], ◌++◌, true, length, take, drop, append_assoc, length-append, true≢false, Some, is_some, refl, sym, ap, subst, ◌∙◌, arith}
 use Rattle.std.specs.FinMap.{get, insert}
+use Rattle.std.specs.Prelude.{Option}
 use Rattle.std.specs.Option.{unwrap_or}
 use Rattle.trade_base.specs.Word.{word_bytes}
 use Rattle.trade_base.proofs.WordLemmas.{length-word_bytes}
@@ -14,8 +15,9 @@ use Rattle.heap_core.specs.Words.{are_bytes}
 use Rattle.sliced_heap.specs.Chain.{is_listed}
 use Rattle.file_service.specs.Calls.{HasBytes, payload_in}
 use Rattle.file_service.specs.Files.{node_at, StandAt}
-use Rattle.file_service.specs.Index.{IsPadded, IsIndexed, IsNamed, KeepsPlace, LeadsBack, previous_at}
+use Rattle.file_service.specs.Index.{IsAmong, IsPadded, IsIndexed, IsNamed, KeepsPlace, LeadsBack, previous_at}
 use Rattle.file_service.specs.Node.{FileNode, IsNode, node_of, bytes_of, word_from}
+use Rattle.file_service.specs.declared.session.RecentFile.{RecentFile}
 use Rattle.file_service.proofs.BackLemmas.{back_kept}
 use Rattle.file_service.proofs.IndexLemmas.{named_kept}
 use Rattle.file_service.proofs.KeptLemmas.{blocks_are}
@@ -91,28 +93,29 @@ module _ (nodes later : OwnHeap) (block : ℕ) (v : FileNode) (previous : ℕ) (
 -- ---- all files
 
 -- where all blocks keep their places, the tree and the links back stay
-pub indexed_kept : (first last root first_later last_later : ℕ) (nodes later : OwnHeap) (contents after : NatMap (List ℕ)) (blocks : List ℕ) →
+pub indexed_kept : (first last root first_later last_later : ℕ) (recent : Option RecentFile) (nodes later : OwnHeap) (contents after : NatMap (List ℕ)) (blocks : List ℕ) →
     StandAt first last nodes contents blocks → StandAt first_later last_later later after blocks → ((b : ℕ) → is_listed blocks b ≡ true → KeepsPlace nodes later b) →
-    IsIndexed first root nodes → IsIndexed first_later root later
-indexed_kept first last root first_later last_later nodes later contents after blocks stand now keeps is =
+    IsIndexed first root recent nodes → IsIndexed first_later root recent later
+indexed_kept first last root first_later last_later recent nodes later contents after blocks stand now keeps is =
     let was = blocks_are first last nodes contents blocks stand in
     let are = blocks_are first_later last_later later after blocks now in
     record {
       named = subst (IsNamed root later) (sym are) (named_kept root nodes later blocks (λ b t. record { name = (keeps b t).name; padded = (keeps b t).padded }) (λ b t. (keeps b t).links) (subst (IsNamed root nodes) was is.named));
       back = subst (LeadsBack (previous_at later) 0) (sym are) (back_kept (previous_at nodes) (previous_at later) 0 blocks (λ b t. (keeps b t).previous) (subst (LeadsBack (previous_at nodes) 0) was is.back));
+      remembered = subst (IsAmong recent) (was ∙ sym are) is.remembered;
     }
 
 -- and so do those that a tree's functions and the links back are told of
-pub indexed_by : (first last root : ℕ) (nodes : OwnHeap) (contents : NatMap (List ℕ)) (blocks : List ℕ) → StandAt first last nodes contents blocks → IsNamed root nodes blocks →
-    LeadsBack (previous_at nodes) 0 blocks → IsIndexed first root nodes
-indexed_by first last root nodes contents blocks stand named back =
+pub indexed_by : (first last root : ℕ) (recent : Option RecentFile) (nodes : OwnHeap) (contents : NatMap (List ℕ)) (blocks : List ℕ) → StandAt first last nodes contents blocks → IsNamed root nodes blocks →
+    LeadsBack (previous_at nodes) 0 blocks → IsAmong recent blocks → IsIndexed first root recent nodes
+indexed_by first last root recent nodes contents blocks stand named back remembered =
     let are = blocks_are first last nodes contents blocks stand in
-    record { named = subst (IsNamed root nodes) (sym are) named; back = subst (LeadsBack (previous_at nodes) 0) (sym are) back }
+    record { named = subst (IsNamed root nodes) (sym are) named; back = subst (LeadsBack (previous_at nodes) 0) (sym are) back; remembered = subst (IsAmong recent) (sym are) remembered }
 
-pub named_of : (first last root : ℕ) (nodes : OwnHeap) (contents : NatMap (List ℕ)) (blocks : List ℕ) → StandAt first last nodes contents blocks → IsIndexed first root nodes → IsNamed root nodes blocks
+pub named_of : (first last root : ℕ) {recent : Option RecentFile} (nodes : OwnHeap) (contents : NatMap (List ℕ)) (blocks : List ℕ) → StandAt first last nodes contents blocks → IsIndexed first root recent nodes → IsNamed root nodes blocks
 named_of first last root nodes contents blocks stand is = subst (IsNamed root nodes) (blocks_are first last nodes contents blocks stand) is.named
 
-pub back_of : (first last root : ℕ) (nodes : OwnHeap) (contents : NatMap (List ℕ)) (blocks : List ℕ) → StandAt first last nodes contents blocks → IsIndexed first root nodes → LeadsBack (previous_at nodes) 0 blocks
+pub back_of : (first last root : ℕ) {recent : Option RecentFile} (nodes : OwnHeap) (contents : NatMap (List ℕ)) (blocks : List ℕ) → StandAt first last nodes contents blocks → IsIndexed first root recent nodes → LeadsBack (previous_at nodes) 0 blocks
 back_of first last root nodes contents blocks stand is = subst (LeadsBack (previous_at nodes) 0) (blocks_are first last nodes contents blocks stand) is.back
 
 -- no node makes no tree

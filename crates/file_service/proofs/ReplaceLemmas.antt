@@ -1,5 +1,6 @@
 -- A file that gets another content in place of its old one, which is given back after it.
 use Rattle.std.proofs.Common.{◌≡◌, ◌≢◌, ℕ, ◌-◌, ◌<◌, true, List, ◌∷◌, ◌++◌, length, take, refl, sym, ap, subst, ◌∙◌, inl, inr, arith}
+use Rattle.std.specs.Prelude.{Option}
 use Rattle.std.proofs.lemmas.Bool.{cases_eq}
 use Rattle.std.proofs.lemmas.Bool.Decides.{nat_tests}
 use Rattle.std.specs.FinMap.{get, insert, remove}
@@ -14,6 +15,7 @@ use Rattle.file_service.specs.Calls.{payload_in, HasBytes}
 use Rattle.file_service.specs.Files.{node_at, nodes_from, files_of, HasContent}
 use Rattle.file_service.specs.Index.{AreFiles, IsIndexed, KeepsPlace}
 use Rattle.file_service.specs.Node.{FileNode}
+use Rattle.file_service.specs.declared.session.RecentFile.{RecentFile}
 use Rattle.file_service.specs.Session.{IsFound, IsOwn}
 use Rattle.file_service.proofs.KeptLemmas.{bytes_by, blocks_are}
 use Rattle.file_service.proofs.AppendLemmas.{stored_payload}
@@ -26,7 +28,7 @@ module _ (first last : ℕ) (nodes later : OwnHeap) (contents : NatMap (List ℕ
     (payload : List ℕ) (stored : later ≡ record nodes { payloads = insert nodes.payloads address payload })
     (content size : ℕ) (back : node_at later address ≡ record node { content = content; size = size }) (there : HasBytes later.payloads address 0 96)
     (has : 0 < size → HasContent contents (record node { content = content; size = size })) (own : 0 < size → IsOwn first nodes content)
-    (root : ℕ) (indexed : IsIndexed first root nodes) (place : KeepsPlace nodes later address) where
+    (root : ℕ) {recent : Option RecentFile} (indexed : IsIndexed first root recent nodes) (place : KeepsPlace nodes later address) where
   places : (b : ℕ) → is_listed (found.before ++ address ∷ found.behind) b ≡ true → KeepsPlace nodes later b
   places b t = elim (cases_eq b address) [
     | inl here ↦ subst (KeepsPlace nodes later) (sym here) place
@@ -37,13 +39,13 @@ module _ (first last : ℕ) (nodes later : OwnHeap) (contents : NatMap (List ℕ
   own_others some b t other some_b = own some b t some_b
 
   -- there was no old content
-  pub kept_alone : AreFiles first last root later contents
+  pub kept_alone : AreFiles first last root recent later contents
   kept_alone =
       let stand = stand_rewritten first last nodes later contents contents name previous address node found payload stored content size back there has own_others (λ a apart. refl) in
       record {
         blocks = found.before ++ address ∷ found.behind;
         stand = stand;
-        indexed = indexed_kept first last root first last nodes later contents contents (found.before ++ address ∷ found.behind) found.stand stand places indexed;
+        indexed = indexed_kept first last root first last recent nodes later contents contents (found.before ++ address ∷ found.behind) found.stand stand places indexed;
       }
 
   pub files_alone : files_of first later contents ≡ record (files_of first nodes contents) { files = rewritten name (take size (payload_in contents content)) (files_of first nodes contents).files }
@@ -66,13 +68,13 @@ module _ (first last : ℕ) (nodes later : OwnHeap) (contents : NatMap (List ℕ
     has_left : 0 < size → HasContent left (record node { content = content; size = size })
     has_left some = let h = has some in record { payload = h.payload; there = content_stays some ∙ h.there; long = h.long }
 
-    pub kept_left : AreFiles first last root later left
+    pub kept_left : AreFiles first last root recent later left
     kept_left =
         let stand = stand_rewritten first last nodes later contents left name previous address node found payload stored content size back there has_left own_others gone in
         record {
           blocks = found.before ++ address ∷ found.behind;
           stand = stand;
-          indexed = indexed_kept first last root first last nodes later contents left (found.before ++ address ∷ found.behind) found.stand stand places indexed;
+          indexed = indexed_kept first last root first last recent nodes later contents left (found.before ++ address ∷ found.behind) found.stand stand places indexed;
         }
 
     pub files_left : files_of first later left ≡ record (files_of first nodes contents) { files = rewritten name (take size (payload_in contents content)) (files_of first nodes contents).files }

@@ -1,5 +1,5 @@
 -- How long the bytes of a request are, and what the text of a request for a name is told.
-use Rattle.std.proofs.Common.{◌≡◌, ◌++◌, ℕ, ◌≤◌, Bool, true, false, true≢false, List, [], length, Option, Some, None, refl, sym, ap, subst, ◌∙◌, arith}
+use Rattle.std.proofs.Common.{◌≡◌, ℕ, ◌≤◌, Bool, true, false, true≢false, List, [], length, Option, Some, None, refl, sym, ap, subst, ◌∙◌, arith}
 use Rattle.std.specs.Prelude.{IsSome, slice_get}
 use Rattle.std.specs.Option.{option_map, option_or, unwrap_or}
 use Rattle.own_model.specs.Account.{Account}
@@ -21,7 +21,7 @@ use Rattle.dataspace_core.specs.Store.{Store}
 use Rattle.core_calls.specs.ReplyText.{Told, told_alone}
 use Rattle.file_service.specs.SessionHeaps.{stock_of}
 use Rattle.file_service.specs.Session.{files_in, served_in, HasFiles, Serves}
-use Rattle.file_service.proofs.ServeLemmas.{serves_same}
+use Rattle.file_service.proofs.ServeLemmas.{serves_done}
 use Rattle.file_service.specs.declared.session.FileSession.{FileSession}
 
 -- a request of files is none of the buffer
@@ -58,14 +58,19 @@ named_by : (o : Option File) (files : Files) (account : Account) → named o fil
 named_by None files account = refl
 named_by (Some file) files account = refl
 
--- the files stay, and it is told
-pub named_served : (place : ℕ) (name : Option (List ℕ)) (session : FileSession) (old new : Store) (regions : Regions) →
-    HasFiles session (stock_of session.rooms old regions) → new ≡ old →
+-- the files stay, and it is told, whatever is remembered
+pub named_served : (place : ℕ) (name : Option (List ℕ)) (session later : FileSession) (old new : Store) (regions : Regions) →
+    HasFiles later (stock_of later.rooms old regions) → later ≡ record session { recent = later.recent } → new ≡ old →
     name ≡ option_map (λ (file : File). file.name) (slice_get (files_in session (stock_of session.rooms old regions)).files place) →
     let has = stock_of session.rooms old regions in
-    Serves (served_in (Name place) session has) (name_reply name) session session (stock_of session.rooms new regions)
-named_served place name session old new regions files same name_is =
+    Serves (served_in (Name place) session has) (name_reply name) session later (stock_of later.rooms new regions)
+named_served place name session later old new regions kept is same name_is =
     let has = stock_of session.rooms old regions in
-    serves_same (served_in (Name place) session has) (name_reply name) session old new regions files same
+    subst (λ m. Serves (served_in (Name place) session has) (name_reply name) session later (stock_of later.rooms m regions)) (sym same)
+    (serves_done (served_in (Name place) session has) (name_reply name) (files_in session has) has.account session later (stock_of later.rooms old regions)
     (named_by (slice_get (files_in session has).files place) (files_in session has) has.account
     ∙ ap (λ o. told (name_reply o) (files_in session has) has.account) (sym name_is))
+    (ap (λ (s : FileSession). (stock_of s.rooms old regions).account) is)
+    (ap (λ (s : FileSession). files_in s (stock_of s.rooms old regions)) is)
+    kept
+    (record { label = ap (λ (s : FileSession). s.label) is; buffer = ap (λ (s : FileSession). s.buffer) is }))

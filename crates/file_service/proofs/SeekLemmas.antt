@@ -4,7 +4,7 @@ use Rattle.std.proofs.lemmas.Bool.{cases_eq, false_from_ne_true, not-false}
 use Rattle.std.proofs.lemmas.Option.{none-some}
 use Rattle.std.proofs.lemmas.Bool.Decides.{nat_tests}
 use Rattle.std.proofs.lemmas.List.{length-take}
-use Rattle.std.specs.Prelude.{find}
+use Rattle.std.specs.Prelude.{Option, find}
 use Rattle.std.specs.Str.{bytes_eq}
 use Rattle.std.proofs.lemmas.Slice.Eq.{bytes_eq-Decides}
 use Rattle.own_model.specs.FileService.{is_named}
@@ -16,6 +16,7 @@ use Rattle.file_service.specs.Calls.{payload_in}
 use Rattle.file_service.specs.Files.{node_at, file_at, files_of, nodes_from, StandAt}
 use Rattle.file_service.specs.Index.{AreFiles, IsNamed, LeadsBack, Seeks, previous_at}
 use Rattle.file_service.specs.Node.{FileNode, node_of, rank_of}
+use Rattle.file_service.specs.declared.session.RecentFile.{RecentFile}
 use Rattle.file_service.specs.Session.{IsFound}
 use Rattle.file_service.proofs.BackLemmas.{back_at}
 use Rattle.file_service.proofs.KeptLemmas.{blocks_are, files_are, listed_nonzero}
@@ -76,7 +77,7 @@ between (x ∷ xs) a t = elim (cases_eq a x) [
       record { before = x ∷ rest.before; behind = rest.behind; is = ap (λ ys. x ∷ ys) rest.is }
 ]
 
-module _ (first last root : ℕ) (nodes : OwnHeap) (contents : NatMap (List ℕ)) (files : AreFiles first last root nodes contents) (name : List ℕ) where
+module _ (first last root : ℕ) {recent : Option RecentFile} (nodes : OwnHeap) (contents : NatMap (List ℕ)) (files : AreFiles first last root recent nodes contents) (name : List ℕ) where
   named : IsNamed root nodes files.blocks
   named = named_of first last root nodes contents files.blocks files.stand files.indexed
 

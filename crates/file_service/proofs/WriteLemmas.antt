@@ -148,7 +148,7 @@ module _ (session : FileSession) (was : Stock) (name : List ℕ) (previous addre
       front : take node.size (payload_in after node.content) ≡ with_bytes file.bytes offset bytes
       front = grind (arith, nat_tests, has, there, long, content_long, get-insert_same, front_written, found_bytes)
 
-      pub over_served : IsIndexed session.first session.root was.nodes → (now : Stock) → now ≡ content_written node.content offset bytes was →
+      pub over_served : IsIndexed session.first session.root session.recent was.nodes → (now : Stock) → now ≡ content_written node.content offset bytes was →
           Serves (served_in (Write name offset bytes) session was) (Count (length bytes)) session session now
       over_served indexed now is =
           subst (Serves (served_in (Write name offset bytes) session was) (Count (length bytes)) session session) (sym is)

@@ -1,5 +1,5 @@
 -- The tree by name inside the nodes, and the links to previous nodes.
-use Rattle.std.specs.Prelude.{◌≡◌, ◌≢◌, ℕ, ◌+◌, ◌*◌, ◌^◌, ◌<◌, ◌≤◌, true, false, if◌then◌else◌, List, [], ◌∷◌, ◌++◌, length, take, is_some}
+use Rattle.std.specs.Prelude.{◌≡◌, ◌≢◌, ℕ, ◌+◌, ◌*◌, ◌^◌, ◌<◌, ◌≤◌, ◌==◌, ◌&&◌, true, false, not, if◌then◌else◌, List, [], ◌∷◌, ◌++◌, length, take, is_some, slice_get, Option, Some, None, IfSome}
 use Rattle.std.specs.FinMap.{get}
 use Rattle.avl_tree.specs.declared.node.Links.{Links}
 use Rattle.avl_tree.specs.Tree.{Tree, tally, is_at, IsOrdered}
@@ -15,7 +15,9 @@ use Rattle.region_map.specs.Regions.{Regions}
 use Rattle.heap_core.specs.declared.heap.Heap.{Heap}
 use Rattle.sliced_heap.specs.declared.heap.SlicedHeap.{SlicedHeap}
 use Rattle.own_model.specs.NatMap.{NatMap}
+use Rattle.file_service.specs.Links.{followed}
 use Rattle.file_service.specs.Node.{bytes_of, rank_of, word_from}
+use Rattle.file_service.specs.declared.session.RecentFile.{RecentFile}
 
 -- the links of a node in the tree are after the bytes of the node, and the link to the previous node is after these
 abbrev pub links_at : OwnHeap → ℕ → Links
@@ -27,6 +29,15 @@ links_at nodes address = record {
 
 abbrev pub previous_at : OwnHeap → ℕ → ℕ
 previous_at nodes address = word_from (payload_in nodes.payloads address) 88
+
+-- the word at an offset of a node's block
+abbrev pub word_at : OwnHeap → ℕ → ℕ → ℕ
+word_at nodes offset address = word_from (payload_in nodes.payloads address) offset
+
+-- nodes are in the first n blocks on the way from a block along links at an offset of the blocks, unless it has ended
+abbrev pub AreOnTheWay : OwnHeap → ℕ → ℕ → ℕ → Type 0
+AreOnTheWay nodes offset address n =
+    (k : ℕ) → k < n → followed (word_at nodes offset) k address ≢ 0 → HasBytes nodes.payloads (followed (word_at nodes offset) k address) 0 96
 
 -- nodes as those of a tree, by their names, in a memory that is stated whole at each place
 abbrev pub names_in : {Rest : Type 0} → Rest → OwnHeap → View Rest
@@ -132,16 +143,26 @@ pub record ChangesTree (old new : Stock) : Type 0 where
   pub tails : ChangesTails old new
   pub previous : (b : ℕ) → previous_at new.nodes b ≡ previous_at old.nodes b
 
--- the tree has the nodes' names, and the nodes are linked back
-pub record IsIndexed (first root : ℕ) (nodes : OwnHeap) : Type 0 where
+-- a file that is remembered is at its place among these blocks
+abbrev pub IsAmong : Option RecentFile → List ℕ → Type 0
+IsAmong recent blocks = IfSome recent (λ file. slice_get blocks file.place ≡ Some file.address)
+
+-- what is remembered after a block is removed: the next one, at the place of the remembered one, if that is the block
+abbrev pub remembered_without : Option RecentFile → ℕ → ℕ → Option RecentFile
+remembered_without None block next = None
+remembered_without (Some file) block next = if file.address == block && not (next == 0) then Some (record file { address = next }) else None
+
+-- the tree has the nodes' names, the nodes are linked back, and the remembered file is at its place
+pub record IsIndexed (first root : ℕ) (recent : Option RecentFile) (nodes : OwnHeap) : Type 0 where
   pub named : IsNamed root nodes (nodes_from first nodes)
   pub back : LeadsBack (previous_at nodes) 0 (nodes_from first nodes)
+  pub remembered : IsAmong recent (nodes_from first nodes)
 
 -- files are in some blocks in order, and the tree has their names
-pub record AreFiles (first last root : ℕ) (nodes : OwnHeap) (contents : NatMap (List ℕ)) : Type 0 where
+pub record AreFiles (first last root : ℕ) (recent : Option RecentFile) (nodes : OwnHeap) (contents : NatMap (List ℕ)) : Type 0 where
   pub blocks : List ℕ
   pub stand : StandAt first last nodes contents blocks
-  pub indexed : IsIndexed first root nodes
+  pub indexed : IsIndexed first root recent nodes
 
 -- ---- as a tree's functions see nodes
 

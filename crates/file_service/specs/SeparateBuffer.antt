@@ -117,7 +117,7 @@ module _ (session : FileSession) (lent : SessionBuffer) (account : ℕ) (share :
               omega (arith, few, chunks, contents, all);
         };
       };
-      files = subst (λ (h : OwnHeap). AreFiles session.first session.last session.root h (sliced_of T)) (sym nodes_same) (subst (λ m. AreFiles session.first session.last session.root (heap_in session.rooms.nodes share) m) (sym contents_same) is.files);
+      files = subst (λ (h : OwnHeap). AreFiles session.first session.last session.root session.recent h (sliced_of T)) (sym nodes_same) (subst (λ m. AreFiles session.first session.last session.root session.recent (heap_in session.rooms.nodes share) m) (sym contents_same) is.files);
       buffer = subst (λ b. KeepsBuffer b T) (sym same) buffer_still;
     }
 

@@ -44,7 +44,7 @@ value_of session share = record {
 -- what is true of a session between its requests
 pub record IsSession (session : FileSession) (account : ℕ) (share : Share) : Type 0 where
   pub rooms : AreKept session.rooms account share
-  pub files : AreFiles session.first session.last session.root (heap_in session.rooms.nodes share) (sliced_of share)
+  pub files : AreFiles session.first session.last session.root session.recent (heap_in session.rooms.nodes share) (sliced_of share)
   pub buffer : KeepsBuffer session.buffer share
 
 -- ---- while a request is served
@@ -55,7 +55,7 @@ files_in session stock = files_of session.first stock.nodes stock.contents
 
 -- it has files
 abbrev pub HasFiles : FileSession → Stock → Type 0
-HasFiles session stock = AreFiles session.first session.last session.root stock.nodes stock.contents
+HasFiles session stock = AreFiles session.first session.last session.root session.recent stock.nodes stock.contents
 
 -- a session has the same label and the same buffer
 pub record KeepsOwn (old later : FileSession) : Type 0 where

@@ -9,7 +9,7 @@ ghost use Rattle.session_proto.specs.FileReply.{model_error};
 ghost use Rattle.file_service.specs.Calls.{payload_in, content_copied, HasBytes};
 ghost use Rattle.sliced_heap.specs.Chain.{is_listed};
 ghost use Rattle.file_service.specs.Files.{file_at, node_at, nodes_from, HasContent};
-ghost use Rattle.file_service.specs.Index.{ChangesTails, IsIndexed, LinksBack, previous_at};
+ghost use Rattle.file_service.specs.Index.{ChangesTails, IsIndexed, LinksBack, previous_at, remembered_without};
 ghost use Rattle.file_service.specs.Node.{value_of as node_value, rank_of};
 ghost use Rattle.file_service.specs.Source.{bytes_from, HasSource};
 ghost use Rattle.file_service.specs.SessionHeaps.{stock_of, AreSoundHeaps, KeepsRooms};
@@ -17,7 +17,7 @@ ghost use Rattle.file_service.specs.Session.{files_in, HasFiles, Finds, LinksTo,
 
 use crate::name_tree::{NamedNode, PREVIOUS};
 use crate::node::{NEXT, Node, copied};
-use crate::session::{FileSession, FoundFile};
+use crate::session::{FileSession, FoundFile, RecentFile};
 use crate::session_heaps::SessionHeaps;
 use crate::write_source::WriteSource;
 use dataspace_core::Memory;
@@ -165,6 +165,7 @@ impl FileSession {
         let previous = self.unlist(memory, map, address, &node);
         self.link(memory, map, previous, node.next);
         self.last = last_without(self.last, address, previous);
+        self.recent = recent_without(self.recent, address, node.next);
         self.rooms.give_node(memory, map, address);
         if node.size > 0 {
             self.rooms.give_content(memory, map, node.content);
@@ -318,7 +319,7 @@ impl FileSession {
         requires furnished { AreSoundHeaps self.old.rooms memory.old map.old }
         requires found { Finds self.old
             (stock_of self.old.rooms memory.old map.old) found.node.name.items found }
-        requires indexed { IsIndexed self.old.first self.old.root
+        requires indexed { IsIndexed self.old.first self.old.root self.old.recent
             (stock_of self.old.rooms memory.old map.old).nodes }
         requires content { 0 < size
             → HasContent (stock_of self.old.rooms memory.old map.old).contents
@@ -373,6 +374,21 @@ fn last_without(last: u64, address: u64, previous: u64) -> u64
     ensures { result ≡ (if last == address then previous else last) }
 {
     if last == address { previous } else { last }
+}
+
+/// Returns the file that is remembered after the node at an address is removed, given the node after it. That takes the place
+/// of a remembered file. The place of another file may have changed.
+fn recent_without(recent: Option<RecentFile>, address: u64, next: u64) -> Option<RecentFile>
+    ensures { result ≡ remembered_without recent address next }
+{
+    let file = recent?;
+    if file.address != address || next == 0 {
+        return None;
+    }
+    Some(RecentFile {
+        address: next,
+        ..file
+    })
 }
 
 /// Returns the error of a reply for a refusal of a heap.

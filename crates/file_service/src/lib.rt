@@ -5,6 +5,7 @@
 mod buffer_requests;
 mod contents;
 mod file_requests;
+mod links;
 mod name_tree;
 mod node;
 mod nodes;

@@ -137,7 +137,7 @@ pub(crate) fn copied(bytes: &[u8]) -> ArrayVec<u8, LONGEST_NAME>
 
 /// Returns the word of 8 bytes at an offset, lowest byte first.
 #[tactic(auto, unfolding(trade_base::specs::Word::word_of))]
-fn word_in(bytes: &[u8], offset: usize) -> u64
+pub(crate) fn word_in(bytes: &[u8], offset: usize) -> u64
     requires { offset + 8 ≤ length bytes.now }
     ensures { result ≡ word_from bytes.now offset }
 {

@@ -1,13 +1,15 @@
 //! The requests that read files.
 ghost use Rattle.std.specs.Prelude.{◌≡◌, ◌≤◌, length, IfOk, slice_get};
-ghost use Rattle.std.specs.Option.{option_map};
+ghost use Rattle.std.specs.Option.{option_map, unwrap_or};
 ghost use Rattle.own_model.specs.FileService.{File};
 ghost use Rattle.own_model.specs.FileText.FileRequest.{Read, Size};
+ghost use Rattle.file_service.specs.Files.{nodes_from};
 ghost use Rattle.file_service.specs.SessionHeaps.{stock_of, AreSoundHeaps};
 ghost use Rattle.file_service.specs.Session.{files_in, HasFiles, counted_reply, bytes_reply, IsTold};
 
+use crate::name_tree::PREVIOUS;
 use crate::node::{NEXT, Node};
-use crate::session::{FileRange, FileSession};
+use crate::session::{FileRange, FileSession, RecentFile};
 use dataspace_core::Memory;
 use region_map::RegionMap;
 use session_proto::FileError;
@@ -74,25 +76,51 @@ impl FileSession {
         Ok(count)
     }
 
-    /// Returns the node of the file at a place in the order of creation, or `None`. The memory is unchanged.
-    pub(crate) fn file_at(&self, memory: &mut Memory, map: &RegionMap, place: u64) -> Option<Node>
-        requires furnished { AreSoundHeaps self.now.rooms memory.old map.now }
-        requires files { HasFiles self.now (stock_of self.now.rooms memory.old map.now) }
+    /// Returns the node of the file at a place in the order of creation, and remembers it, or `None`. The memory is
+    /// unchanged.
+    pub(crate) fn file_at(
+        &mut self,
+        memory: &mut Memory,
+        map: &RegionMap,
+        place: u64,
+    ) -> Option<Node>
+        requires furnished { AreSoundHeaps self.old.rooms memory.old map.now }
+        requires files { HasFiles self.old (stock_of self.old.rooms memory.old map.now) }
         ensures name { option_map (λ node. node.name.items) result
             ≡ option_map (λ (file : File). file.name)
             (slice_get
-            (files_in self.now (stock_of self.now.rooms memory.old map.now)).files place) }
+            (files_in self.old (stock_of self.old.rooms memory.old map.now)).files place) }
+        ensures kept { HasFiles self.new (stock_of self.new.rooms memory.old map.now) }
+        ensures same { self.new ≡ record self.old { recent = self.new.recent } }
         ensures memory { memory.new ≡ memory.old }
     {
-        let mut left = place;
-        let mut address = self.first;
-        while address != 0 {
-            if left == 0 {
-                return Some(self.rooms.load_node(memory, map, address));
-            }
-            left -= 1;
-            address = self.rooms.load_word(memory, map, address, NEXT);
+        let address = self.address_at(memory, map, place);
+        if address == 0 {
+            return None;
         }
-        None
+        self.recent = Some(RecentFile { place, address });
+        Some(self.rooms.load_node(memory, map, address))
+    }
+
+    /// Returns the address of the node of the file at a place in the order of creation, or 0. The walk begins at the
+    /// remembered file, or at the first one if that is nearer.
+    fn address_at(&self, memory: &Memory, map: &RegionMap, place: u64) -> u64
+        requires furnished { AreSoundHeaps self.now.rooms memory.now map.now }
+        requires files { HasFiles self.now (stock_of self.now.rooms memory.now map.now) }
+        ensures { let nodes = (stock_of self.now.rooms memory.now map.now).nodes in
+            result ≡ unwrap_or (slice_get (nodes_from self.now.first nodes) place) 0 }
+    {
+        match self.recent {
+            Some(recent) if recent.place <= place => {
+                let steps = place - recent.place;
+                self.rooms.follow(memory, map, recent.address, NEXT, steps)
+            }
+            Some(recent) if recent.place - place < place => {
+                let steps = recent.place - place;
+                self.rooms
+                    .follow(memory, map, recent.address, PREVIOUS, steps)
+            }
+            _ => self.rooms.follow(memory, map, self.first, NEXT, place),
+        }
     }
 }

@@ -273,19 +273,20 @@ fn write_by<const N: usize>(
 
 /// Writes the reply with the name of the file at a place in the order of creation, or that there are no more.
 fn answer_name(
-    session: &FileSession,
+    session: &mut FileSession,
     memory: &mut Memory,
     map: &RegionMap,
     place: u64,
     reply: &mut Reply,
 )
-    requires furnished { AreSoundHeaps session.now.rooms memory.old map.now }
-    requires files { HasFiles session.now (stock_of session.now.rooms memory.old map.now) }
+    requires furnished { AreSoundHeaps session.old.rooms memory.old map.now }
+    requires files { HasFiles session.old (stock_of session.old.rooms memory.old map.now) }
     ensures told { (answer : Answered)
-        × ((Serves (served_in (Name place) session.now
-        (stock_of session.now.rooms memory.old map.now)) answer session.now session.now
-        (stock_of session.now.rooms memory.new map.now))
+        × ((Serves (served_in (Name place) session.old
+        (stock_of session.old.rooms memory.old map.now)) answer session.old session.new
+        (stock_of session.new.rooms memory.new map.now))
         × (reply.new ≡ record reply.old { text = file_reply answer })) }
+    ensures rooms { session.new.rooms ≡ session.old.rooms }
     ensures memory { memory.new ≡ memory.old }
 {
     match session.file_at(memory, map, place) {

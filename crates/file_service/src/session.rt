@@ -19,8 +19,17 @@ pub struct FileSession {
     pub(crate) last: u64,
     /// The address of the node at the root of the tree by name, or 0.
     pub(crate) root: u64,
+    /// The file that a request found last by its place, unless it was forgotten since.
+    pub(crate) recent: Option<RecentFile>,
     /// The buffer that it shares with its client, if it has one.
     pub(crate) buffer: Option<SessionBuffer>,
+}
+
+/// A file that a request found by its place in the order of creation: the place, and the address of the file's node.
+#[derive(Clone, Copy, Drop)]
+pub(crate) struct RecentFile {
+    pub(crate) place: u64,
+    pub(crate) address: u64,
 }
 
 /// A buffer that a session shares with its client: a dataspace of the session's account, and its address in the server's
@@ -74,6 +83,7 @@ impl FileSession {
             first: 0,
             last: 0,
             root: 0,
+            recent: None,
             buffer: None,
         }
     }

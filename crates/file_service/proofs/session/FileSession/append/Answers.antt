@@ -8,7 +8,7 @@ use Rattle.file_service.specs.Calls.{payload_in}
 use Rattle.file_service.specs.Files.{files_of}
 use Rattle.file_service.specs.SoundHeaps.{Stock}
 use Rattle.file_service.specs.SessionHeaps.{stock_of}
-use Rattle.file_service.specs.Index.{CanEnter, Enters}
+use Rattle.file_service.specs.Index.{AreFiles, CanEnter, Enters}
 use Rattle.file_service.specs.Node.{FileNode, bytes_of, rank_of}
 use Rattle.file_service.specs.declared.session.FileSession.{FileSession}
 use Rattle.file_service.proofs.AppendLemmas.{last_there, files_new}
@@ -53,9 +53,11 @@ returns-clause-kept c =
     let padded = c.store_new.ensures.padded (ap are_bytes c.copied.ensures ∙ below_bytes c.args.name.now (λ i. omega (arith, c.type_inv.name i))) in
     let contents : linked.contents ≡ was.contents = ap (λ (s : Stock). s.contents) c.link.ensures.rest ∙ ap (λ (s : Stock). s.contents) c.store_new.ensures.stored in
     let root : c.link.new.self.root ≡ c.args.self.now.root = ap (λ (s : FileSession). s.root) c.link.ensures.same in
-    are_appended c.args.self.now.first c.args.self.now.last c.args.self.now.root was.nodes mid.nodes was.contents linked now c.requires.files c.args.address c.requires.fresh bytes (ap (λ (s : Stock). s.nodes) c.store_new.ensures.stored)
+    let recent : c.args.self.now.recent ≡ c.link.new.self.recent = sym (ap (λ (s : FileSession). s.recent) c.link.ensures.same) in
+    subst (λ r. AreFiles c.link.new.self.first c.args.address c.enter-self.result r now.nodes now.contents) recent
+    (are_appended c.args.self.now.first c.args.self.now.last c.args.self.now.root was.nodes mid.nodes was.contents linked now c.requires.files c.args.address c.requires.fresh bytes (ap (λ (s : Stock). s.nodes) c.store_new.ensures.stored)
     c.args.name.now back padded c.store_new.ensures.previous c.link.new.self.first c.link.ensures.links contents c.requires.new c.enter-self.result
-    (subst (λ r. Enters r c.args.address (rank_of c.args.name.now) c.enter-self.result linked.nodes now.nodes) root c.enter-self.ensures.enters) c.enter-self.ensures.tree
+    (subst (λ r. Enters r c.args.address (rank_of c.args.name.now) c.enter-self.result linked.nodes now.nodes) root c.enter-self.ensures.enters) c.enter-self.ensures.tree)
 
 pub returns-clause-files : goal.returns-clause-files
 returns-clause-files c =

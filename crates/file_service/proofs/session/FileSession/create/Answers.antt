@@ -64,7 +64,7 @@ append-requires-clause-files c =
     record {
       blocks = c.requires.files.blocks;
       stand = takes.stand;
-      indexed = indexed_kept c.args.self.now.first c.args.self.now.last c.args.self.now.root c.args.self.now.first c.args.self.now.last was.nodes taken.nodes was.contents taken.contents c.requires.files.blocks c.requires.files.stand
+      indexed = indexed_kept c.args.self.now.first c.args.self.now.last c.args.self.now.root c.args.self.now.first c.args.self.now.last c.args.self.now.recent was.nodes taken.nodes was.contents taken.contents c.requires.files.blocks c.requires.files.stand
           takes.stand (λ b l. place_same was.nodes taken.nodes b (takes.same b l)) c.requires.files.indexed;
     }
 

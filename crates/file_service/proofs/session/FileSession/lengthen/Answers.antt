@@ -103,7 +103,7 @@ pub replace-requires-clause-indexed : goal.replace-requires-clause-indexed
 replace-requires-clause-indexed c =
     let t = takes (goal.at.replace-requires-clause-indexed c).In_ok-content in
     let nodes = ap (λ (s : Stock). s.nodes) c.put_content.ensures.written ∙ ap (λ (s : Stock). s.nodes) c.copy_content.ensures.copied ∙ ap (λ (s : Stock). s.nodes) t.is in
-    subst (IsIndexed c.args.self.now.first c.args.self.now.root) (sym nodes) c.requires.files.indexed
+    subst (IsIndexed c.args.self.now.first c.args.self.now.root c.args.self.now.recent) (sym nodes) c.requires.files.indexed
 
 pub returns-clause-serves : goal.returns-clause-serves
 returns-clause-serves c =

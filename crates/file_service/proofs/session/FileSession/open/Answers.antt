@@ -1,5 +1,5 @@
 -- No link leads anywhere.
-use Rattle.std.proofs.Common.{rules, arith, ◌≡◌, [], refl, true≢false, sym}
+use Rattle.std.proofs.Common.{None, rules, arith, ◌≡◌, [], refl, true≢false, sym}
 use Rattle.std.specs.Prelude.{map}
 use Rattle.std.specs.FinMap.{len}
 use Rattle.own_model.specs.OwnHeap.{OwnHeap}
@@ -29,5 +29,5 @@ returns-clause-kept c share alone linked =
     record {
       rooms = c.new.ensures.kept share alone linked;
       buffer = c.new.ensures.not_lent share alone;
-      files = record { blocks = []; stand = stand; indexed = indexed_by 0 0 0 _ _ [] stand (named_none _) tt };
+      files = record { blocks = []; stand = stand; indexed = indexed_by 0 0 0 None _ _ [] stand (named_none _) tt tt };
     }

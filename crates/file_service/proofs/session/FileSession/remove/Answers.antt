@@ -7,7 +7,8 @@ use Rattle.own_model.specs.FileText.FileRequest.{Drop}
 use Rattle.sliced_heap.specs.Chain.{is_listed}
 use Rattle.file_service.specs.SoundHeaps.{Stock}
 use Rattle.file_service.specs.SessionHeaps.{stock_of}
-use Rattle.file_service.specs.Index.{IsNamed}
+use Rattle.file_service.specs.Files.{nodes_from}
+use Rattle.file_service.specs.Index.{IsAmong, IsNamed, remembered_without}
 use Rattle.file_service.specs.Node.{value_of}
 use Rattle.file_service.specs.Session.{Finds, IsListed, KeepsOwn, LinksTo, Serves, served_in}
 use Rattle.file_service.specs.declared.session.FileSession.{FileSession}
@@ -39,7 +40,8 @@ link-requires-clause-there c holder =
     subst (λ o. IfSome o (Finds c.args.self.now (stock_of c.args.self.now.rooms c.args.memory.now c.args.map.now) c.args.name.now)) some c.find.ensures.some in
     let from : Finds c.args.self.now old c.args.name.now c.in_ok-found.found =
     subst (λ m. Finds c.args.self.now (stock_of c.args.self.now.rooms m c.args.map.now) c.args.name.now c.in_ok-found.found) (sym c.find.ensures.memory) finds in
-    let is = is_unlisted c.args.self.now c.unlist-previous.new.self old was c.args.name.now previous address node from c.unlist-previous.ensures.previous c.unlist-previous.ensures.tails c.unlist-previous.ensures.unlists in
+    let recent = subst (λ m. IsAmong c.args.self.now.recent (nodes_from c.args.self.now.first (stock_of c.args.self.now.rooms m c.args.map.now).nodes)) (sym c.find.ensures.memory) c.requires.files.indexed.remembered in
+    let is = is_unlisted c.args.self.now c.unlist-previous.new.self old was c.args.name.now previous address node recent from c.unlist-previous.ensures.previous c.unlist-previous.ensures.tails c.unlist-previous.ensures.unlists in
     previous_there c.args.self.now.first c.args.self.now.last was.nodes was.contents c.args.name.now previous address node is.found holder
 
 pub give_node-requires-clause-there : goal.give_node-requires-clause-there
@@ -54,7 +56,8 @@ give_node-requires-clause-there c =
     subst (λ o. IfSome o (Finds c.args.self.now (stock_of c.args.self.now.rooms c.args.memory.now c.args.map.now) c.args.name.now)) some c.find.ensures.some in
     let from : Finds c.args.self.now old c.args.name.now c.in_ok-found.found =
     subst (λ m. Finds c.args.self.now (stock_of c.args.self.now.rooms m c.args.map.now) c.args.name.now c.in_ok-found.found) (sym c.find.ensures.memory) finds in
-    let is = is_unlisted c.args.self.now c.unlist-previous.new.self old was c.args.name.now previous address node from c.unlist-previous.ensures.previous c.unlist-previous.ensures.tails c.unlist-previous.ensures.unlists in
+    let recent = subst (λ m. IsAmong c.args.self.now.recent (nodes_from c.args.self.now.first (stock_of c.args.self.now.rooms m c.args.map.now).nodes)) (sym c.find.ensures.memory) c.requires.files.indexed.remembered in
+    let is = is_unlisted c.args.self.now c.unlist-previous.new.self old was c.args.name.now previous address node recent from c.unlist-previous.ensures.previous c.unlist-previous.ensures.tails c.unlist-previous.ensures.unlists in
     let linked : Stock = stock_of c.link.new.self.rooms c.link.new.memory c.args.map.now in
     let start : c.unlist-previous.new.self.first ≡ c.args.self.now.first = ap (λ (s : FileSession). s.first) c.unlist-previous.ensures.same in
     let links : LinksTo c.args.self.now.first previous node.next c.link.new.self.first was.nodes linked.nodes =
@@ -75,7 +78,8 @@ give_content-requires-clause-there c =
     subst (λ o. IfSome o (Finds c.args.self.now (stock_of c.args.self.now.rooms c.args.memory.now c.args.map.now) c.args.name.now)) some c.find.ensures.some in
     let from : Finds c.args.self.now old c.args.name.now c.in_ok-found.found =
     subst (λ m. Finds c.args.self.now (stock_of c.args.self.now.rooms m c.args.map.now) c.args.name.now c.in_ok-found.found) (sym c.find.ensures.memory) finds in
-    let is = is_unlisted c.args.self.now c.unlist-previous.new.self old was c.args.name.now previous address node from c.unlist-previous.ensures.previous c.unlist-previous.ensures.tails c.unlist-previous.ensures.unlists in
+    let recent = subst (λ m. IsAmong c.args.self.now.recent (nodes_from c.args.self.now.first (stock_of c.args.self.now.rooms m c.args.map.now).nodes)) (sym c.find.ensures.memory) c.requires.files.indexed.remembered in
+    let is = is_unlisted c.args.self.now c.unlist-previous.new.self old was c.args.name.now previous address node recent from c.unlist-previous.ensures.previous c.unlist-previous.ensures.tails c.unlist-previous.ensures.unlists in
     let linked : Stock = stock_of c.link.new.self.rooms c.link.new.memory c.args.map.now in
     let start : c.unlist-previous.new.self.first ≡ c.args.self.now.first = ap (λ (s : FileSession). s.first) c.unlist-previous.ensures.same in
     let links : LinksTo c.args.self.now.first previous node.next c.link.new.self.first was.nodes linked.nodes =
@@ -97,7 +101,8 @@ returns-then-node-gt0-clause-serves c =
     subst (λ o. IfSome o (Finds c.args.self.now (stock_of c.args.self.now.rooms c.args.memory.now c.args.map.now) c.args.name.now)) some c.find.ensures.some in
     let from : Finds c.args.self.now old c.args.name.now c.in_ok-found.found =
     subst (λ m. Finds c.args.self.now (stock_of c.args.self.now.rooms m c.args.map.now) c.args.name.now c.in_ok-found.found) (sym c.find.ensures.memory) finds in
-    let is = is_unlisted c.args.self.now c.unlist-previous.new.self old was c.args.name.now previous address node from c.unlist-previous.ensures.previous c.unlist-previous.ensures.tails c.unlist-previous.ensures.unlists in
+    let recent = subst (λ m. IsAmong c.args.self.now.recent (nodes_from c.args.self.now.first (stock_of c.args.self.now.rooms m c.args.map.now).nodes)) (sym c.find.ensures.memory) c.requires.files.indexed.remembered in
+    let is = is_unlisted c.args.self.now c.unlist-previous.new.self old was c.args.name.now previous address node recent from c.unlist-previous.ensures.previous c.unlist-previous.ensures.tails c.unlist-previous.ensures.unlists in
     let linked : Stock = stock_of c.link.new.self.rooms c.link.new.memory c.args.map.now in
     let start : c.unlist-previous.new.self.first ≡ c.args.self.now.first = ap (λ (s : FileSession). s.first) c.unlist-previous.ensures.same in
     let links : LinksTo c.args.self.now.first previous node.next c.link.new.self.first was.nodes linked.nodes =
@@ -105,8 +110,10 @@ returns-then-node-gt0-clause-serves c =
     let root : c.link.new.self.root ≡ c.unlist-previous.new.self.root = ap (λ (s : FileSession). s.root) c.link.ensures.same in
     let named = subst (λ r. IsNamed r was.nodes (is.found.before ++ is.found.behind)) (sym root) is.named in
     let given : Stock = stock_of c.give_node.new.self c.give_node.new.memory c.give_node.new.map in
-    let later : FileSession = record c.link.new.self { rooms = c.give_content.new.self; last = c.last_without-self.result } in
+    let later : FileSession = record c.link.new.self { rooms = c.give_content.new.self; last = c.last_without-self.result; recent = c.recent_without-self.result } in
     let same : c.link.new.self.last ≡ c.args.self.now.last = ap (λ (s : FileSession). s.last) c.link.ensures.same ∙ ap (λ (s : FileSession). s.last) c.unlist-previous.ensures.same in
+    let same_recent : c.link.new.self.recent ≡ c.args.self.now.recent = ap (λ (s : FileSession). s.recent) c.link.ensures.same ∙ ap (λ (s : FileSession). s.recent) c.unlist-previous.ensures.same in
+    let recent_is = c.recent_without-self.ensures ∙ ap (λ r. remembered_without r address node.next) same_recent in
     let last_is = c.last_without-self.ensures ∙ ap (λ l. if l == address then previous else l) same in
     let own : KeepsOwn c.args.self.now later = record {
       label = ap (λ (s : FileSession). s.label) c.link.ensures.same ∙ ap (λ (s : FileSession). s.label) c.unlist-previous.ensures.same;
@@ -115,7 +122,7 @@ returns-then-node-gt0-clause-serves c =
     let now : Stock = stock_of c.give_content.new.self c.give_content.new.memory c.give_content.new.map in
     subst (λ m. Serves (served_in (Drop c.args.name.now) c.args.self.now (stock_of c.args.self.now.rooms m c.args.map.now)) Done c.args.self.now later now) c.find.ensures.memory
     (subst (λ s. Serves s Done c.args.self.now later now) is.served
-    (serves_full c.args.self.now later was linked given c.args.name.now previous address node is.found links c.link.ensures.rest named is.back c.give_node.ensures.given.is last_is own
+    (serves_full c.args.self.now later was linked given c.args.name.now previous address node is.found links c.link.ensures.rest named is.back c.give_node.ensures.given.is last_is is.remembered recent_is own
     now (omega arith) c.give_content.ensures.given))
 
 pub returns-else-node-gt0-clause-serves : goal.returns-else-node-gt0-clause-serves
@@ -130,7 +137,8 @@ returns-else-node-gt0-clause-serves c =
     subst (λ o. IfSome o (Finds c.args.self.now (stock_of c.args.self.now.rooms c.args.memory.now c.args.map.now) c.args.name.now)) some c.find.ensures.some in
     let from : Finds c.args.self.now old c.args.name.now c.in_ok-found.found =
     subst (λ m. Finds c.args.self.now (stock_of c.args.self.now.rooms m c.args.map.now) c.args.name.now c.in_ok-found.found) (sym c.find.ensures.memory) finds in
-    let is = is_unlisted c.args.self.now c.unlist-previous.new.self old was c.args.name.now previous address node from c.unlist-previous.ensures.previous c.unlist-previous.ensures.tails c.unlist-previous.ensures.unlists in
+    let recent = subst (λ m. IsAmong c.args.self.now.recent (nodes_from c.args.self.now.first (stock_of c.args.self.now.rooms m c.args.map.now).nodes)) (sym c.find.ensures.memory) c.requires.files.indexed.remembered in
+    let is = is_unlisted c.args.self.now c.unlist-previous.new.self old was c.args.name.now previous address node recent from c.unlist-previous.ensures.previous c.unlist-previous.ensures.tails c.unlist-previous.ensures.unlists in
     let linked : Stock = stock_of c.link.new.self.rooms c.link.new.memory c.args.map.now in
     let start : c.unlist-previous.new.self.first ≡ c.args.self.now.first = ap (λ (s : FileSession). s.first) c.unlist-previous.ensures.same in
     let links : LinksTo c.args.self.now.first previous node.next c.link.new.self.first was.nodes linked.nodes =
@@ -138,8 +146,10 @@ returns-else-node-gt0-clause-serves c =
     let root : c.link.new.self.root ≡ c.unlist-previous.new.self.root = ap (λ (s : FileSession). s.root) c.link.ensures.same in
     let named = subst (λ r. IsNamed r was.nodes (is.found.before ++ is.found.behind)) (sym root) is.named in
     let given : Stock = stock_of c.give_node.new.self c.give_node.new.memory c.give_node.new.map in
-    let later : FileSession = record c.link.new.self { rooms = c.give_node.new.self; last = c.last_without-self.result } in
+    let later : FileSession = record c.link.new.self { rooms = c.give_node.new.self; last = c.last_without-self.result; recent = c.recent_without-self.result } in
     let same : c.link.new.self.last ≡ c.args.self.now.last = ap (λ (s : FileSession). s.last) c.link.ensures.same ∙ ap (λ (s : FileSession). s.last) c.unlist-previous.ensures.same in
+    let same_recent : c.link.new.self.recent ≡ c.args.self.now.recent = ap (λ (s : FileSession). s.recent) c.link.ensures.same ∙ ap (λ (s : FileSession). s.recent) c.unlist-previous.ensures.same in
+    let recent_is = c.recent_without-self.ensures ∙ ap (λ r. remembered_without r address node.next) same_recent in
     let last_is = c.last_without-self.ensures ∙ ap (λ l. if l == address then previous else l) same in
     let own : KeepsOwn c.args.self.now later = record {
       label = ap (λ (s : FileSession). s.label) c.link.ensures.same ∙ ap (λ (s : FileSession). s.label) c.unlist-previous.ensures.same;
@@ -147,7 +157,7 @@ returns-else-node-gt0-clause-serves c =
     } in
     subst (λ m. Serves (served_in (Drop c.args.name.now) c.args.self.now (stock_of c.args.self.now.rooms m c.args.map.now)) Done c.args.self.now later given) c.find.ensures.memory
     (subst (λ s. Serves s Done c.args.self.now later given) is.served
-    (serves_empty c.args.self.now later was linked given c.args.name.now previous address node is.found links c.link.ensures.rest named is.back c.give_node.ensures.given.is last_is own (omega arith)))
+    (serves_empty c.args.self.now later was linked given c.args.name.now previous address node is.found links c.link.ensures.rest named is.back c.give_node.ensures.given.is last_is is.remembered recent_is own (omega arith)))
 
 pub returns-then-node-gt0-clause-keeps : goal.returns-then-node-gt0-clause-keeps
 returns-then-node-gt0-clause-keeps c =

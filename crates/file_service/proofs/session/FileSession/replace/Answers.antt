@@ -41,7 +41,7 @@ returns-else-node-gt0-clause-kept c =
     let mid : Stock = stock_of c.args.self.now.rooms c.store_content.new.memory c.args.map.now in
     let back = c.store_content.ensures.back ∙ ap (λ (n : FileNode). record n { content = c.args.content; size = c.args.size }) (sym c.requires.found.node_is) in
     let contents : mid.contents ≡ was.contents = ap (λ (s : Stock). s.contents) c.store_content.ensures.stored in
-    subst (AreFiles c.args.self.now.first c.args.self.now.last c.args.self.now.root mid.nodes) (sym contents)
+    subst (AreFiles c.args.self.now.first c.args.self.now.last c.args.self.now.root c.args.self.now.recent mid.nodes) (sym contents)
     (kept_alone c.args.self.now.first c.args.self.now.last was.nodes mid.nodes was.contents c.args.found.node.name.items (previous_at was.nodes c.args.found.address) c.args.found.address (value_of c.args.found.node) c.requires.found
     (with_part (payload_in was.nodes.payloads c.args.found.address) 8 (two_words c.args.content c.args.size)) (ap (λ (s : Stock). s.nodes) c.store_content.ensures.stored) c.args.content c.args.size
     back c.store_content.ensures.there c.requires.content c.requires.own c.args.self.now.root c.requires.indexed c.store_content.ensures.place)
@@ -67,8 +67,8 @@ returns-then-node-gt0-clause-kept c =
     let nodes : now.nodes ≡ mid.nodes = ap (λ (s : Stock). s.nodes) c.give_content.ensures.given in
     let contents : now.contents ≡ remove was.contents c.args.found.node.content =
     ap (λ (s : Stock). s.contents) c.give_content.ensures.given ∙ ap (λ (s : Stock). remove s.contents c.args.found.node.content) c.store_content.ensures.stored in
-    subst (λ n. AreFiles c.args.self.now.first c.args.self.now.last c.args.self.now.root n now.contents) (sym nodes)
-    (subst (AreFiles c.args.self.now.first c.args.self.now.last c.args.self.now.root mid.nodes) (sym contents)
+    subst (λ n. AreFiles c.args.self.now.first c.args.self.now.last c.args.self.now.root c.args.self.now.recent n now.contents) (sym nodes)
+    (subst (AreFiles c.args.self.now.first c.args.self.now.last c.args.self.now.root c.args.self.now.recent mid.nodes) (sym contents)
     (kept_left c.args.self.now.first c.args.self.now.last was.nodes mid.nodes was.contents c.args.found.node.name.items (previous_at was.nodes c.args.found.address) c.args.found.address (value_of c.args.found.node) c.requires.found
     (with_part (payload_in was.nodes.payloads c.args.found.address) 8 (two_words c.args.content c.args.size)) (ap (λ (s : Stock). s.nodes) c.store_content.ensures.stored) c.args.content c.args.size
     back c.store_content.ensures.there c.requires.content c.requires.own c.args.self.now.root c.requires.indexed c.store_content.ensures.place some))
