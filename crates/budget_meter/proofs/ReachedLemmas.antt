@@ -8,7 +8,7 @@ use Rattle.trade_base.specs.declared.refusal.Refusal.TheVariants.{InsufficientRa
 use Rattle.own_model.specs.Amounts.{Amounts}
 use Rattle.own_model.specs.Session.{Session, session_ram, session_caps}
 use Rattle.budget_theorems.proofs.CellLemmas.{Leads}
-use Rattle.budget_theorems.proofs.EachLemmas.{of_first, of_second, of_both}
+use Rattle.own_model.proofs.ListLemmas.{all_left, all_right, all_append}
 use Rattle.budget_theorems.proofs.SessionRunLemmas.{Donated, EachAlike, session_alike, session_moved, session_decides, first_donated}
 use Rattle.budget_theorems.proofs.StretchLemmas.{exact}
 use Rattle.budget_theorems.proofs.WantLemmas.{or_left, or_right, within_by, below_by}
@@ -32,7 +32,7 @@ module _ (one other : Amounts) where
   once : (buffer : Option (List ℕ)) (sent : Sent) (s t : Session) → Donated one other s t → EachAlike one other (needs_of_one one (reaches buffer sent) s) → Once buffer sent s t
   once buffer sent s t before each =
       let x = reaches buffer sent in
-      let alone = of_both (ComesOutAlike one other) (needs_of_one one x s) [] each tt in
+      let alone = all_append (ComesOutAlike one other) (needs_of_one one x s) [] each tt in
       let alike = session_alike one other (x ∷ []) s t before alone in
       record {
         buffers = same_buffer buffer sent s t alike.told.0;
@@ -48,7 +48,7 @@ module _ (one other : Amounts) where
       let x = reaches buffer sent in
       let first = needs_of_one one x s in
       let more : Bool → List Reaches = λ w. cond w [] (reaching_to_want rest (buffer_after buffer sent s) (session_after x s)) in
-      let here = once buffer sent s t before (of_first (ComesOutAlike one other) first (session_needs one (more (one_is_short x s)) (session_after x s)) each) in
+      let here = once buffer sent s t before (all_left (ComesOutAlike one other) first (session_needs one (more (one_is_short x s)) (session_after x s)) each) in
       ap (λ w. x ∷ cond w [] (reaching_to_want rest (buffer_after buffer sent t) (session_after x t))) here.want
       ∙ elim (one_is_short x s) as
       (λ w. EachAlike one other (first ++ session_needs one (more w) (session_after x s)) →
@@ -57,7 +57,7 @@ module _ (one other : Amounts) where
         | false ↦ λ all.
             ap (λ b. x ∷ reaching_to_want rest b (session_after x t)) here.buffers
             ∙ ap (λ ys. x ∷ ys) (reaching_same rest (buffer_after buffer sent s) (session_after x s) (session_after x t) here.next
-            (of_second (ComesOutAlike one other) first (session_needs one (more false) (session_after x s)) all))
+            (all_right (ComesOutAlike one other) first (session_needs one (more false) (session_after x s)) all))
       ] each
 
   -- tests that lead come out alike, or the other is in want
@@ -71,11 +71,11 @@ module _ (one other : Amounts) where
       let more : Bool → List Reaches = λ w. cond w [] (reaching_to_want rest (buffer_after buffer sent s) (session_after x s)) in
       let there : Bool → List Reaches = λ w. cond w [] (reaching_to_want rest (buffer_after buffer sent t) (session_after x t)) in
       let later : Bool → Bool = λ w. session_is_short (there w) (session_after x t) in
-      let led = of_first (Leads one other) first (session_needs one (more (one_is_short x s)) (session_after x s)) each in
-      elim (session_decides one other (x ∷ []) s t before (of_both (Leads one other) first [] led tt)) [
+      let led = all_left (Leads one other) first (session_needs one (more (one_is_short x s)) (session_after x s)) each in
+      elim (session_decides one other (x ∷ []) s t before (all_append (Leads one other) first [] led tt)) [
         | inr short ↦ inr (or_left (one_is_short x t) (later (one_is_short x t)) (sym (or-false (one_is_short x t)) ∙ short))
         | inl alone ↦
-            let alike = of_first (ComesOutAlike one other) first [] alone in
+            let alike = all_left (ComesOutAlike one other) first [] alone in
             let here = once buffer sent s t before alike in
             elim (one_is_short x s) as
             (λ w. one_is_short x t ≡ w → AllByRecursion (Leads one other) (first ++ session_needs one (more w) (session_after x s)) →
@@ -83,10 +83,10 @@ module _ (one other : Amounts) where
               | true ↦ λ is all. inl alone
               | false ↦ λ is all.
                   elim (reaching_decides rest (buffer_after buffer sent s) (session_after x s) (session_after x t) here.next
-                  (of_second (Leads one other) first (session_needs one (more false) (session_after x s)) all)) [
+                  (all_right (Leads one other) first (session_needs one (more false) (session_after x s)) all)) [
                     | inr short ↦ inr (or_right (one_is_short x t) (later (one_is_short x t))
                         (ap later is ∙ ap (λ b. session_is_short (reaching_to_want rest b (session_after x t)) (session_after x t)) here.buffers ∙ short))
-                    | inl same ↦ inl (of_both (ComesOutAlike one other) first (session_needs one (more false) (session_after x s)) alike same)
+                    | inl same ↦ inl (all_append (ComesOutAlike one other) first (session_needs one (more false) (session_after x s)) alike same)
                   ]
             ] here.want each
       ]

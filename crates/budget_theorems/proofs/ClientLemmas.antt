@@ -1,16 +1,17 @@
 -- A client of which one session has another donation, where the client is ample.
-use Rattle.std.proofs.Common.{arith, ◌≡◌, ℕ, ◌+◌, ◌-◌, ◌≤◌, ◌⊎◌, inl, inr, ◌==◌, Bool, true, false, cond, List, [], ◌∷◌, ◌++◌, refl, sym, ap, ◌∙◌, eqb-true, true≢false, subst, ◌||◌}
+use Rattle.std.proofs.Common.{arith, ◌≡◌, ℕ, ◌+◌, ◌⊎◌, inl, inr, ◌==◌, Bool, true, false, cond, List, [], ◌∷◌, ◌++◌, refl, sym, ap, ◌∙◌, eqb-true, true≢false, subst, ◌||◌}
 use Rattle.std.proofs.lemmas.Bool.Decides.{nat_tests}
 use Rattle.std.proofs.lemmas.List.{append_assoc}
 use Rattle.std.proofs.lemmas.Option.{none-some}
 use Rattle.std.specs.FinMap.{get, insert, remove}
+use Rattle.std.proofs.lemmas.Bool.{or_left, or_right}
 use Rattle.std.specs.List.{AllByRecursion}
 use Rattle.std.specs.Prelude.{Option, Some, None, is_none}
 use Rattle.trade_base.specs.declared.refusal.Refusal.{Refusal}
 use Rattle.trade_base.specs.declared.refusal.Refusal.TheVariants.{Gone, BadArgs}
 use Rattle.own_model.proofs.SessionAloneLemmas.{stand_alone}
 use Rattle.own_model.proofs.StepExitLemmas.{alike_on}
-use Rattle.own_model.proofs.ListLemmas.{all_then}
+use Rattle.own_model.proofs.ListLemmas.{all_append, all_left, all_right, all_then}
 use Rattle.own_model.proofs.NatMapLemmas.{natmaps, same, get-insert_same}
 use Rattle.own_model.proofs.StepLemmas.{covers}
 use Rattle.own_model.specs.Account.{Account, Fits, shortage, parted_with}
@@ -30,13 +31,13 @@ use Rattle.own_model.specs.StartList.{Entry, Kind}
 use Rattle.own_model.specs.StartList.Kind.{Script, Server, Init}
 use Rattle.budget_theorems.proofs.CarryLemmas.{Carries, carried, tests_carried}
 use Rattle.budget_theorems.proofs.CellLemmas.{Leads, in_cell_of}
-use Rattle.budget_theorems.proofs.EachLemmas.{of_first, of_second, of_both, of_mapped}
+use Rattle.budget_theorems.proofs.EachLemmas.{of_mapped}
 use Rattle.budget_theorems.proofs.SelectorLemmas.{at_it, buffer_same, lent_beside, new_same}
 use Rattle.budget_theorems.proofs.ServeLemmas.{ServesAlike, serves}
 use Rattle.budget_theorems.proofs.SessionRunLemmas.{Donated, session_alike, session_decides, session_moved, first_donated}
 use Rattle.budget_theorems.proofs.StepLemmas.{Agrees, limits_of, here_when, entry_agrees}
-use Rattle.budget_theorems.proofs.TestLemmas.{IsAlike, short_alike, alike_of}
-use Rattle.budget_theorems.proofs.WantLemmas.{or_left, or_right, within_by, below_by}
+use Rattle.budget_theorems.proofs.TestLemmas.{IsAlike, short_alike, alike_of, less_alike}
+use Rattle.budget_theorems.proofs.WantLemmas.{within_by, below_by}
 use Rattle.budget_theorems.specs.Need.{Need, ComesOutAlike, limited, budgeted, need_of}
 use Rattle.budget_theorems.specs.Opened.{donated_to, selectors_but, but_limits_of, ends, raised_by, brought, reaching, CoversBoth, UnlessEnded, IsAmple, ReplyAlike, AllReplyAlike, HadAsMuch, OpeningsDonate, SameAnswersOfClient, ClientShortfallInACell, ClientShortfallBelowACell}
 use Rattle.budget_theorems.specs.Opened.ReplyAlike.{ButLimits, Texts}
@@ -74,10 +75,6 @@ stepped entry call s here = ap (λ why. unless why s (entry_step entry call s)) 
 
 tests_stepped : (entry : Entry) (call : Call) (s : OwnState) → turned_away entry.kind s ≡ None → tests entry call s ≡ entry_tests entry call s
 tests_stepped entry call s here = ap (λ why. tests_unless why (entry_tests entry call s)) here
-
--- what is parted with was covered under both
-parts : (x u a b c d : ℕ) → a + b ≡ c + d → u + x ≤ a → u + x ≤ c → a - x + b ≡ c - x + d
-parts x u a b c d same left right = omega (arith, same, left, right)
 
 -- what is inserted and removed leaves the others
 removed_twice : (x : NatMap Object) (q : ℕ) (a : Object) → remove (insert x q a) q ≡ remove x q
@@ -280,8 +277,8 @@ module _ (entry : Entry) (q : ℕ) (one other : Amounts) where
               (inserted_twice m q (OpenSession new) (OpenSession then_after) ∙ sym (inserted_twice m q (OpenSession after) (OpenSession then_after)));
           ram = omega (arith, ram);
           caps = omega (arith, caps);
-          own_ram = parts more.ram s.account.ram_used limits.ram other.ram s.account.ram_limit one.ram own_ram fits_then.ram_fits fits.ram_fits;
-          own_caps = parts more.caps s.account.caps_used limits.caps other.caps s.account.caps_limit one.caps own_caps fits_then.caps_fit fits.caps_fit;
+          own_ram = less_alike more.ram s.account.ram_used limits.ram other.ram s.account.ram_limit one.ram own_ram fits_then.ram_fits fits.ram_fits;
+          own_caps = less_alike more.caps s.account.caps_used limits.caps other.caps s.account.caps_limit one.caps own_caps fits_then.caps_fit fits.caps_fit;
         };
       }
 
@@ -339,7 +336,7 @@ module _ (entry : Entry) (q : ℕ) (one other : Amounts) where
     asks k request true e each = record {
       brings = ap (λ b. Asked (bytes_of_buffer b) request ∷ []) (buffer_same q m session new there q);
       steps = λ alike. subst (λ j. EntrySteps (answered request).session (entry_step entry (CallSession j request) s) (entry_step entry (CallSession j request) t)) (sym (eqb-true k q e))
-          (it_serves request (of_first (ComesOutAlike one other) (needs_of_one one (Asked (bytes_of_buffer (buffer_of q m)) request) session) [] alike));
+          (it_serves request (all_left (ComesOutAlike one other) (needs_of_one one (Asked (bytes_of_buffer (buffer_of q m)) request) session) [] alike));
     }
 
     raises : (k : ℕ) (text : List ℕ) (b : Bool) → (k == q) ≡ b → Covered (entry_tests entry (Upgrade k text) s) →
@@ -493,8 +490,8 @@ module _ (entry : Entry) (q : ℕ) (one other : Amounts) where
             let rest = session_needs one (reaching entry q calls o.next) (session_run (brought q call s) session) in
             let both = subst Each (needs_over_append one (brought q call s) (reaching entry q calls o.next) session) others in
             let at = call_of_it session s t apart call e enough.0 in
-            let steps = at.1 (of_first (ComesOutAlike one other) first rest both) in
-            let later = client_alike calls (session_run (brought q call s) session) o.next p.next steps.next enough.1 (of_second (ComesOutAlike one other) first rest both) in
+            let steps = at.1 (all_left (ComesOutAlike one other) first rest both) in
+            let later = client_alike calls (session_run (brought q call s) session) o.next p.next steps.next enough.1 (all_right (ComesOutAlike one other) first rest both) in
             ((steps.reply, steps.lines, later.told), (λ i. at.0 i ++ later.brings i), later.left)
       ] refl ample each in
       record { told = all.0; brings = all.1; left = all.2 }
@@ -521,15 +518,15 @@ module _ (entry : Entry) (q : ℕ) (one other : Amounts) where
             let both = subst (AllByRecursion (Leads one other)) (needs_over_append one now after session) others in
             let at = call_of_it session s t apart call e enough.0 in
             let parted = ap (λ x. session_is_short (x ++ then_after) new) at.0 ∙ want_over_append now then_after new in
-            elim (session_decides one other now session new (donated_it session s t apart) (of_first (Leads one other) first rest both)) [
+            elim (session_decides one other now session new (donated_it session s t apart) (all_left (Leads one other) first rest both)) [
               | inr short ↦ inr (parted ∙ or_left (session_is_short now new) (session_is_short then_after (session_run now new)) short)
               | inl alike ↦
                   let steps = at.1 alike in
-                  elim (client_decides calls (session_run now session) o.next p.next steps.next enough.1 (of_second (Leads one other) first rest both)) [
+                  elim (client_decides calls (session_run now session) o.next p.next steps.next enough.1 (all_right (Leads one other) first rest both)) [
                     | inr short ↦ inr (
                         parted ∙ or_right (session_is_short now new) (session_is_short then_after (session_run now new))
                         (ap (session_is_short then_after) (run_apart session s t apart now steps.next.donation steps.next.ram steps.next.caps alike) ∙ short))
-                    | inl more ↦ inl (subst Each (sym (needs_over_append one now after session)) (of_both (ComesOutAlike one other) first rest alike more))
+                    | inl more ↦ inl (subst Each (sym (needs_over_append one now after session)) (all_append (ComesOutAlike one other) first rest alike more))
                   ]
             ]
       ] refl ample each

@@ -22,7 +22,7 @@ use Rattle.own_model.specs.Sliced.{sliced_header, sliced_size, sliced_refusal}
 use Rattle.own_model.specs.StartList.{Entry}
 use Rattle.budget_theorems.proofs.CellLemmas.{Leads}
 use Rattle.budget_theorems.proofs.StepLemmas.{Moved, limits_of, here_when, turned_alike}
-use Rattle.budget_theorems.proofs.TestLemmas.{IsAlike, IsLed, lacks, decided, sized_decided, growth_decided, alike_to, led_of}
+use Rattle.budget_theorems.proofs.TestLemmas.{IsAlike, IsLed, lacks, decided, sized_decided, growth_decided, alike_to, led_of, alone}
 use Rattle.budget_theorems.specs.Need.{budgeted, need_of, ComesOutAlike}
 use Rattle.budget_theorems.specs.Test.{Test, test_of, small_tests, growth_tests, arguments_tests, donation_tests, upgrade_tests, entry_tests, tests_unless, tests}
 use Rattle.budget_theorems.specs.Shortfall.{is_short, wants}
@@ -45,11 +45,6 @@ lacks_first (Some why) b is = is
 or_first : {A : Type 0} (a b : Option Refusal) → A ⊎ (lacks a ≡ true) → A ⊎ (lacks (option_or a b) ≡ true)
 or_first a b (inl x) = inl x
 or_first a b (inr is) = inr (lacks_first a b is)
-
--- what holds of a test holds of the list of it
-alone : {A B : Type 0} → A ⊎ B → (A × Unit {0}) ⊎ B
-alone (inl a) = inl (a, tt)
-alone (inr b) = inr b
 
 module _ (m : Amounts) (s : OwnState) where
   abbrev t : OwnState

@@ -1,5 +1,6 @@
 -- Runs under two budgets.
 use Rattle.std.proofs.Common.{arith, ◌≡◌, ◌<◌, ◌≤◌, ◌⊎◌, inl, inr, Bool, true, List, [], ◌∷◌, map, nat_lt, refl, sym, ap, ◌∙◌, ◌||◌}
+use Rattle.std.proofs.lemmas.Bool.{or_left, or_right}
 use Rattle.std.specs.List.{AllByRecursion}
 use Rattle.own_model.specs.Amounts.{Amounts, no_amounts}
 use Rattle.own_model.specs.Call.{Call}
@@ -11,9 +12,10 @@ use Rattle.own_model.specs.Reply.Reply.{Quotas}
 use Rattle.own_model.specs.StartList.{Entry}
 use Rattle.budget_theorems.proofs.CellLemmas.{Leads, in_cell_of}
 use Rattle.budget_theorems.proofs.DecideLemmas.{own_decides}
-use Rattle.budget_theorems.proofs.EachLemmas.{of_first, of_second, of_both, of_mapped, to_mapped}
+use Rattle.budget_theorems.proofs.EachLemmas.{of_mapped, to_mapped}
+use Rattle.own_model.proofs.ListLemmas.{all_append, all_left, all_right}
 use Rattle.budget_theorems.proofs.StepLemmas.{Moved, own_agrees}
-use Rattle.budget_theorems.proofs.WantLemmas.{or_left, or_right, within_by, below_by}
+use Rattle.budget_theorems.proofs.WantLemmas.{within_by, below_by}
 use Rattle.budget_theorems.specs.Theorems.{SameAnswersInACell, ShortfallInACell, ShortfallBelowACell}
 use Rattle.budget_theorems.specs.Need.{Need, HasRam, IsBelow, budgeted, need_of, needs, ComesOutAlike, cell, greatest_choice}
 use Rattle.budget_theorems.specs.Test.{tests}
@@ -43,8 +45,8 @@ module _ (one other : Amounts) (entry : Entry) where
   run_alike (call ∷ calls) s t before each =
       let first = map (need_of one s.account) (tests entry call s) in
       let rest = needs entry one calls (own_step entry call s).next in
-      let agrees = own_agrees one other entry call s t before (of_mapped (ComesOutAlike one other) (need_of one s.account) (tests entry call s) (of_first (ComesOutAlike one other) first rest each)) in
-      let later = run_alike calls (own_step entry call s).next (own_step entry call t).next agrees.next (of_second (ComesOutAlike one other) first rest each) in
+      let agrees = own_agrees one other entry call s t before (of_mapped (ComesOutAlike one other) (need_of one s.account) (tests entry call s) (all_left (ComesOutAlike one other) first rest each)) in
+      let later = run_alike calls (own_step entry call s).next (own_step entry call t).next agrees.next (all_right (ComesOutAlike one other) first rest each) in
       let reply = agrees.reply in
       let lines = agrees.lines in
       let told = later.told in
@@ -61,13 +63,13 @@ module _ (one other : Amounts) (entry : Entry) where
       let rest = needs entry one calls (own_step entry call s).next in
       let wanted = wants call (own_step entry call t).reply in
       let later = run_is_short entry calls (own_step entry call t).next in
-      elim (own_decides one other entry call s t before (of_mapped (Leads one other) (need_of one s.account) (tests entry call s) (of_first (Leads one other) first rest each))) [
+      elim (own_decides one other entry call s t before (of_mapped (Leads one other) (need_of one s.account) (tests entry call s) (all_left (Leads one other) first rest each))) [
         | inr short ↦ inr (or_left wanted later short)
         | inl alike ↦
             let agrees = own_agrees one other entry call s t before alike in
-            elim (run_decides calls (own_step entry call s).next (own_step entry call t).next agrees.next (of_second (Leads one other) first rest each)) [
+            elim (run_decides calls (own_step entry call s).next (own_step entry call t).next agrees.next (all_right (Leads one other) first rest each)) [
               | inr short ↦ inr (or_right wanted later short)
-              | inl others ↦ inl (of_both (ComesOutAlike one other) first rest (to_mapped (ComesOutAlike one other) (need_of one s.account) (tests entry call s) alike) others)
+              | inl others ↦ inl (all_append (ComesOutAlike one other) first rest (to_mapped (ComesOutAlike one other) (need_of one s.account) (tests entry call s) alike) others)
             ]
       ]
 

@@ -24,7 +24,7 @@ use Rattle.own_model.specs.Session.{ServiceState, Session, Served, served_by, se
 use Rattle.own_model.specs.Services.ServiceState.{Filing}
 use Rattle.own_model.specs.Sliced.{sliced_size}
 use Rattle.own_model.specs.Text.{is_name}
-use Rattle.budget_theorems.proofs.TestLemmas.{IsAlike, IsLed, lacks, short_alike, least_alike, growth_alike, decided, growth_decided}
+use Rattle.budget_theorems.proofs.TestLemmas.{IsAlike, IsLed, lacks, short_alike, least_alike, growth_alike, decided, growth_decided, alone}
 use Rattle.budget_theorems.specs.Need.{limited}
 use Rattle.budget_theorems.specs.Request.{tests_where_none, write_tests, put_tests, filing_tests, tests_by, request_tests, donating, shows_session_short}
 use Rattle.budget_theorems.specs.RequestTheorems.{AreTold, AnswersAlike}
@@ -238,10 +238,6 @@ module _ (x : Amounts) (a : Account) where
     or_told : {A : Type 0} (why : Option Refusal) (p : FileServed) → A ⊎ (lacks why ≡ true) → A ⊎ Short (unless_refused (option_map error_of why) files then_it p).reply
     or_told why p (inl alike) = inl alike
     or_told why p (inr is) = inr (short_told why files then_it p is)
-
-    alone : {A B : Type 0} → A ⊎ B → (A × Unit {0}) ⊎ B
-    alone (inl here) = inl (here, tt)
-    alone (inr there) = inr there
 
     chunks_decide : (full : Bool) (p : FileServed) → Led (cond full [] (growth_tests node_size files.shape a)) →
         Alike (cond full [] (growth_tests node_size files.shape a))

@@ -1,17 +1,18 @@
 -- What reaches a session, under two donations.
 use Rattle.std.proofs.Common.{arith, ◌≡◌, ℕ, ◌+◌, ◌<◌, ◌≤◌, ◌⊎◌, inl, inr, Bool, true, false, List, [], ◌∷◌, nat_lt, refl, sym, ap, ◌∙◌, subst, ◌||◌}
+use Rattle.std.proofs.lemmas.Bool.{or_left, or_right}
 use Rattle.std.specs.List.{AllByRecursion}
-use Rattle.own_model.proofs.ListLemmas.{all_then}
+use Rattle.own_model.proofs.ListLemmas.{all_append, all_left, all_right, all_then}
 use Rattle.own_model.specs.Account.{Account}
 use Rattle.own_model.specs.Amounts.{Amounts, no_amounts}
 use Rattle.own_model.specs.FileText.{file_reply}
 use Rattle.own_model.specs.FileText.FileReply.{Quotas}
 use Rattle.own_model.specs.Session.{Session, served}
 use Rattle.budget_theorems.proofs.CellLemmas.{Leads, in_cell_of}
-use Rattle.budget_theorems.proofs.EachLemmas.{of_first, of_second, of_both, of_mapped, to_mapped}
+use Rattle.budget_theorems.proofs.EachLemmas.{of_mapped, to_mapped}
 use Rattle.budget_theorems.proofs.ServeLemmas.{serves, serve_decides}
 use Rattle.budget_theorems.proofs.TestLemmas.{IsAlike, IsLed, alike_of, alike_to, led_of}
-use Rattle.budget_theorems.proofs.WantLemmas.{or_left, or_right, within_by, below_by}
+use Rattle.budget_theorems.proofs.WantLemmas.{within_by, below_by}
 use Rattle.budget_theorems.specs.Need.{Need, HasRam, IsBelow, ComesOutAlike, need_of, greatest_choice}
 use Rattle.budget_theorems.specs.Request.{request_tests, donating, shows_session_short}
 use Rattle.budget_theorems.specs.RequestTheorems.{Reaches, session_after, needs_of_one, session_needs, session_cell, session_run, AreTold, OneAlike, AllAlike, one_is_short, session_is_short, SameAnswersOfSession, SessionShortfallInACell, SessionShortfallBelowACell}
@@ -95,8 +96,8 @@ module _ (one other : Amounts) where
   session_alike (reaches ∷ rest) s t before each =
       let first = needs_of_one one reaches s in
       let others = session_needs one rest (session_after reaches s) in
-      let once = once_alike reaches s t before (of_first (ComesOutAlike one other) first others each) in
-      let later = session_alike rest (session_after reaches s) (session_after reaches t) once.next (of_second (ComesOutAlike one other) first others each) in
+      let once = once_alike reaches s t before (all_left (ComesOutAlike one other) first others each) in
+      let later = session_alike rest (session_after reaches s) (session_after reaches t) once.next (all_right (ComesOutAlike one other) first others each) in
       let want = once.want in
       let wanted = later.want in
       record { told = (once.told, later.told); left = later.left; want = cc }
@@ -107,8 +108,8 @@ module _ (one other : Amounts) where
   session_moved (reaches ∷ rest) s t before each =
       let first = needs_of_one one reaches s in
       let others = session_needs one rest (session_after reaches s) in
-      session_moved rest (session_after reaches s) (session_after reaches t) (once_alike reaches s t before (of_first (ComesOutAlike one other) first others each)).next
-      (of_second (ComesOutAlike one other) first others each)
+      session_moved rest (session_after reaches s) (session_after reaches t) (once_alike reaches s t before (all_left (ComesOutAlike one other) first others each)).next
+      (all_right (ComesOutAlike one other) first others each)
 
   pub session_decides : (all : List Reaches) (s t : Session) → Donated one other s t → AllByRecursion (Leads one other) (session_needs one all s) →
       EachAlike (session_needs one all s) ⊎ (session_is_short all t ≡ true)
@@ -118,13 +119,13 @@ module _ (one other : Amounts) where
       let others = session_needs one rest (session_after reaches s) in
       let wanted = one_is_short reaches t in
       let later = session_is_short rest (session_after reaches t) in
-      elim (once_decides reaches s t before (of_first (Leads one other) first others each)) [
+      elim (once_decides reaches s t before (all_left (Leads one other) first others each)) [
         | inr short ↦ inr (or_left wanted later short)
         | inl alike ↦
             let once = once_alike reaches s t before alike in
-            elim (session_decides rest (session_after reaches s) (session_after reaches t) once.next (of_second (Leads one other) first others each)) [
+            elim (session_decides rest (session_after reaches s) (session_after reaches t) once.next (all_right (Leads one other) first others each)) [
               | inr short ↦ inr (or_right wanted later short)
-              | inl more ↦ inl (of_both (ComesOutAlike one other) first others alike more)
+              | inl more ↦ inl (all_append (ComesOutAlike one other) first others alike more)
             ]
       ]
 

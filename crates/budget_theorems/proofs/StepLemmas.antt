@@ -1,5 +1,5 @@
 -- What a call does under another budget where its tests come out alike.
-use Rattle.std.proofs.Common.{arith, ◌≡◌, ℕ, ◌+◌, ◌-◌, ◌≤◌, Bool, true, false, cond, List, [], ◌∷◌, length, nat_lt, refl, sym, ap, ◌∙◌, true≢false, subst, ◌&&◌}
+use Rattle.std.proofs.Common.{arith, ◌≡◌, ℕ, ◌+◌, ◌-◌, Bool, true, false, cond, List, [], ◌∷◌, length, nat_lt, refl, sym, ap, ◌∙◌, true≢false, subst, ◌&&◌}
 use Rattle.std.specs.FinMap.{get}
 use Rattle.std.specs.List.{AllByRecursion}
 use Rattle.std.specs.Option.{option_or}
@@ -27,7 +27,7 @@ use Rattle.own_model.specs.Sliced.{sliced_header, sliced_size, sliced_refusal}
 use Rattle.own_model.specs.StartList.{Entry, Kind}
 use Rattle.own_model.specs.StartList.Kind.{Script, Server, Init}
 use Rattle.own_model.proofs.ListLemmas.{all_then}
-use Rattle.budget_theorems.proofs.TestLemmas.{IsAlike, short_alike, sized_alike, least_alike, growth_alike, alike_of}
+use Rattle.budget_theorems.proofs.TestLemmas.{IsAlike, short_alike, sized_alike, least_alike, growth_alike, alike_of, less_alike}
 use Rattle.budget_theorems.specs.Need.{budgeted, need_of, ComesOutAlike}
 use Rattle.budget_theorems.specs.Test.{Test, test_of, small_tests, growth_tests, arguments_tests, donation_tests, upgrade_tests, entry_tests, tests_unless, tests}
 use Rattle.budget_theorems.specs.Shortfall.{but_limits}
@@ -172,15 +172,11 @@ module _ (one other m : Amounts) (s : OwnState) (ram : m.ram + one.ram ≡ s.acc
     };
   }
 
-  -- what is parted with was covered under both
-  parts : (x u a b c d : ℕ) → a + b ≡ c + d → u + x ≤ a → u + x ≤ c → a - x + b ≡ c - x + d
-  parts x u a b c d same left right = omega (arith, same, left, right)
-
   parted_ram : (x y : ℕ) → shortage s.account x y ≡ None → shortage t.account x y ≡ None → m.ram - x + one.ram ≡ s.account.ram_limit - x + other.ram
-  parted_ram x y fits fits_then = parts x s.account.ram_used m.ram one.ram s.account.ram_limit other.ram ram (covers t.account x y fits_then).ram_fits (covers s.account x y fits).ram_fits
+  parted_ram x y fits fits_then = less_alike x s.account.ram_used m.ram one.ram s.account.ram_limit other.ram ram (covers t.account x y fits_then).ram_fits (covers s.account x y fits).ram_fits
 
   parted_caps : (x y : ℕ) → shortage s.account x y ≡ None → shortage t.account x y ≡ None → m.caps - y + one.caps ≡ s.account.caps_limit - y + other.caps
-  parted_caps x y fits fits_then = parts y s.account.caps_used m.caps one.caps s.account.caps_limit other.caps caps (covers t.account x y fits_then).caps_fit (covers s.account x y fits).caps_fit
+  parted_caps x y fits fits_then = less_alike y s.account.caps_used m.caps one.caps s.account.caps_limit other.caps caps (covers t.account x y fits_then).caps_fit (covers s.account x y fits).caps_fit
 
   abbrev Alike : List Test → Type 0
   Alike each = AllByRecursion (IsAlike m s.account) each

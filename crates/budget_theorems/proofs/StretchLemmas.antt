@@ -1,7 +1,7 @@
 -- Stretches are the budgets in no want.
 use Rattle.std.proofs.lemmas.Bool.Decides.{nat_tests}
 use Rattle.std.proofs.Common.{arith, ◌≡◌, ℕ, zero, suc, ◌-◌, ◌<◌, ◌≤◌, ◌&&◌, Bool, true, false, List, [], ◌∷◌, nat_lt, nat_eq, refl, sym, ap, ◌∙◌, true≢false, ⊎_elim, ◌||◌}
-use Rattle.std.proofs.lemmas.Bool.{cases_lt}
+use Rattle.std.proofs.lemmas.Bool.{cases_lt, or_left}
 use Rattle.std.specs.Prelude.{if◌then◌else◌, Option, Some, None, max, not}
 use Rattle.own_model.specs.Amounts.{Amounts}
 use Rattle.own_model.specs.Call.{Call}
@@ -36,11 +36,7 @@ choice_within budget (need ∷ rest) =
     choice_by need.choice (covers_ram budget need) need.ram (greatest_choice budget rest) (cell_by budget rest).ram_from budget.ram
     (λ passes. grind (arith, nat_tests, passes)) (choice_within budget rest)
 
--- one of two
-or_first : (a b : Bool) → a ≡ true → (a || b) ≡ true
-or_first true b is = refl
-or_first false b is = absurd (true≢false (sym is))
-
+-- the second of two
 or_second : (a b : Bool) → a ≡ false → (a || b) ≡ b
 or_second true b is = absurd (true≢false is)
 or_second false b is = refl
@@ -83,7 +79,7 @@ module _ (each : Amounts → List Need) (want : Amounts → Bool) (within : (one
     want_there : budget.ram ≤ top → choice ≤ budget.ram → want budget ≡ (nat_lt budget.ram c.ram_from || (want one || nat_lt budget.caps c.caps_from))
     want_there up from =
         ⊎_elim
-        (λ less. below one budget few_there less from ∙ sym (or_first (nat_lt budget.ram c.ram_from) (want one || nat_lt budget.caps c.caps_from) (grind (arith, nat_tests, less))))
+        (λ less. below one budget few_there less from ∙ sym (or_left (nat_lt budget.ram c.ram_from) (want one || nat_lt budget.caps c.caps_from) (grind (arith, nat_tests, less))))
         (λ more.
         within one budget few_there (record { enough = more; below = below_through budget.ram top c.ram_below up (in_own_cell one (each one)).ram.below })
         ∙ sym (or_second (nat_lt budget.ram c.ram_from) (want one || nat_lt budget.caps c.caps_from) (grind (arith, nat_tests, more))))

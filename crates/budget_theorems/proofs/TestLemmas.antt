@@ -1,6 +1,6 @@
 -- What a test says of an account under other limits.
 use Rattle.std.proofs.lemmas.Bool.Decides.{nat_tests}
-use Rattle.std.proofs.Common.{arith, ◌≡◌, ℕ, ◌+◌, ◌≤◌, ◌⊎◌, inl, inr, Bool, true, false, cond, [], ◌∷◌, nat_lt, nat_le, refl, sym, ap, ◌∙◌, true≢false}
+use Rattle.std.proofs.Common.{arith, ◌≡◌, ℕ, ◌+◌, ◌-◌, ◌≤◌, ◌⊎◌, inl, inr, Bool, true, false, cond, [], ◌∷◌, nat_lt, nat_le, refl, sym, ap, ◌∙◌, true≢false}
 use Rattle.std.specs.List.{AllByRecursion}
 use Rattle.std.specs.Prelude.{Option, Some, None, is_none}
 use Rattle.trade_base.specs.declared.refusal.Refusal.{Refusal}
@@ -17,6 +17,15 @@ abbrev pub lacks : Option Refusal → Bool
 lacks (Some OutOfRam) = true
 lacks (Some OutOfCaps) = true
 lacks why = false
+
+-- what holds of a test holds of the list of it
+pub alone : {A B : Type 0} → A ⊎ B → (A × Unit {0}) ⊎ B
+alone (inl a) = inl (a, tt)
+alone (inr b) = inr b
+
+-- two sums stay equal where both have the same amount less, which both cover
+pub less_alike : (x u a b c d : ℕ) → a + b ≡ c + d → u + x ≤ a → u + x ≤ c → a - x + b ≡ c - x + d
+less_alike x u a b c d same left right = omega (arith, same, left, right)
 
 module _ (m : Amounts) (a : Account) where
   -- a test comes out alike under the limits m

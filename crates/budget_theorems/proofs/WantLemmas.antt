@@ -1,18 +1,10 @@
 -- Want by the needs of one run: whoever makes the run.
 use Rattle.std.proofs.Common.{arith, ◌≡◌, ◌<◌, ◌≤◌, ◌⊎◌, inl, inr, Bool, true, false, List, nat_lt, refl, sym, ◌∙◌, true≢false, ◌||◌}
+use Rattle.std.proofs.lemmas.Bool.{or_right}
 use Rattle.std.specs.List.{AllByRecursion}
 use Rattle.own_model.specs.Amounts.{Amounts}
 use Rattle.budget_theorems.proofs.CellLemmas.{Leads, in_cell_of, in_cell_to, leads_within, leads_below, begins_within, in_by_parts, enough_in}
 use Rattle.budget_theorems.specs.Need.{Need, IsBelow, HasRam, IsIn, ComesOutAlike, cell_by, greatest_choice}
-
--- one of two is so
-pub or_left : (a b : Bool) → a ≡ true → (a || b) ≡ true
-or_left true b is = refl
-or_left false b is = absurd (true≢false (sym is))
-
-pub or_right : (a b : Bool) → b ≡ true → (a || b) ≡ true
-or_right true b is = refl
-or_right false b is = is
 
 same_or : (b few : Bool) → few ≡ false → b ≡ (b || few)
 same_or b true enough = absurd (true≢false enough)
