@@ -12,6 +12,7 @@ use Rattle.own_model.specs.OwnStep.{Outcome, unless, refused, own_heap_gap, grow
 use Rattle.own_model.specs.Reply.{reply_text}
 use Rattle.budget_theorems.specs.Test.{Test, small_tests, growth_tests, heap_tests}
 use Rattle.budget_meter.specs.NeededAmounts.{shows_growth}
+use Rattle.budget_meter.proofs.ToldLemmas.{not_lt}
 
 module _ (n : ℕ) (s : OwnState) where
   abbrev told : Outcome → Bool
@@ -53,10 +54,6 @@ module _ (n : ℕ) (s : OwnState) where
 
   short_caps : Tells (growth_tests n s.heap.shape s.account) (refused s OutOfCaps)
   short_caps = record { quiet = λ e. absurd (true≢false e); grows = λ _. (refl, still _) }
-
-  not_lt : (a b : ℕ) (v : Bool) → nat_lt b a ≡ v → nat_le a b ≡ cond v false true
-  not_lt a b true is = grind (arith, nat_tests)
-  not_lt a b false is = grind (arith, nat_tests)
 
   -- grown, where the account covers a capability more
   grown : (v : Bool) (gap : Option ℕ) → nat_lt s.account.ram_limit (s.account.ram_used + (larger_growth n s.heap.shape).bytes) ≡ v →

@@ -1,4 +1,5 @@
 -- What reaches a session, under two donations, each up to its first want.
+use Rattle.std.proofs.lemmas.Bool.{or_left, or_right}
 use Rattle.std.proofs.lemmas.Bool.Decides.{nat_tests}
 use Rattle.std.proofs.Common.{arith, true≢false, ◌≡◌, ◌<◌, ◌≤◌, ◌⊎◌, inl, inr, Bool, true, false, cond, List, [], ◌∷◌, ◌++◌, suc, nat_lt, refl, sym, ap, ◌∙◌, ◌||◌}
 use Rattle.std.specs.List.{AllByRecursion}
@@ -11,7 +12,7 @@ use Rattle.budget_theorems.proofs.CellLemmas.{Leads}
 use Rattle.own_model.proofs.ListLemmas.{all_left, all_right, all_append}
 use Rattle.budget_theorems.proofs.SessionRunLemmas.{Donated, EachAlike, session_alike, session_moved, session_decides, first_donated}
 use Rattle.budget_theorems.proofs.StretchLemmas.{exact}
-use Rattle.budget_theorems.proofs.WantLemmas.{or_left, or_right, within_by, below_by}
+use Rattle.budget_theorems.proofs.WantLemmas.{within_by, below_by}
 use Rattle.budget_theorems.specs.Need.{Need, HasRam, IsBelow, ComesOutAlike, cell_by, greatest_choice}
 use Rattle.budget_theorems.specs.Request.{donating}
 use Rattle.budget_theorems.specs.RequestTheorems.{Reaches, session_after, needs_of_one, session_needs, OneAlike, one_is_short, session_is_short}

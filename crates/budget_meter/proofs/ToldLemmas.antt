@@ -43,7 +43,7 @@ none_more c = grind (arith, nat_tests)
 one_more : (c : ℕ) → nat_lt c (c + 1) ≡ true
 one_more c = grind (arith, nat_tests)
 
-not_lt : (a b : ℕ) (v : Bool) → nat_lt b a ≡ v → nat_le a b ≡ cond v false true
+pub not_lt : (a b : ℕ) (v : Bool) → nat_lt b a ≡ v → nat_le a b ≡ cond v false true
 not_lt a b true is = grind (arith, nat_tests)
 not_lt a b false is = grind (arith, nat_tests)
 

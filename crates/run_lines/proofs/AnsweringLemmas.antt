@@ -61,7 +61,7 @@ told_answer only world line (Some answer) answers =
     ∙ ap (output_of_lines None world) (sym answers.0)
 
 -- of one line, a name's are it or none
-said_one : (name line : List ℕ) (b : Bool) → is_line_of name line ≡ b → said_by (Some name) (line ∷ []) ≡ cond b (line ∷ []) []
+pub said_one : (name line : List ℕ) (b : Bool) → is_line_of name line ≡ b → said_by (Some name) (line ∷ []) ≡ cond b (line ∷ []) []
 said_one name line b is = ap (λ t. cond t (line ∷ []) []) is
 
 -- whose a line is that isn't too long

@@ -19,7 +19,7 @@ use Rattle.own_model.proofs.RunSaidByLemmas.{pieces_stand_alone, state_stands_al
 use Rattle.run_lines.specs.Answer.{AnswersLine, IsAnswer, answer_text, answered_name, answered_reply, finished_lines}
 use Rattle.run_lines.specs.Answered.{after_all}
 use Rattle.run_lines.specs.declared.line_answer.LineAnswer.{LineAnswer}
-use Rattle.run_lines.proofs.AnsweringLemmas.{told_answer}
+use Rattle.run_lines.proofs.AnsweringLemmas.{told_answer, said_one}
 use Rattle.run_lines.proofs.ToldLemmas.{left_by_both, said_by-append}
 use Rattle.view_runs.specs.Alone.{AreAlike, SeesAlone, alone_call_text, told_in}
 use Rattle.run_scenario.specs.RunCalls.{calls_of_steps}
@@ -54,10 +54,6 @@ is_of_line name entries line true said = is_of_spoken name entries (parsed_call 
 -- what is heard of a name's line is the name's
 pub is_of_heard : (name : List ℕ) (entries : List Entry) (line : List ℕ) → is_line_of name line ≡ true → IsOf name entries (heard entries line)
 is_of_heard name entries line said = is_of_line name entries line (nat_le (length line) longest_line) said
-
--- lines of a name are these
-pub said_one : (name line : List ℕ) (b : Bool) → is_line_of name line ≡ b → said_by (Some name) (line ∷ []) ≡ cond b (line ∷ []) []
-said_one name line b is = ap (λ t. cond t (line ∷ []) []) is
 
 module _ (name : List ℕ) (start : World) (earlier : List (List ℕ)) where
   -- the name's own state after all calls is the one after its own
