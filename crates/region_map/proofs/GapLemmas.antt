@@ -1,5 +1,5 @@
 -- The first gap between rows in order is the first gap of the window.
-use Rattle.std.proofs.Common.{◌≡◌, ℕ, suc, ◌+◌, ◌*◌, ◌%◌, ◌<◌, ◌≤◌, true, false, cond, List, [], ◌∷◌, length, get_or, drop, drop-cons, add-one, map, Some, refl, sym, ap, ◌∙◌, nat_le, arith}
+use Rattle.std.proofs.Common.{◌≡◌, ℕ, suc, ◌+◌, ◌*◌, ◌%◌, ◌^◌, ◌<◌, ◌≤◌, true, false, cond, List, [], ◌∷◌, length, get_or, drop, drop-cons, add-one, map, Some, refl, sym, ap, ◌∙◌, nat_le, arith}
 use Rattle.std.proofs.lemmas.Bool.{le-leb, lt-leb, leb-true, leb-false, or_from, or_parts}
 use Rattle.std.proofs.lemmas.Bool.Decides.{nat_tests}
 use Rattle.std.specs.Prelude.{Option, None}
@@ -18,6 +18,13 @@ ends low high [] is = is
 ends low high (row ∷ rows) is =
     let rest = ends (end_of row) high rows is.1 in
     let from = is.0 in
+    omega arith
+
+-- a table's window starts at a small address
+pub low_small : (low high : ℕ) (rows : List RegionRow) → IsTable low high rows → low ≤ 2 ^ 45
+low_small low high rows is =
+    let within = ends low high rows is.in_order in
+    let small = is.small in
     omega arith
 
 -- pages that end where rows begin, or before, overlap none

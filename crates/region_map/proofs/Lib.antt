@@ -5,5 +5,5 @@ pub mod ApartLemmas
 pub mod TableLemmas
 pub mod HeapLemmas
 pub mod FoundLaws
-pub mod PackedLemmas
+pub mod KnownLemmas
 pub mod PlaceLemmas

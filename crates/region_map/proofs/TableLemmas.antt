@@ -9,7 +9,10 @@ use Rattle.own_model.proofs.NatMapLemmas.{get-insert_same, get-insert_other}
 use Rattle.own_model.proofs.RegionLemmas.{place, overlap_self}
 use Rattle.region_map.specs.declared.row.RegionRow.{RegionRow}
 use Rattle.region_map.specs.RegionRows.{region_of, tag_of, end_of, map_of, AreInOrder, count_to, IsTable}
+use Rattle.region_map.specs.declared.known_rows.KnownRows.{KnownRows}
+use Rattle.region_map.specs.KnownRows.{IsCloseAt, end_before, AreKnown, IsInserted}
 use Rattle.region_map.proofs.GapLemmas.{clear_at}
+use Rattle.region_map.proofs.KnownLemmas.{count_to-gap}
 use Rattle.region_map.proofs.RowLemmas.{map_of-cons, map_of-insert, map_of-remove, AreInOrder-insert, AreInOrder-remove}
 use Rattle.region_map.proofs.SearchLemmas.{from_low, last_before, get_last, get_nothing}
 
@@ -49,6 +52,33 @@ added low high rows row is can =
       regions = map_of-insert region_of rows (count_to row.start rows) row (free_at region_of low high rows row is.in_order at);
       tags = map_of-insert tag_of rows (count_to row.start rows) row (free_at tag_of low high rows row is.in_order at);
       free = free_at region_of low high rows row is.in_order at;
+    }
+
+-- a row at the first gap is put in where the walk to the gap ended
+pub gap_place : (low high at : ℕ) (rows : List RegionRow) (row : RegionRow) → IsTable low high rows → at ≤ length rows → (at < length rows → ¬ IsCloseAt low row.pages at rows) → row.start ≡ end_before low at rows → insert_at rows at row ≡ insert_at rows (count_to row.start rows) row
+gap_place low high at rows row is within far start =
+    ap (λ n. insert_at rows n row) (sym (ap (λ n. count_to n rows) start ∙ count_to-gap low high row.pages at rows row.some is.in_order within far))
+
+-- a table with a region more, at an index of its rows: from a start on, with so many pages of a dataspace, and a number
+pub record AddedAt (low high : ℕ) (rows now : List RegionRow) (at start pages ds tag : ℕ) : Type 0 where
+  pub table : IsTable low high now
+  pub regions : map_of region_of now ≡ insert (map_of region_of rows) start (record { of = ds; pages = pages })
+  pub tags : map_of tag_of now ≡ insert (map_of tag_of rows) start tag
+  pub free : get (map_of region_of rows) start ≡ None
+  pub inserted : (known : KnownRows) → AreKnown low known rows → IsInserted low known at now
+
+-- one at the first gap
+pub added_at : (low high at : ℕ) (rows now : List RegionRow) (row : RegionRow) → IsTable low high rows → at ≤ length rows → (at < length rows → ¬ IsCloseAt low row.pages at rows) → row.start ≡ end_before low at rows → can_attach low high (map_of region_of rows) row.pages row.start ≡ true → now ≡ insert_at rows at row → AddedAt low high rows now at row.start row.pages row.ds.0 row.tag
+added_at low high at rows now row is within far start can made =
+    let facts = added low high rows row is can in
+    let same = made ∙ gap_place low high at rows row is within far start in
+    let table : IsTable low high now = subst (λ (r : List RegionRow). IsTable low high r) (sym same) facts.table in
+    record {
+      table = table;
+      regions = ap (map_of region_of) same ∙ facts.regions;
+      tags = ap (map_of tag_of) same ∙ facts.tags;
+      free = facts.free;
+      inserted = λ known was. record { old = rows; row = row; high = high; is = made; there = within; order = table.in_order; was = was };
     }
 
 -- ---- a row less

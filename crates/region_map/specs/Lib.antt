@@ -1,5 +1,5 @@
 pub mod Regions
 pub mod Window
 pub mod RegionRows
-pub mod PackedRows
+pub mod KnownRows
 pub mod Places

@@ -1,5 +1,5 @@
 -- The rows of a table: regions in the order of their starts.
-use Rattle.std.specs.Prelude.{◌≡◌, ℕ, zero, suc, ◌+◌, ◌*◌, ◌%◌, ◌^◌, ◌≤◌, List, [], ◌∷◌, Option, None, Some, map, nat_le, if◌then◌else◌}
+use Rattle.std.specs.Prelude.{◌≡◌, ℕ, suc, ◌+◌, ◌*◌, ◌%◌, ◌^◌, ◌≤◌, List, [], ◌∷◌, Option, None, Some, map, nat_le, if◌then◌else◌}
 use Rattle.std.specs.FinMap.{from_entries}
 use Rattle.std.specs.Option.{option_or}
 use Rattle.own_model.specs.NatMap.{NatMap}
@@ -42,12 +42,6 @@ unfoldable pub gap_from : ℕ → ℕ → List RegionRow → ℕ → Option ℕ
 gap_from low high [] pages = if nat_le (low + pages * 4096) high then Some low else None
 gap_from low high (row ∷ rows) pages =
     if nat_le (low + pages * 4096) row.start then Some low else gap_from (end_of row) high rows pages
-
--- so many rows in front have no gap between them, from one address to another
-abbrev pub IsPacked : ℕ → ℕ → ℕ → List RegionRow → Type 0
-IsPacked low zero last rows = last ≡ low
-IsPacked low (suc count) last [] = ⊥
-IsPacked low (suc count) last (row ∷ rows) = (row.start ≡ low) × IsPacked (end_of row) count last rows
 
 -- what is so of a table: its window starts at a multiple of a page and is none too large, and the rows are in order in it
 pub record IsTable (low high : ℕ) (rows : List RegionRow) : Type 0 where

@@ -4,8 +4,8 @@
 //! an empty map returns the first address of the user window.
 #![tactic(auto)]
 
+mod known_rows;
 mod map;
-mod packed_rows;
 mod region_span;
 mod row;
 mod rows;

@@ -81,7 +81,7 @@ impl RegionMap {
     ///
     /// Refuses with `TooManyRegions` if the map has its maximum number of user regions, then with `RegionConflict` if no
     /// gap has enough pages.
-    #[tactic(auto, using(own_model::proofs::RegionLemmas::first_gap_least, own_model::proofs::HeapGapLemmas::first_gap_stands))]
+    #[tactic(auto, using(own_model::proofs::RegionLemmas::first_gap_least))]
     pub fn attach(&mut self, ds: DsId, pages: u64) -> Result<u64, Refusal>
         requires some { 1 ≤ pages }
         requires few { pages ≤ self.old.pages }
@@ -100,8 +100,10 @@ impl RegionMap {
         if self.user.is_full() {
             return Err(Refusal::TooManyRegions);
         }
-        let start = self.user.first_gap(pages).ok_or(Refusal::RegionConflict)?;
-        self.user.add(ds, pages, 0, start);
+        let start = self
+            .user
+            .attach(ds, pages, 0)
+            .ok_or(Refusal::RegionConflict)?;
         Ok(start)
     }
 
@@ -163,9 +165,7 @@ impl RegionMap {
         // The gap has the same address on the largest machine.
         ensures lowest { heap_gap largest_machine self.old.heap pages ≡ Some result }
     {
-        let start = self.heap.first_gap(pages).unwrap();
-        self.heap.add(ds, pages, tag, start);
-        start
+        self.heap.attach(ds, pages, tag).unwrap()
     }
 
     /// Attaches `pages` pages of a dataspace at the first gap of the heap window, and returns the start address. The

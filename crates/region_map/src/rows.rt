@@ -1,20 +1,20 @@
 //! The rows of a table, in the order of their start addresses. An insertion or removal moves only the small place of each
 //! later row. The rest of a row stays in its slot.
-ghost use Rattle.std.specs.Prelude.{◌≡◌, ℕ, ◌^◌, ◌<◌, ◌≤◌, ◌==◌, [], drop, length, not, nat_le, slice_index_or, vec_capacity, IfOk};
+ghost use Rattle.std.specs.Prelude.{◌≡◌, ℕ, ◌+◌, ◌^◌, ◌<◌, ◌≤◌, ◌==◌, [], drop, length, not, nat_le, slice_index_or, vec_capacity, IfOk};
+ghost use Rattle.std.specs.Bool.{OnTrue, OnFalse};
 ghost use Rattle.std.specs.List.{insert, remove, filter};
 ghost use Rattle.std.specs.List.Sorted.{IsNonDecreasingBy};
 ghost use Rattle.region_map.specs.declared.row.RegionRow.{RegionRow as AnyRow};
-ghost use Rattle.region_map.specs.RegionRows.{AreInOrder, count_to as counted_to, last_to as last_of, gap_from as first_from};
-ghost use Rattle.region_map.specs.PackedRows.{AreKnown};
+ghost use Rattle.region_map.specs.RegionRows.{count_to as counted_to, last_to as last_of};
+ghost use Rattle.region_map.specs.KnownRows.{IsCloseAt, close_to, end_before as end_to};
 ghost use Rattle.region_map.specs.Places.{IsSlot};
 
-use super::packed_rows::PackedRows;
 use super::region_span::RegionSpan;
 use super::row::RegionRow;
-use super::search::{behind, count_to, gap_from};
+use super::search::{behind, close_count, count_to};
 use std::alloc::Global;
 use std::marker::Model;
-use trade_base::{DsId, NoMemory};
+use trade_base::{DsId, NoMemory, PAGE};
 
 /// The part of a row that an insertion or removal does not move.
 #[derive(Clone, Copy)]
@@ -73,6 +73,13 @@ impl RegionRows {
         ensures { result ≡ nat_le self.now.capacity (length self.now.items) }
     {
         self.places.len() >= self.places.capacity()
+    }
+
+    /// Returns the number of rows.
+    pub fn len(&self) -> usize
+        ensures { result ≡ length self.now.items }
+    {
+        self.places.len()
     }
 
     /// Returns the row at an index of the list.
@@ -155,23 +162,48 @@ impl RegionRows {
         Some(self.row(count - 1))
     }
 
-    /// Returns `packed` extended by the rows after its first run that continue the run without a gap.
-    pub fn raised(&self, packed: PackedRows) -> PackedRows
-        ensures { (low : ℕ) → AreKnown low packed self.now.items
-            → AreKnown low result self.now.items }
+    /// Returns the address after the row before an index, or `low` for index 0.
+    pub fn end_before(&self, low: u64, at: usize) -> u64
+        requires { at ≤ length self.now.items }
+        ensures value { result ≡ end_to low at self.now.items }
+        ensures small { low ≤ 2 ^ 45 → result ≤ 2 ^ 45 }
     {
-        packed.raised(&self.places)
+        if at == 0 {
+            low
+        } else {
+            self.places[at - 1].end()
+        }
     }
 
-    /// Returns the lowest address from `low` on and before `high` at which `pages` pages fit between the rows from index
-    /// `from` on. Returns `None` if no gap has enough pages.
-    pub fn gap_behind(&self, from: usize, low: u64, high: u64, pages: u64) -> Option<u64>
+    /// Returns whether there is a row at an index that has fewer than `pages` pages before it, where `low` is before the
+    /// first row.
+    pub fn is_close(&self, low: u64, at: usize, pages: u64) -> bool
+        requires few { pages ≤ 4096 }
+        requires small { low ≤ 2 ^ 45 }
+        ensures close { OnTrue result (IsCloseAt low pages at self.now.items) }
+        ensures far { OnFalse result (¬ IsCloseAt low pages at self.now.items) }
+    {
+        if at >= self.places.len() {
+            return false;
+        }
+        self.places[at].start() < self.end_before(low, at) + pages * PAGE
+    }
+
+    /// Returns the number of rows from an index on that have fewer than `pages` pages before them, up to the first row
+    /// that has more.
+    pub fn close_behind(&self, low: u64, from: usize, pages: u64) -> usize
         requires there { from ≤ length self.now.items }
         requires few { pages ≤ 4096 }
         requires small { low ≤ 2 ^ 45 }
-        ensures { result ≡ first_from low high (drop from self.now.items) pages }
+        ensures count { result
+            ≡ close_to (end_to low from self.now.items) pages (drop from self.now.items) }
+        ensures short { from + result < 2 ^ 64 }
     {
-        gap_from(low, high, behind(&self.places, from), pages)
+        close_count(
+            self.end_before(low, from),
+            behind(&self.places, from),
+            pages,
+        )
     }
 }
 

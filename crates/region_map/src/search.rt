@@ -3,7 +3,8 @@ ghost use Rattle.std.specs.Prelude.{◌≡◌, ℕ, ◌^◌, ◌≤◌, List, dr
 ghost use Rattle.std.specs.List.Sorted.{IsNonDecreasingBy};
 ghost use Rattle.region_map.specs.declared.rows.SlotData.{SlotData as AnyKept};
 ghost use Rattle.region_map.specs.Places.{start_in, rows_of};
-ghost use Rattle.region_map.specs.RegionRows.{count_to as counted_to, gap_from as first_from};
+ghost use Rattle.region_map.specs.RegionRows.{count_to as counted_to};
+ghost use Rattle.region_map.specs.KnownRows.{close_to};
 
 use super::region_span::RegionSpan;
 use trade_base::PAGE;
@@ -26,24 +27,20 @@ pub fn behind<'a>(places: &'a [RegionSpan], from: usize) -> &'a [RegionSpan]
     &places[from..]
 }
 
-/// Returns the lowest address from `low` on and before `high` at which `pages` pages fit between the regions. Returns
-/// `None` if no gap has enough pages.
-pub fn gap_from(low: u64, high: u64, places: &[RegionSpan], pages: u64) -> Option<u64>
+/// Returns how many of the first places have fewer than `pages` pages before them, where `low` is before the first place.
+pub fn close_count(low: u64, places: &[RegionSpan], pages: u64) -> usize
     requires few { pages ≤ 4096 }
     requires small { low ≤ 2 ^ 45 }
-    ensures { (kept : List AnyKept)
-        → result ≡ first_from low high (rows_of kept places.now) pages }
+    ensures { (kept : List AnyKept) → result ≡ close_to low pages (rows_of kept places.now) }
 {
     let mut address = low;
+    let mut count = 0;
     for place in places {
         if address + pages * PAGE <= place.start() {
-            return Some(address);
+            return count;
         }
         address = place.end();
+        count += 1;
     }
-    if address + pages * PAGE <= high {
-        Some(address)
-    } else {
-        None
-    }
+    count
 }

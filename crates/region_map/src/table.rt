@@ -6,7 +6,7 @@ ghost use Rattle.std.specs.FinMap.{get, len};
 ghost use Rattle.own_model.specs.Region.{meets, can_attach, first_gap as gap_in, region_at, without};
 ghost use Rattle.region_map.specs.Window.{fresh_window, window_with, window_without};
 
-use super::packed_rows::PackedRows;
+use super::known_rows::KnownRows;
 use super::row::RegionRow;
 use super::rows::RegionRows;
 use std::alloc::Global;
@@ -18,7 +18,10 @@ use trade_base::{DsId, NoMemory, PAGE};
 pub struct RegionTable {
     /// One row for each region, in the order of the start addresses. The capacity is the maximum number of regions.
     rows: RegionRows,
-    packed: PackedRows,
+    /// The gaps that are known to be too small for one page.
+    single: KnownRows,
+    /// The gaps that are known to be too small for the last request of several pages.
+    several: KnownRows,
     /// The first address of the window.
     low: u64,
     /// The first address after the window.
@@ -27,7 +30,7 @@ pub struct RegionTable {
 
 impl Model for RegionTable {
     ghost use Rattle.region_map.specs.RegionRows.{map_of, region_of, tag_of};
-    ghost use Rattle.region_map.specs.PackedRows.{IsKept};
+    ghost use Rattle.region_map.specs.KnownRows.{IsKept};
     ghost use Rattle.region_map.specs.Window.{Window, coded_window};
 
     ghost Value = { Window };
@@ -43,7 +46,7 @@ impl Model for RegionTable {
           most = t.rows.capacity;
         } };
 
-    ghost invariant = { λ t. IsKept t.low t.high t.rows.items t.rows.capacity t.packed };
+    ghost invariant = { λ t. IsKept t.low t.high t.rows.items t.rows.capacity t.single t.several };
 }
 
 impl RegionTable {
@@ -60,11 +63,11 @@ impl RegionTable {
         ensures fresh { IfOk result (λ table. table ≡ fresh_window low high most) }
         ensures sound { IfOk result IsWindow }
     {
-        let packed = PackedRows::front(0, low);
         let rows = RegionRows::boot(alloc, most)?;
         Ok(RegionTable {
             rows,
-            packed,
+            single: KnownRows::none(1),
+            several: KnownRows::none(2),
             low,
             high,
         })
@@ -77,17 +80,34 @@ impl RegionTable {
         self.rows.is_full()
     }
 
-    /// Returns the address of the first gap for `pages` pages, or `None` if no gap has enough pages.
-    pub fn first_gap(&mut self, pages: u64) -> Option<u64>
+    /// Adds a region at the first gap, and returns its start address. Returns `None` if no gap has enough pages.
+    pub fn attach(&mut self, ds: DsId, pages: u64, tag: u64) -> Option<u64>
         requires some { 1 ≤ pages }
         requires few { pages ≤ 4096 }
+        requires room { nat_le self.old.most (len self.old.regions) ≡ false }
         ensures gap { result ≡ gap_in self.old.low self.old.high self.old.regions pages }
-        ensures kept { self.new ≡ self.old }
+        ensures added { IfSome result
+            (λ address. self.new ≡ window_with self.old ds.0 pages tag address) }
+        ensures free { IfSome result (λ address. get self.old.regions address ≡ None) }
+        ensures none { result ≡ None → self.new ≡ self.old }
+        ensures low { self.new.low ≡ self.old.low }
+        ensures high { self.new.high ≡ self.old.high }
+        ensures sound { IsWindow self.new }
     {
-        let packed = self.rows.raised(self.packed);
-        self.packed = packed;
-        self.rows
-            .gap_behind(packed.count, packed.end, self.high, pages)
+        let known = KnownRows::of(self.single, self.several, pages).raised(&self.rows, self.low);
+        self.single = KnownRows::single_of(self.single, known);
+        self.several = KnownRows::several_of(self.several, known);
+        let start = known.gap(&self.rows, self.low, self.high)?;
+        let row = RegionRow {
+            start,
+            pages,
+            ds,
+            tag,
+        };
+        self.rows.insert(known.count, row);
+        self.single = self.single.with_row(known.count, &self.rows, self.low);
+        self.several = self.several.with_row(known.count, &self.rows, self.low);
+        Some(start)
     }
 
     /// Returns whether a region of `pages` pages can be at an address: aligned, within the window and without an overlap.
@@ -158,8 +178,9 @@ impl RegionTable {
         ensures sound { IsWindow self.new }
     {
         let at = self.rows.count_to(row.start);
-        self.packed = self.packed.with_row(at, row);
         self.rows.insert(at, row);
+        self.single = self.single.with_row(at, &self.rows, self.low);
+        self.several = self.several.with_row(at, &self.rows, self.low);
     }
 
     /// Removes the region that starts at an address, and returns whether there was one.
@@ -178,7 +199,8 @@ impl RegionTable {
             return false;
         }
         self.rows.remove(count - 1);
-        self.packed = self.packed.without_row(count - 1, row);
+        self.single = self.single.without_row(count - 1, &self.rows, self.low);
+        self.several = self.several.without_row(count - 1, &self.rows, self.low);
         true
     }
 
@@ -190,7 +212,8 @@ impl RegionTable {
         ensures high { self.new.high ≡ self.old.high }
         ensures sound { IsWindow self.new }
     {
-        self.packed = PackedRows::front(0, self.low);
+        self.single = KnownRows::none(1);
+        self.several = KnownRows::none(2);
         self.rows.remove_of(ds);
     }
 

@@ -2,23 +2,17 @@
 use Rattle.std.proofs.Common.{◌≡◌, ℕ, ◌+◌, ◌≤◌, Some, sym, ◌∙◌, subst}
 use Rattle.std.specs.Prelude.{Option, IsSome}
 use Rattle.own_model.specs.HeapWindow.{heap_gap, largest_machine, pages_of_all}
-use Rattle.own_model.proofs.HeapGapLemmas.{first_gap_stands}
 use Rattle.region_map.specs.Regions.{Regions}
 use Rattle.region_map.proofs.HeapLemmas.{has_gap}
 use Rattle.region_map.proofs.map.RegionMap.attach_block.Goals as goal
 
-pub unwrap-start-requires : goal.unwrap-start-requires
-unwrap-start-requires c =
+pub unwrap-requires : goal.unwrap-requires
+unwrap-requires c =
     let fits = subst (λ (s : Regions). pages_of_all s.heap + c.args.pages ≤ s.pages) (sym c.self.view_is) c.requires.fits in
-    subst (λ (o : Option ℕ). IsSome o) (sym c.first_gap.ensures.gap) (has_gap c.self.inside.user c.self.inside.heap c.self.inside.pages c.args.pages c.self.invariant fits).there
-
-pub add-requires-clause-place : goal.add-requires-clause-place
-add-requires-clause-place c =
-    rw c.first_gap.ensures.kept
-    (first_gap_stands c.self.inside.heap.low c.self.inside.heap.high c.self.inside.heap.regions c.args.pages c.unwrap-start.result (sym c.first_gap.ensures.gap ∙ c.unwrap-start.ensures))
+    subst (λ (o : Option ℕ). IsSome o) (sym c.attach.ensures.gap) (has_gap c.self.inside.user c.self.inside.heap c.self.inside.pages c.args.pages c.self.invariant fits).there
 
 pub returns-clause-lowest : goal.returns-clause-lowest
 returns-clause-lowest c =
     let fits = subst (λ (s : Regions). pages_of_all s.heap + c.args.pages ≤ s.pages) (sym c.self.view_is) c.requires.fits in
-    subst (λ (s : Regions). heap_gap largest_machine s.heap c.args.pages ≡ Some c.unwrap-start.result) c.self.view_is
-    ((has_gap c.self.inside.user c.self.inside.heap c.self.inside.pages c.args.pages c.self.invariant fits).lowest ∙ sym c.first_gap.ensures.gap ∙ c.unwrap-start.ensures)
+    subst (λ (s : Regions). heap_gap largest_machine s.heap c.args.pages ≡ Some c.unwrap.result) c.self.view_is
+    ((has_gap c.self.inside.user c.self.inside.heap c.self.inside.pages c.args.pages c.self.invariant fits).lowest ∙ sym c.attach.ensures.gap ∙ c.unwrap.ensures)

@@ -1,5 +1,5 @@
 -- The rows of other dataspaces stay.
-use Rattle.std.proofs.Common.{◌==◌, not, ap, ◌∙◌, refl}
+use Rattle.std.proofs.Common.{◌==◌, not, ap, ◌∙◌, arith}
 use Rattle.own_model.specs.Region.{without}
 use Rattle.region_map.specs.RegionRows.{region_of, map_of, IsTable}
 use Rattle.region_map.specs.Window.{Window}
@@ -17,7 +17,13 @@ is_table c =
     })
 
 pub invariant_of-self : goal.invariant_of-self
-invariant_of-self c = record { table = is_table c; known = c.front-self-inside.ensures.known _ _ refl; few = rw c.remove_of.ensures.capacity c.self.invariant.few }
+invariant_of-self c = record {
+  table = is_table c;
+  single_known = c.none-self-inside.ensures.known _ _;
+  one = rw c.none-self-inside.ensures.pages (omega arith);
+  several_known = c.none-self-inside-2.ensures.known _ _;
+  few = rw c.remove_of.ensures.capacity c.self.invariant.few;
+}
 
 pub returns-clause-regions : goal.returns-clause-regions
 returns-clause-regions c =
