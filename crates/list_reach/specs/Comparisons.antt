@@ -1,7 +1,11 @@
 -- Labels whose requests are routed to a server on one of two start lists alone.
-use Rattle.std.specs.Prelude.{◌≡◌, ℕ, ◌<◌, ◌==◌, ◌&&◌, not, Bool, true, false, List, length, slice_index_or, Option, Some, None}
+use Rattle.std.specs.Prelude.{◌≡◌, ℕ, ◌≤◌, ◌==◌, ◌&&◌, not, Bool, true, false, List, [], length, nat_lt, Option, Some, None, All, Contains}
+use Rattle.std.specs.Option.{option_map}
+use Rattle.list_labels.specs.Closure.{KeptLabel}
 use Rattle.list_labels.specs.GivenLabels.{IsGiven, leads_to}
+use Rattle.list_labels.specs.Representatives.{RepresentAll}
 use Rattle.list_reach.specs.declared.comparison.LabelMove.{LabelMove}
+use Rattle.list_labels.specs.declared.label_classes.LabelClass.{LabelClass}
 use Rattle.list_labels.specs.declared.session_requests.SessionRequests.{SessionRequests}
 
 -- the entry to which requests with a label are routed, if the client is there
@@ -15,11 +19,38 @@ pub record RoutedLabel : Type 0 where
   pub before : Option ℕ
   pub after : Option ℕ
 
--- a label can be given, and is routed so
-pub record IsRouted (before after : Option SessionRequests) (one : RoutedLabel) : Type 0 where
+-- a label as both lists route it
+abbrev pub routes_of : (List ℕ → Option ℕ) → (List ℕ → Option ℕ) → List ℕ → RoutedLabel
+routes_of before after label = record { label = label; before = before label; after = after label }
+
+abbrev pub class_routes : (List ℕ → Option ℕ) → (List ℕ → Option ℕ) → LabelClass → RoutedLabel
+class_routes before after class = routes_of before after class.witness
+
+abbrev pub kept_routes : (List ℕ → Option ℕ) → (List ℕ → Option ℕ) → KeptLabel → RoutedLabel
+kept_routes before after kept = routes_of before after kept.label
+
+-- kept labels represent all labels of requests, if the client is there
+abbrev pub AreRepresentatives : Option SessionRequests → List KeptLabel → Type 0
+AreRepresentatives None kept = kept ≡ []
+AreRepresentatives (Some wishes) kept = RepresentAll wishes.list.now wishes.client wishes.service.now kept
+
+-- a label can be given, and is routed so by the routes of both lists
+pub record IsRouted (before after : List ℕ → Option ℕ) (one : RoutedLabel) : Type 0 where
   pub given : IsGiven one.label
-  pub before_is : one.before ≡ routed_on before one.label
-  pub after_is : one.after ≡ routed_on after one.label
+  pub before_is : one.before ≡ before one.label
+  pub after_is : one.after ≡ after one.label
+
+-- for each label that a list routes to an entry, one of these is no longer and is routed there by this list, too
+abbrev pub Represents : (List ℕ → Option ℕ) → List RoutedLabel → Type 0
+Represents routes compared =
+    (label : List ℕ) → (child : ℕ) → IsGiven label → routes label ≡ Some child
+    → (one : RoutedLabel) × Contains compared one × (length one.label ≤ length label) × (routes one.label ≡ Some child)
+
+-- the labels that are compared are routed as both lists route them, and represent all labels on each list
+pub record IsComparison (before after : List ℕ → Option ℕ) (compared : List RoutedLabel) : Type 0 where
+  pub routed : All (IsRouted before after) compared
+  pub before_all : Represents before compared
+  pub after_all : Represents after compared
 
 -- a request is routed to a server, if the server is there
 abbrev pub is_to : Option ℕ → Option ℕ → Bool
@@ -27,28 +58,39 @@ is_to None server = false
 is_to (Some child) None = false
 is_to (Some child) (Some server) = child == server
 
--- a label can be given, and is routed to a server on one list and not on another. The server's numbers there are `to` and
--- `other`.
-pub record IsMoved (here there : Option SessionRequests) (to other : Option ℕ) (label : List ℕ) : Type 0 where
-  pub given : IsGiven label
-  pub here_is : is_to (routed_on here label) to ≡ true
-  pub there_is : is_to (routed_on there label) other ≡ false
+-- a server gains a label: its requests are routed to the server after and not before. The server has the number `was` before and
+-- the number `now` after, if the list has it.
+abbrev pub is_gained : Option ℕ → Option ℕ → RoutedLabel → Bool
+is_gained was now one = is_to one.after now && not (is_to one.before was)
 
--- a label that a server gains, or one that it loses. The server has the number `was` before and the number `now` after, if the
--- list has it.
-abbrev pub MovesBy : Bool → Option SessionRequests → Option SessionRequests → Option ℕ → Option ℕ → List ℕ → Type 0
-MovesBy true before after was now label = IsMoved after before now was label
-MovesBy false before after was now label = IsMoved before after was now label
+-- a server loses a label
+abbrev pub is_lost : Option ℕ → Option ℕ → RoutedLabel → Bool
+is_lost was now one = is_to one.before was && not (is_to one.after now)
 
--- the same by the entries that are found
 abbrev pub is_moved_by : Bool → Option ℕ → Option ℕ → RoutedLabel → Bool
-is_moved_by true was now one = is_to one.after now && not (is_to one.before was)
-is_moved_by false was now one = is_to one.before was && not (is_to one.after now)
+is_moved_by true was now one = is_gained was now one
+is_moved_by false was now one = is_lost was now one
 
 abbrev pub is_moved : LabelMove → RoutedLabel → Bool
 is_moved moves one = is_moved_by moves.is_gain moves.was moves.now one
 
--- so is the label at a place
-pub record IsMovedAt (moves : LabelMove) (routed : List RoutedLabel) (place : ℕ) : Type 0 where
-  pub within : place < length routed
-  pub moved : (d : RoutedLabel) → is_moved moves (slice_index_or routed place d) ≡ true
+-- one of these passes a test, and no shorter one does
+pub record IsLeast (test : RoutedLabel → Bool) (all : List RoutedLabel) (best : RoutedLabel) : Type 0 where
+  pub there : Contains all best
+  pub passes : test best ≡ true
+  pub least : All (λ one. test one ≡ true → length best.label ≤ length one.label) all
+
+-- a label is shorter than another one, or there is no other one
+abbrev pub is_shorter : RoutedLabel → Option RoutedLabel → Bool
+is_shorter one None = true
+is_shorter one (Some other) = nat_lt (length one.label) (length other.label)
+
+-- a shortest one that passes, or none passes
+abbrev pub IsShortest : (RoutedLabel → Bool) → List RoutedLabel → Option RoutedLabel → Type 0
+IsShortest test all None = All (λ one. test one ≡ false) all
+IsShortest test all (Some best) = IsLeast test all best
+
+-- a witness is the label of a shortest one that passes; there is none just if none passes
+abbrev pub IsWitness : (RoutedLabel → Bool) → List RoutedLabel → Option (List ℕ) → Type 0
+IsWitness test all witness =
+    (best : Option RoutedLabel) × IsShortest test all best × (witness ≡ option_map (λ one. one.label) best)

@@ -1,5 +1,5 @@
 -- The decisions on the requests of all selected scripts, for every service.
-use Rattle.std.specs.Prelude.{◌≡◌, ℕ, ◌<◌, ◌&&◌, Bool, List, [], ◌++◌, length, map, if◌then◌else◌, Some, All}
+use Rattle.std.specs.Prelude.{◌≡◌, ℕ, ◌<◌, ◌&&◌, Bool, true, List, [], ◌++◌, length, map, if◌then◌else◌, Some, All}
 use Rattle.std.specs.List.{enumerate_from, flat_map, slice_get}
 use Rattle.trade_base.specs.Service.{service_name, services}
 use Rattle.own_model.specs.Listed.{Listed, ListedEntry}
@@ -38,4 +38,9 @@ pub record AddsDecisions (list : Listed) (old : List ScriptDecisions) (more : Li
 -- each selected script has its decisions for each service, in order
 pub record AreAllDecisions (list : Listed) (scripts : ℕ → Bool) (found : List ScriptDecisions) : Type 0 where
   pub asked : map asking_of found ≡ askings list scripts
+  pub decided : All (IsDecided list) found
+
+-- an entry, by its number, has its decisions for each service, in order, if it is a script
+pub record AreEntryDecisions (list : Listed) (entry : ℕ × ListedEntry) (found : List ScriptDecisions) : Type 0 where
+  pub asked : map asking_of found ≡ entry_askings (λ client. true) entry
   pub decided : All (IsDecided list) found

@@ -1,10 +1,13 @@
 //! Which labels of a client's requests for a service are routed to a server on one of two start lists alone.
-ghost use Rattle.std.specs.Prelude.{◌≡◌, ◌<◌, ℕ, length, slice_index_or, All, Option, IfOk, IfSome, OnOk};
-ghost use Rattle.list_labels.specs.Asked.{is_given};
-ghost use Rattle.list_reach.specs.Comparisons.{IsMoved, IsMovedAt, IsRouted, MovesBy, is_moved, is_to, routed_on};
-ghost use Rattle.list_labels.specs.declared.session_requests.SessionRequests.{SessionRequests as WishesOf};
+ghost use Rattle.std.specs.Prelude.{◌≡◌, ◌<◌, ◌++◌, ◌∷◌, [], List, length, map, IfOk, IfSome, OnOk};
+ghost use Rattle.std.specs.Option.{option_copied};
+ghost use Rattle.list_labels.specs.Closure.{KeptLabel};
+ghost use Rattle.list_reach.specs.Comparisons.{AreRepresentatives, IsComparison, IsShortest, IsWitness, RoutedLabel, class_routes, is_gained, is_lost, is_moved, is_shorter, is_to, kept_routes, routed_on, routes_of};
 
-use list_labels::{ClientLabel, LabelClass, LabelClasses, LabelSet, SessionRequests, described};
+use list_labels::{
+    ClientLabel, KeyedLabel, LabelClass, LabelClasses, LabelSet, SessionRequests, described,
+    representatives_of,
+};
 use list_routes::route;
 use std::alloc::{AllocError, Global};
 use std::marker::Model;
@@ -38,7 +41,8 @@ impl Model for LabelRoutes {
     } };
 }
 
-/// Where requests of a client for a service are routed on two start lists, by a label of each class of labels.
+/// Where requests of a client for a service are routed on two start lists, by a label of each class of labels, and then by labels
+/// that represent all labels on each list.
 #[derive(Drop)]
 pub struct RouteComparison {
     classes: LabelClasses,
@@ -72,41 +76,39 @@ impl RouteComparison {
     ) -> Result<RouteComparison, AllocError>
         requires before { IfSome before (λ wishes. wishes.client < length wishes.list.now.entries) }
         requires after { IfSome after (λ wishes. wishes.client < length wishes.list.now.entries) }
-        ensures { IfOk result (λ comparison. All (IsRouted before.entry after.entry) comparison) }
+        ensures { IfOk result (IsComparison (routed_on before.entry) (routed_on after.entry)) }
     {
         let classes = LabelClasses::of(alloc, before, after)?;
         let mut routed = Vec::new(alloc);
-        for class in classes.as_slice() {
-            add_routed(&mut routed, before, after, class)?;
-        }
+        add_classes(&mut routed, before, after, classes.as_slice())?;
+        add_representatives(alloc, &mut routed, before, after, before)?;
+        add_representatives(alloc, &mut routed, before, after, after)?;
         Ok(RouteComparison { classes, routed })
     }
 
-    /// Returns the labels that are routed to a server after and not before. The server had the number `was` and has the number
-    /// `now`, if the list has it. Fails if the host is out of memory.
+    /// Returns the labels that are routed to a server after and not before, with a shortest one. The server had the number `was`
+    /// and has the number `now`, if the list has it. Fails if the host is out of memory.
     pub fn gained(
         &self,
         alloc: Global,
         was: Option<usize>,
         now: Option<usize>,
     ) -> Result<WitnessedSet, AllocError>
-        ensures { (before after : Option WishesOf) → All (IsRouted before after) self.now
-            → IfOk result (λ found. IfSome found.witness (IsMoved after before now was)) }
+        ensures { IfOk result (λ found. IsWitness (is_gained was now) self.now found.witness) }
     {
         let is_gain = true;
         self.moved(alloc, LabelMove { is_gain, was, now })
     }
 
-    /// Returns the labels that are routed to a server before and not after; the server's numbers are as in `gained`. Fails if the
-    /// host is out of memory.
+    /// Returns the labels that are routed to a server before and not after, with a shortest one; the server's numbers are as in
+    /// `gained`. Fails if the host is out of memory.
     pub fn lost(
         &self,
         alloc: Global,
         was: Option<usize>,
         now: Option<usize>,
     ) -> Result<WitnessedSet, AllocError>
-        ensures { (before after : Option WishesOf) → All (IsRouted before after) self.now
-            → IfOk result (λ found. IfSome found.witness (IsMoved before after was now)) }
+        ensures { IfOk result (λ found. IsWitness (is_lost was now) self.now found.witness) }
     {
         let is_gain = false;
         self.moved(alloc, LabelMove { is_gain, was, now })
@@ -114,20 +116,15 @@ impl RouteComparison {
 
     // The labels that a server gains or loses.
     fn moved(&self, alloc: Global, moves: LabelMove) -> Result<WitnessedSet, AllocError>
-        ensures { (before after : Option WishesOf) → All (IsRouted before after) self.now
-            → IfOk result (λ found. IfSome found.witness
-            (MovesBy moves.is_gain before after moves.was moves.now)) }
+        ensures { IfOk result (λ found. IsWitness (is_moved moves) self.now found.witness) }
     {
         let routed = self.routed.as_slice();
         let mut inside = Vec::new(alloc);
-        for one in routed {
-            inside.push(is_moved(moves, one))?;
+        for place in 0..self.classes.as_slice().len() {
+            inside.push(is_moved_at(moves, routed, place))?;
         }
         let witness = match shortest(routed, moves) {
-            Some(place) => {
-                let one = &routed[place];
-                Some(one.label.copy())
-            }
+            Some(one) => Some(one.label.copy()),
             None => None,
         };
         Ok(WitnessedSet {
@@ -137,26 +134,84 @@ impl RouteComparison {
     }
 }
 
-// Adds the label of a class, with the components to which its requests are routed.
-#[tactic(auto, using(crate::proofs::ComparisonLemmas::routed_more, list_labels::proofs::AskedLemmas::is_given_then))]
+// Adds the labels of classes.
+fn add_classes(
+    routed: &mut Vec<LabelRoutes>,
+    before: Option<SessionRequests<'_>>,
+    after: Option<SessionRequests<'_>>,
+    classes: &[LabelClass],
+) -> Result<(), AllocError>
+    requires before { IfSome before (λ wishes. wishes.client < length wishes.list.now.entries) }
+    requires after { IfSome after (λ wishes. wishes.client < length wishes.list.now.entries) }
+    ensures { OnOk result (routed.new.items ≡ routed.old.items
+        ++ map (class_routes (routed_on before.entry) (routed_on after.entry)) classes.now) }
+{
+    for place in 0..classes.len() {
+        add_routed(routed, before, after, &classes[place].witness)?;
+    }
+    Ok(())
+}
+
+// Adds labels that represent all labels of requests on one of the lists, if the client is there.
+fn add_representatives(
+    alloc: Global,
+    routed: &mut Vec<LabelRoutes>,
+    before: Option<SessionRequests<'_>>,
+    after: Option<SessionRequests<'_>>,
+    wishes: Option<SessionRequests<'_>>,
+) -> Result<(), AllocError>
+    requires before { IfSome before (λ wishes. wishes.client < length wishes.list.now.entries) }
+    requires after { IfSome after (λ wishes. wishes.client < length wishes.list.now.entries) }
+    requires wishes { IfSome wishes (λ wishes. wishes.client < length wishes.list.now.entries) }
+    ensures { OnOk result ((kept : List KeptLabel) × (routed.new.items ≡ routed.old.items
+        ++ map (kept_routes (routed_on before.entry) (routed_on after.entry)) kept)
+        × AreRepresentatives wishes.entry kept) }
+{
+    match wishes {
+        Some(wishes) => {
+            let kept = representatives_of(alloc, wishes)?;
+            add_kept(routed, before, after, kept.as_slice())?;
+            Ok(())
+        }
+        None => Ok(()),
+    }
+}
+
+// Adds kept labels.
+fn add_kept(
+    routed: &mut Vec<LabelRoutes>,
+    before: Option<SessionRequests<'_>>,
+    after: Option<SessionRequests<'_>>,
+    kept: &[KeyedLabel],
+) -> Result<(), AllocError>
+    requires before { IfSome before (λ wishes. wishes.client < length wishes.list.now.entries) }
+    requires after { IfSome after (λ wishes. wishes.client < length wishes.list.now.entries) }
+    ensures { OnOk result (routed.new.items ≡ routed.old.items
+        ++ map (kept_routes (routed_on before.entry) (routed_on after.entry)) kept.now) }
+{
+    for place in 0..kept.len() {
+        let one = &kept[place];
+        add_routed(routed, before, after, &one.label)?;
+    }
+    Ok(())
+}
+
+// Adds a label, with the components to which its requests are routed.
 fn add_routed(
     routed: &mut Vec<LabelRoutes>,
     before: Option<SessionRequests<'_>>,
     after: Option<SessionRequests<'_>>,
-    class: &LabelClass,
+    label: &ClientLabel,
 ) -> Result<(), AllocError>
     requires before { IfSome before (λ wishes. wishes.client < length wishes.list.now.entries) }
     requires after { IfSome after (λ wishes. wishes.client < length wishes.list.now.entries) }
-    requires routed { All (IsRouted before after) routed.old.items }
-    ensures { OnOk result (All (IsRouted before.entry after.entry) routed.new.items) }
+    ensures { OnOk result (routed.new.items ≡ routed.old.items
+        ++ routes_of (routed_on before.entry) (routed_on after.entry) label.now ∷ []) }
 {
-    let label = class.witness.copy();
-    let before = child_of(before, &label);
-    let after = child_of(after, &label);
     routed.push(LabelRoutes {
-        label,
-        before,
-        after,
+        label: label.copy(),
+        before: child_of(before, label),
+        after: child_of(after, label),
     })?;
     Ok(())
 }
@@ -183,6 +238,14 @@ fn is_moved(moves: LabelMove, one: &LabelRoutes) -> bool
     }
 }
 
+// Whether the label at a place is one of those.
+fn is_moved_at(moves: LabelMove, routed: &[LabelRoutes], place: usize) -> bool {
+    match routed.get(place) {
+        Some(one) => is_moved(moves, one),
+        None => false,
+    }
+}
+
 // Whether a request is routed to a server, if the server is there.
 fn is_to(child: Option<usize>, server: Option<usize>) -> bool
     ensures { result ≡ is_to child server }
@@ -193,44 +256,41 @@ fn is_to(child: Option<usize>, server: Option<usize>) -> bool
     }
 }
 
-// The place of one of the shortest labels that a server gains or loses.
-fn shortest(routed: &[LabelRoutes], moves: LabelMove) -> Option<usize>
-    ensures { IfSome result (IsMovedAt moves routed.now) }
+// The first of the shortest labels that a server gains or loses.
+fn shortest(routed: &[LabelRoutes], moves: LabelMove) -> Option<&LabelRoutes>
+    ensures { IsShortest (is_moved moves) routed.now (option_copied result) }
 {
     let mut best = None;
-    for (place, one) in routed.iter().enumerate() {
-        best = better(routed, moves, best, place, one);
+    for place in 0..routed.len() {
+        best = better(moves, best, &routed[place]);
     }
     best
 }
 
 // The shorter of the best so far and the next one, if a server gains or loses that.
-fn better(
-    routed: &[LabelRoutes],
+#[tactic(auto, using(crate::proofs::ComparisonLemmas::best_taken, crate::proofs::ComparisonLemmas::best_stays))]
+fn better<'a>(
     moves: LabelMove,
-    best: Option<usize>,
-    place: usize,
-    one: &LabelRoutes,
-) -> Option<usize>
-    requires place { place < length routed.now }
-    requires here { one.now ≡ slice_index_or routed.now place one.now }
-    requires best { IfSome best (IsMovedAt moves routed.now) }
-    ensures { IfSome result (IsMovedAt moves routed.now) }
+    best: Option<&'a LabelRoutes>,
+    one: &'a LabelRoutes,
+) -> Option<&'a LabelRoutes>
+    ensures { (seen : List RoutedLabel)
+        → IsShortest (is_moved moves) seen (option_copied best.entry)
+        → IsShortest (is_moved moves) (seen ++ one.now ∷ []) (option_copied result) }
 {
-    if is_moved(moves, one) && is_shorter(routed, one, best) {
-        Some(place)
+    if is_moved(moves, one) && is_shorter(one, best) {
+        Some(one)
     } else {
         best
     }
 }
 
-// Whether a label is shorter than the one at a place, or there is none.
-fn is_shorter(routed: &[LabelRoutes], one: &LabelRoutes, best: Option<usize>) -> bool {
+// Whether a label is shorter than another one, or there is no other one.
+fn is_shorter(one: &LabelRoutes, best: Option<&LabelRoutes>) -> bool
+    ensures { result ≡ is_shorter one.now (option_copied best.entry) }
+{
     match best {
-        Some(place) => match routed.get(place) {
-            Some(other) => one.label.as_bytes().len() < other.label.as_bytes().len(),
-            None => true,
-        },
+        Some(other) => one.label.as_bytes().len() < other.label.as_bytes().len(),
         None => true,
     }
 }

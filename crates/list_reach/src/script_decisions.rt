@@ -3,7 +3,7 @@ ghost use Rattle.std.specs.Prelude.{◌≡◌, ◌<◌, [], ◌∷◌, length, m
 ghost use Rattle.std.specs.List.{slice_get};
 ghost use Rattle.trade_base.specs.Service.{service_name, services};
 ghost use Rattle.list_reach.specs.Paths.{is_chosen};
-ghost use Rattle.list_reach.specs.ScriptDecisions.{AddsDecisions, AreAllDecisions, IsDecided, entry_askings};
+ghost use Rattle.list_reach.specs.ScriptDecisions.{AddsDecisions, AreAllDecisions, AreEntryDecisions, IsDecided, entry_askings};
 
 use crate::component_numbers::{ComponentKind, is_sought};
 use crate::reach_filter::ReachFilter;
@@ -40,6 +40,26 @@ impl<'a> ScriptDecisions<'a> {
         let entries = list.entries();
         for (client, entry) in entries.iter().enumerate() {
             add_script(alloc, &mut found, list, chosen, client, entry)?;
+        }
+        Ok(found)
+    }
+
+    /// Decides the requests of the entry of a number for each service, or nothing if the entry isn't a script. Fails if the host
+    /// is out of memory.
+    pub fn of_entry(
+        alloc: Global,
+        list: &'a StartList,
+        client: usize,
+        entry: &'a ListEntry,
+    ) -> Result<Vec<ScriptDecisions<'a>>, AllocError>
+        requires client { client < length list.now.entries }
+        requires entry { slice_get list.now.entries client ≡ Some entry.now }
+        ensures { IfOk result
+            (λ found. AreEntryDecisions list.now (client, entry.now) found.items) }
+    {
+        let mut found = Vec::new(alloc);
+        if is_sought(entry, ComponentKind::Script) {
+            add_services(alloc, &mut found, list, client, entry)?;
         }
         Ok(found)
     }

@@ -1,6 +1,7 @@
-use Rattle.std.specs.Prelude.{IfSome}
-use Rattle.list_reach.specs.Comparisons.{IsMovedAt}
+use Rattle.std.proofs.Common.{take}
+use Rattle.std.specs.Option.{option_copied}
+use Rattle.list_reach.specs.Comparisons.{IsShortest, is_moved}
 use Rattle.list_reach.proofs.comparison.shortest.Given as goal
 
 abbrev pub invariant-loop-place : goal.invariant-loop-place
-invariant-loop-place l = IfSome l.best (IsMovedAt l.moves l.routed)
+invariant-loop-place l = IsShortest (is_moved l.moves) (take l.place l.routed) (option_copied l.best)
