@@ -1,13 +1,12 @@
 //! The components of a start list, and the servers to which their session requests are routed, as a graph.
-ghost use Rattle.std.specs.Prelude.{◌≡◌, [], IfOk};
-ghost use Rattle.list_reach.specs.Paths.{is_chosen};
-ghost use Rattle.list_reach.specs.ScriptDecisions.{AreAllDecisions};
+ghost use Rattle.std.specs.Prelude.{◌≡◌, IfOk};
+ghost use Rattle.list_tree.specs.Nodes.{AreNodes};
 
 use crate::node::TreeNode;
 use crate::script_decision::ScriptDecision;
 use crate::tree::ListTree;
 use list_parser::{Binary, ListEntry, StartList};
-use list_parts::{left_of, show_within};
+use list_parts::show_within;
 use list_reach::ScriptDecisions;
 use std::alloc::{AllocError, Global};
 use std::fmt;
@@ -24,8 +23,7 @@ impl<'a> ListGraph<'a> {
     /// Returns the graph of a start list. Fails if the host is out of memory.
     pub fn of(alloc: Global, list: &'a StartList) -> Result<ListGraph<'a>, AllocError>
         ensures list { IfOk result (λ graph. graph.tree.list.now ≡ list.now) }
-        ensures decisions { IfOk result
-            (λ graph. AreAllDecisions list.now (is_chosen []) graph.tree.decisions.items) }
+        ensures nodes { IfOk result (λ graph. AreNodes list.now graph.tree.nodes.items) }
     {
         Ok(ListGraph {
             tree: ListTree::of(alloc, list)?,
@@ -36,16 +34,16 @@ impl<'a> ListGraph<'a> {
 impl fmt::Display for ListGraph<'_> {
     fn fmt<W: fmt::Write>(&self, f: &mut fmt::Formatter<W>) -> fmt::Result {
         let list = self.tree.list;
-        let left = left_of(&self.tree.inits, 0);
+        let keeps = self.tree.keeps;
         write!(
             f,
-            "digraph machine {{\n  rankdir=LR;\n  label=\"{} pages, {} caps; init keeps {left}\";\n",
+            "digraph machine {{\n  rankdir=LR;\n  label=\"{} pages, {} caps; init keeps {keeps}\";\n",
             list.pages(),
             list.caps()
         )?;
         self.show_nodes(f)?;
-        for one in self.tree.decisions.as_slice() {
-            show_edges(f, list, one)?;
+        for node in self.tree.nodes.as_slice() {
+            show_all_edges(f, list, node)?;
         }
         f.write_str("}\n")
     }
@@ -56,18 +54,17 @@ impl ListGraph<'_> {
     fn show_nodes<W: fmt::Write>(&self, f: &mut fmt::Formatter<W>) -> fmt::Result {
         self.show_denied(f, 0, 0)?;
         let mut open = 0;
-        for (number, entry) in self.tree.list.entries().iter().enumerate() {
-            let node = TreeNode::of(&self.tree.inits, number, entry);
-            let depth = depth_of(entry);
+        for node in self.tree.nodes.as_slice() {
+            let depth = depth_of(node.entry);
             show_ends(f, depth, open)?;
             open = depth;
             show_margin(f, depth)?;
-            if entry.is_init() {
+            if node.entry.is_init() {
                 open = depth.saturating_add(1);
-                show_box(f, &node, open)?;
-                self.show_denied(f, number.saturating_add(1), open)?;
+                show_box(f, node, open)?;
+                self.show_denied(f, node.number.saturating_add(1), open)?;
             } else {
-                show_node(f, &node)?;
+                show_node(f, node)?;
             }
         }
         show_ends(f, 0, open)
@@ -80,8 +77,8 @@ impl ListGraph<'_> {
         init: usize,
         depth: usize,
     ) -> fmt::Result {
-        let mut decisions = self.tree.decisions.as_slice().iter();
-        if !decisions.any(|one| one.entry.home() == init && denies(one)) {
+        let mut nodes = self.tree.nodes.as_slice().iter();
+        if !nodes.any(|node| node.entry.home() == init && node.is_denied_some()) {
             return Ok(());
         }
         show_margin(f, depth)?;
@@ -90,12 +87,16 @@ impl ListGraph<'_> {
     }
 }
 
-// Whether some requests of a script for a service are denied.
-fn denies(one: &ScriptDecisions<'_>) -> bool {
-    one.decisions
-        .as_slice()
-        .iter()
-        .any(|trail| trail.child().is_none())
+// The edges of the decisions on the requests of a component.
+fn show_all_edges<'a, W: fmt::Write>(
+    f: &mut fmt::Formatter<W>,
+    list: &'a StartList,
+    node: &'a TreeNode<'a>,
+) -> fmt::Result {
+    for one in node.requests.as_slice() {
+        show_edges(f, list, one)?;
+    }
+    Ok(())
 }
 
 // The edges of the decisions on a script's requests for a service.

@@ -1,17 +1,29 @@
-//! The components of a start list with their budgets.
-use list_parser::ListEntry;
+//! The components of a start list with their budgets, and the decisions on their session requests.
+ghost use Rattle.std.specs.Prelude.{◌≡◌, ◌<◌, Some, length, IfOk};
+ghost use Rattle.std.specs.List.{slice_get};
+ghost use Rattle.own_model.specs.Listed.{start_list_of};
+ghost use Rattle.own_model.specs.StartList.{inits_kept};
+ghost use Rattle.list_tree.specs.Nodes.{IsNode, extra_of, numbered};
+
+use list_parser::{ListEntry, StartList};
 use list_parts::{InitQuotas, StartQuota, left_of};
+use list_reach::ScriptDecisions;
+use std::alloc::{AllocError, Global};
 use std::fmt;
 
-/// A component with its budget at the start.
-#[derive(Clone, Copy)]
+/// A component with its budget at the start, and the decisions on its requests.
+#[derive(Drop)]
 pub(crate) struct TreeNode<'a> {
+    /// The number of the component.
+    pub number: usize,
     /// The component.
     pub entry: &'a ListEntry,
     /// The limits of the component's account.
     pub own: StartQuota,
     /// The budget that the component has in addition.
     pub extra: Option<ExtraBudget>,
+    /// The decisions on the requests of a script, service by service; no others have any.
+    pub requests: Vec<ScriptDecisions<'a>>,
 }
 
 /// A budget that a component has in addition to its account.
@@ -24,23 +36,31 @@ pub(crate) enum ExtraBudget {
 }
 
 impl<'a> TreeNode<'a> {
-    /// Returns the entry of a number as a node, of a machine whose inits keep these.
-    pub(crate) fn of(inits: &InitQuotas, number: usize, entry: &'a ListEntry) -> TreeNode<'a> {
-        let extra = match entry.reserve() {
-            Some(reserve) => Some(ExtraBudget::Reserve(StartQuota {
-                ram: reserve.ram.0,
-                caps: reserve.caps.0,
-            })),
-            None if entry.is_init() => {
-                Some(ExtraBudget::Keeps(left_of(inits, number.saturating_add(1))))
-            }
-            None => None,
-        };
-        let own = StartQuota {
-            ram: entry.ram(),
-            caps: entry.caps(),
-        };
-        TreeNode { entry, own, extra }
+    /// Returns the entry of a number as a node, of a machine whose inits keep these. Fails if the host is out of memory.
+    pub(crate) fn of(
+        alloc: Global,
+        list: &'a StartList,
+        inits: &InitQuotas,
+        number: usize,
+        entry: &'a ListEntry,
+    ) -> Result<TreeNode<'a>, AllocError>
+        requires number { number < length list.now.entries }
+        requires few { number < 32 }
+        requires entry { slice_get list.now.entries number ≡ Some entry.now }
+        requires inits { inits.now.items ≡ inits_kept (start_list_of list.now) }
+        ensures entry { IfOk result (λ node. numbered node ≡ (number, entry.now)) }
+        ensures node { IfOk result (IsNode list.now) }
+    {
+        Ok(TreeNode {
+            number,
+            entry,
+            own: StartQuota {
+                ram: entry.ram(),
+                caps: entry.caps(),
+            },
+            extra: extra_of(inits, number, entry),
+            requests: ScriptDecisions::of_entry(alloc, list, number, entry)?,
+        })
     }
 
     /// Writes the budget of the component, with a text between the account and the rest.
@@ -56,4 +76,32 @@ impl<'a> TreeNode<'a> {
             None => write!(f, "{own}"),
         }
     }
+
+    /// Returns whether some of the component's requests are denied.
+    pub(crate) fn is_denied_some(&self) -> bool {
+        self.requests.as_slice().iter().any(denies)
+    }
+}
+
+// What an entry has in addition to its account: a script its reserve, and an init what it keeps.
+fn extra_of(inits: &InitQuotas, number: usize, entry: &ListEntry) -> Option<ExtraBudget>
+    requires { number < 32 }
+    ensures { result ≡ extra_of inits.now.items (number, entry.now) }
+{
+    match entry.reserve() {
+        Some(reserve) => Some(ExtraBudget::Reserve(StartQuota {
+            ram: reserve.ram.0,
+            caps: reserve.caps.0,
+        })),
+        None if entry.is_init() => Some(ExtraBudget::Keeps(left_of(inits, number + 1))),
+        None => None,
+    }
+}
+
+// Whether some requests of a script for a service are denied.
+fn denies(one: &ScriptDecisions<'_>) -> bool {
+    one.decisions
+        .as_slice()
+        .iter()
+        .any(|trail| trail.child().is_none())
 }

@@ -1,5 +1,7 @@
 //! Which rules decide some of a script's session requests for a service, list by list outward.
 ghost use Rattle.std.specs.Prelude.{◌≡◌};
+ghost use Rattle.std.specs.Option.{option_copied};
+ghost use Rattle.list_tree.specs.Nodes.{label_of, server_of};
 
 use list_labels::ClientLabel;
 use list_parser::{ListEntry, Rule, StartList};
@@ -29,24 +31,25 @@ impl<'a> ScriptDecision<'a> {
         one: &'a ScriptDecisions<'a>,
         trail: &'a RouteDecision,
     ) -> ScriptDecision<'a>
-        ensures { result.client.now ≡ one.entry.now.entry.now }
+        ensures list { result.list.now ≡ list.now }
+        ensures client { result.client.now ≡ one.now.entry.now }
+        ensures service { result.service.now ≡ one.now.service.now }
+        ensures trail { result.trail.now ≡ trail.now }
+        ensures label { option_copied result.label ≡ label_of one.now trail.now }
     {
-        let label = if one.decisions.as_slice().len() == 1 {
-            None
-        } else {
-            Some(trail.label())
-        };
         ScriptDecision {
             list,
             client: one.entry,
             service: one.service,
             trail,
-            label,
+            label: label_of(one, trail),
         }
     }
 
     /// Returns the server to which the requests are routed, or none if they are denied.
-    pub(crate) fn server(&self) -> Option<&'a ListEntry> {
+    pub(crate) fn server(&self) -> Option<&'a ListEntry>
+        ensures { option_copied result ≡ server_of self.now.list.now self.now.trail.now }
+    {
         self.list.entries().get(self.trail.child()?)
     }
 
@@ -64,6 +67,17 @@ impl<'a> ScriptDecision<'a> {
             Some(rule) if rule.target().is_parent() => self.list.init_entry(entry.home()),
             _ => None,
         }
+    }
+}
+
+// The label of a decision, unless it is the only decision on these requests.
+fn label_of<'a>(one: &ScriptDecisions<'_>, trail: &'a RouteDecision) -> Option<&'a ClientLabel>
+    ensures { option_copied result ≡ label_of one.now trail.now }
+{
+    if one.decisions.as_slice().len() == 1 {
+        None
+    } else {
+        Some(trail.label())
     }
 }
 

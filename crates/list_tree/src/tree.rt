@@ -1,13 +1,15 @@
 //! The components of a start list, and the servers to which their session requests are routed, as text and as documents.
-ghost use Rattle.std.specs.Prelude.{◌≡◌, [], IfOk};
-ghost use Rattle.list_reach.specs.Paths.{is_chosen};
-ghost use Rattle.list_reach.specs.ScriptDecisions.{AreAllDecisions};
+ghost use Rattle.std.specs.Prelude.{◌≡◌, ◌<◌, Some, length, All, IfOk, OnOk};
+ghost use Rattle.std.specs.List.{slice_get};
+ghost use Rattle.own_model.specs.Listed.{start_list_of};
+ghost use Rattle.own_model.specs.StartList.{init_at, inits_kept};
+ghost use Rattle.list_tree.specs.Nodes.{AddsNode, AreNodes, IsNode};
 
 use crate::node::{ExtraBudget, TreeNode};
 use crate::script_decision::ScriptDecision;
 use list_parser::{ListEntry, StartList};
-use list_parts::{InitQuotas, kept, left_of, show_within};
-use list_reach::{ReachFilter, ScriptDecisions};
+use list_parts::{InitQuotas, StartQuota, kept, left_of, show_within};
+use list_reach::ScriptDecisions;
 use std::alloc::{AllocError, Global};
 use std::fmt;
 use view_json::{JsonField, Listing};
@@ -18,21 +20,30 @@ use view_json::{JsonField, Listing};
 #[derive(Drop)]
 pub struct ListTree<'a> {
     pub(crate) list: &'a StartList,
-    pub(crate) inits: InitQuotas,
-    pub(crate) decisions: Vec<ScriptDecisions<'a>>,
+    // The RAM and the capabilities that the machine's init keeps.
+    pub(crate) keeps: StartQuota,
+    pub(crate) nodes: Vec<TreeNode<'a>>,
 }
 
 impl<'a> ListTree<'a> {
     /// Returns the tree of a start list. Fails if the host is out of memory.
     pub fn of(alloc: Global, list: &'a StartList) -> Result<ListTree<'a>, AllocError>
         ensures list { IfOk result (λ tree. tree.list.now ≡ list.now) }
-        ensures decisions { IfOk result
-            (λ tree. AreAllDecisions list.now (is_chosen []) tree.decisions.items) }
+        ensures keeps { IfOk result
+            (λ tree. tree.keeps ≡ init_at (inits_kept (start_list_of list.now)) 0) }
+        ensures nodes { IfOk result (λ tree. AreNodes list.now tree.nodes.items) }
     {
+        let inits = kept(list);
+        let count = list.count();
+        prove!(count <= 32);
+        let mut nodes = Vec::new(alloc);
+        for (number, entry) in list.entries().iter().enumerate() {
+            add_node(alloc, &mut nodes, list, &inits, number, entry)?;
+        }
         Ok(ListTree {
             list,
-            inits: kept(list),
-            decisions: ScriptDecisions::all(alloc, list, &ReachFilter::all(alloc))?,
+            keeps: left_of(&inits, 0),
+            nodes,
         })
     }
 
@@ -41,20 +52,15 @@ impl<'a> ListTree<'a> {
     pub fn documents(&self, alloc: Global) -> Result<Vec<u8>, AllocError> {
         let mut listing = Listing::new(alloc);
         self.add_machine(&mut listing)?;
-        for (number, entry) in self.list.entries().iter().enumerate() {
-            add_node(
-                alloc,
-                &mut listing,
-                &TreeNode::of(&self.inits, number, entry),
-            )?;
-            self.add_decisions(alloc, &mut listing, number)?;
+        for node in self.nodes.as_slice() {
+            add_component(alloc, &mut listing, node)?;
+            add_decisions(alloc, &mut listing, self.list, node)?;
         }
         listing.into_text()
     }
 
     // Adds the machine, and what its init keeps.
     fn add_machine(&self, listing: &mut Listing) -> Result<(), AllocError> {
-        let left = left_of(&self.inits, 0);
         listing.add(&[
             ("kind", JsonField::Word("machine")),
             ("pages", number_of(self.list.pages())),
@@ -62,56 +68,49 @@ impl<'a> ListTree<'a> {
         ])?;
         listing.add(&[
             ("kind", JsonField::Word("init")),
-            ("keeps_ram", JsonField::Number(left.ram)),
-            ("keeps_caps", number_of(left.caps)),
+            ("keeps_ram", JsonField::Number(self.keeps.ram)),
+            ("keeps_caps", number_of(self.keeps.caps)),
         ])
-    }
-
-    // Adds the decisions on the requests of the script of a number.
-    fn add_decisions(
-        &self,
-        alloc: Global,
-        listing: &mut Listing,
-        number: usize,
-    ) -> Result<(), AllocError> {
-        for one in self.decisions.as_slice() {
-            if one.client == number {
-                add_requests(alloc, listing, self.list, one)?;
-            }
-        }
-        Ok(())
-    }
-
-    // Writes the decisions on the requests of the script of a number.
-    fn show_decisions<W: fmt::Write>(
-        &self,
-        f: &mut fmt::Formatter<W>,
-        number: usize,
-    ) -> fmt::Result {
-        for one in self.decisions.as_slice() {
-            if one.client == number {
-                show_requests(f, self.list, one)?;
-            }
-        }
-        Ok(())
     }
 }
 
 impl fmt::Display for ListTree<'_> {
     fn fmt<W: fmt::Write>(&self, f: &mut fmt::Formatter<W>) -> fmt::Result {
-        let left = left_of(&self.inits, 0);
+        let keeps = self.keeps;
         writeln!(
             f,
-            "machine: {} pages, {} caps\ninit keeps: {left}",
+            "machine: {} pages, {} caps\ninit keeps: {keeps}",
             self.list.pages(),
             self.list.caps()
         )?;
-        for (number, entry) in self.list.entries().iter().enumerate() {
-            show_node(f, &TreeNode::of(&self.inits, number, entry))?;
-            self.show_decisions(f, number)?;
+        for node in self.nodes.as_slice() {
+            show_node(f, node)?;
+            show_decisions(f, self.list, node)?;
         }
         Ok(())
     }
+}
+
+// Adds the node of an entry.
+fn add_node<'a>(
+    alloc: Global,
+    nodes: &mut Vec<TreeNode<'a>>,
+    list: &'a StartList,
+    inits: &InitQuotas,
+    number: usize,
+    entry: &'a ListEntry,
+) -> Result<(), AllocError>
+    requires number { number < length list.now.entries }
+    requires few { number < 32 }
+    requires entry { slice_get list.now.entries number ≡ Some entry.now }
+    requires inits { inits.now.items ≡ inits_kept (start_list_of list.now) }
+    requires nodes { All (IsNode list.now) nodes.old.items }
+    ensures { OnOk result
+        (AddsNode list.now nodes.old.items (number, entry.now) nodes.new.items) }
+{
+    let node = TreeNode::of(alloc, list, inits, number, entry)?;
+    nodes.push(node)?;
+    Ok(())
 }
 
 // A component with its budget, and what it provides.
@@ -126,6 +125,18 @@ fn show_node<W: fmt::Write>(f: &mut fmt::Formatter<W>, node: &TreeNode<'_>) -> f
         Some(_) => f.write_str(", provides nothing\n"),
         None => f.write_str("\n"),
     }
+}
+
+// The decisions on the requests of a component, service by service.
+fn show_decisions<'a, W: fmt::Write>(
+    f: &mut fmt::Formatter<W>,
+    list: &'a StartList,
+    node: &'a TreeNode<'a>,
+) -> fmt::Result {
+    for one in node.requests.as_slice() {
+        show_requests(f, list, one)?;
+    }
+    Ok(())
 }
 
 // The decisions on a script's requests for a service.
@@ -170,7 +181,11 @@ fn show_indent<W: fmt::Write>(f: &mut fmt::Formatter<W>, entry: &ListEntry) -> f
 }
 
 // Adds a component with its budget, and the service that it provides: null if its binary has one and it provides none.
-fn add_node(alloc: Global, listing: &mut Listing, node: &TreeNode<'_>) -> Result<(), AllocError> {
+fn add_component(
+    alloc: Global,
+    listing: &mut Listing,
+    node: &TreeNode<'_>,
+) -> Result<(), AllocError> {
     let entry = node.entry;
     let binary = entry.binary();
     let mut members = vec![in alloc;
@@ -199,6 +214,19 @@ fn add_node(alloc: Global, listing: &mut Listing, node: &TreeNode<'_>) -> Result
         None => {}
     }
     listing.add(members.as_slice())
+}
+
+// Adds the decisions on the requests of a component, service by service.
+fn add_decisions<'a>(
+    alloc: Global,
+    listing: &mut Listing,
+    list: &'a StartList,
+    node: &'a TreeNode<'a>,
+) -> Result<(), AllocError> {
+    for one in node.requests.as_slice() {
+        add_requests(alloc, listing, list, one)?;
+    }
+    Ok(())
 }
 
 // Adds the decisions on a script's requests for a service.
