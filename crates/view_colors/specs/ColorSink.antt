@@ -1,5 +1,5 @@
 -- Lines with their colours.
-use Rattle.std.specs.Prelude.{ℕ, ◌==◌, Bool, List, [], ◌∷◌, ◌++◌, codes, nat_eq, if◌then◌else◌}
+use Rattle.std.specs.Prelude.{ℕ, ◌==◌, Bool, List, [], ◌∷◌, ◌++◌, codes, nat_eq, if◌then◌else◌, Option, Some, None}
 use Rattle.std.specs.List.{starts_with, ends_with}
 use Rattle.std.specs.Option.{unwrap_or}
 use Rattle.own_model.specs.Text.{first_word}
@@ -48,3 +48,8 @@ painted_lines lines line (b ∷ bs) =
 abbrev pub left_of : List ℕ → List ℕ → List ℕ
 left_of line [] = line
 left_of line (b ∷ bs) = if b == 10 then left_of [] bs else left_of (line ++ b ∷ []) bs
+
+-- the bytes that a sink took, if it passes them on unchanged
+abbrev pub contents_of : Option Lines → Option (List ℕ) → Option (List ℕ)
+contents_of None known = known
+contents_of (Some lines) known = None

@@ -1,6 +1,7 @@
 //! A sink that colours lines.
 ghost use Rattle.std.specs.Prelude.{◌≡◌, ◌++◌, ◌∷◌, ◌||◌, [], false, IfOk, OnOk};
-ghost use Rattle.view_colors.specs.ColorSink.{left_of, painted, painted_lines, shade_of};
+ghost use Rattle.std.specs.Io.KnownBytes.{Appends};
+ghost use Rattle.view_colors.specs.ColorSink.{contents_of, left_of, painted, painted_lines, shade_of};
 
 use crate::shade::{Lines, Shade};
 use run_lines::{DeviceFault, Sink, WriteBuffer};
@@ -67,17 +68,22 @@ impl<S: Sink> ColorSink<S> {
         requires { S.has_failed self.old.sink ≡ false }
         ensures works { OnOk result (S.has_failed self.new.sink ≡ false) }
         ensures kept { self.new.failed ≡ self.old.failed }
+        ensures lines { self.new.lines ≡ self.old.lines }
+        ensures left { OnOk result (self.new.line.items ≡ left_of self.old.line.items bytes.now) }
+        ensures told { OnOk result (Appends (S.contents self.old.sink) (S.contents self.new.sink)
+            (self.old.gathered ++ painted_lines lines self.old.line.items bytes.now)) }
+        ensures written { OnOk result (self.new.gathered ≡ []) }
     {
-        let mut text = Vec::new(self.alloc);
-        if add_painted(&mut text, lines, &mut self.line, bytes).is_err() {
-            return Err(DeviceFault);
-        }
+        let text = complete_lines(self.alloc, lines, &mut self.line, bytes)?;
         self.gathered.put(&mut self.sink, text.as_slice())?;
         self.gathered.flush(&mut self.sink)
     }
 }
 
 impl<S: Sink> Sink for ColorSink<S> {
+    // Of lines with colours the bytes that were taken aren't known, since the sink below has them with their colours (`take`).
+    ghost contents = { λ painted. contents_of painted.lines (S.contents painted.sink) };
+
     ghost has_failed = { λ painted. painted.failed || S.has_failed painted.sink };
 
     fn write(&mut self, buffer: &[u8]) -> Result<usize, DeviceFault> {
@@ -93,6 +99,23 @@ impl<S: Sink> Sink for ColorSink<S> {
 
     fn failed(&self) -> bool {
         self.failed || self.sink.failed()
+    }
+}
+
+// Returns the lines that bytes complete, coloured, and keeps the bytes of the next line. The error is that the host is out of memory.
+fn complete_lines(
+    alloc: Global,
+    lines: Lines,
+    line: &mut Vec<u8>,
+    bytes: &[u8],
+) -> Result<Vec<u8>, DeviceFault>
+    ensures text { IfOk result (λ text. text.items ≡ painted_lines lines line.old.items bytes.now) }
+    ensures left { OnOk result (line.new.items ≡ left_of line.old.items bytes.now) }
+{
+    let mut text = Vec::new(alloc);
+    match add_painted(&mut text, lines, line, bytes) {
+        Ok(()) => Ok(text),
+        Err(AllocError) => Err(DeviceFault),
     }
 }
 
