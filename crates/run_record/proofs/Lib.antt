@@ -1,3 +1,6 @@
 mod PieceLemmas
 mod MarkLemmas
 mod RecordedLemmas
+mod BareLemmas
+mod BareCallLemmas
+mod UnreadLemmas

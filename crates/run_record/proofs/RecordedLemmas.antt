@@ -1,23 +1,16 @@
 -- What is recorded of a scenario that is played line by line.
-use Rattle.std.proofs.Common.{◌≡◌, ℕ, ◌<◌, ◌≤◌, nat_le, nat_lt, cond, not, ◌&&◌, Bool, true, false, is_some, List, [], ◌∷◌, length, Option, Some, None, Result, Ok, Err, IfOk, OnOk, arith, ap, refl, subst, sym, ◌∙◌}
-use Rattle.std.specs.List.{flat_map}
+use Rattle.std.proofs.Common.{◌≡◌, ℕ, Bool, false, List, [], ◌∷◌, None, Result, Ok, Err, IfOk, OnOk, ap, refl, subst, sym, ◌∙◌}
 use Rattle.line_steps.specs.RunPosition.{RunPosition, arrived, passed, position_following}
-use Rattle.own_model.specs.Reply.{log_text}
-use Rattle.own_model.specs.Transcript.{heard as heard_call}
 use Rattle.own_model.specs.World.{World}
 use Rattle.list_parser.specs.declared.fault.BootFault.{BootFault}
-use Rattle.run_lines.specs.Answer.{finished_lines}
 use Rattle.line_names.specs.Directives.{Directive}
-use Rattle.line_names.specs.Filling.{FilledLine}
 use Rattle.line_names.specs.NameTable.{NameTable}
-use Rattle.run_record.specs.Marked.{StepsTo, all_marked, marks_after, unmarked}
-use Rattle.run_record.specs.RecordedCalls.{RecordedCall, RecordingState, events, first_recording, hearing_of, line_passed, events_in, reply_in, rounds_passed, recording_after, recording_behind}
+use Rattle.run_record.specs.Marked.{StepsTo, all_marked, unmarked}
+use Rattle.run_record.specs.RecordedCalls.{RecordingState, events, first_recording, line_passed, events_in, rounds_passed, recording_after, recording_behind}
 use Rattle.line_steps.specs.ResolvedLines.{ResolvedLine, resolved_line}
 use Rattle.line_steps.specs.ResolvedLines.ResolvedLine.{TooLong, Skipped, BadName, Follow, Misplaced, Nothing, Log, Call, BadLine}
-use Rattle.run_record.specs.RecordedCalls.Meeting.{Hears}
 use Rattle.run_record.specs.Recorded.{LineMark, pieces_of, recorded, without_last, written_lines}
-use Rattle.run_record.specs.Views.{recorded_call_view, recording_in}
-use Rattle.run_record.specs.declared.recorded_call.RecordedCall.{RecordedCall as Heard}
+use Rattle.run_record.specs.Views.{recording_in}
 use Rattle.run_record.specs.declared.recording.Recording.{Recording}
 use Rattle.run_record.proofs.MarkLemmas.{marked_on, marks_in_all}
 
@@ -72,24 +65,6 @@ pub turned_following : {E : Type 0} (r : Result Unit E) (all : Bool) (number : �
     OnOk r (next ≡ position_following stand directive) → OnOk r (StepsTo all number (Follow directive) (recording_in stand awaits world) (recording_in next awaits world) marks marks)
 turned_following (Ok done) all number directive world stand next awaits marks is = record { stage = ap (λ s. recording_in s awaits world) is; marks = refl }
 turned_following (Err fault) all number directive world stand next awaits marks is = tt
-
--- a call as it was heard
-pub heard_is : (all : Bool) (stage : RecordingState) (made : FilledLine) (call : List ℕ) (expected : Option (List ℕ)) (heard : Heard) (reply lines : List ℕ) →
-    heard.known.now ≡ stage.stand.known → heard.binds ≡ nat_lt 0 (length made.holes) → heard.expects ≡ is_some expected → heard.call.now ≡ call →
-    heard.reply.now ≡ reply → heard.lines.now ≡ cond (stage.awaits && not all) [] lines → reply ≡ reply_in stage.world call →
-    lines ≡ flat_map log_text (finished_lines stage.world (heard_call stage.world.entries call)) →
-    recorded_call_view heard ≡ hearing_of all stage made call expected
-heard_is all stage made call expected heard reply lines known binds expects call_is reply_is lines_is answered finished =
-    rw (known, binds, expects, call_is, reply_is, lines_is, answered, finished) refl
-
-pub called : {all : Bool} {number : ℕ} {stage next : RecordingState} {made : FilledLine} {call : List ℕ} {expected : Option (List ℕ)} {before after : List LineMark}
-    (h : RecordedCall) → h ≡ hearing_of all stage made call expected → next ≡ recording_after stage (Call made call expected) →
-    after ≡ marks_after 1 (record { number = number; meeting = Hears h }) before →
-    StepsTo all number (Call made call expected) stage next before after
-called {number = number} {before = before} h is next_is after_is = record {
-  stage = next_is;
-  marks = after_is ∙ ap (λ x. marks_after 1 (record { number = number; meeting = Hears x }) before) is;
-}
 
 -- ---- a line is passed, and then played
 

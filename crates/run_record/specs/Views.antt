@@ -1,6 +1,9 @@
 -- The values that contracts see for answered calls, records and marks.
-use Rattle.std.specs.Prelude.{ℕ, Bool, List, ◌++◌, map, if◌then◌else◌, Option, Some, None}
-use Rattle.std.specs.Option.{option_map}
+use Rattle.std.specs.Prelude.{◌≡◌, ℕ, Bool, List, ◌++◌, map, is_some, if◌then◌else◌, Option, Some, None}
+use Rattle.std.specs.Option.{option_copied, option_map}
+use Rattle.line_names.specs.Filling.{FilledLine}
+use Rattle.line_steps.specs.ResolvedLines.{resolved_line}
+use Rattle.line_steps.specs.ResolvedLines.ResolvedLine.{Call}
 use Rattle.line_steps.specs.RunPosition.{RunPosition}
 use Rattle.own_model.specs.World.{World}
 use Rattle.run_record.specs.RecordedCalls.{RecordedCall, RecordingState}
@@ -16,11 +19,17 @@ abbrev pub recorded_call_view : Heard → RecordedCall
 recorded_call_view heard = record {
   known = heard.known.now;
   binds = heard.binds;
-  expects = heard.expects;
+  expects = is_some (option_copied heard.expected);
   call = heard.call.now;
   reply = heard.reply.now;
   lines = heard.lines.now;
 }
+
+-- a call is the one of its line, with the values of names before it
+abbrev pub IsOfLine : Heard → Type 0
+IsOfLine heard =
+    (filled : FilledLine)
+    × (resolved_line None heard.known.now heard.line.now ≡ Call filled heard.call.now (option_copied heard.expected))
 
 abbrev pub note_view : Noted → LineRecord
 note_view note = record {

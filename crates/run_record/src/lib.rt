@@ -4,6 +4,7 @@
 //! `alice alloc 4K`.
 #![tactic(auto)]
 
+mod bare;
 mod line_marks;
 mod line_record;
 mod pieces;

@@ -3,7 +3,7 @@ ghost use Rattle.std.specs.Prelude.{◌≡◌, IfOk, OnOk};
 ghost use Rattle.run_record.specs.Marked.{marked, marks_after, unmarked};
 ghost use Rattle.run_record.specs.RecordedCalls.Meeting.{Hears, Logs};
 ghost use Rattle.run_record.specs.Recorded.{pieces_of, written_lines};
-ghost use Rattle.run_record.specs.Views.{recorded_call_view, mark_view, marks_view};
+ghost use Rattle.run_record.specs.Views.{IsOfLine, recorded_call_view, mark_view, marks_view};
 
 use crate::line_record::LineRecord;
 use crate::pieces::first_piece;
@@ -76,6 +76,7 @@ impl<'a> LineMarks<'a> {
         number: u64,
         hearing: &RecordedCall<'_, '_>,
     ) -> Result<(), AllocError>
+        requires { IsOfLine hearing.now }
         ensures { OnOk result (marks_view self.new.marks.items ≡ marks_after 1 (record {
           number = number;
           meeting = Hears (recorded_call_view hearing.now);
@@ -111,6 +112,7 @@ impl LineMark<'_> {
         hearing: &RecordedCall<'_, '_>,
         buffers: &mut LineBuffers,
     ) -> Result<(), AllocError>
+        requires { IsOfLine hearing.now }
         ensures { OnOk result (mark_view self.new
             ≡ marked (mark_view self.old) (Hears (recorded_call_view hearing.now))) }
     {

@@ -2,7 +2,7 @@
 ghost use Rattle.std.specs.Prelude.{◌≡◌, ◌++◌, ℕ, List, IfOk, OnOk, Some};
 ghost use Rattle.run_record.specs.LineRecords.{record_of_first, record_of_more};
 ghost use Rattle.run_record.specs.Recorded.{anew, stays, verdict, written_anew};
-ghost use Rattle.run_record.specs.Views.{recorded_call_view, line_by, note_view};
+ghost use Rattle.run_record.specs.Views.{IsOfLine, recorded_call_view, line_by, note_view};
 
 use crate::recorded_call::RecordedCall;
 use crate::writing::{expecting, put_expected, put_kept};
@@ -66,16 +66,16 @@ impl LineRecord {
         hearing: &RecordedCall<'_, '_>,
         buffers: &mut LineBuffers,
     ) -> Result<(), AllocError>
+        requires { IsOfLine hearing.now }
         ensures { OnOk result (note_view self.new
             ≡ record_of_more line.now (note_view self.old) (recorded_call_view hearing.now)) }
     {
-        let exact = expecting(alloc, line, self.reply.as_slice())?;
-        let told = expecting(alloc, line, verdict(self.reply.as_slice()))?;
-        let lines = self.lines.as_slice();
+        let (lines, reply) = (self.lines.as_slice(), self.reply.as_slice());
         let own_holds = self.own && hearing.holds(lines, line, buffers);
-        let exact_holds = self.exact && hearing.holds(lines, exact.as_slice(), buffers);
-        let told_holds = self.told && hearing.holds(lines, told.as_slice(), buffers);
-        self.expects = self.expects || hearing.expects;
+        let exact_holds = self.exact && hearing.holds_with(alloc, lines, line, reply, buffers)?;
+        let told_holds = self.told
+            && hearing.holds_with(alloc, lines, line, verdict(reply), buffers)?;
+        self.expects = self.expects || hearing.expected.is_some();
         self.binds = self.binds || hearing.binds;
         self.own = own_holds;
         self.exact = exact_holds;

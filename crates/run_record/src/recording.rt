@@ -6,6 +6,7 @@ ghost use Rattle.list_parser.specs.Quota.{quota_fault};
 ghost use Rattle.list_parser.specs.declared.fault.BootFault.TheVariants.{NoMemory};
 ghost use Rattle.run_lines.specs.Machine.{world_of};
 ghost use Rattle.run_record.specs.Recorded.{recorded};
+ghost use Rattle.run_record.specs.Unread.{unread_lines, unread_view};
 
 use crate::line_marks::LineMarks;
 use crate::recording_run::RecordingRun;
@@ -50,6 +51,8 @@ pub fn record(
     ensures recorded { IfOk result (λ recording. recording.text.items
         ≡ recorded all (world_of list.now) start.entry scenario.entry.unfolded.now
         scenario.entry.text.now) }
+    ensures unread { IfOk result (λ recording. unread_view recording.unread.items
+        ≡ unread_lines (world_of list.now) start.entry scenario.entry.unfolded.now) }
     ensures boots { OnOk result (Boots (start_list_of list.now)) }
     ensures unbooted { IfErr result (λ fault. fault ≢ NoMemory →
         quota_fault list.now ≡ Some fault) }
@@ -70,6 +73,8 @@ fn record_on<R: Router + Drop>(
     requires listed { core.old.entries ≡ entries_of (start_list_of list.now) }
     ensures recorded { IfOk result (λ recording. recording.text.items ≡ recorded all core.old start.entry
         scenario.entry.unfolded.now scenario.entry.text.now) }
+    ensures unread { IfOk result (λ recording. unread_view recording.unread.items
+        ≡ unread_lines core.old start.entry scenario.entry.unfolded.now) }
     ensures fault { IfErr result (λ fault. fault ≡ NoMemory) }
 {
     let marks = LineMarks::new(alloc, scenario.text)?;

@@ -1,15 +1,16 @@
 //! The run of a scenario that is recorded.
-ghost use Rattle.std.specs.Prelude.{◌≡◌, [], None, false, OnOk, IfOk, IfErr, is_some, length, nat_lt, if◌then◌else◌};
+ghost use Rattle.std.specs.Prelude.{◌≡◌, ◌++◌, ◌∷◌, [], None, false, OnOk, IfOk, IfErr, is_some, length, nat_lt, if◌then◌else◌};
 ghost use Rattle.list_parser.specs.declared.fault.BootFault.TheVariants.{NoMemory};
 ghost use Rattle.line_grammar.specs.Read.{IsReadAs};
 ghost use Rattle.line_names.specs.Views.{filled_view};
 ghost use Rattle.line_steps.specs.ResolvedLines.{resolved_line};
+ghost use Rattle.std.specs.Option.{option_copied};
 ghost use Rattle.line_steps.specs.ResolvedViews.{call_view};
-ghost use Rattle.run_record.specs.Marked.{StepsTo, all_marked, marks_after};
+ghost use Rattle.run_record.specs.Marked.{StepsTo, all_marked};
 ghost use Rattle.run_record.specs.RecordedCalls.{events, events_in, recording_behind};
-ghost use Rattle.run_record.specs.RecordedCalls.Meeting.{Hears};
 ghost use Rattle.run_record.specs.Recorded.{pieces_of, without_last, written_lines};
-ghost use Rattle.run_record.specs.Views.{marks_view, recording_in};
+ghost use Rattle.run_record.specs.Unread.{line_by_reason, unread_from, unread_in, unread_view};
+ghost use Rattle.run_record.specs.Views.{IsOfLine, marks_view, recorded_call_view, recording_in};
 ghost use Rattle.own_model.specs.Listed.{start_list_of};
 ghost use Rattle.own_model.specs.StartList.{entries_of};
 
@@ -52,6 +53,7 @@ impl<'a, 'm> RecordingRun<'a, 'm> {
         ensures marks { IfOk result (λ player. player.marks ≡ marks.entry) }
         ensures stand { IfOk result (λ player. player.stand ≡ start.entry) }
         ensures awaits { IfOk result (λ player. player.awaits ≡ false) }
+        ensures unread { IfOk result (λ player. player.unread.items ≡ []) }
         ensures fault { IfErr result (λ fault. fault ≡ NoMemory) }
     {
         Ok(RecordingRun {
@@ -76,6 +78,8 @@ impl<'a, 'm> RecordingRun<'a, 'm> {
         ensures marks { OnOk result (marks_view self.new.marks.marks.items ≡ all_marked
             (events self.old.all (recording_in self.old.stand self.old.awaits core.old) (pieces_of scenario.now))
             (marks_view self.old.marks.marks.items)) }
+        ensures unread { OnOk result (unread_view self.new.unread.items ≡ unread_view self.old.unread.items
+            ++ unread_from (recording_in self.old.stand self.old.awaits core.old) (pieces_of scenario.now)) }
     {
         let mut buffers = LineBuffers::new();
         let mut rest = Some(scenario);
@@ -102,6 +106,8 @@ impl<'a, 'm> RecordingRun<'a, 'm> {
         ensures marks { OnOk result (marks_view self.new.marks.marks.items ≡ all_marked
             (events_in self.old.all self.old.stand.number (recording_in self.old.stand self.old.awaits core.old)
             (resolved_line None self.old.stand.known line.now)) (marks_view self.old.marks.marks.items)) }
+        ensures unread { OnOk result (unread_view self.new.unread.items ≡ unread_view self.old.unread.items
+            ++ unread_in self.old.stand.number (resolved_line None self.old.stand.known line.now)) }
     {
         let number = self.stand.pass();
         self.run_passed(list, core, number, line, buffers)?;
@@ -123,6 +129,8 @@ impl<'a, 'm> RecordingRun<'a, 'm> {
             (resolved_line None self.old.stand.known line.now)
             (recording_in self.old.stand self.old.awaits core.old) (recording_in self.new.stand self.new.awaits core.new)
             (marks_view self.old.marks.marks.items) (marks_view self.new.marks.marks.items)) }
+        ensures unread { OnOk result (unread_view self.new.unread.items ≡ unread_view self.old.unread.items
+            ++ unread_in number (resolved_line None self.old.stand.known line.now)) }
     {
         match resolve(None, self.stand.known(), line, buffers) {
             ResolvedLine::TooLong => self.miss(number, UnreadReason::TooLong),
@@ -138,7 +146,7 @@ impl<'a, 'm> RecordingRun<'a, 'm> {
                 self.marks.log(number);
                 Ok(())
             }
-            ResolvedLine::Call(call) => self.run_call(list, core, number, &call),
+            ResolvedLine::Call(call) => self.run_call(list, core, number, line, &call),
             ResolvedLine::BadLine(fault) => self.miss(number, UnreadReason::Fault(fault)),
         }
     }
@@ -149,14 +157,17 @@ impl<'a, 'm> RecordingRun<'a, 'm> {
         list: &StartList,
         core: &mut Core<R>,
         number: u64,
+        line: &[u8],
         call: &ScenarioCall<'_>,
     ) -> Result<(), AllocError>
         requires listed { core.old.entries ≡ entries_of (start_list_of list.now) }
         requires read { IsReadAs call.now.line.now call.now.call }
+        requires resolved { resolved_line None self.old.stand.known line.now ≡ call_view call.now }
         ensures all { self.new.all ≡ self.old.all }
         ensures turned { OnOk result (StepsTo self.old.all number (call_view call.now)
             (recording_in self.old.stand self.old.awaits core.old) (recording_in self.new.stand self.new.awaits core.new)
             (marks_view self.old.marks.marks.items) (marks_view self.new.marks.marks.items)) }
+        ensures unread { self.new.unread ≡ self.old.unread }
     {
         let run = LineDispatcher { list, only: None };
         let Some(answer) = run.answer_read(core, call.line, call.call, &mut self.reply) else {
@@ -164,14 +175,8 @@ impl<'a, 'm> RecordingRun<'a, 'm> {
         };
         let reply = answer.reply;
         let lines = lines_for(self.awaits && !self.all, answer);
-        record_call(
-            &mut self.marks,
-            number,
-            self.stand.known(),
-            call,
-            reply,
-            lines,
-        )?;
+        let heard = recorded_call(self.stand.known(), line, call, reply, lines);
+        self.marks.hear(number, &heard)?;
         self.stand.learn(&call.filled, reply)?;
         self.awaits = false;
         Ok(())
@@ -183,6 +188,8 @@ impl<'a, 'm> RecordingRun<'a, 'm> {
         ensures stand { self.new.stand ≡ self.old.stand }
         ensures awaits { self.new.awaits ≡ self.old.awaits }
         ensures marks { self.new.marks ≡ self.old.marks }
+        ensures unread { OnOk result (unread_view self.new.unread.items ≡ unread_view self.old.unread.items
+            ++ record { number = number; line = line_by_reason why } ∷ []) }
     {
         self.unread.push(UnreadLine { number, why })?;
         Ok(())
@@ -190,8 +197,9 @@ impl<'a, 'm> RecordingRun<'a, 'm> {
 
     /// Returns the recording of the lines so far. The error is that the host is out of memory.
     pub(crate) fn into_recording(self) -> Result<Recording, AllocError>
-        ensures { IfOk result (λ recording. recording.text.items ≡ without_last
+        ensures text { IfOk result (λ recording. recording.text.items ≡ without_last
             (written_lines self.entry.all (marks_view self.entry.marks.marks.items))) }
+        ensures unread { IfOk result (λ recording. recording.unread ≡ self.entry.unread) }
     {
         let mut text = self.marks.write(self.all)?;
         let _ = text.pop();
@@ -202,36 +210,34 @@ impl<'a, 'm> RecordingRun<'a, 'm> {
     }
 }
 
-// Records the line of a number as a call with its reply.
-fn record_call(
-    marks: &mut LineMarks<'_>,
-    number: u64,
-    known: &NameTable,
-    call: &ScenarioCall<'_>,
-    reply: &[u8],
-    lines: &[u8],
-) -> Result<(), AllocError>
-    ensures { OnOk result (marks_view marks.new.marks.items ≡ marks_after 1 (record {
-      number = number;
-      meeting = Hears (record {
-        known = known.now;
-        binds = nat_lt 0 (length (filled_view call.now.filled).holes);
-        expects = is_some call.now.reply;
-        call = call.now.line.now;
-        reply = reply.now;
-        lines = lines.now;
-      });
-    }) (marks_view marks.old.marks.items)) }
+// Returns the call of a line that was run, with its reply and the log lines to be expected of it.
+fn recorded_call<'k, 'a>(
+    known: &'k NameTable,
+    line: &'a [u8],
+    call: &ScenarioCall<'a>,
+    reply: &'a [u8],
+    lines: &'a [u8],
+) -> RecordedCall<'k, 'a>
+    requires { resolved_line None known.now line.now ≡ call_view call.now }
+    ensures value { recorded_call_view result ≡ record {
+      known = known.now;
+      binds = nat_lt 0 (length (filled_view call.now.filled).holes);
+      expects = is_some (option_copied call.now.reply);
+      call = call.now.line.now;
+      reply = reply.now;
+      lines = lines.now;
+    } }
+    ensures line { IsOfLine result }
 {
-    let hearing = RecordedCall {
+    RecordedCall {
         known,
         binds: !call.filled.holes.is_empty(),
-        expects: call.reply.is_some(),
+        line,
+        expected: call.reply,
         call: call.line,
         reply,
         lines,
-    };
-    marks.hear(number, &hearing)
+    }
 }
 
 // Returns the log lines to be expected of a call, unless the scenario expects some already.

@@ -1,11 +1,13 @@
 -- A line more is played, and then no line is left.
-use Rattle.std.proofs.Common.{ap, ◌∙◌}
+use Rattle.std.proofs.Common.{◌++◌, ap, sym, ◌∙◌}
 use Rattle.std.specs.Option.{option_copied}
 use Rattle.run_record.specs.Marked.{all_marked}
 use Rattle.run_record.specs.Pieces.{pieces_in}
 use Rattle.run_record.specs.RecordedCalls.{events}
+use Rattle.run_record.specs.Unread.{unread_from, unread_view}
 use Rattle.run_record.specs.Views.{marks_view, recording_in}
 use Rattle.run_record.proofs.RecordedLemmas.{entries_behind, one_more}
+use Rattle.run_record.proofs.UnreadLemmas.{unread_more}
 use Rattle.run_record.proofs.recording_run.RecordingRun.run_scenario_lines.Goals as goal
 
 pub loop-rest-preserved : goal.loop-rest-preserved
@@ -17,6 +19,13 @@ loop-rest-preserved g c = record {
       ∙ ap (λ rest. all_marked (events c.loop-rest.self.all (recording_in c.loop-rest.self.stand c.loop-rest.self.awaits c.loop-rest.core) (pieces_in (option_copied rest)))
       (marks_view c.loop-rest.self.marks.marks.items)) c.in-Some.is)
       c.first_piece.ensures.pieces c.in_ok-play.ensures.marks c.in_ok-play.ensures.all c.in_ok-play.ensures.stage;
+  unread =
+      unread_more _ _ _ (recording_in c.loop-rest.self.stand c.loop-rest.self.awaits c.loop-rest.core) _ c.in-Some.text.now c.first_piece.result.0.now
+      (pieces_in (option_copied c.first_piece.result.1))
+      (ap (λ rest. unread_view c.loop-rest.self.unread.items
+      ++ unread_from (recording_in c.loop-rest.self.stand c.loop-rest.self.awaits c.loop-rest.core) (pieces_in (option_copied rest))) (sym c.in-Some.is)
+      ∙ c.loop-rest.invariant.unread)
+      c.first_piece.ensures.pieces c.in_ok-play.ensures.unread c.in_ok-play.ensures.stage;
   all = c.in_ok-play.ensures.all ∙ c.loop-rest.invariant.all;
   listed =
       ap (λ s. s.world.entries) c.in_ok-play.ensures.stage

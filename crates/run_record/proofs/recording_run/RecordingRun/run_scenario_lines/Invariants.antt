@@ -1,5 +1,5 @@
 -- What is left of the text is still to be played.
-use Rattle.std.proofs.Common.{◌≡◌, ◌+◌, length}
+use Rattle.std.proofs.Common.{◌≡◌, ◌+◌, ◌++◌, length}
 use Rattle.std.specs.Option.{option_copied, option_map_or}
 use Rattle.own_model.specs.Listed.{start_list_of}
 use Rattle.own_model.specs.StartList.{entries_of}
@@ -7,6 +7,7 @@ use Rattle.run_record.specs.Marked.{all_marked}
 use Rattle.run_record.specs.Pieces.{pieces_in}
 use Rattle.run_record.specs.RecordedCalls.{events}
 use Rattle.run_record.specs.Recorded.{pieces_of}
+use Rattle.run_record.specs.Unread.{unread_from, unread_view}
 use Rattle.run_record.specs.Views.{marks_view, recording_in}
 use Rattle.run_record.proofs.recording_run.RecordingRun.run_scenario_lines.Given as goal
 
@@ -17,6 +18,10 @@ invariant-loop-rest g l = record {
       (marks_view l.initial.self.marks.marks.items)
       ≡ all_marked (events l.self.all (recording_in l.self.stand l.self.awaits l.core) (pieces_in (option_copied l.rest)))
       (marks_view l.self.marks.marks.items);
+  unread :
+      unread_view l.self.unread.items ++ unread_from (recording_in l.self.stand l.self.awaits l.core) (pieces_in (option_copied l.rest))
+      ≡ unread_view l.initial.self.unread.items
+      ++ unread_from (recording_in l.initial.self.stand l.initial.self.awaits l.initial.core) (pieces_of l.scenario);
   all : l.self.all ≡ l.initial.self.all;
   listed : l.core.entries ≡ entries_of (start_list_of l.list);
 }
