@@ -19,11 +19,11 @@ use Rattle.budget_least.specs.declared.trial.BudgetTrial.{BudgetTrial}
 
 -- ---- two rows in one
 
-below_through : (r g : ℕ) (end : Option ℕ) → r < g → IsBelow g end → is_below r end ≡ true
+pub below_through : (r g : ℕ) (end : Option ℕ) → r < g → IsBelow g end → is_below r end ≡ true
 below_through r g None less below = refl
 below_through r g (Some end) less below = grind (arith, nat_tests, less, below)
 
-starts_below : (x y : ℕ) (end : Option ℕ) → x ≤ y → IsBelow y end → IsBelow x end
+pub starts_below : (x y : ℕ) (end : Option ℕ) → x ≤ y → IsBelow y end → IsBelow x end
 starts_below x y None within below = tt
 starts_below x y (Some end) within below = omega (arith, within, below)
 

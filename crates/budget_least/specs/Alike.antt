@@ -1,8 +1,9 @@
 -- Components of start lists, and lists in which one has another budget.
-use Rattle.std.specs.Prelude.{◌≡◌, ℕ}
+use Rattle.std.specs.Prelude.{◌≡◌, ◌-◌, ℕ}
 use Rattle.std.specs.List.{slice_get}
-use Rattle.own_model.specs.Amounts.{Amounts}
-use Rattle.own_model.specs.Listed.{Listed, start_list_of}
+use Rattle.std.specs.Option.{option_map, unwrap_or}
+use Rattle.own_model.specs.Amounts.{Amounts, no_amounts}
+use Rattle.own_model.specs.Listed.{Listed, reserve_of, start_list_of}
 use Rattle.own_model.specs.OwnState.{OwnState}
 use Rattle.own_model.specs.StartList.{Entry, entries_of, start_states}
 use Rattle.own_model.specs.Transcript.{entry_at, state_at}
@@ -14,6 +15,22 @@ own_entry list component = entry_at (entries_of (start_list_of list)) component
 
 abbrev pub own_state : Listed → ℕ → OwnState
 own_state list component = state_at (start_states (start_list_of list)) component
+
+-- ---- what a list gives a component
+
+-- the reserve of a component at the start: what the list gives a script, and otherwise nothing
+abbrev pub reserve_in : Listed → ℕ → Amounts
+reserve_in list component = unwrap_or (option_map reserve_of (slice_get list.entries component)) no_amounts
+
+-- the most that a component can have in addition to its reserve: the largest machine has 4096 pages of 4096 bytes, and 4096
+-- capabilities
+abbrev pub most_in : Listed → ℕ → Amounts
+most_in list component = record {
+  ram = 16777216 - (reserve_in list component).ram;
+  caps = 4096 - (reserve_in list component).caps;
+}
+
+-- ---- lists with another budget
 
 -- a list is another but for budgets and reserves, and a component is the one of the other with this budget
 pub record IsFunded (machine list : Listed) (component : ℕ) (budget : Amounts) : Type 0 where

@@ -1,11 +1,14 @@
 -- The budgets that intervals cover, and the runs from which they are made.
-use Rattle.std.specs.Prelude.{◌≡◌, ◌≤◌, ℕ, suc, ◌&&◌, ◌||◌, Bool, true, List, nat_le, nat_lt, is_some, Option, Some, None, IfSome}
+use Rattle.std.specs.Prelude.{◌≡◌, ◌≤◌, ℕ, suc, ◌&&◌, ◌||◌, Bool, true, List, [], ◌∷◌, ⊤, nat_le, nat_lt, is_some, if◌then◌else◌, Option, Some, None, IfSome}
 use Rattle.std.specs.List.{AllByRecursion, list_any}
+use Rattle.std.specs.Str.{bytes_eq}
 use Rattle.own_model.specs.Amounts.{Amounts}
 use Rattle.budget_theorems.specs.Need.{Need, IsBelow}
 use Rattle.budget_theorems.specs.Intervals.{is_covered, stretches}
 use Rattle.budget_meter.specs.Needs.{shown_by, shown_in}
 use Rattle.budget_least.specs.declared.budget_intervals.BudgetInterval.{BudgetInterval}
+use Rattle.budget_least.specs.declared.budget_intervals.Likeness.{Likeness}
+use Rattle.budget_least.specs.declared.budget_intervals.Likeness.TheVariants.{Same, Other}
 use Rattle.budget_least.specs.declared.trial.BudgetTrial.{BudgetTrial}
 
 -- a number is below another, if there is one
@@ -24,6 +27,43 @@ serves rows budget = list_any (λ row. covers row budget) rows
 -- each interval begins below its end
 abbrev pub AreRows : List BudgetInterval → Type 0
 AreRows rows = AllByRecursion (λ row. IsBelow row.ram_from row.ram_below) rows
+
+-- ---- the minimum
+
+-- all intervals begin at so much RAM, or above
+abbrev pub BeginFrom : ℕ → List BudgetInterval → Type 0
+BeginFrom ram rows = AllByRecursion (λ row. ram ≤ row.ram_from) rows
+
+-- each interval begins above those before it
+abbrev pub AreAscending : List BudgetInterval → Type 0
+AreAscending [] = ⊤
+AreAscending (row ∷ rows) = BeginFrom (suc row.ram_from) rows × AreAscending rows
+
+-- intervals from the lowest RAM on, each of which begins below its end, and within so many capabilities and bytes
+pub record AreOrdered (caps top : ℕ) (rows : List BudgetInterval) : Type 0 where
+  pub ascending : AreAscending rows
+  pub begin : AreRows rows
+  pub within : AllByRecursion (λ row. (row.ram_from ≤ top) × (row.caps_from ≤ caps)) rows
+
+-- the beginning of the first interval, if there is one
+abbrev pub lowest_of : List BudgetInterval → Option Amounts
+lowest_of [] = None
+lowest_of (row ∷ rows) = Some (record { ram = row.ram_from; caps = row.caps_from })
+
+-- a budget is the minimum of intervals: they cover it, and none with less RAM, and with its RAM none with fewer capabilities
+pub record IsMinimum (rows : List BudgetInterval) (least : Amounts) : Type 0 where
+  pub covered : serves rows least ≡ true
+  pub ram : (budget : Amounts) → serves rows budget ≡ true → least.ram ≤ budget.ram
+  pub caps : (budget : Amounts) → serves rows budget ≡ true → budget.ram ≡ least.ram → least.caps ≤ budget.caps
+
+-- ---- replies
+
+-- whether replies are those under the given budget; without these they count as the same
+abbrev pub likeness_of : List ℕ → Option (List ℕ) → Likeness
+likeness_of replies None = Same
+likeness_of replies (Some given) = if bytes_eq replies given then Same else Other
+
+-- ---- runs
 
 -- a run from a budget has these needs, and is short of quota or not
 pub record IsRun (needs : List Need) (wanting : Bool) (budget : Amounts) (trial : BudgetTrial) : Type 0 where

@@ -5,3 +5,7 @@ pub mod Alike
 pub mod Own
 pub mod OpenedSessions
 pub mod Measured
+pub mod Report
+pub mod InitNeeds
+pub mod ComponentLines
+pub mod Shortages

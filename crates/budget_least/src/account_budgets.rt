@@ -1,5 +1,10 @@
 //! The budgets of one account.
 
+ghost use Rattle.std.specs.Prelude.{◌≡◌, ℕ, IfSome};
+ghost use Rattle.std.specs.Option.{option_map};
+ghost use Rattle.budget_meter.specs.Needs.{amounts_of};
+ghost use Rattle.budget_least.specs.BudgetIntervals.{lowest_of, AreOrdered, IsMinimum};
+
 use crate::budget_intervals::{BudgetGap, BudgetInterval, BudgetIntervals, Likeness};
 use crate::trial::{RefusedLine, SkippedLine};
 use budget_meter::Budget;
@@ -83,37 +88,53 @@ impl AccountBudgets {
     }
 
     /// Returns the number of the component in the start list.
-    pub fn component(&self) -> usize {
+    pub fn component(&self) -> usize
+        ensures { result ≡ self.now.component }
+    {
         self.component
     }
 
     /// Returns the session of the account, or nothing if it is the component's own account.
-    pub fn session(&self) -> Option<SessionKey> {
+    pub fn session(&self) -> Option<SessionKey>
+        ensures { result ≡ self.now.session }
+    {
         self.session
     }
 
     /// Returns the given budget, and the first line that is short of quota under it.
-    pub fn given(&self) -> GivenBudget {
+    pub fn given(&self) -> GivenBudget
+        ensures { result ≡ self.now.given }
+    {
         self.given
     }
 
     /// Returns the intervals of budgets under which the account isn't short of quota, from the lowest RAM on.
-    pub fn rows(&self) -> &[BudgetInterval] {
+    pub fn rows(&self) -> &[BudgetInterval]
+        ensures { result.now ≡ self.now.found.rows.items }
+    {
         self.found.rows.as_slice()
     }
 
     /// Returns the ranges of RAM between the intervals, from the lowest RAM on.
-    pub fn holes(&self) -> &[BudgetGap] {
+    pub fn holes(&self) -> &[BudgetGap]
+        ensures { result.now ≡ self.now.found.holes.items }
+    {
         self.found.holes.as_slice()
     }
 
     /// Returns the lines that are left out, since their refusal is expected.
-    pub fn left_out(&self) -> &[SkippedLine] {
+    pub fn left_out(&self) -> &[SkippedLine]
+        ensures { result.now ≡ self.now.found.left_out.items }
+    {
         self.found.left_out.as_slice()
     }
 
     /// Returns the minimum RAM under which the account isn't short of quota, with the capabilities that it needs there.
-    pub fn least(&self) -> Option<Budget> {
+    pub fn least(&self) -> Option<Budget>
+        ensures value { option_map amounts_of result ≡ lowest_of self.now.found.rows.items }
+        ensures minimum { (caps top : ℕ) → AreOrdered caps top self.now.found.rows.items →
+            IfSome result (λ least. IsMinimum self.now.found.rows.items (amounts_of least)) }
+    {
         self.found.least()
     }
 

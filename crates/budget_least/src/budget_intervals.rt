@@ -1,10 +1,11 @@
 //! All budgets under which an account isn't short of quota, from a few runs.
-ghost use Rattle.std.specs.Prelude.{◌≡◌, ◌≤◌, ◌||◌, ◌∷◌, [], nat_le, suc, ℕ, Bool, List, true, IfOk, IfSome, IfNone, OnOk};
+ghost use Rattle.std.specs.Prelude.{◌≡◌, ◌≤◌, ◌||◌, ◌∷◌, [], nat_le, suc, ℕ, Bool, List, true, reverse, IfOk, IfSome, IfNone, OnOk};
+ghost use Rattle.std.specs.Option.{option_copied, option_map};
 ghost use Rattle.own_model.specs.Amounts.{Amounts};
 ghost use Rattle.budget_theorems.specs.Need.{Need, IsBelow};
 ghost use Rattle.budget_theorems.specs.Intervals.{is_covered, interval_of, stretches};
 ghost use Rattle.budget_meter.specs.Needs.{amounts_of};
-ghost use Rattle.budget_least.specs.BudgetIntervals.{covers, is_below, serves, AreRows, Follows, IsRun};
+ghost use Rattle.budget_least.specs.BudgetIntervals.{covers, is_below, likeness_of, lowest_of, serves, AreOrdered, AreRows, BeginFrom, Follows, IsMinimum, IsRun};
 
 use crate::trial::{BudgetTrial, RefusedLine, SkippedLine};
 use budget_meter::Budget;
@@ -49,10 +50,12 @@ pub struct BudgetGap {
 impl BudgetInterval {
     // Returns one interval for two, if this one is directly above the other and both need the same capabilities.
     fn joined(self, below: BudgetInterval) -> Option<BudgetInterval>
-        ensures { IfSome result (λ both. AreRows (self ∷ []) → AreRows (below ∷ []) →
+        ensures covers { IfSome result (λ both. AreRows (self ∷ []) → AreRows (below ∷ []) →
             AreRows (both ∷ [])
             × ((budget : Amounts) →
             covers both budget ≡ (covers self budget || covers below budget))) }
+        ensures from { IfSome result (λ both. both.ram_from ≡ below.ram_from) }
+        ensures needs { IfSome result (λ both. both.caps_from ≡ below.caps_from) }
     {
         if below.ram_below != Some(self.ram_from) || below.caps_from != self.caps_from {
             return None;
@@ -112,10 +115,14 @@ impl BudgetIntervals {
         top: u64,
         given: Option<&[u8]>,
     ) -> Result<BudgetIntervals, BootFault>
-        ensures { IfOk result (λ found. (each : Amounts → List Need) (want : Amounts → Bool) →
+        ensures exact { IfOk result (λ found. (each : Amounts → List Need)
+            (want : Amounts → Bool) →
             T.AreRuns trials.old each want → (budget : Amounts) → budget.ram ≤ top →
             serves found.rows.items budget
             ≡ is_covered (stretches each want (T.caps trials.old) (suc top) top) budget) }
+        ensures ordered { IfOk result (λ found. (each : Amounts → List Need)
+            (want : Amounts → Bool) → T.AreRuns trials.old each want →
+            AreOrdered (T.caps trials.old) top found.rows.items) }
     {
         let mut found = BudgetIntervals {
             rows: Vec::new(alloc),
@@ -138,10 +145,13 @@ impl BudgetIntervals {
         given: Option<&[u8]>,
     ) -> Result<(), BootFault>
         requires none { self.old.rows.items ≡ [] }
-        ensures { OnOk result ((each : Amounts → List Need) (want : Amounts → Bool) →
+        ensures exact { OnOk result ((each : Amounts → List Need) (want : Amounts → Bool) →
             T.AreRuns trials.old each want → (budget : Amounts) → budget.ram ≤ top →
             serves self.new.rows.items budget
             ≡ is_covered (stretches each want (T.caps trials.old) (suc top) top) budget) }
+        ensures ordered { OnOk result ((each : Amounts → List Need) (want : Amounts → Bool) →
+            T.AreRuns trials.old each want →
+            AreOrdered (T.caps trials.old) top (reverse self.new.rows.items)) }
     {
         let mut ram = top;
         // Each run has less RAM than the one before.
@@ -169,6 +179,12 @@ impl BudgetIntervals {
             AreRows self.old.rows.items →
             Follows each want (T.caps trials.old) ram top self.old.rows.items
             self.new.rows.items next) }
+        ensures ordered { IfOk result (λ next. (each : Amounts → List Need)
+            (want : Amounts → Bool) → T.AreRuns trials.old each want → ram ≤ top →
+            AreOrdered (T.caps trials.old) top (reverse self.old.rows.items) →
+            BeginFrom (suc ram) (reverse self.old.rows.items) →
+            AreOrdered (T.caps trials.old) top (reverse self.new.rows.items)
+            × IfSome next (λ n. BeginFrom (suc n) (reverse self.new.rows.items))) }
         ensures still { OnOk result ((each : Amounts → List Need) (want : Amounts → Bool) →
             T.AreRuns trials.old each want → T.AreRuns trials.new each want) }
         ensures caps { T.caps trials.new ≡ T.caps trials.old }
@@ -190,13 +206,19 @@ impl BudgetIntervals {
         ram: u64,
         given: Option<&[u8]>,
     ) -> Result<(), BootFault>
-        ensures { OnOk result ((needs : List Need) (want : Bool) (caps : ℕ) →
+        ensures rows { OnOk result ((needs : List Need) (want : Bool) (caps : ℕ) →
             IsRun needs want (record { ram = ram; caps = caps }) trial → ram ≤ top →
             AreRows self.old.rows.items → AreRows self.new.rows.items
             × ((budget : Amounts) → budget.ram ≤ top →
             serves self.new.rows.items budget
             ≡ (serves self.old.rows.items budget
             || is_covered (interval_of want (record { ram = ram; caps = caps }) needs []) budget))) }
+        ensures ordered { OnOk result ((needs : List Need) (want : Bool) (caps : ℕ) →
+            IsRun needs want (record { ram = ram; caps = caps }) trial → ram ≤ top →
+            AreOrdered caps top (reverse self.old.rows.items) →
+            BeginFrom (suc ram) (reverse self.old.rows.items) →
+            AreOrdered caps top (reverse self.new.rows.items)
+            × BeginFrom trial.meter.choice (reverse self.new.rows.items)) }
     {
         if trial.refused.is_some() {
             if ram == top {
@@ -217,10 +239,16 @@ impl BudgetIntervals {
 
     // Adds an interval below the others, or joins it with the one above it.
     fn add(&mut self, row: BudgetInterval) -> Result<(), BootFault>
-        ensures { OnOk result (AreRows self.old.rows.items → AreRows (row ∷ []) →
+        ensures rows { OnOk result (AreRows self.old.rows.items → AreRows (row ∷ []) →
             AreRows self.new.rows.items
             × ((budget : Amounts) → serves self.new.rows.items budget
             ≡ (serves self.old.rows.items budget || covers row budget))) }
+        ensures ordered { OnOk result ((caps top : ℕ) →
+            AreOrdered caps top (reverse self.old.rows.items) →
+            BeginFrom (suc row.ram_from) (reverse self.old.rows.items) →
+            AreRows (row ∷ []) → row.ram_from ≤ top → row.caps_from ≤ caps →
+            AreOrdered caps top (reverse self.new.rows.items)
+            × BeginFrom row.ram_from (reverse self.new.rows.items)) }
     {
         if let Some(above) = self.rows.pop() {
             if let Some(both) = above.joined(row) {
@@ -259,7 +287,11 @@ impl BudgetIntervals {
     }
 
     /// Returns the minimum RAM, with the minimum capabilities that are sufficient there.
-    pub(crate) fn least(&self) -> Option<Budget> {
+    pub(crate) fn least(&self) -> Option<Budget>
+        ensures value { option_map amounts_of result ≡ lowest_of self.now.rows.items }
+        ensures minimum { (caps top : ℕ) → AreOrdered caps top self.now.rows.items →
+            IfSome result (λ least. IsMinimum self.now.rows.items (amounts_of least)) }
+    {
         let row = self.rows.first()?;
         Some(Budget {
             ram: row.ram_from,
@@ -281,7 +313,9 @@ fn end_above(ram: u64, top: u64) -> Option<u64>
 }
 
 // Returns whether replies are those under the given budget; without these they count as the same.
-fn compare_replies(replies: &[u8], given: Option<&[u8]>) -> Likeness {
+fn compare_replies(replies: &[u8], given: Option<&[u8]>) -> Likeness
+    ensures { result ≡ likeness_of replies.now (option_copied given.entry) }
+{
     match given {
         Some(given) if replies != given => Likeness::Other,
         _ => Likeness::Same,

@@ -2,7 +2,7 @@
 ghost use Rattle.std.specs.Prelude.{◌≡◌, ◌-◌, ◌<◌, ◌^◌, length, IfOk};
 ghost use Rattle.budget_meter.specs.Needs.{amounts_of};
 ghost use Rattle.list_parser.specs.Budgets.{but_budgets};
-ghost use Rattle.budget_least.specs.Alike.{IsFunded};
+ghost use Rattle.budget_least.specs.Alike.{IsFunded, reserve_in};
 
 use budget_meter::Budget;
 use list_parser::StartList;
@@ -92,6 +92,7 @@ pub(crate) fn most_beside(reserve: Budget) -> Budget
 /// Returns what a component of a list has in reserve at the start.
 pub(crate) fn reserve_of(list: &StartList, component: usize) -> Budget
     requires { component < length list.now.entries }
+    ensures { amounts_of result ≡ reserve_in list.now component }
 {
     let reserve = list.entries()[component].reserve_at_start();
     Budget {

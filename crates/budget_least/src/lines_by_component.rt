@@ -1,6 +1,8 @@
 //! The lines of a scenario, component by component.
 ghost use Rattle.std.specs.Prelude.{◌≡◌, Some};
 ghost use Rattle.core_calls.specs.Call.{model_call, IsWellFormed};
+ghost use Rattle.std.specs.Option.{option_copied};
+ghost use Rattle.budget_least.specs.ComponentLines.{expects_refusal};
 ghost use Rattle.budget_least.specs.Steps.{with_args};
 
 use crate::binding_run::{BindingBudgets, BindingRun};
@@ -393,7 +395,9 @@ pub(crate) fn has_names(text: &[u8]) -> bool {
 }
 
 // Returns whether the refusal of a line is expected.
-fn expects_refusal(reply: Option<&[u8]>) -> bool {
+fn expects_refusal(reply: Option<&[u8]>) -> bool
+    ensures { result ≡ expects_refusal (option_copied reply.entry) }
+{
     match reply {
         Some(expected) => expected == b"refused".as_slice() || meets(expected, b"refused"),
         None => false,

@@ -4,6 +4,7 @@ ghost use Rattle.own_model.specs.StartList.Kind.{Script};
 ghost use Rattle.budget_meter.specs.Needs.{amounts_of};
 ghost use Rattle.budget_meter.specs.Run.{Shows};
 ghost use Rattle.budget_least.specs.Alike.{own_entry, own_state};
+ghost use Rattle.budget_least.specs.BudgetIntervals.{AreOrdered};
 ghost use Rattle.budget_least.specs.Own.{AreExact, AreOwnRuns};
 ghost use Rattle.budget_least.specs.Steps.{calls_of};
 
@@ -45,8 +46,10 @@ pub(crate) fn own_rows(
 ) -> Result<BudgetIntervals, BootFault>
     requires there { component < length list.now.entries }
     requires few { most.caps < 2 ^ 32 }
-    ensures { IfOk result (λ found. (own_entry list.now component).kind ≡ Script →
+    ensures exact { IfOk result (λ found. (own_entry list.now component).kind ≡ Script →
         AreExact list.now component steps.now most.caps most.ram found.rows.items) }
+    ensures ordered { IfOk result (λ found. (own_entry list.now component).kind ≡ Script →
+        AreOrdered most.caps most.ram found.rows.items) }
 {
     let mut trials = OwnTrials {
         caps: most.caps,

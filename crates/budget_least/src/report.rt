@@ -1,5 +1,10 @@
 //! What all accounts of a scenario need.
-ghost use Rattle.std.specs.Prelude.{◌<◌, ◌^◌, length};
+ghost use Rattle.std.specs.Prelude.{◌≡◌, ◌<◌, ◌^◌, length};
+ghost use Rattle.std.specs.Option.{option_map};
+ghost use Rattle.own_model.specs.Amounts.{more_of};
+ghost use Rattle.budget_meter.specs.Needs.{amounts_of};
+ghost use Rattle.budget_least.specs.Report.{accounts_of, report_of, unmeasured_of};
+ghost use Rattle.budget_least.specs.InitNeeds.{capped, is_entry_of, need_of, needed_below, sum_with};
 
 use crate::account_budgets::AccountBudgets;
 use crate::binding_run::BindingBudgets;
@@ -168,42 +173,62 @@ impl<'a> BudgetReport<'a> {
         }
     }
 
-    // Returns the need of an init's list, by the init's number.
-    fn needed_below(&self, init: usize) -> Option<Budget> {
+    // Returns the need of an init's list, by the init's number: what its entries need together with their reserves.
+    fn needed_below(&self, init: usize) -> Option<Budget>
+        ensures { option_map amounts_of result ≡ option_map capped
+            (needed_below self.now.list.now init self.now.accounts.items) }
+    {
+        let accounts = self.accounts.as_slice();
         let mut sum = Budget { ram: 0, caps: 0 };
-        for account in self.accounts.as_slice() {
-            if account.session.is_none() && self.home(account.component) == Some(init) {
-                let least = account.least()?;
-                sum.ram = sum
-                    .ram
-                    .saturating_add(least.ram)
-                    .saturating_add(account.reserve.ram);
-                sum.caps = sum
-                    .caps
-                    .saturating_add(least.caps)
-                    .saturating_add(account.reserve.caps);
+        for account in accounts {
+            match self.sum_with(init, sum, account) {
+                Some(next) => sum = next,
+                None => return None,
             }
         }
         Some(sum)
     }
 
-    // Returns the number of a component's parent init.
-    fn home(&self, component: usize) -> Option<usize> {
-        Some(self.list.entries().get(component)?.home())
+    // Adds what an account needs to a sum, if it is that of an entry of an init's list.
+    fn sum_with(&self, init: usize, sum: Budget, account: &AccountBudgets) -> Option<Budget>
+        ensures { option_map amounts_of result
+            ≡ sum_with self.now.list.now init (amounts_of sum) account.now }
+    {
+        if self.is_entry_of(account, init) {
+            with_need(sum, account)
+        } else {
+            Some(sum)
+        }
+    }
+
+    // Returns whether an account is that of an entry of an init's list, by the init's number, and not of a session.
+    fn is_entry_of(&self, account: &AccountBudgets, init: usize) -> bool
+        ensures { result ≡ is_entry_of self.now.list.now init account.now }
+    {
+        match self.list.entries().get(account.component) {
+            Some(entry) => account.session.is_none() && entry.home() == init,
+            None => false,
+        }
     }
 
     /// Returns the lines of the scenario that aren't measured, in the order in which the run comes to them.
-    pub fn unmeasured(&self) -> &[UnmeasuredLine] {
+    pub fn unmeasured(&self) -> &[UnmeasuredLine]
+        ensures { result.now ≡ unmeasured_of self.now }
+    {
         self.scene.unmeasured.as_slice()
     }
 
     /// Returns the accounts, the sessions of each component before its own account.
-    pub fn accounts(&self) -> &[AccountBudgets] {
+    pub fn accounts(&self) -> &[AccountBudgets]
+        ensures { result.now ≡ accounts_of self.now }
+    {
         self.accounts.as_slice()
     }
 
     /// The report as comma-separated values.
-    pub fn into_csv(self) -> BudgetCsv<'a> {
+    pub fn into_csv(self) -> BudgetCsv<'a>
+        ensures { report_of result ≡ self.entry }
+    {
         BudgetCsv { report: self }
     }
 
@@ -244,6 +269,24 @@ impl<'a> BudgetReport<'a> {
         }
         Ok(told)
     }
+}
+
+// Adds what an account needs with its reserve to a sum.
+fn with_need(sum: Budget, account: &AccountBudgets) -> Option<Budget>
+    ensures { option_map amounts_of result
+        ≡ option_map (λ need. capped (more_of (amounts_of sum) need)) (need_of account.now) }
+{
+    let (least, reserve) = (account.least()?, account.reserve);
+    Some(Budget {
+        ram: sum
+            .ram
+            .saturating_add(least.ram)
+            .saturating_add(reserve.ram),
+        caps: sum
+            .caps
+            .saturating_add(least.caps)
+            .saturating_add(reserve.caps),
+    })
 }
 
 // Returns what the sessions of a component need, if it is a script.

@@ -36,10 +36,12 @@ pub(crate) struct ScriptSessions {
 }
 
 impl ScriptSearch<'_> {
-    ghost use Rattle.std.specs.Prelude.{◌≡◌, ◌-◌, IfOk};
+    ghost use Rattle.std.specs.Prelude.{◌≡◌, None, IfOk};
+    ghost use Rattle.budget_meter.specs.Needs.{amounts_of};
     ghost use Rattle.own_model.specs.StartList.Kind.{Script as AScript};
-    ghost use Rattle.budget_least.specs.Alike.{own_entry};
-    ghost use Rattle.budget_least.specs.Own.{AreExact};
+    ghost use Rattle.budget_least.specs.Alike.{most_in, own_entry, reserve_in};
+    ghost use Rattle.budget_least.specs.BudgetIntervals.{lowest_of};
+    ghost use Rattle.budget_least.specs.Own.{AreExact, HasLeast};
 
     /// Returns what its sessions need, each by its opening donation with every other account ample.
     pub(crate) fn sessions(
@@ -80,10 +82,20 @@ impl ScriptSearch<'_> {
         steps: &[ComponentLine],
         given: &BudgetTrial,
     ) -> Result<AccountBudgets, BootFault>
-        ensures { IfOk result (λ account.
+        ensures component { IfOk result (λ account. account.component ≡ self.now.component) }
+        ensures own { IfOk result (λ account. account.session ≡ None) }
+        ensures given { IfOk result (λ account. account.given.budget ≡ self.now.given) }
+        ensures reserve { IfOk result (λ account. amounts_of account.reserve
+            ≡ reserve_in self.now.list.now self.now.component) }
+        ensures exact { IfOk result (λ account.
             (own_entry self.now.list.now self.now.component).kind ≡ AScript →
-            AreExact self.now.list.now self.now.component steps.now (4096 - account.reserve.caps)
-            (16777216 - account.reserve.ram) account.found.rows.items) }
+            AreExact self.now.list.now self.now.component steps.now
+            (most_in self.now.list.now self.now.component).caps
+            (most_in self.now.list.now self.now.component).ram account.found.rows.items) }
+        ensures least { IfOk result (λ account.
+            (own_entry self.now.list.now self.now.component).kind ≡ AScript →
+            HasLeast self.now.list.now self.now.component steps.now
+            (lowest_of account.found.rows.items)) }
     {
         let reserve = reserve_of(self.list, self.component);
         let most = most_beside(reserve);

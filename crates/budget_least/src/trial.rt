@@ -1,5 +1,6 @@
 //! The result of a run from a budget.
 ghost use Rattle.std.specs.Prelude.{◌≡◌, None};
+ghost use Rattle.budget_least.specs.Shortages.{shortage_reply};
 
 use budget_meter::{Budget, Meter};
 use core_calls::{Answer, Outcome, Quotas, ServiceOutcome};
@@ -35,7 +36,9 @@ pub(crate) const SHORTAGES: [Shortage; 6] = [
 
 impl Shortage {
     /// Returns the text of the reply that the caller gets.
-    pub fn reply(self) -> &'static str {
+    pub fn reply(self) -> &'static str
+        ensures { result.now ≡ shortage_reply self }
+    {
         match self {
             Shortage::Ram => "Out_of_ram",
             Shortage::Caps => "Out_of_caps",

@@ -1,4 +1,6 @@
 //! Lines that aren't measured.
+ghost use Rattle.std.specs.Prelude.{◌≡◌};
+ghost use Rattle.budget_least.specs.Report.{line_of};
 
 use crate::account_budgets::AccountBudgets;
 use line_names::NameReason;
@@ -45,7 +47,9 @@ impl UnmeasuredLine {
     }
 
     /// Returns the message of the diagnostic about the line.
-    pub fn message(&self) -> UnmeasuredMessage<'_> {
+    pub fn message(&self) -> UnmeasuredMessage<'_>
+        ensures { line_of result ≡ self.now }
+    {
         UnmeasuredMessage { line: self }
     }
 

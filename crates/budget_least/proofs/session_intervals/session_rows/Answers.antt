@@ -8,6 +8,6 @@ use Rattle.budget_least.proofs.session_intervals.session_rows.Goals as goal
 pub returns : goal.returns
 returns g c = λ session ready opens donation few up.
     let sent = sent_at c.args.reached.steps.now c.args.reached.opened.now.steps.items in
-    c.in_ok-found.ensures (opened_needs sent session) (opened_in_want sent session)
+    c.in_ok-found.ensures.exact (opened_needs sent session) (opened_in_want sent session)
     (record { ready = ready; session = session; opens = opens; needs = refl; want = refl }) donation up
     ∙ runs_exact sent session c.args.most.caps c.args.most.ram donation few up

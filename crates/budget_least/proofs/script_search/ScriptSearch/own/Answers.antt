@@ -1,8 +1,29 @@
 -- Up to the most that the reserve leaves.
-use Rattle.std.proofs.Common.{◌≤◌, sym, subst}
+use Rattle.std.proofs.Common.{◌-◌, ap, subst, ◌∙◌}
+use Rattle.own_model.specs.Amounts.{Amounts}
+use Rattle.budget_least.specs.Alike.{most_in}
+use Rattle.budget_least.specs.BudgetIntervals.{AreOrdered}
+use Rattle.budget_least.specs.Own.{AreExact}
+use Rattle.budget_least.proofs.OrderLemmas.{has_least}
 use Rattle.budget_least.proofs.script_search.ScriptSearch.own.Goals as goal
 
-pub returns : goal.returns
-returns c = λ script budget few up.
-    c.in_ok-found.ensures script budget (subst (λ n. budget.caps ≤ n) (sym c.most_beside-most.ensures.caps) few)
-    (subst (λ n. budget.ram ≤ n) (sym c.most_beside-most.ensures.ram) up)
+pub returns-clause-exact : goal.returns-clause-exact
+returns-clause-exact c = λ script.
+    let list = c.args.self.now.list.now in
+    let component = c.args.self.now.component in
+    let ram = c.most_beside-most.ensures.ram ∙ ap (λ (reserve : Amounts). 16777216 - reserve.ram) c.reserve_of-reserve.ensures in
+    let caps = c.most_beside-most.ensures.caps ∙ ap (λ (reserve : Amounts). 4096 - reserve.caps) c.reserve_of-reserve.ensures in
+    subst (λ n. AreExact list component c.args.steps.now n (most_in list component).ram c.in_ok-found.found.rows.items) caps
+    (subst (λ n. AreExact list component c.args.steps.now c.most_beside-most.result.caps n c.in_ok-found.found.rows.items) ram (c.in_ok-found.ensures.exact script))
+
+pub returns-clause-least : goal.returns-clause-least
+returns-clause-least c = λ script.
+    let list = c.args.self.now.list.now in
+    let component = c.args.self.now.component in
+    let ram = c.most_beside-most.ensures.ram ∙ ap (λ (reserve : Amounts). 16777216 - reserve.ram) c.reserve_of-reserve.ensures in
+    let caps = c.most_beside-most.ensures.caps ∙ ap (λ (reserve : Amounts). 4096 - reserve.caps) c.reserve_of-reserve.ensures in
+    has_least list component c.args.steps.now c.in_ok-found.found.rows.items
+    (subst (λ n. AreOrdered n (most_in list component).ram c.in_ok-found.found.rows.items) caps
+    (subst (λ n. AreOrdered c.most_beside-most.result.caps n c.in_ok-found.found.rows.items) ram (c.in_ok-found.ensures.ordered script)))
+    (subst (λ n. AreExact list component c.args.steps.now n (most_in list component).ram c.in_ok-found.found.rows.items) caps
+    (subst (λ n. AreExact list component c.args.steps.now c.most_beside-most.result.caps n c.in_ok-found.found.rows.items) ram (c.in_ok-found.ensures.exact script)))
