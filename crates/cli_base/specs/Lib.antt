@@ -1,2 +1,4 @@
+pub mod Paths
 pub mod PolicyVerdict
 pub mod Texts
+pub mod MachineChoice

@@ -10,6 +10,8 @@ mod files;
 mod lines;
 mod list_fault;
 mod machine;
+mod machine_choice;
+mod paths;
 mod policy_verdict;
 mod replacing;
 mod reports;
@@ -27,6 +29,8 @@ pub use files::{
 pub use lines::LineStarts;
 pub use list_fault::{ListFaultMessage, fault_spot, tell_fault};
 pub use machine::{Machine, report_boot_fault};
+pub use machine_choice::MachineChoice;
+pub use paths::{is_policy, is_scenario, machine_path, policy_path};
 pub use policy_verdict::{PolicyDiagnostic, PolicyVerdict, check_policy};
 pub use replacing::{replace_file, write_file};
 pub use reports::{

@@ -3,8 +3,8 @@ ghost use Rattle.std.specs.Prelude.{◌≡◌, if◌then◌else◌, length, nat_
 
 use budget_least::{BudgetQuery, BudgetReport, UnmeasuredLine};
 use cli_base::{
-    Machine, Settings, Spot, UNWRITTEN, print_documents, report_boot_fault, report_error,
-    scenario_text, status_of, summarize_errors, unfolded, unread_status,
+    Machine, MachineChoice, Settings, Spot, UNWRITTEN, print_documents, report_boot_fault,
+    report_error, scenario_text, status_of, summarize_errors, unfolded, unread_status,
 };
 use cli_options::LeastOptions;
 use init_core::BootFault;
@@ -44,14 +44,18 @@ impl BudgetFormat {
     }
 }
 
-/// Prints the sufficient budgets of a scenario's accounts on the machine of a start list, or on the built-in machine. Returns the
+/// Prints the sufficient budgets of a scenario's accounts on its machine. Returns the
 /// exit status: 0, 3 if a line isn't measured, 2 if the list is refused.
 pub fn print_minimum_budgets(
     rt: &HostRuntime,
     asked: &LeastOptions<'_>,
     settings: Settings<'_>,
 ) -> u8 {
-    let machine = match Machine::read(rt, asked.machine, settings) {
+    let list = match MachineChoice::of(rt, settings.form, asked.machine, asked.scenario) {
+        Ok(list) => list,
+        Err(status) => return status,
+    };
+    let machine = match Machine::read(rt, list.path(), settings) {
         Ok(machine) => machine,
         Err(status) => return status,
     };

@@ -65,7 +65,7 @@ pub enum Command<'a> {
 /// The options of `run`. Paths are used as they are given, and `-` denotes standard input.
 #[derive(Drop)]
 pub struct RunOptions<'a> {
-    /// The path of a start list, or none for the built-in machine.
+    /// The path of a start list, if one is named.
     pub machine: Option<&'a str>,
     /// The name whose lines alone are run, or none for all lines.
     pub only: Option<&'a str>,
@@ -86,7 +86,7 @@ pub struct RunOptions<'a> {
 /// The options of `record`.
 #[derive(Drop)]
 pub struct RecordOptions<'a> {
-    /// The path of a start list, or none for the built-in machine.
+    /// The path of a start list, if one is named.
     pub machine: Option<&'a str>,
     /// Whether each reply is recorded again.
     pub all: bool,
@@ -157,7 +157,7 @@ pub struct RouteOptions<'a> {
 /// The options of `trace` and `accounts`.
 #[derive(Drop)]
 pub struct ReportOptions<'a> {
-    /// The path of a start list, or none for the built-in machine.
+    /// The path of a start list, if one is named.
     pub machine: Option<&'a str>,
     /// Whether documents of JSON are written in place of comma-separated values or lines.
     pub json: bool,
@@ -168,7 +168,7 @@ pub struct ReportOptions<'a> {
 /// The options of `least`.
 #[derive(Drop)]
 pub struct LeastOptions<'a> {
-    /// The path of a start list, or none for the built-in machine.
+    /// The path of a start list, if one is named.
     pub machine: Option<&'a str>,
     /// Whether sessions keep the donations of the scenario, in place of the minimum.
     pub as_donated: bool,
@@ -187,7 +187,7 @@ pub struct LeastOptions<'a> {
 /// The options of `alone`.
 #[derive(Drop)]
 pub struct AloneOptions<'a> {
-    /// The path of a start list, or none for the built-in machine.
+    /// The path of a start list, if one is named.
     pub machine: Option<&'a str>,
     /// Whether all scripts are compared, one after another.
     pub all: bool,

@@ -152,7 +152,7 @@ pub(crate) const SCENARIO: &str = "The path of a scenario; - is standard input";
 
 pub(crate) const LIST: &str = "The path of a start list in JSON; - is standard input";
 
-pub(crate) const MACHINE: &str = "A start list in JSON; without it the built-in machine";
+pub(crate) const MACHINE: &str = "A start list; else NAME.json next to NAME.scenario";
 
 pub(crate) const ONLY: &str = "Run the lines of this component alone";
 

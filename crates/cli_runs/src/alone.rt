@@ -5,8 +5,8 @@ use crate::run_end::RunEnd;
 use crate::run_request::{NONE_EARLIER, RunRequest, play};
 use crate::view::RunView;
 use cli_base::{
-    Machine, Origin, OutputStream, REFUSED, Settings, UNWRITTEN, Writer, no_memory, plain_writer,
-    report_boot_fault, scenario_text, status_of, text_of, unfolded,
+    Machine, MachineChoice, Origin, OutputStream, REFUSED, Settings, UNWRITTEN, Writer, no_memory,
+    plain_writer, report_boot_fault, scenario_text, status_of, text_of, unfolded,
 };
 use cli_engine::Input;
 use cli_options::AloneOptions;
@@ -57,7 +57,7 @@ pub fn show_all_alone<'a>(
 // The options of a comparison of all scripts.
 #[derive(Clone, Copy)]
 struct All<'a> {
-    // The path of a start list, or none for the built-in machine.
+    // The path of a start list, if the command line names one.
     machine: Option<&'a str>,
     // The path of the scenario.
     scenario: &'a str,
@@ -77,7 +77,11 @@ fn all_alone(rt: &HostRuntime, all: All<'_>) -> u8 {
         Ok(lines) => lines,
         Err(status) => return status,
     };
-    match Machine::read(rt, all.machine, all.settings) {
+    let list = match MachineChoice::of(rt, all.settings.form, all.machine, all.scenario) {
+        Ok(list) => list,
+        Err(status) => return status,
+    };
+    match Machine::read(rt, list.path(), all.settings) {
         Ok(machine) => tell_each(rt, &machine, &lines, all),
         Err(status) => status,
     }

@@ -1,7 +1,7 @@
 //! The command `record`: a scenario with its replies, on standard output or in place of the scenario.
 use cli_base::{
-    LineStarts, Machine, REFUSED, STANDARD_INPUT, Settings, Spot, UNWRITTEN, Warnings,
-    made_or_status, replace_file, report_boot_fault, report_error, report_write_failure,
+    LineStarts, Machine, MachineChoice, REFUSED, STANDARD_INPUT, Settings, Spot, UNWRITTEN,
+    Warnings, made_or_status, replace_file, report_boot_fault, report_error, report_write_failure,
     scenario_text, status_of, summarize, unfolded, unread_status, warned_status,
 };
 use cli_options::RecordOptions;
@@ -12,7 +12,7 @@ use std::io;
 use std::io::Write;
 use view_diagnostics::{Counts, DiagnosticForm};
 
-/// Records a scenario's replies on the machine of a start list, or on the built-in machine. Returns the exit status: 0, 3 if a
+/// Records a scenario's replies on its machine. Returns the exit status: 0, 3 if a
 /// line isn't read or if a warning is a fault, 2 if the arguments or the list are refused.
 pub fn record_scenario(rt: &HostRuntime, wanted: &RecordOptions<'_>, settings: Settings<'_>) -> u8 {
     if wanted.write && wanted.scenario == STANDARD_INPUT {
@@ -24,7 +24,11 @@ pub fn record_scenario(rt: &HostRuntime, wanted: &RecordOptions<'_>, settings: S
         );
         return REFUSED;
     }
-    let machine = match Machine::read(rt, wanted.machine, settings) {
+    let list = match MachineChoice::of(rt, settings.form, wanted.machine, wanted.scenario) {
+        Ok(list) => list,
+        Err(status) => return status,
+    };
+    let machine = match Machine::read(rt, list.path(), settings) {
         Ok(machine) => machine,
         Err(status) => return status,
     };

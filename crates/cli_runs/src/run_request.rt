@@ -5,8 +5,9 @@ use crate::accounts::accounts_document;
 use crate::run_end::RunEnd;
 use crate::view::{RunView, view};
 use cli_base::{
-    Machine, Origin, OutputStream, REFUSED, ReadFailure, STANDARD_INPUT, Settings, Spot, Warnings,
-    made_or_status, read_whole, report_boot_fault, report_error, unfolded, warned_status, writer,
+    Machine, MachineChoice, Origin, OutputStream, REFUSED, ReadFailure, STANDARD_INPUT, Settings,
+    Spot, Warnings, made_or_status, read_whole, report_boot_fault, report_error, unfolded,
+    warned_status, writer,
 };
 use cli_engine::Input;
 use cli_options::ReportOptions;
@@ -62,13 +63,18 @@ impl<'a> RunRequest<'a> {
     }
 }
 
-/// Runs a scenario on the machine of a start list, or on the built-in machine. Returns the exit status. If warnings are faults, a
+/// Runs a scenario on the machine of the start list that the command line names, of the list next to the scenario, or on the built-in
+/// machine. Returns the exit status. If warnings are faults, a
 /// scenario that isn't read whole before its first line is refused, since it has none.
 pub(crate) fn play(rt: &HostRuntime, machine: Option<&str>, scene: RunRequest<'_>) -> u8 {
     if scene.strict && scene.scenario == STANDARD_INPUT {
         return refuse_strict(rt, scene, "expected the path of a file, found `-`");
     }
-    match Machine::read(rt, machine, scene.settings) {
+    let list = match MachineChoice::of(rt, scene.settings.form, machine, scene.scenario) {
+        Ok(list) => list,
+        Err(status) => return status,
+    };
+    match Machine::read(rt, list.path(), scene.settings) {
         Ok(machine) => play_named(rt, &machine, scene),
         Err(status) => status,
     }

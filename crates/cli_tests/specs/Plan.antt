@@ -2,7 +2,7 @@
 use Rattle.std.specs.Prelude.{ℕ, Bool, false, List, [], ◌∷◌, ◌++◌, string_bytes, if◌then◌else◌, Option, Some, None}
 use Rattle.std.specs.List.{list_any}
 use Rattle.std.specs.Str.{bytes_eq}
-use Rattle.view_test_report.specs.Paths.{is_policy}
+use Rattle.cli_base.specs.Paths.{is_policy}
 use Rattle.cli_tests.specs.declared.planned_test.PlannedTest.{PlannedTest}
 use Rattle.cli_tests.specs.declared.planned_test.PlannedTest.TheVariants.{Scenario, Policy}
 

@@ -1,11 +1,10 @@
 //! The files of paths: a file itself, and all scenarios and policies of a folder and the folders below it.
-use cli_base::{REFUSED, ReadFailure, Spot, no_memory, report_error};
+use cli_base::{REFUSED, ReadFailure, Spot, is_policy, is_scenario, no_memory, report_error};
 use std::alloc::{AllocError, AllocFailed};
 use std::fs::DirEntry;
 use std::io::ErrorKind;
 use std::{fs, io};
 use view_diagnostics::DiagnosticForm;
-use view_test_report::{is_policy, is_scenario};
 
 /// The most folders that are searched for one path.
 const MOST_FOLDERS: usize = 100_000;

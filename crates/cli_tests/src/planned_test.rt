@@ -5,9 +5,9 @@ ghost use Rattle.std.specs.Option.{option_map};
 ghost use Rattle.cli_tests.specs.declared.planned_test.PlannedTest.TheVariants.{Policy, Scenario};
 ghost use Rattle.cli_tests.specs.Plan.{holds_policy, with_beside, with_file, with_policy};
 
+use cli_base::{is_policy, policy_path};
 use std::alloc::{AllocError, AllocFailed};
 use std::fs;
-use view_test_report::{is_policy, policy_path};
 
 /// A test, by the path of its file.
 #[derive(Drop)]

@@ -4,13 +4,13 @@ ghost use Rattle.cli_tests.specs.Outcome.{is_kept};
 
 use cli_base::{
     ListFaultMessage, Machine, PolicyDiagnostic, PolicyVerdict, Settings, Spot, check_policy,
-    error_line, fault_spot,
+    error_line, fault_spot, machine_path,
 };
 use list_review::Review;
 use std::alloc::AllocError;
 use std::fmt::Display;
 use std::fs;
-use view_test_report::{TestResult, machine_path};
+use view_test_report::TestResult;
 
 /// Checks the start list next to a policy against it: `NAME.json` for `NAME.policy`. The test fails if there is no such list, the
 /// list doesn't boot, the policy has a fault or isn't read, or the list breaks a line. The error is out of memory.

@@ -8,9 +8,9 @@ use crate::planned_test::{PlannedTest, planned_tests};
 use crate::policy_test::{add_error, test_policy};
 use cli_base::{
     ListFaultMessage, Machine, Origin, OutputStream, ReadFailure, Settings, Spot, StartListFailure,
-    StopMessage, UNWRITTEN, Warnings, error_line, fault_spot, plain_writer, read_whole,
-    report_write_failure, rounds_spot, rounds_token, spot_of, status_of, text_of, warned_status,
-    write_file,
+    StopMessage, UNWRITTEN, Warnings, error_line, fault_spot, machine_path, plain_writer,
+    read_whole, report_write_failure, rounds_spot, rounds_token, spot_of, status_of, text_of,
+    warned_status, write_file,
 };
 use cli_engine::Input;
 use cli_options::TestOptions;
@@ -25,7 +25,7 @@ use std::{fs, io};
 use view_colors::{Lines, paint};
 use view_diagnostics::DiagnosticForm;
 use view_runs::{TranscriptOptions, answers, run};
-use view_test_report::{TestResult, failures, junit_document, machine_path, tap_plan, tap_point};
+use view_test_report::{TestResult, failures, junit_document, tap_plan, tap_point};
 
 /// The view of a run that a test takes: all replies, without accounts and line numbers.
 const REPLIES: TranscriptOptions<'static> = TranscriptOptions {

@@ -1,5 +1,4 @@
 pub mod Junit
-pub mod Paths
 pub mod Tap
 pub mod Trials
 pub mod Xml

@@ -4,14 +4,12 @@
 #![tactic(auto)]
 
 mod junit;
-mod paths;
 mod tap;
 mod test_result;
 mod theorems;
 mod xml;
 
 pub use junit::junit_document;
-pub use paths::{is_policy, is_scenario, machine_path, policy_path};
 pub use tap::{tap_plan, tap_point};
 pub use test_result::{TestResult, failures};
 pub use theorems::texts_stay_inside;

@@ -1,6 +1,6 @@
 //! Scenarios and policies by the names of their files, and the start lists and policies next to them.
 ghost use Rattle.std.specs.Prelude.{◌≡◌, ◌++◌, codes, string_bytes, IfOk};
-ghost use Rattle.view_test_report.specs.Paths.{is_policy, is_scenario, policy_stem, stem_of};
+ghost use Rattle.cli_base.specs.Paths.{is_policy, is_scenario, policy_stem, stem_of};
 
 use std::alloc::{AllocError, Global};
 

@@ -1,8 +1,8 @@
 -- A path without the end of a policy is its own stem.
 use Rattle.std.proofs.Common.{◌≡◌, ◌≢◌, ◌++◌, ℕ, List, codes, false, refl}
 use Rattle.std.proofs.lemmas.Str.Pattern.{ends_text}
-use Rattle.view_test_report.specs.Paths.{policy_stem}
-use Rattle.view_test_report.proofs.paths.policy_stem.Goals as goal
+use Rattle.cli_base.specs.Paths.{policy_stem}
+use Rattle.cli_base.proofs.paths.policy_stem.Goals as goal
 
 no_policy : (path : List ℕ) → ((front : List ℕ) → path ≢ front ++ codes ".policy") → path ≡ policy_stem path
 no_policy path none = rw (← ends_text false (codes ".policy") path none) refl

@@ -1,0 +1,62 @@
+//! The start list of a scenario's machine.
+ghost use Rattle.std.specs.Prelude.{◌≡◌, IfOk, MatchOption};
+ghost use Rattle.std.specs.Option.{option_map};
+ghost use Rattle.cli_base.specs.MachineChoice.{IsUnnamed, list_path};
+ghost use Rattle.cli_base.specs.declared.machine_choice.MachineChoice.TheVariants.{Named};
+
+use crate::paths::{is_scenario, machine_path};
+use crate::reports::{Spot, report};
+use crate::status::made_or_status;
+use std::fs;
+use view_diagnostics::{DiagnosticForm, Severity};
+
+/// The start list of the machine on which a command runs a scenario.
+#[derive(Drop)]
+pub enum MachineChoice<'a> {
+    /// The list that the command line names.
+    Named(&'a str),
+    /// The list next to the scenario, with its name.
+    NextTo(String),
+    /// The list of the built-in machine.
+    BuiltIn,
+}
+
+impl<'a> MachineChoice<'a> {
+    /// Chooses the list that the command line names. Without one chooses `NAME.json` next to `NAME.scenario` if there is such a file,
+    /// and prints a note that names it, else the list of the built-in machine. If the host is out of memory, prints so and returns the
+    /// exit status.
+    pub fn of(
+        rt: &HostRuntime,
+        form: DiagnosticForm,
+        named: Option<&'a str>,
+        scenario: &str,
+    ) -> Result<MachineChoice<'a>, u8>
+        ensures { IfOk result (λ choice. MatchOption named (IsUnnamed scenario.now choice)
+            (λ list. choice ≡ Named list)) }
+    {
+        if let Some(list) = named {
+            return Ok(MachineChoice::Named(list));
+        }
+        if !is_scenario(scenario) {
+            return Ok(MachineChoice::BuiltIn);
+        }
+        let list = made_or_status(rt, machine_path(rt.alloc(), scenario))?;
+        if let Ok(false) = fs::exists(rt, list.as_str()) {
+            return Ok(MachineChoice::BuiltIn);
+        }
+        let note = "the start list next to the scenario is used";
+        report(rt, form, Severity::Note, Spot::file(list.as_str()), &note);
+        Ok(MachineChoice::NextTo(list))
+    }
+
+    /// Returns the path of the list, or none for the built-in machine.
+    pub fn path(&self) -> Option<&str>
+        ensures { option_map (λ path. path.now) result ≡ list_path self.now }
+    {
+        match self {
+            MachineChoice::Named(list) => Some(list),
+            MachineChoice::NextTo(list) => Some(list.as_str()),
+            MachineChoice::BuiltIn => None,
+        }
+    }
+}
