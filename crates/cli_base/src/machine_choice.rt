@@ -31,7 +31,7 @@ impl<'a> MachineChoice<'a> {
         named: Option<&'a str>,
         scenario: &str,
     ) -> Result<MachineChoice<'a>, u8>
-        ensures { IfOk result (λ choice. MatchOption named (IsUnnamed scenario.now choice)
+        ensures { IfOk result (λ choice. MatchOption named.entry (IsUnnamed scenario.now choice)
             (λ list. choice ≡ Named list)) }
     {
         if let Some(list) = named {
