@@ -9,7 +9,7 @@ use Rattle.region_map.specs.declared.row.RegionRow.{RegionRow}
 use Rattle.region_map.specs.RegionRows.{end_of, AreInOrder, count_to, gap_from}
 use Rattle.region_map.specs.declared.known_rows.KnownRows.{KnownRows}
 use Rattle.region_map.specs.KnownRows.{end_before, IsCloseAt, close_to, AreKnown, IsInserted, IsRemoved}
-use Rattle.region_map.proofs.GapLemmas.{ends, gap_behind, gap_in_front, gap_at_end, no_gap_at_end}
+use Rattle.region_map.proofs.GapLemmas.{gap_behind, gap_in_front, gap_at_end, no_gap_at_end}
 
 -- ---- which rows these are
 
@@ -20,13 +20,6 @@ end_before-row low zero [] row h is = absurd (omega arith)
 end_before-row low (suc at) [] row h is = absurd (omega arith)
 end_before-row low zero (r ∷ rows) row h is = ap end_of (sym is)
 end_before-row low (suc at) (r ∷ rows) row h is = end_before-row (end_of r) at rows row (omega arith) is
-
--- rows in order end in their window
-pub end_before-within : (low high at : ℕ) (rows : List RegionRow) → AreInOrder low high rows → end_before low at rows ≤ high
-unfolding end_before
-end_before-within low high zero rows order = ends low high rows order
-end_before-within low high (suc at) [] order = order
-end_before-within low high (suc at) (r ∷ rows) order = end_before-within (end_of r) high at rows order.1
 
 -- a row that starts early enough behind the one in front is close
 pub close_from : (low pages at : ℕ) (rows : List RegionRow) (row : RegionRow) → at < length rows → row ≡ get_or rows at row → row.start < end_before low at rows + pages * 4096 → IsCloseAt low pages at rows

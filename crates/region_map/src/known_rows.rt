@@ -1,5 +1,5 @@
 //! The rows that are known to have a small gap before them, which a search for a gap skips.
-ghost use Rattle.std.specs.Prelude.{◌≡◌, ℕ, ◌+◌, ◌^◌, ◌<◌, ◌≤◌, List, length, IfSome};
+ghost use Rattle.std.specs.Prelude.{◌≡◌, ◌≢◌, ℕ, ◌+◌, ◌^◌, ◌<◌, ◌≤◌, List, length, IfSome};
 
 use super::rows::RegionRows;
 use trade_base::PAGE;
@@ -45,6 +45,8 @@ impl KnownRows {
         ensures known { (low : ℕ) (rows : List AnyRow) → AreKnown low single rows
             → AreKnown low known rows → AreKnown low result rows }
         ensures one { result.pages ≤ 1 }
+        ensures taken { known.pages ≡ 1 → result ≡ known }
+        ensures kept { known.pages ≢ 1 → result ≡ single }
     {
         if known.pages == 1 { known } else { single }
     }
@@ -53,6 +55,8 @@ impl KnownRows {
     pub fn several_of(several: KnownRows, known: KnownRows) -> KnownRows
         ensures known { (low : ℕ) (rows : List AnyRow) → AreKnown low several rows
             → AreKnown low known rows → AreKnown low result rows }
+        ensures taken { known.pages ≢ 1 → result ≡ known }
+        ensures kept { known.pages ≡ 1 → result ≡ several }
     {
         if known.pages == 1 { several } else { known }
     }
