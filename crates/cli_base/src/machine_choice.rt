@@ -6,7 +6,7 @@ ghost use Rattle.cli_base.specs.declared.machine_choice.MachineChoice.TheVariant
 
 use crate::paths::{is_scenario, machine_path};
 use crate::reports::{Spot, report};
-use crate::status::made_or_status;
+use crate::status::no_memory;
 use std::fs;
 use view_diagnostics::{DiagnosticForm, Severity};
 
@@ -34,13 +34,26 @@ impl<'a> MachineChoice<'a> {
         ensures { IfOk result (λ choice. MatchOption named.entry (IsUnnamed scenario.now choice)
             (λ list. choice ≡ Named list)) }
     {
-        if let Some(list) = named {
-            return Ok(MachineChoice::Named(list));
+        match named {
+            Some(list) => Ok(MachineChoice::Named(list)),
+            None => MachineChoice::unnamed(rt, form, scenario),
         }
+    }
+
+    // Chooses the list next to a scenario and prints a note, or the list of the built-in machine. The error is the exit status.
+    fn unnamed(
+        rt: &HostRuntime,
+        form: DiagnosticForm,
+        scenario: &str,
+    ) -> Result<MachineChoice<'a>, u8>
+        ensures { IfOk result (IsUnnamed scenario.now) }
+    {
         if !is_scenario(scenario) {
             return Ok(MachineChoice::BuiltIn);
         }
-        let list = made_or_status(rt, machine_path(rt.alloc(), scenario))?;
+        let Ok(list) = machine_path(rt.alloc(), scenario) else {
+            return Err(no_memory(rt));
+        };
         if let Ok(false) = fs::exists(rt, list.as_str()) {
             return Ok(MachineChoice::BuiltIn);
         }
