@@ -44,6 +44,11 @@ pub mod StepSoundLemmas
 pub mod StepUseLemmas
 -- the log service
 pub mod LogLemmas
+-- nodes of files and objects: their names, their blocks, and what is charged
+pub mod NodeListLemmas
+pub mod NodeShapeLemmas
+pub mod NodeLemmas
+pub mod NodeChargeLemmas
 -- the file service: what its requests do to files, and to their account
 pub mod FileChargeLemmas
 pub mod FileErrorLemmas
@@ -58,6 +63,13 @@ pub mod FileTextLemmas
 pub mod BufferErrorLemmas
 pub mod BufferKeptLemmas
 pub mod BufferMadeLemmas
+-- declared servers: what their requests do to objects, and to their account
+pub mod ObjectChargeLemmas
+pub mod ObjectErrorLemmas
+pub mod ObjectKeptLemmas
+pub mod ObjectReadLemmas
+pub mod ObjectRequestLemmas
+pub mod ObjectServiceLemmas
 -- buffers among what selectors name
 pub mod LentLemmas
 pub mod LentAloneLemmas

@@ -35,6 +35,7 @@ pub mod SlicedTheorems
 pub mod HeapTheorems
 pub mod SessionArgs
 pub mod Nodes
+pub mod ErrorTests
 pub mod LogText
 pub mod FileText
 pub mod LogService
@@ -53,6 +54,7 @@ pub mod ObjectRows
 pub mod Donated
 pub mod FileTheorems
 pub mod BufferTheorems
+pub mod ObjectTheorems
 pub mod SessionTheorems
 pub mod SharedBufferTheorems
 pub mod CodedFiles

@@ -8,9 +8,14 @@ use Rattle.own_model.specs.Session.{session_account}
 use Rattle.own_model.specs.Text.{lines_of}
 
 -- the kinds of a window server: a view is a node alone, a surface has four bytes of contents a unit
+abbrev pub view : ObjectKind
+view = record { name = codes "view"; block = 160; bytes = 0 }
+
+abbrev pub surface : ObjectKind
+surface = record { name = codes "surface"; block = 112; bytes = 4 }
+
 abbrev pub window_kinds : List ObjectKind
-window_kinds =
-    record { name = codes "view"; block = 160; bytes = 0 } ∷ record { name = codes "surface"; block = 112; bytes = 4 } ∷ []
+window_kinds = view ∷ surface ∷ []
 
 -- the replies to requests, one after another
 abbrev pub window_replies : Option (List ℕ) → Objects → Account → List (List ℕ) → List ℕ

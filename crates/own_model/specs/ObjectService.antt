@@ -118,14 +118,19 @@ abbrev pub resize_charged : ℕ → DeclaredObject → Account → Account
 resize_charged units object account =
     let size = contents (with_units units object) in contents_credited object (charged account (content_ram size) (content_caps size))
 
+-- the object has other units
+abbrev pub changed : ℕ → DeclaredObject → Objects → Account → ObjectServed
+changed units object objects account =
+    told Done (record objects { objects = with_first (is_named object.name) (with_units units) objects.objects })
+    (resize_charged units object account)
+
 -- an object of just these units stays as it is, and nothing is tested
 abbrev pub resized : ℕ → Option DeclaredObject → Objects → Account → ObjectServed
 resized units None objects account = told (Refused (Shared NotFound)) objects account
 resized units (Some object) objects account =
     if units == object.units then told Done objects account
     else unless_refused (contents_refusal (contents (with_units units object)) account) objects account
-    (told Done (record objects { objects = with_first (is_named object.name) (with_units units) objects.objects })
-    (resize_charged units object account))
+    (changed units object objects account)
 
 -- an object is removed, with its contents and the block of its node
 abbrev pub dropped : Option DeclaredObject → Objects → Account → ObjectServed

@@ -1,6 +1,52 @@
 //! Theorems on declared servers and the objects of their sessions, and computed examples.
 ghost use Rattle.std.specs.Prelude.{◌≡◌, codes};
 ghost use Rattle.own_model.specs.ObjectRows.{window_replies_of};
+ghost use Rattle.own_model.specs.ObjectTheorems.{NoObjectsAreObjects, RequestsKeepObjects, RequestsKeepObjectCharges, RequestsKeepObjectLimits, RequestsKeepObjectsWithinLimits, ObjectErrorsComeInOrder, OtherObjectRequestsAreServed, NodesAreHeapBlocks, MadeAreThere, ResizedHaveTheirUnits, SameUnitsAreKept, OtherObjectsStay, AllKeepObjects, AllKeepObjectCharges, AllKeepObjectLimits, AllKeepObjectsWithinLimits, AllFitObjectBuffers};
+
+/// States that a session's objects are well-formed at first and after each request. Each object has a unique name, a kind
+/// that its server offers, and one block for its node, and there are no other blocks.
+pub fn objects_stay_objects()
+    ensures first { NoObjectsAreObjects }
+    ensures request { RequestsKeepObjects }
+{}
+
+/// States that a request of objects changes no limit and exceeds no limit, and that the account's use stays equal to the
+/// charges for objects.
+pub fn objects_are_charged()
+    ensures charges { RequestsKeepObjectCharges }
+    ensures limits { RequestsKeepObjectLimits }
+    ensures within { RequestsKeepObjectsWithinLimits }
+{}
+
+/// States that a request of objects fails with the first error of its line in the table of requests whose condition holds,
+/// and then changes nothing. If no condition holds, the request succeeds. The block of a kind that a list can declare is an
+/// ordinary block of the session's heap.
+pub fn object_errors_come_in_order()
+    ensures order { ObjectErrorsComeInOrder }
+    ensures others { OtherObjectRequestsAreServed }
+    ensures nodes { NodesAreHeapBlocks }
+{}
+
+/// States what an object is after a successful request: a new object has its kind and no units, and a resized object has its
+/// new units. A resize to an object's own units always succeeds and changes nothing. A request for one object leaves all
+/// other objects unchanged.
+pub fn objects_are_as_requested()
+    ensures makes { MadeAreThere }
+    ensures resizes { ResizedHaveTheirUnits }
+    ensures same { SameUnitsAreKept }
+    ensures others { OtherObjectsStay }
+{}
+
+/// States that each request of a session, also for its buffer, keeps the objects well-formed, changes no limit and exceeds no
+/// limit. The account's use stays equal to the charges for objects and buffer. A new buffer has whole pages, and a buffer
+/// never changes its length.
+pub fn object_sessions_are_charged()
+    ensures objects { AllKeepObjects }
+    ensures charges { AllKeepObjectCharges }
+    ensures limits { AllKeepObjectLimits }
+    ensures within { AllKeepObjectsWithinLimits }
+    ensures long { AllFitObjectBuffers }
+{}
 
 /// States a computed example of charges. A new object is charged its node's chunk at most. Other units are charged as one
 /// block of contents before the old block is credited, also fewer units, and nothing is charged for no bytes.
