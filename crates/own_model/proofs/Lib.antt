@@ -53,11 +53,9 @@ pub mod NodeChargeLemmas
 pub mod FileChargeLemmas
 pub mod FileErrorLemmas
 pub mod FileListLemmas
-pub mod FilePlaceLemmas
 pub mod FileReadLemmas
 pub mod FileRequestLemmas
 pub mod FileServiceLemmas
-pub mod FileShapeLemmas
 pub mod FileTextLemmas
 -- requests of a session's buffer
 pub mod BufferErrorLemmas
