@@ -47,6 +47,9 @@ pub mod ObjectService
 pub mod ObjectSession
 pub mod FileRows
 pub mod Routes
+pub mod CodedFiles
+pub mod Offer
+pub mod CodedObjects
 pub mod Services
 pub mod Session
 pub mod BufferRows
@@ -57,7 +60,6 @@ pub mod BufferTheorems
 pub mod ObjectTheorems
 pub mod SessionTheorems
 pub mod SharedBufferTheorems
-pub mod CodedFiles
 pub mod CodedSession
 pub mod Listed
 pub mod MachineA
