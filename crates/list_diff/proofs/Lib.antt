@@ -1,1 +1,3 @@
+mod AccessLemmas
+mod ReachLemmas
 mod ReplyLemmas
