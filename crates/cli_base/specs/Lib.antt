@@ -2,3 +2,5 @@ pub mod Paths
 pub mod PolicyVerdict
 pub mod Texts
 pub mod MachineChoice
+
+pub mod Given

@@ -1,4 +1,7 @@
 //! How a run over files and the standard streams ended.
+ghost use Rattle.std.specs.Prelude.{◌≡◌};
+ghost use Rattle.cli_runs.specs.RunEnd.{end_status};
+
 use cli_base::{StopMessage, UNREAD, report_error, spot_of, summarize};
 use init_core::BootFault;
 use run_lines::LineRunFault;
@@ -23,7 +26,9 @@ impl RunEnd {
         form: DiagnosticForm,
         scenario: &str,
         earlier: Counts,
-    ) -> u8 {
+    ) -> u8
+        ensures { result ≡ end_status self.now.ended self.now.unread }
+    {
         let status = self.tell_fault(rt, form, scenario);
         if let Ok(ending) = &self.ended {
             if status != UNREAD {
@@ -40,7 +45,9 @@ impl RunEnd {
     }
 
     /// Prints the fault of a scenario of this path, if there is one. Returns the exit status.
-    pub(crate) fn tell_fault(&self, rt: &HostRuntime, form: DiagnosticForm, scenario: &str) -> u8 {
+    pub(crate) fn tell_fault(&self, rt: &HostRuntime, form: DiagnosticForm, scenario: &str) -> u8
+        ensures { result ≡ end_status self.now.ended self.now.unread }
+    {
         if let Ok(ending) = &self.ended {
             match ending.fault {
                 Some(LineRunFault::WriteFault) if self.unread => return UNREAD,
