@@ -1,0 +1,451 @@
+//! The lines of a scenario, component by component.
+ghost use Rattle.std.specs.Prelude.{◌≡◌, Some};
+ghost use Rattle.core_calls.specs.Call.{model_call, IsWellFormed};
+ghost use Rattle.std.specs.Option.{option_copied};
+ghost use Rattle.budget_least.specs.ComponentLines.{expects_refusal};
+ghost use Rattle.budget_least.specs.Steps.{with_args};
+
+use crate::binding_run::{BindingBudgets, BindingRun};
+use crate::donation::args_with;
+use crate::line_donations::LineDonations;
+use crate::trial::SHORTAGES;
+use crate::unmeasured_line::{LineNumbers, UnmeasuredLine, UnmeasuredReason};
+use crate::written_donation::can_donate;
+use budget_meter::Budget;
+use core_calls::Call;
+use init_core::route;
+use line_friendly::{meets, next_word, trimmed_line};
+use line_grammar::read_line;
+use line_names::token_at;
+use line_steps::{LineBuffers, ResolvedLine, RunPosition, ScenarioCall, UnreadReason, resolve};
+use list_parser::{BootFault, StartList};
+use session_proto::SessionArgs;
+use std::alloc::{AllocError, Global};
+use text_codec::find_byte;
+
+/// A line that a component says.
+#[derive(Drop)]
+pub(crate) struct ComponentLine {
+    /// The number of the scenario's line, from 1 on.
+    pub(crate) number: u64,
+    /// Whether its refusal is expected, so that it is left out.
+    pub(crate) is_left_out: bool,
+    /// Whether the expected refusal may be a shortage of quota.
+    may_be_short: bool,
+    /// The line as the engine parses it.
+    line: Vec<u8>,
+    /// Whether the scenario's line can be written with another donation.
+    can_donate: bool,
+    /// The donation that was set for it, if one was.
+    donation: Option<Budget>,
+    /// The arguments with that donation.
+    args: Option<Vec<u8>>,
+}
+
+impl ComponentLine {
+    ghost use Rattle.std.specs.Prelude.{◌≡◌, IfSome};
+    ghost use Rattle.std.specs.Option.{option_map};
+    ghost use Rattle.core_calls.specs.Call.{model_call, IsWellFormed};
+    ghost use Rattle.budget_least.specs.Steps.{call_of, call_said, with_args};
+
+    /// Returns the call that the line makes, with the arguments that were set.
+    pub(crate) fn call(&self) -> Option<Call<'_>>
+        ensures call { option_map model_call result ≡ call_of self.now }
+        ensures well_formed { IfSome result IsWellFormed }
+    {
+        let call = self.said()?;
+        match &self.args {
+            Some(args) => Some(opening_with(call, args.as_slice())),
+            None => Some(call),
+        }
+    }
+
+    /// Returns the call as it is written in the line.
+    pub(crate) fn said(&self) -> Option<Call<'_>>
+        ensures call { option_map model_call result ≡ call_said self.now.line.items }
+        ensures well_formed { IfSome result IsWellFormed }
+    {
+        match read_line(self.line.as_slice()) {
+            Ok((_, call)) => Some(call),
+            Err(_) => None,
+        }
+    }
+
+    /// Returns the quota that the call of the line asks for, if the refusal of the call may be a shortage.
+    pub(crate) fn asked(&self, asked: Option<Budget>) -> Option<Budget> {
+        if self.may_be_short { asked } else { None }
+    }
+
+    /// Returns whether a line makes the same call, or is left out too.
+    pub(crate) fn is_like(&self, other: &ComponentLine) -> bool {
+        self.number == other.number
+            && self.is_left_out == other.is_left_out
+            && self.line.as_slice() == other.line.as_slice()
+    }
+
+    /// Sets the donation with which the line opens its session from now on, if the line can be written with it. The error is that
+    /// the host is out of memory.
+    pub(crate) fn donate(&mut self, alloc: Global, donation: Budget) -> Result<(), AllocError> {
+        if !self.can_donate {
+            return Ok(());
+        }
+        if let Some(Call::Open { args, .. }) = self.said() {
+            let args = args_with(alloc, donation, args)?;
+            self.donation = Some(donation);
+            self.args = Some(args);
+        }
+        Ok(())
+    }
+
+    /// Returns the arguments with which it opens a session, if they differ from the written ones.
+    pub(crate) fn args(&self) -> Option<&[u8]> {
+        match &self.args {
+            Some(args) => Some(args.as_slice()),
+            None => None,
+        }
+    }
+}
+
+// Returns a call with other arguments, if it opens a session.
+fn opening_with<'a>(call: Call<'a>, args: &'a [u8]) -> Call<'a>
+    requires { IsWellFormed call }
+    ensures call { model_call result ≡ with_args (Some args.now) (model_call call.entry) }
+    ensures well_formed { IsWellFormed result }
+{
+    match call {
+        Call::Open { service, .. } => Call::Open { service, args },
+        _ => call,
+    }
+}
+
+/// A line that changes with the budgets.
+#[derive(Clone, Copy)]
+pub(crate) struct ChangedLine {
+    component: usize,
+    number: u64,
+}
+
+/// The lines of each component, and the lines that aren't measured.
+#[derive(Drop)]
+pub(crate) struct LinesByComponent {
+    pub(crate) steps: Vec<Vec<ComponentLine>>,
+    pub(crate) unmeasured: Vec<UnmeasuredLine>,
+    /// The numbers of lines that aren't measured.
+    numbers: LineNumbers,
+}
+
+impl LinesByComponent {
+    ghost use Rattle.std.specs.Prelude.{◌≡◌, OnOk, length, suc};
+    ghost use Rattle.line_steps.specs.ResolvedLines.{is_unread};
+    ghost use Rattle.line_steps.specs.ResolvedViews.{resolved_view, HasParsedCall};
+    ghost use Rattle.line_grammar.specs.Read.{IsReadAs};
+    ghost use Rattle.budget_least.specs.ComponentLines.{line_of, lines_in, with_call, with_line, with_resolved};
+    ghost use Rattle.budget_least.specs.Measured.{counted};
+
+    /// Reads the unfolded text of a scenario, by the components of a list, and fills its lines with what a run with these budgets
+    /// binds. The error is that of a boot, or that the host is out of memory.
+    pub(crate) fn read(
+        alloc: Global,
+        list: &StartList,
+        text: &[u8],
+        start: RunPosition<'_>,
+        budgets: BindingBudgets<'_>,
+    ) -> Result<LinesByComponent, BootFault> {
+        let mut run = BindingRun::new(alloc, list, start, budgets, has_names(text))?;
+        let mut lines = LinesByComponent::empty(alloc, list.count())?;
+        lines.add_all(alloc, &mut run, text)?;
+        Ok(lines)
+    }
+
+    /// Returns the places of lines that differ in another reading of the same scenario. The error is that the host is out of
+    /// memory.
+    pub(crate) fn changed(
+        &self,
+        alloc: Global,
+        other: &LinesByComponent,
+    ) -> Result<Vec<ChangedLine>, AllocError> {
+        let mut changed = Vec::new(alloc);
+        for component in 0..self.steps.len() {
+            let (steps, others) = (self.of(component), other.of(component));
+            for place in 0..steps.len().max(others.len()) {
+                if let Some(number) = changed_number(steps.get(place), others.get(place)) {
+                    changed.push(ChangedLine { component, number })?;
+                }
+            }
+        }
+        Ok(changed)
+    }
+
+    /// Adds lines to those that aren't measured, since they change with the budgets. The error is that the host is out of memory.
+    pub(crate) fn leave_changed(
+        &mut self,
+        alloc: Global,
+        changed: &[ChangedLine],
+    ) -> Result<(), AllocError> {
+        for line in changed {
+            self.unmeasured.push(UnmeasuredLine {
+                number: line.number,
+                component: Some(line.component),
+                why: UnmeasuredReason::Unsettled,
+                token: String::new(alloc),
+                is_again: self.numbers.add(line.number)?,
+            })?;
+        }
+        Ok(())
+    }
+
+    /// Sets the donations of lines that open sessions. The error is that the host is out of memory.
+    pub(crate) fn donate(
+        &mut self,
+        alloc: Global,
+        donations: &LineDonations,
+    ) -> Result<(), AllocError> {
+        for steps in self.steps.as_mut_slice() {
+            for step in steps.as_mut_slice() {
+                if let Some(donation) = donations.of(step.number) {
+                    step.donate(alloc, donation)?;
+                }
+            }
+        }
+        Ok(())
+    }
+
+    /// Returns the donations that were set, by the numbers of lines. The error is that the host is out of memory.
+    pub(crate) fn donations(&self, alloc: Global) -> Result<Vec<Option<Budget>>, AllocError> {
+        let mut donations = Vec::new(alloc);
+        for steps in self.steps.as_slice() {
+            for step in steps.as_slice() {
+                if let Some(donation) = step.donation {
+                    set_donation(&mut donations, step.number as usize, donation)?;
+                }
+            }
+        }
+        Ok(donations)
+    }
+
+    /// Returns the lines of a component.
+    pub(crate) fn of(&self, component: usize) -> &[ComponentLine] {
+        match self.steps.get(component) {
+            Some(steps) => steps.as_slice(),
+            None => &[],
+        }
+    }
+
+    // Returns no lines for this number of components.
+    fn empty(alloc: Global, components: usize) -> Result<LinesByComponent, AllocError> {
+        let mut steps = Vec::new(alloc);
+        for _ in 0..components {
+            steps.push(Vec::new(alloc))?;
+        }
+        Ok(LinesByComponent {
+            steps,
+            unmeasured: Vec::new(alloc),
+            numbers: LineNumbers::new(alloc),
+        })
+    }
+
+    // Adds the lines of a text.
+    fn add_all(
+        &mut self,
+        alloc: Global,
+        run: &mut BindingRun<'_, '_, '_>,
+        text: &[u8],
+    ) -> Result<(), BootFault> {
+        let mut buffers = LineBuffers::new();
+        for line in text.split(|byte| *byte == b'\n') {
+            let number = run.position.pass();
+            let resolved = resolve(None, run.position.known(), line, &mut buffers);
+            self.take(alloc, run, line, number, resolved)?;
+            run.position.arrive()?;
+        }
+        Ok(())
+    }
+
+    // Takes a line with the values of its names, which is measured exactly if it can be parsed.
+    fn take(
+        &mut self,
+        alloc: Global,
+        run: &mut BindingRun<'_, '_, '_>,
+        line: &[u8],
+        number: u64,
+        resolved: ResolvedLine<'_>,
+    ) -> Result<(), BootFault>
+        requires { HasParsedCall resolved }
+        ensures unmeasured { OnOk result (length self.new.unmeasured.items
+            ≡ counted (is_unread (resolved_view resolved.entry)) (length self.old.unmeasured.items)) }
+        ensures lines { OnOk result (lines_in self.new
+            ≡ with_resolved run.old.list.now number resolved.entry (lines_in self.old)) }
+    {
+        match resolved.unread() {
+            Some(why) => self.leave(alloc, run.list, line, number, why),
+            None => self.add(alloc, run, line, number, resolved),
+        }
+    }
+
+    // Adds a line that can't be parsed to those that aren't measured.
+    fn leave(
+        &mut self,
+        alloc: Global,
+        list: &StartList,
+        line: &[u8],
+        number: u64,
+        why: UnreadReason,
+    ) -> Result<(), BootFault>
+        ensures unmeasured { OnOk result (length self.new.unmeasured.items
+            ≡ suc (length self.old.unmeasured.items)) }
+        ensures lines { self.new.steps ≡ self.old.steps }
+    {
+        let (name, _) = next_word(trimmed_line(line));
+        let token = token_at(line, why.column());
+        self.unmeasured.push(UnmeasuredLine {
+            number,
+            component: list.find(name),
+            why: UnmeasuredReason::Unread(why),
+            token: String::from_utf8_lossy(alloc, token)?,
+            is_again: self.numbers.add(number)?,
+        })?;
+        Ok(())
+    }
+
+    // Adds a line with the values of its names.
+    fn add(
+        &mut self,
+        alloc: Global,
+        run: &mut BindingRun<'_, '_, '_>,
+        line: &[u8],
+        number: u64,
+        resolved: ResolvedLine<'_>,
+    ) -> Result<(), BootFault>
+        requires { HasParsedCall resolved }
+        ensures unmeasured { OnOk result (self.new.unmeasured ≡ self.old.unmeasured) }
+        ensures lines { OnOk result (lines_in self.new
+            ≡ with_resolved run.old.list.now number resolved.entry (lines_in self.old)) }
+    {
+        match resolved {
+            ResolvedLine::Directive(directive) => {
+                run.position.follow(directive)?;
+                Ok(())
+            }
+            ResolvedLine::Call(call) => self.add_call(alloc, run, line, number, &call),
+            _ => Ok(()),
+        }
+    }
+
+    // Adds a call to the component whose name it has. A call whose refusal is expected isn't made.
+    fn add_call(
+        &mut self,
+        alloc: Global,
+        run: &mut BindingRun<'_, '_, '_>,
+        line: &[u8],
+        number: u64,
+        call: &ScenarioCall<'_>,
+    ) -> Result<(), BootFault>
+        requires { IsReadAs call.now.line.now call.now.call }
+        ensures unmeasured { OnOk result (self.new.unmeasured ≡ self.old.unmeasured) }
+        ensures lines { OnOk result (lines_in self.new
+            ≡ with_call run.old.list.now number call.now (lines_in self.old)) }
+    {
+        let Some(said) = call.call else {
+            return Ok(());
+        };
+        let Some(component) = run.list.find(said.name) else {
+            return Ok(());
+        };
+        let is_left_out = expects_refusal(call.reply);
+        if !is_left_out {
+            let place = self.of(component).len();
+            run.answer(alloc, component, place, said.call, &call.filled)?;
+        }
+        let may_be_short = may_be_short(call.reply) && is_routed(run.list, component, said.call);
+        let mut kept = Vec::new(alloc);
+        kept.extend_from_slice(call.line)?;
+        self.push(
+            component,
+            ComponentLine {
+                number,
+                is_left_out,
+                may_be_short,
+                line: kept,
+                can_donate: can_donate(line),
+                donation: None,
+                args: None,
+            },
+        )?;
+        Ok(())
+    }
+
+    // Adds a line to those of a component.
+    fn push(&mut self, component: usize, line: ComponentLine) -> Result<(), AllocError>
+        ensures unmeasured { self.new.unmeasured ≡ self.old.unmeasured }
+        ensures lines { OnOk result (lines_in self.new
+            ≡ with_line component (line_of line) (lines_in self.old)) }
+    {
+        let Some(steps) = self.steps.get_mut(component) else {
+            return Ok(());
+        };
+        steps.push(line)?;
+        Ok(())
+    }
+}
+
+// Sets the donation of the line of a number.
+fn set_donation(
+    donations: &mut Vec<Option<Budget>>,
+    number: usize,
+    donation: Budget,
+) -> Result<(), AllocError> {
+    for _ in donations.len()..number.saturating_add(1) {
+        donations.push(None)?;
+    }
+    if let Some(line) = donations.get_mut(number) {
+        *line = Some(donation);
+    }
+    Ok(())
+}
+
+// Returns the number of a line, if another reading hasn't the same line at its place.
+fn changed_number(step: Option<&ComponentLine>, other: Option<&ComponentLine>) -> Option<u64> {
+    match (step, other) {
+        (Some(step), Some(other)) if step.is_like(other) => None,
+        (Some(step), _) | (None, Some(step)) => Some(step.number),
+        (None, None) => None,
+    }
+}
+
+/// Returns whether names may be in a text.
+pub(crate) fn has_names(text: &[u8]) -> bool {
+    find_byte(b'$', text).is_some()
+}
+
+// Returns whether the refusal of a line is expected.
+fn expects_refusal(reply: Option<&[u8]>) -> bool
+    ensures { result ≡ expects_refusal (option_copied reply.entry) }
+{
+    match reply {
+        Some(expected) => expected == b"refused".as_slice() || meets(expected, b"refused"),
+        None => false,
+    }
+}
+
+// Returns whether the refusal that a line expects may be a shortage of quota.
+fn may_be_short(reply: Option<&[u8]>) -> bool {
+    let Some(expected) = reply else {
+        return false;
+    };
+    for shortage in SHORTAGES {
+        if meets(shortage.reply().as_bytes(), expected) {
+            return true;
+        }
+    }
+    false
+}
+
+// Returns whether a call isn't denied by the routes of a list.
+fn is_routed(list: &StartList, component: usize, call: Call<'_>) -> bool {
+    match call {
+        Call::Open { service, args } if component < list.count() => {
+            route(list, component, service, SessionArgs::label_given(args)).is_some()
+        }
+        _ => true,
+    }
+}
