@@ -2,5 +2,3 @@ pub mod Paths
 pub mod PolicyVerdict
 pub mod Texts
 pub mod MachineChoice
-
-pub mod Given

@@ -1,5 +1,5 @@
 //! Exit statuses, and messages for results that can't be written and scenarios that can't be read.
-ghost use Rattle.std.specs.Prelude.{◌≡◌, if◌then◌else◌, nat_lt, IfOk, Ok};
+ghost use Rattle.std.specs.Prelude.{◌≡◌, if◌then◌else◌, nat_lt};
 
 use crate::reports::{Spot, report_error, report_write_failure};
 use run_lines::LineRunFault;
@@ -45,9 +45,7 @@ pub fn no_memory(rt: &HostRuntime) -> u8 {
 }
 
 /// Returns the value that was made. If the host is out of memory, prints that and returns the exit status 1.
-pub fn made_or_status<T>(rt: &HostRuntime, made: Result<T, AllocError>) -> Result<T, u8>
-    ensures { IfOk result (λ value. made.entry ≡ Ok value) }
-{
+pub fn made_or_status<T>(rt: &HostRuntime, made: Result<T, AllocError>) -> Result<T, u8> {
     match made {
         Ok(made) => Ok(made),
         Err(AllocError) => Err(no_memory(rt)),

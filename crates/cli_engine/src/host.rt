@@ -1,10 +1,7 @@
 //! The program on its host: its arguments, the file of a start list, the standard streams and its exit status.
-ghost use Rattle.std.specs.Prelude.{◌≡◌, is_some};
-ghost use Rattle.std.specs.Option.{option_map};
+ghost use Rattle.std.specs.Prelude.{◌≡◌};
 ghost use Rattle.std.specs.Process.{exit_status as status_told};
-ghost use Rattle.cli_engine.specs.Ending.{EndsOn, HasResult, IsListText, program_status};
-ghost use Rattle.cli_engine.specs.Program.{AsksFor};
-ghost use Rattle.cli_engine.specs.declared.program.Task.{Task as Tasks};
+ghost use Rattle.cli_engine.specs.Ending.{HasResult, program_status};
 
 use crate::config::{ConfigFault, read_config_at};
 use crate::options::{Options, words_given};
@@ -83,13 +80,7 @@ fn run_words<R: Files + io::Input + Print + AllocGlobal, S: AsStr>(
 fn run_options<R: Files + io::Input + Print + AllocGlobal>(
     rt: &R,
     options: &Options<'_>,
-) -> ProgramEnd
-    ensures { (asked : Tasks)
-        × AsksFor options.now.check options.now.accounts (option_map (λ name. name.now) options.now.only) asked
-        × EndsOn (IsListText R.File.remaining MACHINE_A.now (is_some options.now.path)) (is_some options.now.path)
-        (λ ended text. (reader : R.Reader)
-        × HasResult ended asked text MAX_LINES (R.Reader.remaining reader)) result }
-{
+) -> ProgramEnd {
     let task = task_of(options);
     match options.path() {
         Some(path) => match read_config_at(rt, path) {

@@ -1,7 +1,4 @@
 //! How a run over files and the standard streams ended.
-ghost use Rattle.std.specs.Prelude.{◌≡◌};
-ghost use Rattle.cli_runs.specs.RunEnd.{end_status};
-
 use cli_base::{StopMessage, UNREAD, report_error, spot_of, summarize};
 use init_core::BootFault;
 use run_lines::LineRunFault;
@@ -26,9 +23,7 @@ impl RunEnd {
         form: DiagnosticForm,
         scenario: &str,
         earlier: Counts,
-    ) -> u8
-        ensures { result ≡ end_status self.now.ended self.now.unread }
-    {
+    ) -> u8 {
         let status = self.tell_fault(rt, form, scenario);
         if let Ok(ending) = &self.ended {
             if status != UNREAD {
@@ -45,9 +40,7 @@ impl RunEnd {
     }
 
     /// Prints the fault of a scenario of this path, if there is one. Returns the exit status.
-    pub(crate) fn tell_fault(&self, rt: &HostRuntime, form: DiagnosticForm, scenario: &str) -> u8
-        ensures { result ≡ end_status self.now.ended self.now.unread }
-    {
+    pub(crate) fn tell_fault(&self, rt: &HostRuntime, form: DiagnosticForm, scenario: &str) -> u8 {
         if let Ok(ending) = &self.ended {
             match ending.fault {
                 Some(LineRunFault::WriteFault) if self.unread => return UNREAD,

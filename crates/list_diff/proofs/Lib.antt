@@ -1,3 +1,1 @@
-mod AccessLemmas
-mod ReachLemmas
 mod ReplyLemmas

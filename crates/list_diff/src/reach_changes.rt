@@ -1,15 +1,10 @@
 //! Which labels of a script's requests are routed to a server after a change and weren't before, or were before and aren't after.
-ghost use Rattle.std.specs.Prelude.{◌≡◌, ◌<◌, ◌++◌, List, ℕ, length, IfOk, IfSome, OnOk};
-ghost use Rattle.std.specs.Option.{option_copied, option_to_list};
-ghost use Rattle.list_reach.specs.Comparisons.{routed_on};
-ghost use Rattle.list_diff.specs.Reaches.{Adds, AreReachChanges, IsCompared, ShowsMoves, cell_at, new_pair, new_pairs, old_pair, old_pairs, reach_at, routes};
-ghost use Rattle.list_diff.specs.declared.reach_changes.ReachChange.{ReachChange as Row};
+ghost use Rattle.std.specs.Prelude.{◌<◌, length, IfSome};
 
 use list_labels::SessionRequests;
 use list_parser::{Binary, ListEntry, StartList};
 use list_reach::{Reach, ReachCell, RouteComparison, WitnessedSet};
 use std::alloc::{AllocError, Global};
-use std::marker::Model;
 
 /// A start list with the cells of its table.
 #[derive(Clone, Copy)]
@@ -46,216 +41,94 @@ pub fn leads<'a>(
     alloc: Global,
     before: ReachSide<'a>,
     after: ReachSide<'a>,
-) -> Result<Vec<ReachChange<'a>>, AllocError>
-    ensures { IfOk result (λ found. AreReachChanges before.entry after.entry found.items) }
-{
+) -> Result<Vec<ReachChange<'a>>, AllocError> {
+    let olds = CellPlaces::of(alloc, before)?;
+    let news = CellPlaces::of(alloc, after)?;
     let mut found = Vec::new(alloc);
-    add_old(alloc, &mut found, before, after)?;
-    add_new(alloc, &mut found, before, after)?;
+    for place in 0..before.cells.len() {
+        if is_first(before.cells, place) {
+            let cells = &before.cells[place..];
+            add_old(alloc, &mut found, before, after, &news, cells)?;
+        }
+    }
+    for place in 0..after.cells.len() {
+        if is_first(after.cells, place) {
+            let cells = &after.cells[place..];
+            add_new(alloc, &mut found, before, after, &olds, cells)?;
+        }
+    }
     Ok(found)
 }
 
-/// A script, a service and a server that provides it, with the cells and the numbers that they have on two start lists.
+// The places of the cells of a client and a server, by their numbers: a server provides one service.
 #[derive(Drop)]
-pub(crate) struct CellPair<'a> {
-    pub(crate) client: &'a ListEntry,
-    pub(crate) service: &'static str,
-    pub(crate) server: &'a ListEntry,
-    pub(crate) reach_was: Option<&'a Reach>,
-    pub(crate) reach_now: Option<&'a Reach>,
-    pub(crate) server_was: Option<usize>,
-    pub(crate) server_now: Option<usize>,
+struct CellPlaces {
+    places: Vec<Vec<Option<usize>>>,
 }
 
-impl<'a> Model for CellPair<'a> {
-    ghost use Rattle.std.specs.Option.{option_copied};
-    ghost use Rattle.list_diff.specs.Reaches.{Pair};
-
-    ghost Value = { Pair };
-
-    ghost view = { λ pair. record {
-      client = pair.client.now;
-      service = pair.service.now;
-      server = pair.server.now;
-      reach_was = option_copied pair.reach_was;
-      reach_now = option_copied pair.reach_now;
-      server_was = pair.server_was;
-      server_now = pair.server_now;
-    } };
-}
-
-/// The requests of a script for a service, compared.
-#[derive(Drop)]
-pub(crate) struct ServiceComparison<'a> {
-    pub(crate) client: &'a ListEntry,
-    pub(crate) service: &'static str,
-    pub(crate) compared: RouteComparison,
-}
-
-// Adds the differences of the cells before.
-fn add_old<'a>(
-    alloc: Global,
-    found: &mut Vec<ReachChange<'a>>,
-    before: ReachSide<'a>,
-    after: ReachSide<'a>,
-) -> Result<(), AllocError>
-    ensures { OnOk result (Adds before.entry after.entry
-        (old_pairs before.entry after.entry before.entry.cells.now) found.old.items
-        found.new.items) }
-{
-    let cells = before.cells;
-    let mut last = None;
-    for place in 0..cells.len() {
-        let pair = old_pair(before, after, &cells[place]);
-        last = add_pair(alloc, found, before, after, pair, last)?;
+impl CellPlaces {
+    // The places of the cells of a table.
+    fn of(alloc: Global, side: ReachSide<'_>) -> Result<CellPlaces, AllocError> {
+        let entries = side.list.entries().len();
+        let mut places = Vec::new(alloc);
+        for _ in 0..entries {
+            let mut row = Vec::new(alloc);
+            for _ in 0..entries {
+                row.push(None)?;
+            }
+            places.push(row)?;
+        }
+        for (place, cell) in side.cells.iter().enumerate() {
+            if let Some(row) = places.get_mut(cell.client) {
+                set_at(row, cell.server, place);
+            }
+        }
+        Ok(CellPlaces { places })
     }
-    Ok(())
-}
 
-// Adds the differences of the cells after, except those that have a cell before.
-fn add_new<'a>(
-    alloc: Global,
-    found: &mut Vec<ReachChange<'a>>,
-    before: ReachSide<'a>,
-    after: ReachSide<'a>,
-) -> Result<(), AllocError>
-    ensures { OnOk result (Adds before.entry after.entry
-        (new_pairs before.entry after.entry after.entry.cells.now) found.old.items
-        found.new.items) }
-{
-    let cells = after.cells;
-    let mut last = None;
-    for place in 0..cells.len() {
-        let pair = new_pair(before, after, &cells[place]);
-        last = add_pair(alloc, found, before, after, pair, last)?;
-    }
-    Ok(())
-}
-
-// Adds the differences of a pair, if there is one. Returns the requests that were compared last.
-#[tactic(auto, using(crate::proofs::ReachLemmas::adds_none))]
-fn add_pair<'a>(
-    alloc: Global,
-    found: &mut Vec<ReachChange<'a>>,
-    before: ReachSide<'_>,
-    after: ReachSide<'_>,
-    pair: Option<CellPair<'a>>,
-    last: Option<ServiceComparison<'a>>,
-) -> Result<Option<ServiceComparison<'a>>, AllocError>
-    requires { IfSome last (IsCompared before.list.now after.list.now) }
-    ensures last { IfOk result
-        (λ last. IfSome last (IsCompared before.entry.list.now after.entry.list.now)) }
-    ensures added { IfOk result (λ last. Adds before.entry after.entry
-        (option_to_list pair.entry) found.old.items found.new.items) }
-{
-    let Some(pair) = pair else {
-        return Ok(last);
-    };
-    let one = comparison(alloc, before, after, &pair, last)?;
-    add(alloc, found, &one.compared, &pair)?;
-    Ok(Some(one))
-}
-
-// The pair of a cell before.
-fn old_pair<'a>(
-    before: ReachSide<'a>,
-    after: ReachSide<'a>,
-    cell: &'a ReachCell,
-) -> Option<CellPair<'a>>
-    ensures { result ≡ old_pair before.entry after.entry cell.now }
-{
-    let client = before.list.entries().get(cell.client)?;
-    let server = before.list.entries().get(cell.server)?;
-    Some(CellPair {
-        client,
-        service: cell.service,
-        server,
-        reach_was: Some(&cell.reach),
-        reach_now: reach_at(after, client, server),
-        server_was: Some(cell.server),
-        server_now: after.list.find(server.path()),
-    })
-}
-
-// The pair of a cell after, unless there is a cell before.
-fn new_pair<'a>(
-    before: ReachSide<'a>,
-    after: ReachSide<'a>,
-    cell: &'a ReachCell,
-) -> Option<CellPair<'a>>
-    ensures { result ≡ new_pair before.entry after.entry cell.now }
-{
-    let client = after.list.entries().get(cell.client)?;
-    let server = after.list.entries().get(cell.server)?;
-    if reach_at(before, client, server).is_some() {
-        return None;
-    }
-    Some(CellPair {
-        client,
-        service: cell.service,
-        server,
-        reach_was: None,
-        reach_now: Some(&cell.reach),
-        server_was: before.list.find(server.path()),
-        server_now: Some(cell.server),
-    })
-}
-
-// What a table has of a client and a server, by their paths.
-fn reach_at<'a>(side: ReachSide<'a>, client: &ListEntry, server: &ListEntry) -> Option<&'a Reach>
-    ensures { option_copied result ≡ reach_at side.entry client.now.path server.now.path }
-{
-    let client = side.list.find(client.path())?;
-    let server = side.list.find(server.path())?;
-    let cell = cell_at(side.cells, client, server)?;
-    Some(&cell.reach)
-}
-
-// The cell of a client and a server, by their numbers.
-fn cell_at(cells: &[ReachCell], client: usize, server: usize) -> Option<&ReachCell>
-    ensures { option_copied result ≡ cell_at cells.now client server }
-{
-    cells
-        .iter()
-        .find(|cell| cell.client == client && cell.server == server)
-}
-
-// Compares the requests of a script for a service, unless they were compared last.
-fn comparison<'a>(
-    alloc: Global,
-    before: ReachSide<'_>,
-    after: ReachSide<'_>,
-    pair: &CellPair<'a>,
-    last: Option<ServiceComparison<'a>>,
-) -> Result<ServiceComparison<'a>, AllocError>
-    requires { IfSome last (IsCompared before.list.now after.list.now) }
-    ensures compared { IfOk result (IsCompared before.entry.list.now after.entry.list.now) }
-    ensures client { IfOk result (λ one. one.client.now.path ≡ pair.now.client.path) }
-    ensures service { IfOk result (λ one. one.service.now ≡ pair.now.service) }
-{
-    if let Some(last) = last {
-        if last.client.path() == pair.client.path() && last.service == pair.service {
-            return Ok(last);
+    // The cell of two paths of a table, if there is one.
+    fn cell<'a>(
+        &self,
+        side: ReachSide<'a>,
+        client: &ListEntry,
+        server: &ListEntry,
+    ) -> Option<&'a ReachCell> {
+        let client = side.list.find(client.path())?;
+        let server = side.list.find(server.path())?;
+        let row = self.places.as_slice().get(client)?;
+        match row.as_slice().get(server) {
+            Some(Some(place)) => side.cells.get(*place),
+            _ => None,
         }
     }
-    let was = requests_of(before.list, pair.client, pair.service);
-    let now = requests_of(after.list, pair.client, pair.service);
-    Ok(ServiceComparison {
-        client: pair.client,
-        service: pair.service,
-        compared: RouteComparison::of(alloc, was, now)?,
-    })
+}
+
+// Notes a cell of a server.
+fn set_at(row: &mut Vec<Option<usize>>, server: usize, cell: usize) {
+    if let Some(place) = row.get_mut(server) {
+        *place = Some(cell);
+    }
+}
+
+// Whether a cell is the first one of its client and service.
+fn is_first(cells: &[ReachCell], place: usize) -> bool
+    requires { place < length cells.now }
+{
+    place == 0 || !is_same(&cells[place - 1], &cells[place])
+}
+
+// Whether two cells have one client and one service.
+fn is_same(one: &ReachCell, other: &ReachCell) -> bool {
+    one.client == other.client && one.service == other.service
 }
 
 // The requests of a script of a list, by its path, for a service.
-fn requests_of<'a>(
+fn wishes_of<'a>(
     list: &'a StartList,
     client: &ListEntry,
     service: &'static str,
 ) -> Option<SessionRequests<'a>>
-    ensures there { IfSome result (λ wishes. wishes.client < length wishes.list.now.entries) }
-    ensures routes { (label : List ℕ)
-        → routed_on result label ≡ routes list.now client.now.path service.now label }
+    ensures { IfSome result (λ wishes. wishes.client < length wishes.list.now.entries) }
 {
     let client = list.find(client.path())?;
     if list.entries()[client].binary() != Binary::Script {
@@ -268,27 +141,121 @@ fn requests_of<'a>(
     })
 }
 
-// Adds what a server gains and loses, if there is something.
+// Compares the requests of a script, by its path, for a service on both lists.
+fn comparison(
+    alloc: Global,
+    before: ReachSide<'_>,
+    after: ReachSide<'_>,
+    client: &ListEntry,
+    service: &'static str,
+) -> Result<RouteComparison, AllocError> {
+    let was = wishes_of(before.list, client, service);
+    let now = wishes_of(after.list, client, service);
+    RouteComparison::of(alloc, was, now)
+}
+
+// Adds the differences of the first cells before, which have one client and one service.
+fn add_old<'a>(
+    alloc: Global,
+    found: &mut Vec<ReachChange<'a>>,
+    before: ReachSide<'a>,
+    after: ReachSide<'a>,
+    news: &CellPlaces,
+    cells: &'a [ReachCell],
+) -> Result<(), AllocError> {
+    let Some((client, first)) = client_of(before, cells) else {
+        return Ok(());
+    };
+    let compared = comparison(alloc, before, after, client, first.service)?;
+    for cell in cells {
+        if !is_same(first, cell) {
+            return Ok(());
+        }
+        if let Some(server) = before.list.entries().get(cell.server) {
+            let now = match news.cell(after, client, server) {
+                Some(cell) => Some(&cell.reach),
+                None => None,
+            };
+            let numbers = (Some(cell.server), after.list.find(server.path()));
+            let reaches = (Some(&cell.reach), now);
+            add(
+                alloc,
+                found,
+                &compared,
+                (client, cell.service, server),
+                reaches,
+                numbers,
+            )?;
+        }
+    }
+    Ok(())
+}
+
+// Adds the differences of the first cells after, which have one client and one service, except those that have a cell before.
+fn add_new<'a>(
+    alloc: Global,
+    found: &mut Vec<ReachChange<'a>>,
+    before: ReachSide<'a>,
+    after: ReachSide<'a>,
+    olds: &CellPlaces,
+    cells: &'a [ReachCell],
+) -> Result<(), AllocError> {
+    let Some((client, first)) = client_of(after, cells) else {
+        return Ok(());
+    };
+    let compared = comparison(alloc, before, after, client, first.service)?;
+    for cell in cells {
+        if !is_same(first, cell) {
+            return Ok(());
+        }
+        if let Some(server) = after.list.entries().get(cell.server) {
+            if olds.cell(before, client, server).is_none() {
+                let numbers = (before.list.find(server.path()), Some(cell.server));
+                let reaches = (None, Some(&cell.reach));
+                add(
+                    alloc,
+                    found,
+                    &compared,
+                    (client, cell.service, server),
+                    reaches,
+                    numbers,
+                )?;
+            }
+        }
+    }
+    Ok(())
+}
+
+// The first cell, with its client.
+fn client_of<'a>(
+    side: ReachSide<'a>,
+    cells: &'a [ReachCell],
+) -> Option<(&'a ListEntry, &'a ReachCell)> {
+    let first = cells.first()?;
+    let client = side.list.entries().get(first.client)?;
+    Some((client, first))
+}
+
+// Adds what a server, by its numbers before and after, gains and loses, if there is something.
 fn add<'a>(
     alloc: Global,
     found: &mut Vec<ReachChange<'a>>,
     compared: &RouteComparison,
-    pair: &CellPair<'a>,
-) -> Result<(), AllocError>
-    ensures { OnOk result ((rows : List Row) × (found.new.items ≡ found.old.items ++ rows)
-        × ShowsMoves compared.now pair.now rows) }
-{
-    let gained = compared.gained(alloc, pair.server_was, pair.server_now)?;
-    let lost = compared.lost(alloc, pair.server_was, pair.server_now)?;
+    (client, service, server): (&'a ListEntry, &'static str, &'a ListEntry),
+    (was, now): (Option<&'a Reach>, Option<&'a Reach>),
+    (old, new): (Option<usize>, Option<usize>),
+) -> Result<(), AllocError> {
+    let gained = compared.gained(alloc, old, new)?;
+    let lost = compared.lost(alloc, old, new)?;
     if gained.witness.is_none() && lost.witness.is_none() {
         return Ok(());
     }
     found.push(ReachChange {
-        client: pair.client,
-        service: pair.service,
-        server: pair.server,
-        was: pair.reach_was,
-        now: pair.reach_now,
+        client,
+        service,
+        server,
+        was,
+        now,
         gained,
         lost,
     })?;

@@ -9,4 +9,3 @@ pub mod Spare
 pub mod Unread
 pub mod Views
 pub mod RuleTargets
-pub mod Phrases

@@ -2,4 +2,3 @@ pub mod FormLemmas
 pub mod PieceLemmas
 pub mod ArgsLemmas
 pub mod PlainLemmas
-pub mod ObjectFormLemmas

@@ -1,3 +1,2 @@
 mod CoverLemmas
 mod TableLemmas
-mod PlaceLemmas
