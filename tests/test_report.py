@@ -5,7 +5,7 @@ import os
 import re
 
 import pytest
-from commands import CRAWLER, EXAMPLES, PAGES, environment, limited, needs, script, tool
+from commands import CRAWLER, EXAMPLES, PAGES, crawler_files, environment, limited, needs, script, tool
 
 REPORT = tool("tools/report")
 SCRIPT = "<script>window.met=1</script>"
@@ -111,6 +111,14 @@ def test_late_command(nethrywel, tmp_path):
     ran, _ = report_without(nethrywel, tmp_path, "accounts", how="exec sleep 600", seconds="10")
     assert ran.status == 1
     assert "report: left out: nethrywel accounts --json --machine list.json scenario: it ran longer than 10 seconds\n" in ran.err
+
+
+def test_list_next_to_the_scenario(tmp_path):
+    """Without --machine a report describes the machine of the list next to the scenario, and says so."""
+    machine, scenario = crawler_files(tmp_path)
+    ran = REPORT(scenario, "-o", tmp_path / "page.html")
+    assert ran == (0, "", f"{machine}: note: the start list next to the scenario is used\n")
+    assert "crawler.scenario on crawler.json" in (tmp_path / "page.html").read_text()
 
 
 def test_unwritten_page(tmp_path):
