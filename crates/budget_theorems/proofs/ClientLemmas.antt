@@ -33,7 +33,7 @@ use Rattle.budget_theorems.proofs.CarryLemmas.{Carries, carried, tests_carried}
 use Rattle.budget_theorems.proofs.CellLemmas.{Leads, in_cell_of}
 use Rattle.budget_theorems.proofs.EachLemmas.{of_mapped}
 use Rattle.budget_theorems.proofs.SelectorLemmas.{at_it, buffer_same, lent_beside, new_same}
-use Rattle.budget_theorems.proofs.ServeLemmas.{ServesAlike, serves}
+use Rattle.budget_theorems.proofs.SessionServeLemmas.{ServesAlike, serves}
 use Rattle.budget_theorems.proofs.SessionRunLemmas.{Donated, session_alike, session_decides, session_moved, first_donated}
 use Rattle.budget_theorems.proofs.StepLemmas.{Agrees, limits_of, here_when, entry_agrees}
 use Rattle.budget_theorems.proofs.TestLemmas.{IsAlike, short_alike, alike_of, less_alike}

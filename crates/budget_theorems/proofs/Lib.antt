@@ -6,6 +6,8 @@ mod StepLemmas
 mod DecideLemmas
 mod RunLemmas
 mod ServeLemmas
+mod HoldLemmas
+mod SessionServeLemmas
 pub mod SessionRunLemmas
 mod SelectorLemmas
 mod CarryLemmas

@@ -1,4 +1,4 @@
--- What a request does in a session with another donation.
+-- What a request of files or of a buffer does in a session with another donation.
 use Rattle.std.proofs.Common.{◌≡◌, ℕ, ◌+◌, ◌⊎◌, inl, inr, Bool, true, false, cond, List, [], ◌∷◌, length, refl, sym, ap, true≢false, subst}
 use Rattle.std.specs.List.{AllByRecursion}
 use Rattle.std.specs.Option.{option_map, option_or}
@@ -11,7 +11,7 @@ use Rattle.own_model.specs.Account.{Account, shortage, charged}
 use Rattle.own_model.specs.Amounts.{Amounts}
 use Rattle.own_model.specs.BestFit.{Spot}
 use Rattle.own_model.specs.BufferService as shared
-use Rattle.own_model.specs.BufferService.{BufferRequest, SessionRequest, BufferServed, beside, range_refusal, move_refusal, part_of, made, given_back, put, got, buffer_served, session_request, session_request_served, text_served}
+use Rattle.own_model.specs.BufferService.{SessionRequest, BufferServed, beside, move_refusal, part_of, made, given_back, put, got, session_request_served}
 use Rattle.own_model.specs.BufferService.BufferRequest.{Make, GiveBack, Put, Get}
 use Rattle.own_model.specs.BufferService.SessionRequest.{OfFiles, OfBuffer}
 use Rattle.own_model.specs.FileService.{Files, File, FileServed, file_named, node_size, error_of, content_credited, gap_refusal, is_longer, read_refusal, told, unless_refused, created, created_in, written, read, sized, cleared, dropped, named, request_served, rewritten}
@@ -20,20 +20,18 @@ use Rattle.own_model.specs.FileText.FileRequest.{Create, Write, Read, Size, Clea
 use Rattle.own_model.specs.FileText.FileError.{BadRequest, BadName, Exists, NotFound, End, InvalidSize, NoBuffer}
 use Rattle.own_model.specs.FileText.FileReply.{Done, Count, Bytes, Named, Refused}
 use Rattle.own_model.specs.Growth.{Growth, most_chunks, hole_for, least_growth, growth_of, new_hole, small_refusal, shape_grown}
-use Rattle.own_model.specs.Session.{ServiceState, Session, Served, served_by, served}
-use Rattle.own_model.specs.Services.ServiceState.{Filing}
 use Rattle.own_model.specs.Sliced.{sliced_size}
 use Rattle.own_model.specs.Text.{is_name}
 use Rattle.budget_theorems.proofs.TestLemmas.{IsAlike, IsLed, lacks, short_alike, least_alike, growth_alike, decided, growth_decided, alone}
 use Rattle.budget_theorems.specs.Need.{limited}
-use Rattle.budget_theorems.specs.Request.{tests_where_none, write_tests, put_tests, filing_tests, tests_by, request_tests, donating, shows_session_short}
-use Rattle.budget_theorems.specs.RequestTheorems.{AreTold, AnswersAlike}
+use Rattle.budget_theorems.specs.Request.{tests_where_none, write_tests, put_tests, filing_tests, shows_session_short}
+use Rattle.budget_theorems.specs.RequestTheorems.{AreTold}
 use Rattle.budget_theorems.specs.RequestTheorems.AreTold.{Same, Limits}
 use Rattle.budget_theorems.specs.Test.{Test, test_of, tested_where, small_tests, growth_tests}
 
 module _ (x : Amounts) (a : Account) where
   -- the account under the other donation
-  abbrev then_it : Account
+  abbrev pub then_it : Account
   then_it = limited x a
 
   -- an answer of files is another but for limits, and leaves the limits
@@ -45,18 +43,18 @@ module _ (x : Amounts) (a : Account) where
     caps : o.account.caps_limit ≡ a.caps_limit
 
   -- and so with a buffer, which was so before: where limits are told it stays
-  record Agree (before : Option (List ℕ)) (o p : BufferServed) : Type 0 where
-    reply : (p.reply ≡ o.reply) ⊎ ((o.buffer ≡ before) × AreTold o.reply p.reply)
-    account : p.account ≡ limited x o.account
-    files : p.files ≡ o.files
-    buffer : p.buffer ≡ o.buffer
-    ram : o.account.ram_limit ≡ a.ram_limit
-    caps : o.account.caps_limit ≡ a.caps_limit
+  pub record Agree (before : Option (List ℕ)) (o p : BufferServed) : Type 0 where
+    pub reply : (p.reply ≡ o.reply) ⊎ ((o.buffer ≡ before) × AreTold o.reply p.reply)
+    pub account : p.account ≡ limited x o.account
+    pub files : p.files ≡ o.files
+    pub buffer : p.buffer ≡ o.buffer
+    pub ram : o.account.ram_limit ≡ a.ram_limit
+    pub caps : o.account.caps_limit ≡ a.caps_limit
 
-  abbrev Alike : List Test → Type 0
+  abbrev pub Alike : List Test → Type 0
   Alike each = AllByRecursion (IsAlike x a) each
 
-  abbrev Led : List Test → Type 0
+  abbrev pub Led : List Test → Type 0
   Led each = AllByRecursion (IsLed x a) each
 
   -- a reply that tells no limits, with an account that has them still
@@ -219,7 +217,7 @@ module _ (x : Amounts) (a : Account) where
         unless_shared buffer files (move_refusal offset place count buffer file) (beside into (told (Count (length part)) files a)) (beside into (told (Count (length part)) files then_it))
         (record { reply = inl refl; account = refl; files = refl; buffer = refl; ram = refl; caps = refl })
 
-    requests_agree : (request : Option SessionRequest) (buffer : Option (List ℕ)) → Alike (filing_tests request buffer files a) →
+    pub requests_agree : (request : Option SessionRequest) (buffer : Option (List ℕ)) → Alike (filing_tests request buffer files a) →
         Agree buffer (session_request_served request buffer files a) (session_request_served request buffer files then_it)
     requests_agree None buffer each = with_buffer buffer (told (Refused BadRequest) files a) (told (Refused BadRequest) files then_it) (tells (Refused BadRequest) files a refl refl)
     requests_agree (Some (OfFiles request)) buffer each =
@@ -231,7 +229,7 @@ module _ (x : Amounts) (a : Account) where
 
     -- ---- want
 
-    abbrev Short : List ℕ → Type 0
+    abbrev pub Short : List ℕ → Type 0
     Short reply = shows_session_short reply ≡ true
 
     -- what an account lacks is told
@@ -298,59 +296,10 @@ module _ (x : Amounts) (a : Account) where
         puts_decide_by (move_refusal offset place count buffer file) buffer (written offset part (Some file) files then_it) (write_tests offset (length part) (Some file)) each
         (writes_decide offset part (Some file))
 
-    requests_decide : (request : Option SessionRequest) (buffer : Option (List ℕ)) → Led (filing_tests request buffer files a) →
+    pub requests_decide : (request : Option SessionRequest) (buffer : Option (List ℕ)) → Led (filing_tests request buffer files a) →
         Alike (filing_tests request buffer files a) ⊎ Short (session_request_served request buffer files then_it).reply
     requests_decide (Some (OfFiles (Create name))) buffer each = creates_decide (not (is_name name)) (is_some (file_named name files)) _ each
     requests_decide (Some (OfFiles (Write name offset bytes))) buffer each = writes_decide offset bytes (file_named name files) each
     requests_decide (Some (OfBuffer (Make n))) buffer each = makes_decide n buffer (not (is_valid_size n)) (is_some buffer) each
     requests_decide (Some (OfBuffer (Put name offset place count))) buffer each = puts_decide offset place count buffer (file_named name files) each
     requests_decide request buffer each = inl tt
-
--- ---- sessions
-
--- replies that are the same, or told alike, are told alike
-told_of : {P : Type 0} {one other : List ℕ} → (other ≡ one) ⊎ (P × AreTold one other) → AreTold one other
-told_of {P} {one} (inl e) = subst (AreTold one) (sym e) (Same one)
-told_of (inr told) = told.1
-
--- what a session answers is what it answers with another donation, but for limits, which it leaves. Where these are told its
--- buffer stays as it was before
-pub record ServesAlike (x : Amounts) (session : Session) (before : Option (List ℕ)) (o p : Served) : Type 0 where
-  pub answers : AnswersAlike o p
-  pub whole : (p.reply ≡ o.reply) ⊎ ((o.buffer ≡ before) × AreTold o.reply p.reply)
-  pub after : p.session ≡ donating x o.session
-  pub ram : o.session.account.ram_limit ≡ session.account.ram_limit
-  pub caps : o.session.account.caps_limit ≡ session.account.caps_limit
-
-module _ (x : Amounts) (session : Session) (buffer : Option (List ℕ)) (request : List ℕ) where
-  filed_same : (o p : BufferServed) → p.account ≡ limited x o.account → p.files ≡ o.files →
-      ◌≡◌ {A = Session} (record session { account = p.account; state = Filing p.files }) (record session { account = limited x o.account; state = Filing o.files })
-  filed_same o p account same = λ i. record session { account = account i; state = Filing (same i) }
-
-  serves_by : (state : ServiceState) → AllByRecursion (IsAlike x session.account) (tests_by state buffer session.account request) →
-      ServesAlike x session buffer (served_by state buffer session request) (served_by state buffer (donating x session) request)
-  serves_by (Filing files) each =
-      let agree = requests_agree x session.account files (session_request request) buffer each in
-      record {
-        answers = record { reply = told_of agree.reply; lines = refl; buffer = agree.buffer };
-        whole = agree.reply;
-        after = filed_same (text_served buffer files session.account request) (text_served buffer files (limited x session.account) request) agree.account agree.files;
-        ram = agree.ram;
-        caps = agree.caps;
-      }
-  -- a service that leaves its account
-  serves_by state each = record { answers = record { reply = Same _; lines = refl; buffer = refl }; whole = inl refl; after = refl; ram = refl; caps = refl }
-
-  pub serves : AllByRecursion (IsAlike x session.account) (request_tests buffer session request) →
-      ServesAlike x session buffer (served buffer session request) (served buffer (donating x session) request)
-  serves each = serves_by session.state each
-
-  decides_by : (state : ServiceState) → AllByRecursion (IsLed x session.account) (tests_by state buffer session.account request) →
-      AllByRecursion (IsAlike x session.account) (tests_by state buffer session.account request)
-      ⊎ (shows_session_short (served_by state buffer (donating x session) request).reply ≡ true)
-  decides_by (Filing files) each = requests_decide x session.account files (session_request request) buffer each
-  decides_by state each = inl tt
-
-  pub serve_decides : AllByRecursion (IsLed x session.account) (request_tests buffer session request) →
-      AllByRecursion (IsAlike x session.account) (request_tests buffer session request) ⊎ (shows_session_short (served buffer (donating x session) request).reply ≡ true)
-  serve_decides each = decides_by session.state each

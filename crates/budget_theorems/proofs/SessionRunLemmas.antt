@@ -10,7 +10,7 @@ use Rattle.own_model.specs.FileText.FileReply.{Quotas}
 use Rattle.own_model.specs.Session.{Session, served}
 use Rattle.budget_theorems.proofs.CellLemmas.{Leads, in_cell_of}
 use Rattle.budget_theorems.proofs.EachLemmas.{of_mapped, to_mapped}
-use Rattle.budget_theorems.proofs.ServeLemmas.{serves, serve_decides}
+use Rattle.budget_theorems.proofs.SessionServeLemmas.{serves, serve_decides}
 use Rattle.budget_theorems.proofs.TestLemmas.{IsAlike, IsLed, alike_of, alike_to, led_of}
 use Rattle.budget_theorems.proofs.WantLemmas.{within_by, below_by}
 use Rattle.budget_theorems.specs.Need.{Need, HasRam, IsBelow, ComesOutAlike, need_of, greatest_choice}

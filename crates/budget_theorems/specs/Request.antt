@@ -1,5 +1,5 @@
 -- What a request tests of its session's account.
-use Rattle.std.specs.Prelude.{ℕ, ◌+◌, ◌||◌, Bool, not, List, [], ◌∷◌, length, if◌then◌else◌, Option, Some, None, is_some}
+use Rattle.std.specs.Prelude.{ℕ, ◌+◌, ◌==◌, ◌||◌, Bool, not, List, [], ◌∷◌, length, if◌then◌else◌, Option, Some, None, is_some}
 use Rattle.std.specs.Str.{bytes_eq}
 use Rattle.trade_base.specs.Page.{page_of, is_valid_size}
 use Rattle.own_model.specs.Account.{Account}
@@ -7,17 +7,23 @@ use Rattle.own_model.specs.Amounts.{Amounts}
 use Rattle.own_model.specs.BufferService.{SessionRequest, session_request, move_refusal, part_of}
 use Rattle.own_model.specs.BufferService.BufferRequest.{Make, Put}
 use Rattle.own_model.specs.BufferService.SessionRequest.{OfFiles, OfBuffer}
-use Rattle.own_model.specs.FileService.{Files, File, file_named, node_size, gap_refusal, is_longer}
+use Rattle.own_model.specs.FileService.{Files, File, no_files, file_named, node_size, gap_refusal, is_longer}
 use Rattle.own_model.specs.FileText.{FileError, file_reply}
 use Rattle.own_model.specs.FileText.FileRequest.{Create, Write}
 use Rattle.own_model.specs.FileText.FileReply.{Refused}
 use Rattle.own_model.specs.FileText.FileError.{OutOfRam, OutOfCaps}
+use Rattle.own_model.specs.Growth.{hole_for}
+use Rattle.own_model.specs.ObjectKinds.{ObjectKind, kind_named}
+use Rattle.own_model.specs.ObjectService.{DeclaredObject, Objects, object_named, contents, with_units}
+use Rattle.own_model.specs.ObjectSession.{HoldingRequest, holding_request}
+use Rattle.own_model.specs.ObjectSession.HoldingRequest.{OfObjects, OfBuffer as HoldingBuffer}
+use Rattle.own_model.specs.ObjectText.ObjectRequest.{Make as MakeObject, Resize}
 use Rattle.own_model.specs.Session.{ServiceState, Session}
-use Rattle.own_model.specs.Services.ServiceState.{Filing}
-use Rattle.own_model.specs.Sliced.{sliced_size}
+use Rattle.own_model.specs.Services.ServiceState.{Filing, Holding}
+use Rattle.own_model.specs.Sliced.{sliced_header, sliced_size}
 use Rattle.own_model.specs.Text.{is_name}
 use Rattle.budget_theorems.specs.Need.{limited}
-use Rattle.budget_theorems.specs.Test.{Test, test_of, tested_where, heap_tests}
+use Rattle.budget_theorems.specs.Test.{Test, test_of, tested_where, heap_tests, small_tests}
 
 -- tests that are made where nothing was refused before
 abbrev pub tests_where_none : Option FileError → List Test → List Test
@@ -56,9 +62,35 @@ filing_tests (Some (OfBuffer (Put name offset place count))) buffer files accoun
     put_tests offset place count buffer (file_named name files)
 filing_tests request buffer files account = []
 
--- files and a buffer test; a service that leaves its account tests nothing
+-- a new object tests as its node's block does
+abbrev pub make_object_tests : Option ObjectKind → List ℕ → Objects → Account → List Test
+make_object_tests None name objects account = []
+make_object_tests (Some kind) name objects account =
+    if not (is_name name) then []
+    else (if is_some (object_named name objects) then []
+    else small_tests kind.block (hole_for kind.block objects.shape) objects.shape account)
+
+-- new contents are tested in addition to the old ones
+abbrev pub contents_tests : ℕ → List Test
+contents_tests size =
+    if size == 0 then [] else tested_where (is_valid_size (sliced_header + size)) (test_of (sliced_size size) 1)
+
+abbrev pub resize_tests : ℕ → Option DeclaredObject → List Test
+resize_tests units None = []
+resize_tests units (Some object) = if units == object.units then [] else contents_tests (contents (with_units units object))
+
+-- the tests of a request of objects or of the buffer, if it is one
+abbrev pub holding_tests : List ObjectKind → Option HoldingRequest → Option (List ℕ) → Objects → Account → List Test
+holding_tests kinds (Some (OfObjects (MakeObject kind name))) buffer objects account =
+    make_object_tests (kind_named kind kinds) name objects account
+holding_tests kinds (Some (OfObjects (Resize name units))) buffer objects account = resize_tests units (object_named name objects)
+holding_tests kinds (Some (HoldingBuffer request)) buffer objects account = filing_tests (Some (OfBuffer request)) buffer no_files account
+holding_tests kinds request buffer objects account = []
+
+-- files, objects and a buffer test; a service that leaves its account tests nothing
 abbrev pub tests_by : ServiceState → Option (List ℕ) → Account → List ℕ → List Test
 tests_by (Filing files) buffer account request = filing_tests (session_request request) buffer files account
+tests_by (Holding kinds objects) buffer account request = holding_tests kinds (holding_request request) buffer objects account
 tests_by state buffer account request = []
 
 abbrev pub request_tests : Option (List ℕ) → Session → List ℕ → List Test

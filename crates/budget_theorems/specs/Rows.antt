@@ -7,12 +7,14 @@ use Rattle.own_model.specs.Call.{Call}
 use Rattle.own_model.specs.Call.Call.{Alloc, Capalloc, Exit}
 use Rattle.own_model.specs.FileService.{no_files}
 use Rattle.own_model.specs.Growth.{no_chunks}
+use Rattle.own_model.specs.ObjectRows.{surface, window_kinds}
+use Rattle.own_model.specs.ObjectService.{no_objects}
 use Rattle.own_model.specs.OwnHeap.{no_heap}
 use Rattle.own_model.specs.OwnState.{OwnState}
 use Rattle.own_model.specs.OwnStep.{unrouted}
 use Rattle.own_model.specs.Reserve.{no_reserve}
 use Rattle.own_model.specs.Session.{Session, session_account}
-use Rattle.own_model.specs.Services.ServiceState.{Filing}
+use Rattle.own_model.specs.Services.ServiceState.{Filing, Holding}
 use Rattle.budget_theorems.specs.Need.{Cell, budgeted, cell}
 use Rattle.budget_theorems.specs.Request.{request_tests}
 use Rattle.budget_theorems.specs.Test.{test_of, heap_tests}
@@ -80,3 +82,25 @@ Writes =
     × (request_tests None (one_file (97 ∷ [])) (codes "WRITE a 0 61") ≡ [])
     × (request_tests None (one_file []) (codes "BUFFER 4097") ≡ test_of 8192 1 ∷ [])
     × (request_tests None (one_file []) (codes "CREATE a") ≡ [])
+
+-- a session of a window server with a surface of so many units
+abbrev pub one_surface : ℕ → Session
+one_surface units = record {
+  label = [];
+  account = session_account 20480 4;
+  state = Holding window_kinds (record no_objects { objects = record { name = codes "a"; kind = surface; units = units; chunk = 0; offset = 0 } ∷ [] });
+  server = 0;
+}
+
+-- other units test contents of their own in addition to the old ones, also if they are fewer, and the surface's own units test
+-- nothing, nor do none; a new object tests its node's block
+abbrev pub Resizes : Type 0
+Resizes =
+    (request_tests None (one_surface 0) (codes "RESIZE a 1") ≡ test_of 4096 1 ∷ [])
+    × (request_tests None (one_surface 2) (codes "RESIZE a 1") ≡ test_of 4096 1 ∷ [])
+    × (request_tests None (one_surface 1) (codes "RESIZE a 1") ≡ [])
+    × (request_tests None (one_surface 1) (codes "RESIZE a 0") ≡ [])
+    × (request_tests None (one_surface 0) (codes "RESIZE a 18446744073709551615") ≡ [])
+    × (request_tests None (one_surface 0) (codes "MAKE view b") ≡ record { ram = 16384; caps = 1; choice = true } ∷ [])
+    × (request_tests None (one_surface 0) (codes "MAKE view a") ≡ [])
+    × (request_tests None (one_surface 0) (codes "BUFFER 4097") ≡ test_of 8192 1 ∷ [])

@@ -17,7 +17,8 @@ use Rattle.own_model.specs.Account.{Account}
 use Rattle.own_model.specs.BufferTheorems.{move_errors, buffer_errors, BufferErrorsComeInOrder, OtherBuffersAreServed, PutsAreWrites, Copies, GetsCopy}
 use Rattle.own_model.specs.BufferService.{BufferRequest, BufferServed, beside, make_refusal, unless_refused, made, given_back, put, got, buffer_served}
 use Rattle.own_model.specs.BufferService.BufferRequest.{Make, GiveBack, Put, Get}
-use Rattle.own_model.specs.FileTheorems.{when, first_error, write_errors}
+use Rattle.own_model.specs.ErrorTests.{when, first_of}
+use Rattle.own_model.specs.FileTheorems.{write_errors}
 use Rattle.own_model.specs.FileService.{Files, File, FileServed, file_named, is_longer, content_refusal, told, written}
 use Rattle.own_model.specs.FileService.{unless_refused as unless_write}
 use Rattle.own_model.specs.FileText.{FileError}
@@ -43,13 +44,13 @@ module _ (files : Files) (account : Account) where
   by_itself buffer (Some e) o good = refl
   by_itself buffer None o good = good
 
-  made_answers : (n : ℕ) (buffer : Option (List ℕ)) → Answers buffer (first_error (buffer_errors (Make n) buffer files account)) (buffer_served (Make n) buffer files account)
+  made_answers : (n : ℕ) (buffer : Option (List ℕ)) → Answers buffer (first_of (buffer_errors (Make n) buffer files account)) (buffer_served (Make n) buffer files account)
   made_answers n buffer =
       subst (λ l. Answers buffer l (buffer_served (Make n) buffer files account))
       (ap (λ o. cond (not (is_valid_size n)) (Some InvalidSize) (cond (is_some buffer) (Some Exists) o)) (shortage_same (lacks_ram account (page_of n)) (lacks_caps account 1)))
       (by_itself buffer (make_refusal n buffer account) (made n files account) refl)
 
-  given_back_answers : (buffer : Option (List ℕ)) → Answers buffer (first_error (buffer_errors GiveBack buffer files account)) (given_back buffer files account)
+  given_back_answers : (buffer : Option (List ℕ)) → Answers buffer (first_of (buffer_errors GiveBack buffer files account)) (given_back buffer files account)
   given_back_answers None = refl
   given_back_answers (Some bytes) = refl
 
@@ -70,7 +71,7 @@ module _ (files : Files) (account : Account) where
   past_gap false rest o fits is = is
 
   put_answers : (offset place count : ℕ) (buffer : Option (List ℕ)) (found : Option File) →
-      Answers buffer (first_error (move_errors offset place count buffer found (λ file.
+      Answers buffer (first_of (move_errors offset place count buffer found (λ file.
       when (is_longer offset count file && lacks_ram account (sliced_size (offset + count))) OutOfRam ∷ when (is_longer offset count file && lacks_caps account 1) OutOfCaps ∷ [])))
       (put offset place count buffer found files account)
   put_answers offset place count buffer None = refl
@@ -81,16 +82,16 @@ module _ (files : Files) (account : Account) where
       let long : length part ≡ count = length-slice_range bytes place count (ltb-false (length bytes) (place + count) within) in
       as_of_files (Some bytes) _ (written offset part (Some file) files account)
       (past_gap (nat_lt (length file.bytes) offset) _ (written offset part (Some file) files account) fits
-      (subst (λ n. files_errors.Answers files account (first_error (write_errors offset n (Some file) account)) (written offset part (Some file) files account)) long (written_answers files account offset part (Some file)))))
+      (subst (λ n. files_errors.Answers files account (first_of (write_errors offset n (Some file) account)) (written offset part (Some file) files account)) long (written_answers files account offset part (Some file)))))
 
   got_answers : (offset place count : ℕ) (buffer : Option (List ℕ)) (found : Option File) →
-      Answers buffer (first_error (move_errors offset place count buffer found (λ file. []))) (got offset place count buffer found files account)
+      Answers buffer (first_of (move_errors offset place count buffer found (λ file. []))) (got offset place count buffer found files account)
   got_answers offset place count buffer None = refl
   got_answers offset place count None (Some file) = without_buffer (nat_lt (length file.bytes) offset) None _
   got_answers offset place count (Some bytes) (Some file) =
       with_one (nat_lt (length file.bytes) offset) (nat_lt (length bytes) (place + count)) bytes None _ (λ fits within. refl)
 
-  answers : (request : BufferRequest) (buffer : Option (List ℕ)) → Answers buffer (first_error (buffer_errors request buffer files account)) (buffer_served request buffer files account)
+  answers : (request : BufferRequest) (buffer : Option (List ℕ)) → Answers buffer (first_of (buffer_errors request buffer files account)) (buffer_served request buffer files account)
   answers (Make n) buffer = made_answers n buffer
   answers GiveBack buffer = given_back_answers buffer
   answers (Put name offset place count) buffer = put_answers offset place count buffer (file_named name files)
@@ -163,7 +164,7 @@ stays_above bytes part place i fits above =
     ∙ ap (λ n. get_or bytes n 0) (omega arith)
 
 got_copies : (name : List ℕ) (offset place count : ℕ) (bytes : List ℕ) (files : Files) (account : Account) (found : Option File) → file_named name files ≡ found →
-    first_error (move_errors offset place count (Some bytes) found (λ file. [])) ≡ None → Copies name offset place count bytes files account
+    first_of (move_errors offset place count (Some bytes) found (λ file. [])) ≡ None → Copies name offset place count bytes files account
 got_copies name offset place count bytes files account None is none = absurd (none-some NotFound (sym none))
 got_copies name offset place count bytes files account (Some file) is none =
     let part = take count (drop offset file.bytes) in

@@ -1,21 +1,19 @@
 -- What files are charged, the limits and the use of their account after requests.
-use Rattle.std.proofs.Common.{rules, ◌≡◌, ℕ, ◌+◌, ◌<◌, ◌≤◌, List, [], length, refl, ap, arith, sum_by, length-append, length-take, length-drop, length-set}
+use Rattle.std.proofs.Common.{rules, ◌≡◌, ℕ, ◌+◌, ◌<◌, ◌≤◌, List, [], length, refl, ap, arith, length-append, length-take, length-drop}
 use Rattle.std.proofs.lemmas.Bool.{ltb-true, ltb-false}
 use Rattle.std.proofs.lemmas.Bool.Decides.{nat_tests}
 use Rattle.std.proofs.lemmas.List.Sums.{sum_by_push}
 use Rattle.trade_base.specs.Bytes.{with_bytes}
 use Rattle.trade_base.proofs.BytesLemmas.{length-with_bytes}
-use Rattle.own_model.proofs.HeapBlockLemmas.{bytes-taken, bytes-given}
 use Rattle.own_model.proofs.FileListLemmas.{sum-rewritten, sum-without}
 use Rattle.own_model.proofs.FileRequestLemmas.{KeptByRequests, requests_keep, grown}
-use Rattle.own_model.proofs.HeapOwnLemmas.{chunk_bytes-set}
+use Rattle.own_model.proofs.NodeChargeLemmas.{taken_charged, given_charged, chunk_charged}
 use Rattle.own_model.proofs.StepLemmas.{covers, accepted_growth}
 use Rattle.own_model.specs.Account.{Account, WithinLimits, charged}
-use Rattle.own_model.specs.BestFit.{Spot, chunk_of, given_in}
+use Rattle.own_model.specs.BestFit.{Spot}
 use Rattle.own_model.specs.FileTheorems.{RequestsKeepCharges, RequestsKeepLimits, RequestsKeepWithinLimits}
 use Rattle.own_model.specs.FileService.{Files, File, IsCharged, node_size, content_ram, content_caps, created_in}
-use Rattle.own_model.specs.Growth.{Growth, Shape, growth_of, new_hole, shape_grown, shape_taken}
-use Rattle.own_model.specs.Heap.{bytes_in}
+use Rattle.own_model.specs.Growth.{Growth, growth_of, new_hole}
 use Rattle.own_model.specs.Sliced.{sliced_size}
 
 -- ---- what contents are charged
@@ -36,16 +34,6 @@ ram_of file = content_ram (length file.bytes)
 abbrev caps_of : File → ℕ
 caps_of file = content_caps (length file.bytes)
 
--- ---- the heap of nodes
-
--- a node in a hole changes neither the bytes of the chunks nor their number
-node_charged : (hole : Spot) (shape : Shape) → (sum_by bytes_in (shape_taken node_size hole shape).chunks ≡ sum_by bytes_in shape.chunks) × (length (shape_taken node_size hole shape).chunks ≡ length shape.chunks)
-node_charged hole shape = grind (arith, nat_tests, chunk_bytes-set, bytes-taken, length-set)
-
--- a chunk more is charged its bytes and a capability
-chunk_charged : (growth : Growth) (shape : Shape) → (sum_by bytes_in (shape_grown growth shape).chunks ≡ sum_by bytes_in shape.chunks + growth.bytes) × (length (shape_grown growth shape).chunks ≡ length shape.chunks + 1)
-chunk_charged growth shape = grind (arith, nat_tests, sum_by_push, length-append)
-
 -- ---- charges
 
 module _ (ram caps : ℕ) where
@@ -56,7 +44,7 @@ module _ (ram caps : ℕ) where
   created_charged : (name : List ℕ) (hole : Spot) (files : Files) (account : Account) → Charged files account → Charged (created_in name hole files) account
   created_charged name hole files account h =
       let new : File = record { name = name; bytes = []; chunk = hole.chunk; offset = hole.offset } in
-      let node = node_charged hole files.shape in
+      let node = taken_charged node_size hole files.shape in
       record {
         ram = omega (arith, h.ram, node.0, sum_by_push ram_of files.files new);
         caps = omega (arith, h.caps, node.1, sum_by_push caps_of files.files new);
@@ -93,11 +81,10 @@ module _ (ram caps : ℕ) where
       caps = omega (arith, h.caps, sum-rewritten file.name [] caps_of files.files file there);
     };
     drops = λ file there.
-        let blocks = chunk_of files.shape.chunks file.chunk in
-        let after = given_in file.offset blocks in
+        let heap = given_charged file.chunk file.offset files.shape in
         record {
-          ram = omega (arith, h.ram, sum-without file.name ram_of files.files file there, chunk_bytes-set files.shape.chunks file.chunk after (bytes-given file.offset blocks));
-          caps = omega (arith, h.caps, sum-without file.name caps_of files.files file there, length-set files.shape.chunks file.chunk after);
+          ram = omega (arith, h.ram, sum-without file.name ram_of files.files file there, heap.0);
+          caps = omega (arith, h.caps, sum-without file.name caps_of files.files file there, heap.1);
         };
   }
 

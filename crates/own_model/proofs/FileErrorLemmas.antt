@@ -9,7 +9,8 @@ use Rattle.trade_base.specs.Page.{page_of}
 use Rattle.trade_base.specs.declared.refusal.Refusal.TheVariants as refusal
 use Rattle.own_model.specs.Account.{Account}
 use Rattle.own_model.specs.BestFit.{Spot, block_size}
-use Rattle.own_model.specs.FileTheorems.{first_error, node_errors, write_errors, read_errors, errors_of, ErrorsComeInOrder, OthersAreServed}
+use Rattle.own_model.specs.ErrorTests.{first_of}
+use Rattle.own_model.specs.FileTheorems.{node_errors, write_errors, read_errors, errors_of, ErrorsComeInOrder, OthersAreServed}
 use Rattle.own_model.specs.FileService.{Files, File, FileServed, node_size, file_named, error_of, create_refusal, write_refusal, unless_refused, told, created, written, read, sized, cleared, dropped, named, request_served}
 use Rattle.own_model.specs.FileText.{FileRequest, FileError, file_request, file_reply, bytes_reply}
 use Rattle.own_model.specs.FileText.FileRequest.{Create, Write, Read, Size, Clear, Drop, Name, Stat}
@@ -44,11 +45,11 @@ growth_same : (full r c : Bool) →
 growth_same true r c = refl
 growth_same false r c = shortage_same r c
 
-node_same : (found : Option Spot) (shape : Shape) (account : Account) → option_map error_of (small_refusal node_size found shape account) ≡ first_error (node_errors found shape account)
+node_same : (found : Option Spot) (shape : Shape) (account : Account) → option_map error_of (small_refusal node_size found shape account) ≡ first_of (node_errors found shape account)
 node_same (Some hole) shape account = refl
 node_same None shape account = growth_same (nat_le most_chunks (length shape.chunks)) (lacks_ram account (page_of (block_size node_size))) (lacks_caps account 1)
 
-create_same : (name : List ℕ) (files : Files) (account : Account) → create_refusal name files account ≡ first_error (errors_of (Some (Create name)) files account)
+create_same : (name : List ℕ) (files : Files) (account : Account) → create_refusal name files account ≡ first_of (errors_of (Some (Create name)) files account)
 create_same name files account = simp (node_same)
 
 write_tests : (g l r c : Bool) →
@@ -57,7 +58,7 @@ write_tests true l r c = refl
 write_tests false false r c = refl
 write_tests false true r c = shortage_same r c
 
-write_same : (offset count : ℕ) (file : File) (account : Account) → write_refusal offset count file account ≡ first_error (write_errors offset count (Some file) account)
+write_same : (offset count : ℕ) (file : File) (account : Account) → write_refusal offset count file account ≡ first_of (write_errors offset count (Some file) account)
 write_same offset count file account = simp (write_tests)
 
 read_tests : (g t : Bool) → option_or (cond g (Some Gap) None) (cond t (Some TooLong) None) ≡ cond g (Some Gap) (cond t (Some TooLong) None)
@@ -83,11 +84,11 @@ module _ (files : Files) (account : Account) where
   created_good name (Some hole) = refl
   created_good name None = refl
 
-  pub written_answers : (offset : ℕ) (bytes : List ℕ) (found : Option File) → Answers (first_error (write_errors offset (length bytes) found account)) (written offset bytes found files account)
+  pub written_answers : (offset : ℕ) (bytes : List ℕ) (found : Option File) → Answers (first_of (write_errors offset (length bytes) found account)) (written offset bytes found files account)
   written_answers offset bytes None = refl
   written_answers offset bytes (Some file) = grind (arith, nat_tests, unless_answers, write_same)
 
-  read_answers : (offset count : ℕ) (found : Option File) → Answers (first_error (read_errors offset count found)) (read offset count found files account)
+  read_answers : (offset count : ℕ) (found : Option File) → Answers (first_of (read_errors offset count found)) (read offset count found files account)
   read_answers offset count None = refl
   read_answers offset count (Some file) = grind (arith, nat_tests, unless_answers, read_tests, bytes_good)
 
@@ -108,7 +109,7 @@ module _ (files : Files) (account : Account) where
   dropped_answers None = refl
   dropped_answers (Some file) = refl
 
-  request_answers : (request : Option FileRequest) → Answers (first_error (errors_of request files account)) (request_served request files account)
+  request_answers : (request : Option FileRequest) → Answers (first_of (errors_of request files account)) (request_served request files account)
   request_answers None = refl
   request_answers (Some (Create name)) = grind (arith, nat_tests, unless_answers, create_same, created_good)
   request_answers (Some (Write name offset bytes)) = written_answers offset bytes (file_named name files)

@@ -44,20 +44,30 @@ pub mod StepSoundLemmas
 pub mod StepUseLemmas
 -- the log service
 pub mod LogLemmas
+-- nodes of files and objects: their names, their blocks, and what is charged
+pub mod NodeListLemmas
+pub mod NodeShapeLemmas
+pub mod NodeLemmas
+pub mod NodeChargeLemmas
 -- the file service: what its requests do to files, and to their account
 pub mod FileChargeLemmas
 pub mod FileErrorLemmas
 pub mod FileListLemmas
-pub mod FilePlaceLemmas
 pub mod FileReadLemmas
 pub mod FileRequestLemmas
 pub mod FileServiceLemmas
-pub mod FileShapeLemmas
 pub mod FileTextLemmas
 -- requests of a session's buffer
 pub mod BufferErrorLemmas
 pub mod BufferKeptLemmas
 pub mod BufferMadeLemmas
+-- declared servers: what their requests do to objects, and to their account
+pub mod ObjectChargeLemmas
+pub mod ObjectErrorLemmas
+pub mod ObjectKeptLemmas
+pub mod ObjectReadLemmas
+pub mod ObjectRequestLemmas
+pub mod ObjectServiceLemmas
 -- buffers among what selectors name
 pub mod LentLemmas
 pub mod LentAloneLemmas

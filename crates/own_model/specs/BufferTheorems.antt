@@ -5,7 +5,7 @@ use Rattle.trade_base.specs.Page.{page_of, is_valid_size}
 use Rattle.own_model.specs.Account.{Account, WithinLimits}
 use Rattle.own_model.specs.BufferService.{BufferRequest, SessionRequest, beside, buffer_served, session_request_served, buffer_ram, buffer_caps}
 use Rattle.own_model.specs.BufferService.BufferRequest.{Make, GiveBack, Put, Get}
-use Rattle.own_model.specs.FileTheorems.{ErrorTest, when, first_error}
+use Rattle.own_model.specs.ErrorTests.{Tested, when, first_of}
 use Rattle.own_model.specs.FileService.{Files, File, AreFiles, IsCharged, file_named, is_longer, told, request_served}
 use Rattle.own_model.specs.FileText.{FileError, file_reply}
 use Rattle.own_model.specs.FileText.FileRequest.{Write}
@@ -21,14 +21,14 @@ abbrev pub is_bad_range : ℕ → ℕ → Option (List ℕ) → Bool
 is_bad_range place count buffer = nat_lt (length (unwrap_or buffer [])) (place + count)
 
 -- bytes go between a file and the buffer, which comes before what more the line has
-abbrev pub move_errors : ℕ → ℕ → ℕ → Option (List ℕ) → Option File → (File → List ErrorTest) → List ErrorTest
+abbrev pub move_errors : ℕ → ℕ → ℕ → Option (List ℕ) → Option File → (File → List (Tested FileError)) → List (Tested FileError)
 move_errors offset place count buffer None more = when true NotFound ∷ []
 move_errors offset place count buffer (Some file) more =
     when (nat_lt (length file.bytes) offset) Gap ∷ when (is_none buffer) NoBuffer
     ∷ when (is_bad_range place count buffer) BadRange ∷ more file
 
 -- the line of each request: memory is needed for a buffer, and for a put only if the file grows
-abbrev pub buffer_errors : BufferRequest → Option (List ℕ) → Files → Account → List ErrorTest
+abbrev pub buffer_errors : BufferRequest → Option (List ℕ) → Files → Account → List (Tested FileError)
 buffer_errors (Make n) buffer files account =
     when (not (is_valid_size n)) InvalidSize ∷ when (is_some buffer) Exists
     ∷ when (lacks_ram account (page_of n)) OutOfRam ∷ when (lacks_caps account 1) OutOfCaps ∷ []
@@ -45,14 +45,14 @@ buffer_errors (Get name offset place count) buffer files account =
 abbrev pub BufferErrorsComeInOrder : Type 0
 BufferErrorsComeInOrder =
     (request : BufferRequest) (buffer : Option (List ℕ)) (files : Files) (account : Account) (e : FileError) →
-    first_error (buffer_errors request buffer files account) ≡ Some e →
+    first_of (buffer_errors request buffer files account) ≡ Some e →
     buffer_served request buffer files account ≡ beside buffer (told (Refused e) files account)
 
 -- if no condition holds, it is answered none
 abbrev pub OtherBuffersAreServed : Type 0
 OtherBuffersAreServed =
     (request : BufferRequest) (buffer : Option (List ℕ)) (files : Files) (account : Account) (e : FileError) →
-    first_error (buffer_errors request buffer files account) ≡ None →
+    first_of (buffer_errors request buffer files account) ≡ None →
     (buffer_served request buffer files account).reply ≢ file_reply (Refused e)
 
 -- ---- which bytes are copied
@@ -79,7 +79,7 @@ pub record Copies (name : List ℕ) (offset place count : ℕ) (bytes : List ℕ
 abbrev pub GetsCopy : Type 0
 GetsCopy =
     (name : List ℕ) (offset place count : ℕ) (bytes : List ℕ) (files : Files) (account : Account) →
-    first_error (buffer_errors (Get name offset place count) (Some bytes) files account) ≡ None →
+    first_of (buffer_errors (Get name offset place count) (Some bytes) files account) ≡ None →
     Copies name offset place count bytes files account
 
 -- ---- what requests keep

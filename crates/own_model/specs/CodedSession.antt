@@ -2,11 +2,11 @@
 use Rattle.std.specs.Prelude.{◌≡◌, ℕ, List, Option, Some, None}
 use Rattle.std.proofs.Common.{refl}
 use Rattle.std.specs.Coded.{Coded, code_by, coded×, coded_ℕ, coded_list, coded_option}
-use Rattle.trade_base.specs.declared.service.Service.{Service}
 use Rattle.own_model.specs.Account.{Account, coded_account}
+use Rattle.own_model.specs.Offer.{Offer, coded_offer}
 use Rattle.own_model.specs.Routes.{Lead, Level, Rule, ServerAt}
 use Rattle.own_model.specs.Routes.Lead.{To, Nowhere, Outward}
-use Rattle.own_model.specs.Services.{Session, ServiceState, coded_service, coded_state}
+use Rattle.own_model.specs.Services.{Session, ServiceState, coded_state}
 
 -- a text that is there or not
 abbrev pub coded_text : Coded (Option (List ℕ))
@@ -15,7 +15,7 @@ coded_text = coded_option (coded_list coded_ℕ)
 -- a server is stored as its kind and its place
 abbrev pub coded_server : Coded ServerAt
 coded_server =
-    code_by (Service × ℕ) (coded× coded_service coded_ℕ) (λ s. (s.kind, s.place)) (λ p. record { kind = p.0; place = p.1 }) (λ _. refl)
+    code_by (Offer × ℕ) (coded× coded_offer coded_ℕ) (λ s. (s.kind, s.place)) (λ p. record { kind = p.0; place = p.1 }) (λ _. refl)
 
 -- a lead is stored as the server that it leads to, if it isn't outward, and if there is one
 abbrev pub lead_code : Lead → Option (Option ServerAt)

@@ -1,19 +1,19 @@
 -- The file service of one client: what a session's requests make of its files and of its account.
-use Rattle.std.specs.Prelude.{◌≡◌, ℕ, ◌+◌, ◌≤◌, ◌==◌, ◌&&◌, Bool, true, not, List, [], ◌∷◌, ◌++◌, length, take, drop, sum_by, find, slice_get, nat_lt, if◌then◌else◌, Option, Some, None, is_some, IsSome}
-use Rattle.std.specs.List.{AllByRecursion}
+use Rattle.std.specs.Prelude.{◌≡◌, ℕ, ◌+◌, Bool, not, List, [], ◌∷◌, ◌++◌, length, map, take, drop, find, slice_get, nat_lt, if◌then◌else◌, Option, Some, None, is_some}
 use Rattle.std.specs.Option.{option_map, option_or}
 use Rattle.std.specs.Str.{bytes_eq}
 use Rattle.trade_base.specs.Bytes.{with_bytes}
 use Rattle.trade_base.specs.declared.refusal.Refusal.{Refusal}
 use Rattle.trade_base.specs.declared.refusal.Refusal.TheVariants.{TooManyChunks, OutOfCaps}
 use Rattle.own_model.specs.Account.{Account, shortage, charged, credited}
-use Rattle.own_model.specs.BestFit.{Spot, block_size, chunk_of, used_at}
+use Rattle.own_model.specs.BestFit.{Spot}
 use Rattle.own_model.specs.FileText.{FileRequest, FileError, FileReply, file_request, file_reply}
 use Rattle.own_model.specs.FileText.FileRequest.{Create, Write, Read, Size, Clear, Drop, Name, Stat}
 use Rattle.own_model.specs.FileText.FileError.{BadRequest, BadName, Exists, NotFound, Gap, TooLong, End}
 use Rattle.own_model.specs.FileText.FileReply.{Done, Count, Bytes, Named, Quotas, Refused}
-use Rattle.own_model.specs.Growth.{Shape, no_chunks, most_chunks, most_growth, hole_for, growth_of, new_hole, heap_refusal, shape_taken, shape_given, shape_grown}
-use Rattle.own_model.specs.Heap.{bytes_in, IsChunk}
+use Rattle.own_model.specs.Growth.{Shape, no_chunks, hole_for, growth_of, new_hole, heap_refusal, shape_taken, shape_given, shape_grown}
+use Rattle.own_model.specs.Nodes.{Node, AreNodesOf, kept_ram, kept_caps}
+pub use Rattle.own_model.specs.Nodes.{content_ram, content_caps}
 use Rattle.own_model.specs.Sliced.{sliced_size}
 use Rattle.own_model.specs.Text.{is_name}
 
@@ -58,13 +58,6 @@ without name [] = []
 without name (file ∷ rest) = if is_named name file then rest else file ∷ without name rest
 
 -- ---- what contents are charged
-
--- a content of so many bytes is one sliced block of just these, and an empty content is none
-abbrev pub content_ram : ℕ → ℕ
-content_ram size = if size == 0 then 0 else sliced_size size
-
-abbrev pub content_caps : ℕ → ℕ
-content_caps size = if size == 0 then 0 else 1
 
 -- the account with a file's content credited
 abbrev pub content_credited : File → Account → Account
@@ -199,54 +192,26 @@ file_served files account text = request_served (file_request text) files accoun
 
 -- ---- what is true of files between requests
 
--- the heap of nodes has a used block for a node where a file says
-pub record HasNode (shape : Shape) (file : File) : Type 0 where
-  pub size : ℕ
-  pub there : used_at file.offset (chunk_of shape.chunks file.chunk) ≡ Some size
-  pub fits : block_size node_size ≤ size
+-- a file's node
+abbrev pub node_of : File → Node
+node_of file = record { name = file.name; asked = node_size; chunk = file.chunk; offset = file.offset }
 
--- a file's node is at a place
-abbrev pub is_at : ℕ → ℕ → File → Bool
-is_at chunk offset file = file.chunk == chunk && file.offset == offset
-
--- no file is like a later one
-abbrev pub AreUnlike : (File → File → Bool) → List File → Type 0
-AreUnlike like [] = Unit {0}
-AreUnlike like (file ∷ rest) = (find (like file) rest ≡ None) × AreUnlike like rest
-
-abbrev pub NamesDiffer : List File → Type 0
-NamesDiffer files = AreUnlike (λ file. is_named file.name) files
-
-abbrev pub PlacesDiffer : List File → Type 0
-PlacesDiffer files = AreUnlike (λ file. is_at file.chunk file.offset) files
-
--- a heap of nodes: each chunk is one, they are no more than the most, and the growth number is within its bounds
-pub record IsShape (shape : Shape) : Type 0 where
-  pub chunks : AllByRecursion IsChunk shape.chunks
-  pub few : length shape.chunks ≤ most_chunks
-  pub growth_some : 1 ≤ shape.growth
-  pub growth_most : shape.growth ≤ most_growth
-
--- names are names, each of one file; and each file has a node of its own, of which there are no more
-pub record AreFiles (files : Files) : Type 0 where
-  pub names : AllByRecursion (λ file. is_name file.name ≡ true) files.files
-  pub differ : NamesDiffer files.files
-  pub heap : IsShape files.shape
-  pub nodes : AllByRecursion (HasNode files.shape) files.files
-  pub apart : PlacesDiffer files.files
-  pub no_more :
-      (chunk offset : ℕ) → IsSome (used_at offset (chunk_of files.shape.chunks chunk)) →
-      IsSome (find (is_at chunk offset) files.files)
+-- their nodes are nodes of the heap: names are names, each of one file, and each file has a node of its own, of which there are
+-- no more
+abbrev pub AreFiles : Files → Type 0
+AreFiles files = AreNodesOf files.shape (map node_of files.files)
 
 -- ---- what files are charged together
 
--- the bytes of the heap's chunks and of the contents
-abbrev pub files_ram : Files → ℕ
-files_ram files = sum_by bytes_in files.shape.chunks + sum_by (λ file. content_ram (length file.bytes)) files.files
+-- the bytes of a file's content
+abbrev pub content_size : File → ℕ
+content_size file = length file.bytes
 
--- a capability for each of them
+abbrev pub files_ram : Files → ℕ
+files_ram files = kept_ram content_size files.files files.shape
+
 abbrev pub files_caps : Files → ℕ
-files_caps files = length files.shape.chunks + sum_by (λ file. content_caps (length file.bytes)) files.files
+files_caps files = kept_caps content_size files.files files.shape
 
 -- beside so many bytes and capabilities an account uses what files are charged, and no more
 pub record IsCharged (more_ram more_caps : ℕ) (files : Files) (account : Account) : Type 0 where

@@ -1,9 +1,10 @@
 -- Theorems on the file service, as statements.
-use Rattle.std.specs.Prelude.{◌≡◌, ◌≢◌, ℕ, ◌+◌, ◌≤◌, ◌&&◌, Bool, true, false, not, List, [], ◌∷◌, length, nat_lt, nat_le, if◌then◌else◌, Option, Some, None, is_none, is_some}
+use Rattle.std.specs.Prelude.{◌≡◌, ◌≢◌, ℕ, ◌+◌, ◌≤◌, ◌&&◌, Bool, true, false, not, List, [], ◌∷◌, length, nat_lt, nat_le, Option, Some, None, is_none, is_some}
 use Rattle.std.specs.Str.{bytes_eq}
 use Rattle.trade_base.specs.Page.{page_of}
 use Rattle.own_model.specs.Account.{Account, WithinLimits}
 use Rattle.own_model.specs.BestFit.{Spot, block_size}
+use Rattle.own_model.specs.ErrorTests.{Tested, when, first_of}
 use Rattle.own_model.specs.FileService.{Files, File, AreFiles, IsCharged, no_files, node_size, file_named, is_longer, most_read, told, request_served, file_served}
 use Rattle.own_model.specs.FileText.{FileRequest, FileError, file_request, file_reply}
 use Rattle.own_model.specs.FileText.FileRequest.{Create, Write, Read, Size, Clear, Drop, Name, Stat}
@@ -16,40 +17,27 @@ use Rattle.own_model.specs.Text.{is_name}
 
 -- ---- the table of requests: what each is refused for, in order
 
--- an error, and whether its condition holds
-pub record ErrorTest : Type 0 where
-  pub error : FileError
-  pub fails : Bool
-
-abbrev pub when : Bool → FileError → ErrorTest
-when fails error = record { error = error; fails = fails }
-
--- the first error whose condition holds
-abbrev pub first_error : List ErrorTest → Option FileError
-first_error [] = None
-first_error (test ∷ tests) = if test.fails then Some test.error else first_error tests
-
 -- for a new node, with the best hole for it, if there is one: if there is none, a chunk of the block's own pages decides
-abbrev pub node_errors : Option Spot → Shape → Account → List ErrorTest
+abbrev pub node_errors : Option Spot → Shape → Account → List (Tested FileError)
 node_errors (Some hole) shape account = []
 node_errors None shape account =
     when (nat_le most_chunks (length shape.chunks)) TooManyChunks
     ∷ when (lacks_ram account (page_of (block_size node_size))) OutOfRam ∷ when (lacks_caps account 1) OutOfCaps ∷ []
 
 -- of a write of so many bytes from an offset on: memory is needed only if the file grows
-abbrev pub write_errors : ℕ → ℕ → Option File → Account → List ErrorTest
+abbrev pub write_errors : ℕ → ℕ → Option File → Account → List (Tested FileError)
 write_errors offset count None account = when true NotFound ∷ []
 write_errors offset count (Some file) account =
     when (nat_lt (length file.bytes) offset) Gap
     ∷ when (is_longer offset count file && lacks_ram account (sliced_size (offset + count))) OutOfRam
     ∷ when (is_longer offset count file && lacks_caps account 1) OutOfCaps ∷ []
 
-abbrev pub read_errors : ℕ → ℕ → Option File → List ErrorTest
+abbrev pub read_errors : ℕ → ℕ → Option File → List (Tested FileError)
 read_errors offset count None = when true NotFound ∷ []
 read_errors offset count (Some file) = when (nat_lt (length file.bytes) offset) Gap ∷ when (nat_lt most_read count) TooLong ∷ []
 
 -- the line of each request
-abbrev pub errors_of : Option FileRequest → Files → Account → List ErrorTest
+abbrev pub errors_of : Option FileRequest → Files → Account → List (Tested FileError)
 errors_of None files account = when true BadRequest ∷ []
 errors_of (Some (Create name)) files account =
     when (not (is_name name)) BadName ∷ when (is_some (file_named name files)) Exists
@@ -67,14 +55,14 @@ errors_of (Some Stat) files account = []
 abbrev pub ErrorsComeInOrder : Type 0
 ErrorsComeInOrder =
     (files : Files) (account : Account) (text : List ℕ) (e : FileError) →
-    first_error (errors_of (file_request text) files account) ≡ Some e →
+    first_of (errors_of (file_request text) files account) ≡ Some e →
     file_served files account text ≡ told (Refused e) files account
 
 -- if no condition holds, it is answered none
 abbrev pub OthersAreServed : Type 0
 OthersAreServed =
     (files : Files) (account : Account) (text : List ℕ) (e : FileError) →
-    first_error (errors_of (file_request text) files account) ≡ None →
+    first_of (errors_of (file_request text) files account) ≡ None →
     (file_served files account text).reply ≢ file_reply (Refused e)
 
 -- ---- what requests keep

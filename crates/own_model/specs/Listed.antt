@@ -1,21 +1,21 @@
 -- A start list as its text denotes it, and where its rules lead.
 use Rattle.std.specs.Prelude.{◌≡◌, ℕ, ◌&&◌, ◌==◌, zero, suc, Bool, false, List, [], ◌∷◌, ◌++◌, map, position, count_by, nat_eq, if◌then◌else◌, Option, Some, None}
-use Rattle.std.specs.List.{starts_with, ends_with, slice_get}
+use Rattle.std.specs.List.{list_any, starts_with, ends_with, slice_get}
 use Rattle.std.specs.Option.{option_and_then, option_map, unwrap_or}
 use Rattle.std.specs.Str.{bytes_eq}
 use Rattle.trade_base.specs.Service.{service_name, services}
-use Rattle.trade_base.specs.declared.service.Service.{Service}
 use Rattle.own_model.specs.Amounts.{Amounts}
+use Rattle.own_model.specs.Offer.{Offer}
 use Rattle.own_model.specs.Reserve.{no_reserve}
 use Rattle.own_model.specs.Routes as routes
 use Rattle.own_model.specs.Routes.{Lead, Level, Rule, ServerAt, as_asked, label_with}
 use Rattle.own_model.specs.Routes.Lead.{To, Nowhere, Outward}
 use Rattle.own_model.specs.StartList.{Kind, StartEntry, StartList}
 
--- what a component runs
+-- what a component runs: a server has the name of its service, and what it offers
 pub data Binary : Type 0 where
   Script : Binary
-  Server : Service → Binary
+  Server : List ℕ → Offer → Binary
   Init : Binary
 
 -- where a rule leads: to the child of a name, to any child, or out of this init
@@ -72,12 +72,33 @@ default_of list (suc place) = unwrap_or (option_map (λ entry. entry.inner_route
 abbrev pub most_lists : ℕ
 most_lists = 4
 
+-- ---- services
+
+-- the name of a binary's service, if it is a server's
+abbrev pub service_in : Binary → Option (List ℕ)
+service_in Script = None
+service_in (Server service offer) = Some service
+service_in Init = None
+
+-- a name after others, if it is none of them
+abbrev pub with_name : List (List ℕ) → Option (List ℕ) → List (List ℕ)
+with_name names None = names
+with_name names (Some name) = if list_any (bytes_eq name) names then names else names ++ name ∷ []
+
+abbrev pub with_names : List (List ℕ) → List ListedEntry → List (List ℕ)
+with_names names [] = names
+with_names names (entry ∷ entries) = with_names (with_name names (service_in entry.binary)) entries
+
+-- the services of a list: first those that the machine has built in, then each other one of its servers, by the first entry
+abbrev pub services_of : List ListedEntry → List (List ℕ)
+services_of entries = with_names (map service_name services) entries
+
 -- ---- which child a route leads to
 
 -- whether a service is the one of a binary
 abbrev pub serves : Binary → List ℕ → Bool
 serves Script asked = false
-serves (Server service) asked = bytes_eq asked (service_name service)
+serves (Server service offer) asked = bytes_eq asked service
 serves Init asked = false
 
 -- an entry of an init's list provides a service
@@ -141,18 +162,18 @@ route_of list client service label =
 
 -- ---- what a list comes to in own step
 
--- the kind of service that a binary can provide
-abbrev pub service_of : Binary → Option Service
-service_of Script = None
-service_of (Server service) = Some service
-service_of Init = None
+-- what a binary offers to sessions, if it is a server's
+abbrev pub offer_in : Binary → Option Offer
+offer_in Script = None
+offer_in (Server service offer) = Some offer
+offer_in Init = None
 
-abbrev pub service_at : List ListedEntry → ℕ → Option Service
-service_at entries child = option_and_then (λ entry. service_of entry.binary) (slice_get entries child)
+abbrev pub offer_at : List ListedEntry → ℕ → Option Offer
+offer_at entries child = option_and_then (λ entry. offer_in entry.binary) (slice_get entries child)
 
 -- the server that the child at a place is, if its binary is one
 abbrev pub server_at : List ListedEntry → ℕ → Option ServerAt
-server_at entries child = option_map (λ kind. record { kind = kind; place = child }) (service_at entries child)
+server_at entries child = option_map (λ kind. record { kind = kind; place = child }) (offer_at entries child)
 
 -- a lead to a server, if there is one
 abbrev pub lead_to : Option ServerAt → Lead
@@ -183,11 +204,11 @@ own_rule rule service to = record {
 abbrev pub own_rule_for : List ListedEntry → ℕ → ListedRule → List ℕ → Rule
 own_rule_for entries init rule service = own_rule rule (Some service) (lead_of entries (way_to entries init rule.target service))
 
--- a rule of any service is one for each service that there is, and one for every other
+-- a rule of any service is one for each service of the list, and one for every other
 abbrev pub own_rules_asking : List ListedEntry → ℕ → ListedRule → Option (List ℕ) → List Rule
 own_rules_asking entries init rule (Some service) = own_rule_for entries init rule service ∷ []
 own_rules_asking entries init rule None =
-    map (λ service. own_rule_for entries init rule (service_name service)) services
+    map (own_rule_for entries init rule) (services_of entries)
     ++ own_rule rule None (lead_without rule.target) ∷ []
 
 abbrev pub own_rules : List ListedEntry → ℕ → List ListedRule → List Rule
@@ -206,13 +227,13 @@ levels_within (suc lists) list entry =
 
 abbrev pub kind_of : Binary → Kind
 kind_of Script = Kind.Script
-kind_of (Server service) = Kind.Server
+kind_of (Server service offer) = Kind.Server
 kind_of Init = Kind.Init
 
 -- a script has the reserve that the list gives it, and else an empty one; who is no script has none
 abbrev pub reserve_by : Binary → Option Amounts → Amounts
 reserve_by Script given = unwrap_or given no_reserve
-reserve_by (Server service) given = no_reserve
+reserve_by (Server service offer) given = no_reserve
 reserve_by Init given = no_reserve
 
 abbrev pub reserve_of : ListedEntry → Amounts

@@ -2,11 +2,11 @@
 use Rattle.std.specs.Prelude.{ℕ, ◌&&◌, Bool, true, List, [], ◌∷◌, ◌++◌, codes, nat_eq, if◌then◌else◌, Option, Some, None}
 use Rattle.std.specs.List.{starts_with, ends_with}
 use Rattle.std.specs.Str.{bytes_eq}
-use Rattle.trade_base.specs.declared.service.Service.{Service}
+use Rattle.own_model.specs.Offer.{Offer}
 
--- a server: its kind, which is its service, and its place among the entries
+-- a server: its kind, which is what it offers, and its place among the entries
 pub record ServerAt : Type 0 where
-  pub kind : Service
+  pub kind : Offer
   pub place : ℕ
 
 -- where a rule leads: to a server, to none, or outward, to the list of the init above

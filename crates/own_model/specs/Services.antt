@@ -1,21 +1,27 @@
 -- The properties of each service, and of what its server stores for a session: all that the model says of one service and not of
 -- another.
 use Rattle.std.specs.Prelude.{◌≡◌, ◌⊎◌, ℕ, List, [], Option}
-use Rattle.std.proofs.Common.{zero, suc, refl, inl, inr}
-use Rattle.std.specs.Coded.{Coded, code_by, coded⊎, coded_ℕ, coded_list}
-use Rattle.trade_base.specs.declared.service.Service.{Service}
-use Rattle.trade_base.specs.declared.service.Service.TheVariants as service
+use Rattle.std.proofs.Common.{refl, inl, inr}
+use Rattle.std.specs.Coded.{Coded, code_by, coded×, coded⊎, coded_ℕ, coded_list}
 use Rattle.own_model.specs.Account.{Account}
 use Rattle.own_model.specs.BufferService.{BufferServed, text_served}
 use Rattle.own_model.specs.CodedFiles.{coded_files}
+use Rattle.own_model.specs.CodedObjects.{coded_objects}
 use Rattle.own_model.specs.FileService.{Files, AreFiles, files_caps, files_ram, no_files}
 use Rattle.own_model.specs.LogService.{LogServed, IsPartial, labelled, log_served}
+use Rattle.own_model.specs.ObjectKinds.{ObjectKind}
+use Rattle.own_model.specs.ObjectService.{Objects, AreObjects, no_objects, objects_caps, objects_ram}
+use Rattle.own_model.specs.ObjectSession.{HoldingServed, holding_served}
+use Rattle.own_model.specs.Offer.{Offer, coded_kind}
+use Rattle.own_model.specs.Offer.Offer.{OffersLog, OffersFiles, OffersObjects}
 use Rattle.own_model.specs.Reply.{LogLine}
 
--- what a server keeps for a session: the log server the line that isn't finished yet, the file server the files
+-- what a server keeps for a session: the log server the line that isn't finished yet, the file server the files, and a declared
+-- server the objects, of the kinds that it offers
 pub data ServiceState : Type 0 where
   Logging : List ℕ → ServiceState
   Filing : Files → ServiceState
+  Holding : List ObjectKind → Objects → ServiceState
 
 -- a session: its label, its account, of which all is what its client donated, what its server keeps for it, and the place of
 -- that server among the entries
@@ -25,31 +31,37 @@ pub record Session : Type 0 where
   pub state : ServiceState
   pub server : ℕ
 
--- what is true of it: a line that isn't finished yet is shorter than the longest, and has no newline; files are as files are
+-- what is true of it: a line that isn't finished yet is shorter than the longest, and has no newline; files are as files
+-- are, and objects as objects of these kinds are
 abbrev pub IsKept : ServiceState → Type 0
 IsKept (Logging partial) = IsPartial partial
 IsKept (Filing files) = AreFiles files
+IsKept (Holding kinds objects) = AreObjects kinds objects
 
--- the kind of server that keeps this
-abbrev pub service_of : ServiceState → Service
-service_of (Logging partial) = service.Log
-service_of (Filing files) = service.Files
+-- what the server offers that keeps this
+abbrev pub offer_of : ServiceState → Offer
+offer_of (Logging partial) = OffersLog
+offer_of (Filing files) = OffersFiles
+offer_of (Holding kinds objects) = OffersObjects kinds
 
 -- what a server keeps at first
-abbrev pub state_at_first : Service → ServiceState
-state_at_first service.Log = Logging []
-state_at_first service.Files = Filing no_files
+abbrev pub state_at_first : Offer → ServiceState
+state_at_first OffersLog = Logging []
+state_at_first OffersFiles = Filing no_files
+state_at_first (OffersObjects kinds) = Holding kinds no_objects
 
 -- ---- charges
 
--- what a server charges to a session for what it keeps: for files, and for no line
+-- what a server charges to a session for what it keeps: for files and objects, and for no line
 abbrev pub state_ram : ServiceState → ℕ
 state_ram (Logging partial) = 0
 state_ram (Filing files) = files_ram files
+state_ram (Holding kinds objects) = objects_ram objects
 
 abbrev pub state_caps : ServiceState → ℕ
 state_caps (Logging partial) = 0
 state_caps (Filing files) = files_caps files
+state_caps (Holding kinds objects) = objects_caps objects
 
 -- ---- requests
 
@@ -78,40 +90,44 @@ filed_by session o = record {
   buffer = o.buffer;
 }
 
+-- so does one of objects or of the buffer; the kinds stay
+abbrev pub held_by : List ObjectKind → Session → HoldingServed → Served
+held_by kinds session o = record {
+  reply = o.reply;
+  lines = [];
+  session = record session { account = o.account; state = Holding kinds o.objects };
+  buffer = o.buffer;
+}
+
 abbrev pub served_by : ServiceState → Option (List ℕ) → Session → List ℕ → Served
 served_by (Logging partial) buffer session request = logged_by buffer session (log_served partial request)
 served_by (Filing files) buffer session request = filed_by session (text_served buffer files session.account request)
+served_by (Holding kinds objects) buffer session request =
+    held_by kinds session (holding_served kinds buffer objects session.account request)
 
 -- ---- as parts of a model's value
 
--- a kind of server is stored as a number
-abbrev pub service_number : Service → ℕ
-service_number service.Log = 0
-service_number service.Files = 1
-
-abbrev pub service_from : ℕ → Service
-service_from zero = service.Log
-service_from (suc n) = service.Files
-
-abbrev pub service_back : (s : Service) → service_from (service_number s) ≡ s
-service_back service.Log = refl
-service_back service.Files = refl
-
-abbrev pub coded_service : Coded Service
-coded_service = code_by ℕ coded_ℕ service_number service_from service_back
-
--- what a server keeps is stored as the line that isn't finished yet, or as the files
-abbrev pub state_parts : ServiceState → List ℕ ⊎ Files
+-- what a server keeps is stored as the line that isn't finished yet, as the files, or as the objects with their kinds
+abbrev pub state_parts : ServiceState → List ℕ ⊎ (Files ⊎ (List ObjectKind × Objects))
 state_parts (Logging partial) = inl partial
-state_parts (Filing files) = inr files
+state_parts (Filing files) = inr (inl files)
+state_parts (Holding kinds objects) = inr (inr (kinds, objects))
 
-abbrev pub state_from : List ℕ ⊎ Files → ServiceState
+abbrev pub state_from : List ℕ ⊎ (Files ⊎ (List ObjectKind × Objects)) → ServiceState
 state_from (inl partial) = Logging partial
-state_from (inr files) = Filing files
+state_from (inr (inl files)) = Filing files
+state_from (inr (inr held)) = Holding held.0 held.1
 
 abbrev pub state_back : (s : ServiceState) → state_from (state_parts s) ≡ s
 state_back (Logging partial) = refl
 state_back (Filing files) = refl
+state_back (Holding kinds objects) = refl
 
 abbrev pub coded_state : Coded ServiceState
-coded_state = code_by (List ℕ ⊎ Files) (coded⊎ (coded_list coded_ℕ) coded_files) state_parts state_from state_back
+coded_state =
+    code_by
+    (List ℕ ⊎ (Files ⊎ (List ObjectKind × Objects)))
+    (coded⊎ (coded_list coded_ℕ) (coded⊎ coded_files (coded× (coded_list coded_kind) coded_objects)))
+    state_parts
+    state_from
+    state_back

@@ -6,7 +6,7 @@ use Rattle.trade_base.specs.declared.refusal.Refusal.TheVariants.{BadArgs, Servi
 use Rattle.own_model.specs.Account.{Account, shortage, charged, opened}
 use Rattle.own_model.specs.Donation.{raised}
 use Rattle.own_model.specs.Routes.{Level, ServerAt, label_with, provider}
-pub use Rattle.own_model.specs.Services.{ServiceState, Session, IsKept, service_of, state_at_first, Served, served_by}
+pub use Rattle.own_model.specs.Services.{ServiceState, Session, IsKept, offer_of, state_at_first, Served, served_by}
 use Rattle.own_model.specs.SessionArgs.{Arguments, arguments_of}
 use Rattle.own_model.specs.Sliced.{sliced_size}
 

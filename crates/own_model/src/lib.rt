@@ -15,6 +15,7 @@ mod heap_window;
 mod limits;
 mod listed;
 mod log_service;
+mod object_service;
 mod regions;
 mod reserves;
 mod rows;
@@ -53,6 +54,11 @@ pub use limits::{
 };
 pub use listed::routes_lead_to_providers;
 pub use log_service::writes_are_lines;
+pub use object_service::{
+    object_errors_come_in_order, object_requests_are_charged, object_requests_are_read,
+    object_requests_are_refused_in_order, object_sessions_are_charged, objects_are_as_requested,
+    objects_are_charged, objects_are_named_in_order, objects_stay_objects,
+};
 pub use regions::{
     found_ranges_fit, freed_has_no_regions, full_maps_refuse, pokes_are_read, regions_stay_sound,
 };

@@ -2,7 +2,7 @@
 ghost use Rattle.std.specs.Prelude.{◌≡◌, codes, Some, None};
 ghost use Rattle.own_model.specs.Account.{opened};
 ghost use Rattle.own_model.specs.Theorems.{BootsBalanced};
-ghost use Rattle.trade_base.specs.declared.service.Service.TheVariants.{Log, Files};
+ghost use Rattle.own_model.specs.Offer.Offer.{OffersLog, OffersFiles};
 ghost use Rattle.own_model.specs.Routes.{provider};
 ghost use Rattle.own_model.specs.Listed.{levels_within, most_lists};
 ghost use Rattle.own_model.specs.MachineA.{alice, machine_a};
@@ -27,9 +27,9 @@ pub fn machine_a_boots()
 /// servers, and `Nic` to none.
 pub fn services_are_routed()
     ensures log { provider (levels_within most_lists machine_a alice) (codes "LOG") (codes "main")
-        ≡ Some (record { kind = Log; place = 0 }) }
+        ≡ Some (record { kind = OffersLog; place = 0 }) }
     ensures files { provider (levels_within most_lists machine_a alice) (codes "File_system")
-        (codes "main") ≡ Some (record { kind = Files; place = 1 }) }
+        (codes "main") ≡ Some (record { kind = OffersFiles; place = 1 }) }
     ensures others { provider (levels_within most_lists machine_a alice) (codes "Nic")
         (codes "main")
         ≡ None }

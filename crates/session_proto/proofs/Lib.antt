@@ -2,3 +2,4 @@ pub mod FormLemmas
 pub mod PieceLemmas
 pub mod ArgsLemmas
 pub mod PlainLemmas
+pub mod ObjectFormLemmas

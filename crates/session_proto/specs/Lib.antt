@@ -5,3 +5,5 @@ pub mod LogReply
 pub mod File
 pub mod FileReply
 pub mod Forms
+pub mod ObjectForms
+pub mod Objects

@@ -16,3 +16,6 @@ returns-clause-first_growth c = (refl, refl, refl)
 
 pub returns-clause-writes : goal.returns-clause-writes
 returns-clause-writes c = (refl, refl, refl, refl, refl)
+
+pub returns-clause-resizes : goal.returns-clause-resizes
+returns-clause-resizes c = (refl, refl, refl, refl, refl, refl, refl, refl)

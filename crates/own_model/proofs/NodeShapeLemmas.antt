@@ -1,5 +1,5 @@
--- The heap of nodes: which blocks are used after a node comes or goes, and that it stays one.
-use Rattle.std.proofs.Common.{rules, ◌≡◌, ℕ, ◌-◌, ◌<◌, ◌≤◌, ◌++◌, ◌==◌, ◌&&◌, Bool, true, false, cond, eqb, List, [], ◌∷◌, length, Some, refl, sym, ap, subst, ◌∙◌, arith, set, nat_lt, eqb-true, inl, inr, length-append, length-set}
+-- The heap of nodes: which blocks are used after one is taken or given back, and that it stays one.
+use Rattle.std.proofs.Common.{rules, ◌≡◌, ℕ, ◌-◌, ◌<◌, ◌≤◌, ◌++◌, ◌==◌, ◌&&◌, Bool, true, false, cond, eqb, List, [], ◌∷◌, length, Some, refl, sym, ap, subst, ◌∙◌, arith, set, nat_lt, true≢false, eqb-true, inl, inr, length-append, length-set}
 use Rattle.std.proofs.Math.Seq.{get_or-append_seam}
 use Rattle.std.proofs.lemmas.Bool.{eqb-false, cases_eq, cases_lt}
 use Rattle.std.proofs.lemmas.Bool.Decides.{nat_tests}
@@ -12,10 +12,10 @@ use Rattle.own_model.proofs.ListLemmas.{all_within, all_set, all_append, all_the
 use Rattle.own_model.proofs.StepLemmas.{accepted_growth, growth_fits}
 use Rattle.own_model.specs.Account.{Account}
 use Rattle.own_model.specs.BestFit.{Spot, block_size, chunk_of, taken_in, used_at}
-use Rattle.own_model.specs.FileService.{File, node_size, HasNode, IsShape}
 use Rattle.own_model.specs.Growth.{Shape, Growth, hole_for, shape_taken, shape_given, shape_grown, new_hole, growth_of, growth_refusal}
 use Rattle.own_model.specs.Heap.{Heap, Block, Hole, AreBlocks, ArePages, IsChunk, bytes_in}
 use Rattle.own_model.specs.HeapStep.{size_taken}
+use Rattle.own_model.specs.Nodes.{Node, HasBlock, IsShape}
 
 -- the used block at a place
 abbrev pub used : Shape → ℕ → ℕ → Option ℕ
@@ -36,22 +36,22 @@ place_set : (chunks : Heap) (i at : ℕ) (blocks : List Block) (o : Option ℕ) 
     used_at offset (chunk_of (set chunks i blocks) chunk) ≡ cond (i == chunk && at == offset) o (used_at offset (chunk_of chunks chunk))
 place_set chunks i at blocks o within changed chunk offset = search (rules, eqb-true)
 
--- a file has a node where as large a block is used
-pub node_by : (shape after : Shape) (file : File) (b : Bool) (size : ℕ) → block_size node_size ≤ size → used after file.chunk file.offset ≡ cond b (Some size) (used shape file.chunk file.offset) →
-    HasNode shape file → HasNode after file
-node_by shape after file true size fits is h = record { size = size; there = is; fits = fits }
-node_by shape after file false size fits is h = record { size = h.size; there = is ∙ h.there; fits = h.fits }
+-- a node whose place isn't taken keeps its block
+pub block_by : (shape after : Shape) (node : Node) (b : Bool) (o : Option ℕ) → b ≡ false → used after node.chunk node.offset ≡ cond b o (used shape node.chunk node.offset) →
+    HasBlock shape node → HasBlock after node
+block_by shape after node true o apart is h = absurd (true≢false apart)
+block_by shape after node false o apart is h = record { size = h.size; there = is ∙ h.there; fits = h.fits }
 
--- ---- a node in a hole
+-- ---- a block in a hole
 
-module _ (shape : Shape) (h : IsShape shape) (hole : Spot) (is : IsHoleOf shape.chunks hole) (enough : block_size node_size ≤ hole.size) where
+module _ (n : ℕ) (shape : Shape) (h : IsShape shape) (hole : Spot) (is : IsHoleOf shape.chunks hole) (enough : block_size n ≤ hole.size) where
   -- the chunk of the hole
   chunk : IsChunk (chunk_of shape.chunks hole.chunk)
   chunk = all_within IsChunk shape.chunks hole.chunk [] h.chunks is.within
 
   -- the block is used, and all that were
-  pub used_taken : (number offset : ℕ) → used (shape_taken node_size hole shape) number offset
-      ≡ cond (hole.chunk == number && hole.offset == offset) (Some (size_taken (block_size node_size) hole.size)) (used shape number offset)
+  pub used_taken : (number offset : ℕ) → used (shape_taken n hole shape) number offset
+      ≡ cond (hole.chunk == number && hole.offset == offset) (Some (size_taken (block_size n) hole.size)) (used shape number offset)
   used_taken = search (rules, place_set, chunk, used-taken)
 
   -- it wasn't
@@ -59,18 +59,18 @@ module _ (shape : Shape) (h : IsShape shape) (hole : Spot) (is : IsHoleOf shape.
   not_used = hole_unused hole.offset hole.size (chunk_of shape.chunks hole.chunk) chunk.sizes is.there
 
   -- it is large enough
-  pub taken_fits : block_size node_size ≤ size_taken (block_size node_size) hole.size
-  taken_fits = elim (nat_lt (hole.size - block_size node_size) 48) as (λ b. block_size node_size ≤ cond b hole.size (block_size node_size)) [ true ↦ enough | false ↦ omega arith ]
+  pub taken_fits : block_size n ≤ size_taken (block_size n) hole.size
+  taken_fits = elim (nat_lt (hole.size - block_size n) 48) as (λ b. block_size n ≤ cond b hole.size (block_size n)) [ true ↦ enough | false ↦ omega arith ]
 
   -- and the heap stays one
-  pub shape_taken_is : IsShape (shape_taken node_size hole shape)
+  pub shape_taken_is : IsShape (shape_taken n hole shape)
   shape_taken_is =
       let blocks = chunk_of shape.chunks hole.chunk in
-      let after = taken_in (block_size node_size) hole.offset blocks in
-      let as_many : bytes_in after ≡ bytes_in blocks = bytes-taken (block_size node_size) hole.offset blocks in
+      let after = taken_in (block_size n) hole.offset blocks in
+      let as_many : bytes_in after ≡ bytes_in blocks = bytes-taken (block_size n) hole.offset blocks in
       record {
         chunks = all_set IsChunk shape.chunks hole.chunk after h.chunks (record {
-          sizes = AreBlocks-taken (block_size node_size) hole.size hole.offset blocks chunk.sizes is.there (block_size-fits node_size) enough;
+          sizes = AreBlocks-taken (block_size n) hole.size hole.offset blocks chunk.sizes is.there (block_size-fits n) enough;
           pages = subst ArePages (sym as_many) chunk.pages;
         });
         few = omega (arith, h.few, length-set shape.chunks hole.chunk after);
@@ -79,19 +79,19 @@ module _ (shape : Shape) (h : IsShape shape) (hole : Spot) (is : IsHoleOf shape.
       }
 
 -- the best hole is one, and large enough
-pub best_is : (shape : Shape) (hole : Spot) → IsShape shape → hole_for node_size shape ≡ Some hole → IsHoleOf shape.chunks hole × (block_size node_size ≤ hole.size)
-best_is shape hole h best = best_is_hole (block_size node_size) shape.chunks hole (all_then IsChunk AreBlocks shape.chunks (λ blocks one. one.sizes) h.chunks) best
+pub best_is : (n : ℕ) (shape : Shape) (hole : Spot) → IsShape shape → hole_for n shape ≡ Some hole → IsHoleOf shape.chunks hole × (block_size n ≤ hole.size)
+best_is n shape hole h best = best_is_hole (block_size n) shape.chunks hole (all_then IsChunk AreBlocks shape.chunks (λ blocks one. one.sizes) h.chunks) best
 
 -- ---- a chunk more
 
-module _ (shape : Shape) (h : IsShape shape) (account : Account) (accepted : growth_refusal node_size shape account ≡ None) where
+module _ (n : ℕ) (shape : Shape) (h : IsShape shape) (account : Account) (accepted : growth_refusal n shape account ≡ None) where
   abbrev growth : Growth
-  growth = growth_of node_size shape account
+  growth = growth_of n shape account
 
   -- it fills pages, the block fits in it, and the growth number stays within its bounds
   record Suits (g : Growth) : Type 0 where
     pages : ArePages g.bytes
-    fits : block_size node_size ≤ g.bytes
+    fits : block_size n ≤ g.bytes
     next_some : 1 ≤ g.next
     next_most : g.next ≤ 64
 
@@ -105,7 +105,7 @@ module _ (shape : Shape) (h : IsShape shape) (account : Account) (accepted : gro
   pub new_hole_is : IsHoleOf (shape_grown growth shape).chunks (new_hole growth shape)
   new_hole_is = search (rules, length-append, hole_at, get_or-append_seam)
 
-  pub new_hole_fits : block_size node_size ≤ growth.bytes
+  pub new_hole_fits : block_size n ≤ growth.bytes
   new_hole_fits = suits.fits
 
 -- nothing in a new chunk is used
@@ -125,20 +125,20 @@ used_grown shape growth number offset =
       ]
     ]
 
--- ---- a node gone
+-- ---- a block given back
 
-module _ (shape : Shape) (h : IsShape shape) (file : File) (node : HasNode shape file) where
+module _ (shape : Shape) (h : IsShape shape) (node : Node) (has : HasBlock shape node) where
   -- a chunk that has a used block is there
-  within : file.chunk < length shape.chunks
+  within : node.chunk < length shape.chunks
   within = search (rules, cases_lt, chunk, none-some, get_or_past)
 
-  node_chunk : IsChunk (chunk_of shape.chunks file.chunk)
-  node_chunk = all_within IsChunk shape.chunks file.chunk [] h.chunks within
+  node_chunk : IsChunk (chunk_of shape.chunks node.chunk)
+  node_chunk = all_within IsChunk shape.chunks node.chunk [] h.chunks within
 
   -- the block isn't used, and all others are that were
-  pub used_given : (number offset : ℕ) → used (shape_given file.chunk file.offset shape) number offset ≡ cond (file.chunk == number && file.offset == offset) None (used shape number offset)
+  pub used_given : (number offset : ℕ) → used (shape_given node.chunk node.offset shape) number offset ≡ cond (node.chunk == number && node.offset == offset) None (used shape number offset)
   used_given = search (rules, place_set, chunk, within, used-given, node_chunk)
 
   -- and the heap stays one
-  pub shape_given_is : IsShape (shape_given file.chunk file.offset shape)
+  pub shape_given_is : IsShape (shape_given node.chunk node.offset shape)
   shape_given_is = grind (arith, nat_tests, chunk, bytes-given, all_set, AreBlocks-given, node_chunk, length-set)
