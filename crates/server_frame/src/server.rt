@@ -48,6 +48,7 @@ impl<S: Service + Drop> Server<S> {
         pages: usize,
     ) -> Result<Server<S>, NoMemory>
         requires pages { pages ≤ 4096 }
+        ensures service { IfOk result (λ server. server.service ≡ service) }
         ensures none { IfOk result (λ server. server.sessions.slots ≡ []) }
         ensures places { IfOk result (λ server. sessions ≤ server.sessions.capacity) }
         ensures map { IfOk result (λ server. server.map ≡ fresh_regions 0 pages pages) }
@@ -68,7 +69,7 @@ impl<S: Service + Drop> Server<S> {
     pub fn is_open(&self, id: SessionId) -> bool
         ensures session { result ≡ is_some (slab.get self.now.sessions id.0) }
         ensures row { (store : Store) → result ≡ is_some (get
-            (sessions_of S.value S.buffer self.now.sessions store self.now.map) id.0) }
+            (sessions_of (S.value self.now.service) S.buffer self.now.sessions store self.now.map) id.0) }
     {
         self.sessions.contains(id.0)
     }
@@ -79,7 +80,7 @@ impl<S: Service + Drop> Server<S> {
         ensures session { IfSome (slab.get self.now.sessions id.0)
             (λ session. result ≡ session.account) }
         ensures row { (store : Store) →
-            AtSession S.value S.buffer self.now.sessions store self.now.map id.0 (λ row.
+            AtSession (S.value self.now.service) S.buffer self.now.sessions store self.now.map id.0 (λ row.
             result.0 ≡ row.key) }
     {
         self.sessions[id.0].account
@@ -91,7 +92,7 @@ impl<S: Service + Drop> Server<S> {
         ensures session { IfSome (slab.get self.now.sessions id.0) (λ session.
             key_of result ≡ S.buffer session.state) }
         ensures row { (store : Store) →
-            AtSession S.value S.buffer self.now.sessions store self.now.map id.0 (λ row.
+            AtSession (S.value self.now.service) S.buffer self.now.sessions store self.now.map id.0 (λ row.
             key_of result ≡ row.buffer) }
     {
         self.service.buffer(&self.sessions[id.0].state)
@@ -123,9 +124,10 @@ impl<S: Service + Drop> Server<S> {
             ≡ donation_refusal (account_in memory.old client.0) ram.0 caps.0 }
         ensures server { IsServer S.IsKept self.new.sessions memory.new self.new.map }
         ensures opens { IfOk result (λ id.
-            OpensSession client.0 ram.0 caps.0 id.0 (S.first label.now) memory.old memory.new
-            (sessions_of S.value S.buffer self.old.sessions memory.old self.old.map)
-            (sessions_of S.value S.buffer self.new.sessions memory.new self.new.map)) }
+            OpensSession client.0 ram.0 caps.0 id.0 (S.first self.old.service label.now) memory.old memory.new
+            (sessions_of (S.value self.old.service) S.buffer self.old.sessions memory.old self.old.map)
+            (sessions_of (S.value self.new.service) S.buffer self.new.sessions memory.new self.new.map)) }
+        ensures service { self.new.service ≡ self.old.service }
         ensures places { self.new.sessions.capacity ≡ self.old.sessions.capacity }
         ensures machine { ram_limits_in memory.new ≡ ram_limits_in memory.old }
         ensures err { OnErr result (self.new ≡ self.old) }
@@ -155,17 +157,17 @@ impl<S: Service + Drop> Server<S> {
     ) -> Result<(), Refusal>
         requires server { IsServer S.IsKept self.old.sessions memory.old self.old.map }
         requires open { ContainsKey self.old.sessions id.0 }
-        ensures refusal { AtSession S.value S.buffer
+        ensures refusal { AtSession (S.value self.old.service) S.buffer
             self.old.sessions memory.old self.old.map id.0 (λ row.
             result_err result ≡ shortage (account_in memory.old row.client) ram.0 caps.0) }
         ensures server { IsServer S.IsKept self.new.sessions memory.new self.new.map }
-        ensures raises { AtSession S.value S.buffer
+        ensures raises { AtSession (S.value self.old.service) S.buffer
             self.old.sessions memory.old self.old.map id.0 (λ row.
             OnOk result (RaisesPart row.client row.key ram.0 caps.0 memory.old memory.new)) }
-        ensures sessions { AtSession S.value S.buffer
+        ensures sessions { AtSession (S.value self.old.service) S.buffer
             self.old.sessions memory.old self.old.map id.0 (λ row.
-            OnOk result (sessions_of S.value S.buffer self.new.sessions memory.new self.new.map
-            ≡ insert (sessions_of S.value S.buffer self.old.sessions memory.old self.old.map) id.0
+            OnOk result (sessions_of (S.value self.new.service) S.buffer self.new.sessions memory.new self.new.map
+            ≡ insert (sessions_of (S.value self.old.service) S.buffer self.old.sessions memory.old self.old.map) id.0
             (record row { account = raised row.account ram.0 caps.0 }))) }
         ensures same { self.new ≡ self.old }
         ensures machine { ram_limits_in memory.new ≡ ram_limits_in memory.old }
@@ -187,18 +189,19 @@ impl<S: Service + Drop> Server<S> {
         requires open { ContainsKey self.old.sessions id.0 }
         requires reply { reply.old.lines ≡ [] }
         ensures server { IsServer S.IsKept self.new.sessions memory.new self.new.map }
-        ensures text { AtSession S.value S.buffer
+        ensures text { AtSession (S.value self.old.service) S.buffer
             self.old.sessions memory.old self.old.map id.0 (λ row.
-            reply.new.text ≡ (row_served S.step request.now memory.old row).text) }
-        ensures lines { AtSession S.value S.buffer
+            reply.new.text ≡ (row_served (S.step self.old.service) request.now memory.old row).text) }
+        ensures lines { AtSession (S.value self.old.service) S.buffer
             self.old.sessions memory.old self.old.map id.0 (λ row.
-            reply.new.lines ≡ (row_served S.step request.now memory.old row).lines) }
-        ensures serves { AtSession S.value S.buffer
+            reply.new.lines ≡ (row_served (S.step self.old.service) request.now memory.old row).lines) }
+        ensures serves { AtSession (S.value self.old.service) S.buffer
             self.old.sessions memory.old self.old.map id.0 (λ row.
-            ServesSession row id.0 result (row_served S.step request.now memory.old row)
+            ServesSession row id.0 result (row_served (S.step self.old.service) request.now memory.old row)
             memory.old memory.new
-            (sessions_of S.value S.buffer self.old.sessions memory.old self.old.map)
-            (sessions_of S.value S.buffer self.new.sessions memory.new self.new.map)) }
+            (sessions_of (S.value self.old.service) S.buffer self.old.sessions memory.old self.old.map)
+            (sessions_of (S.value self.new.service) S.buffer self.new.sessions memory.new self.new.map)) }
+        ensures service { self.new.service ≡ self.old.service }
         ensures places { self.new.sessions.capacity ≡ self.old.sessions.capacity }
         ensures machine { ram_limits_in memory.new ≡ ram_limits_in memory.old }
     {
@@ -213,8 +216,9 @@ impl<S: Service + Drop> Server<S> {
         requires open { ContainsKey self.old.sessions id.0 }
         ensures server { IsServer S.IsKept self.new.sessions memory.new self.new.map }
         ensures closes { ClosesSession id.0 memory.old memory.new
-            (sessions_of S.value S.buffer self.old.sessions memory.old self.old.map)
-            (sessions_of S.value S.buffer self.new.sessions memory.new self.new.map) }
+            (sessions_of (S.value self.old.service) S.buffer self.old.sessions memory.old self.old.map)
+            (sessions_of (S.value self.new.service) S.buffer self.new.sessions memory.new self.new.map) }
+        ensures service { self.new.service ≡ self.old.service }
         ensures places { self.new.sessions.capacity ≡ self.old.sessions.capacity }
         ensures machine { ram_limits_in memory.new ≡ ram_limits_in memory.old }
     {

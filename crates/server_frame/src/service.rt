@@ -23,10 +23,10 @@ pub trait Service {
     /// What the service stores for a session outside the memory.
     type State: Drop;
 
-    // What a session is to its client, by what the service stores for it and what its account has.
+    // What a session is to its client, by the service, what it stores for the session, and what the session's account has.
     ghost Value: { Type 0 };
 
-    ghost value: { Self.State → Share → Value };
+    ghost value: { Self → Self.State → Share → Value };
 
     // The key of the dataspace that a session shares with its client, if there is one.
     ghost buffer: { Self.State → Option ℕ };
@@ -37,18 +37,18 @@ pub trait Service {
     // What is true of a session between its requests, by the key of its account and what that account has.
     ghost IsKept: { Self.State → ℕ → Share → Type 0 };
 
-    // The value of a new session with this label.
-    ghost first: { List ℕ → Value };
+    // The value of a new session of the service with this label.
+    ghost first: { Self → List ℕ → Value };
 
-    // What a request does, by the bytes of the buffer.
-    ghost step: { List ℕ → Account → Option (List ℕ) → Value → Served Value };
+    // What a request of the service does, by the bytes of the buffer.
+    ghost step: { Self → List ℕ → Account → Option (List ℕ) → Value → Served Value };
 
     /// Creates a session with this label. It owns the sliced heap of its account, to which all memory of the session is
     /// charged.
     fn open(&self, heap: SlicedHeap, label: &[u8]) -> Self::State
         requires { length label.now ≤ LONGEST_LABEL }
         ensures first { (share : Share) → HasBlocksAlone share →
-            value result share ≡ first label.now }
+            value self.now result share ≡ first self.now label.now }
         ensures kept { (share : Share) → HasBlocksAlone share → IsLinked share heap.first
             → IsKept result (payer_of heap) share }
         ensures buffer { buffer result ≡ None };
@@ -74,11 +74,11 @@ pub trait Service {
           text = reply.new.text;
           lines = reply.new.lines;
           account = account_in memory.new (payer state.new);
-          value = value state.new (holding_at (payer state.new) memory.new map.new);
+          value = value self.now state.new (holding_at (payer state.new) memory.new map.new);
           buffer = bytes_lent memory.new (buffer state.new);
-        } ≡ step request.now (account_in memory.old (payer state.old))
+        } ≡ step self.now request.now (account_in memory.old (payer state.old))
             (bytes_lent memory.old (buffer state.old))
-            (value state.old (holding_at (payer state.old) memory.old map.old)) }
+            (value self.now state.old (holding_at (payer state.old) memory.old map.old)) }
         ensures effect { IsEffect result (buffer state.old) (buffer state.new) }
         ensures kept { IsKept state.new (payer state.new)
             (holding_at (payer state.new) memory.new map.new) }
@@ -104,5 +104,5 @@ pub trait Service {
 
     // A session's buffer is a dataspace of its account. Neither what the session is to its client nor what is true of it
     // depends on the buffer's bytes.
-    ghost lends_aside: { AllLendAside IsKept value buffer };
+    ghost lends_aside: { (service : Self) → AllLendAside IsKept (value service) buffer };
 }

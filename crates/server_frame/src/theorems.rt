@@ -14,6 +14,6 @@ pub fn sessions_find_places<S: Service>()
 /// States that a session's buffer is a dataspace of the session's account. Bytes that are written to it between calls leave
 /// the server and what each of its sessions is to its client.
 pub fn lent_bytes_are_the_clients<S: Service>()
-    ensures paid { LentArePaid S.IsKept S.value S.buffer }
-    ensures writes { WritesLeaveSessions S.IsKept S.value S.buffer }
+    ensures paid { (service : S) → LentArePaid S.IsKept (S.value service) S.buffer }
+    ensures writes { (service : S) → WritesLeaveSessions S.IsKept (S.value service) S.buffer }
 {}

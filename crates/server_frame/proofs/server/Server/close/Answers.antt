@@ -11,27 +11,27 @@ end-heap-requires-clause-kept g c = (paid g.S.Service.IsKept g.S.Service.payer g
 
 pub close_session_account-requires-clause-payer : goal.close_session_account-requires-clause-payer
 close_session_account-requires-clause-payer g c =
-    payer_is g.S.Service.IsKept g.S.Service.value g.S.Service.buffer g.S.Service.payer c.args.self.now.sessions c.remove-session.new.self c.args.memory.now c.end-heap.new.memory c.args.self.now.map c.end-heap.new.map c.requires.server c.args.id.0 c.remove-session.result c.remove-session.ensures.value
+    payer_is g.S.Service.IsKept (g.S.Service.value c.args.self.now.service) g.S.Service.buffer g.S.Service.payer c.args.self.now.sessions c.remove-session.new.self c.args.memory.now c.end-heap.new.memory c.args.self.now.map c.end-heap.new.map c.requires.server c.args.id.0 c.remove-session.result c.remove-session.ensures.value
     c.remove-session.ensures.updates g.met.S.Service.pays c.end-heap.result c.end-heap.ensures.payer c.end-heap.ensures.others c.end-heap.ensures.ram c.end-heap.ensures.caps
 
 pub close_session_account-requires-clause-child : goal.close_session_account-requires-clause-child
 close_session_account-requires-clause-child g c =
-    child_there g.S.Service.IsKept g.S.Service.value g.S.Service.buffer g.S.Service.payer c.args.self.now.sessions c.remove-session.new.self c.args.memory.now c.end-heap.new.memory c.args.self.now.map c.end-heap.new.map c.requires.server c.args.id.0 c.remove-session.result c.remove-session.ensures.value
+    child_there g.S.Service.IsKept (g.S.Service.value c.args.self.now.service) g.S.Service.buffer g.S.Service.payer c.args.self.now.sessions c.remove-session.new.self c.args.memory.now c.end-heap.new.memory c.args.self.now.map c.end-heap.new.map c.requires.server c.args.id.0 c.remove-session.result c.remove-session.ensures.value
     c.remove-session.ensures.updates g.met.S.Service.pays c.end-heap.result c.end-heap.ensures.payer c.end-heap.ensures.others c.end-heap.ensures.ram c.end-heap.ensures.caps
 
 pub close_session_account-requires-clause-leaf : goal.close_session_account-requires-clause-leaf
 close_session_account-requires-clause-leaf g c =
-    leaf g.S.Service.IsKept g.S.Service.value g.S.Service.buffer g.S.Service.payer c.args.self.now.sessions c.remove-session.new.self c.args.memory.now c.end-heap.new.memory c.args.self.now.map c.end-heap.new.map c.requires.server c.args.id.0 c.remove-session.result c.remove-session.ensures.value
+    leaf g.S.Service.IsKept (g.S.Service.value c.args.self.now.service) g.S.Service.buffer g.S.Service.payer c.args.self.now.sessions c.remove-session.new.self c.args.memory.now c.end-heap.new.memory c.args.self.now.map c.end-heap.new.map c.requires.server c.args.id.0 c.remove-session.result c.remove-session.ensures.value
     c.remove-session.ensures.updates g.met.S.Service.pays c.end-heap.result c.end-heap.ensures.payer c.end-heap.ensures.others c.end-heap.ensures.ram c.end-heap.ensures.caps
 
 pub returns-clause-server : goal.returns-clause-server
 returns-clause-server g c =
-    server_closes g.S.Service.IsKept g.S.Service.value g.S.Service.buffer g.S.Service.payer c.args.self.now.sessions c.remove-session.new.self c.args.memory.now c.end-heap.new.memory c.args.self.now.map c.end-heap.new.map c.requires.server c.args.id.0 c.remove-session.result c.remove-session.ensures.value
+    server_closes g.S.Service.IsKept (g.S.Service.value c.args.self.now.service) g.S.Service.buffer g.S.Service.payer c.args.self.now.sessions c.remove-session.new.self c.args.memory.now c.end-heap.new.memory c.args.self.now.map c.end-heap.new.map c.requires.server c.args.id.0 c.remove-session.result c.remove-session.ensures.value
     c.remove-session.ensures.updates g.met.S.Service.pays c.end-heap.result c.end-heap.ensures.payer c.end-heap.ensures.others c.end-heap.ensures.ram c.end-heap.ensures.caps
     c.close_session_account.new.memory c.close_session_account.new.map c.close_session_account.ensures.closes c.close_session_account.ensures.maps c.close_session_account.ensures.holdings
 
 pub returns-clause-closes : goal.returns-clause-closes
 returns-clause-closes g c =
-    session_closes g.S.Service.IsKept g.S.Service.value g.S.Service.buffer g.S.Service.payer c.args.self.now.sessions c.remove-session.new.self c.args.memory.now c.end-heap.new.memory c.args.self.now.map c.end-heap.new.map c.requires.server c.args.id.0 c.remove-session.result c.remove-session.ensures.value
+    session_closes g.S.Service.IsKept (g.S.Service.value c.args.self.now.service) g.S.Service.buffer g.S.Service.payer c.args.self.now.sessions c.remove-session.new.self c.args.memory.now c.end-heap.new.memory c.args.self.now.map c.end-heap.new.map c.requires.server c.args.id.0 c.remove-session.result c.remove-session.ensures.value
     c.remove-session.ensures.updates g.met.S.Service.pays c.end-heap.result c.end-heap.ensures.payer c.end-heap.ensures.others c.end-heap.ensures.ram c.end-heap.ensures.caps
     c.close_session_account.new.memory c.close_session_account.new.map c.close_session_account.ensures.closes c.close_session_account.ensures.maps c.close_session_account.ensures.holdings
