@@ -5,7 +5,7 @@ ghost use Rattle.own_model.specs.FileText as model;
 ghost use Rattle.own_model.specs.FileText.{file_reply};
 ghost use Rattle.own_model.specs.FileText.{FileReply as Answered};
 ghost use Rattle.own_model.specs.FileText.FileRequest.{Name, Read, Write};
-ghost use Rattle.trade_base.specs.declared.service.Service.TheVariants.{Files};
+ghost use Rattle.own_model.specs.Offer.Offer.{OffersFiles};
 ghost use Rattle.own_model.specs.Session.{Labelled, state_at_first};
 ghost use Rattle.own_model.specs.Text.{bytes_of_hex, hex_bytes};
 ghost use Rattle.dataspace_core.specs.Store.{account_in, IsOpenIn};
@@ -53,7 +53,7 @@ impl Service for FileService {
 
     ghost Value = { Labelled };
 
-    ghost value = { value_of };
+    ghost value = { λ service. value_of };
 
     ghost buffer = { λ session. buffer_key session.buffer };
 
@@ -61,9 +61,9 @@ impl Service for FileService {
 
     ghost IsKept = { IsSession };
 
-    ghost first = { λ label. record { label = label; state = state_at_first Files } };
+    ghost first = { λ service label. record { label = label; state = state_at_first OffersFiles } };
 
-    ghost step = { service_step };
+    ghost step = { λ service. service_step };
 
     fn open(&self, heap: SlicedHeap, label: &[u8]) -> FileSession {
         FileSession::open(heap, label)
@@ -95,7 +95,7 @@ impl Service for FileService {
 
     ghost pays = { λ session account share kept. kept.rooms.payer };
 
-    ghost lends_aside = { lends_aside };
+    ghost lends_aside = { λ service. lends_aside };
 }
 
 /// Answers a request of a session and returns its effect on the session's buffer.

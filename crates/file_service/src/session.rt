@@ -59,7 +59,7 @@ pub(crate) struct FoundFile {
 impl FileSession {
     ghost use Rattle.std.specs.Prelude.{◌≡◌, ◌≤◌, length, None};
     ghost use Rattle.dataspace_core.specs.Share.{Share};
-    ghost use Rattle.trade_base.specs.declared.service.Service.TheVariants.{Files};
+    ghost use Rattle.own_model.specs.Offer.Offer.{OffersFiles};
     ghost use Rattle.own_model.specs.Session.{state_at_first};
     ghost use Rattle.sliced_heap.specs.Heap.{payer_of};
     ghost use Rattle.sliced_heap.specs.Sliced.{IsLinked};
@@ -70,7 +70,7 @@ impl FileSession {
     pub(crate) fn open(heap: SlicedHeap, label: &[u8]) -> FileSession
         requires { length label.now ≤ LONGEST_LABEL }
         ensures first { (share : Share) → HasBlocksAlone share
-            → value_of result share ≡ record { label = label.now; state = state_at_first Files } }
+            → value_of result share ≡ record { label = label.now; state = state_at_first OffersFiles } }
         ensures kept { (share : Share) → HasBlocksAlone share → IsLinked share heap.first
             → IsSession result (payer_of heap) share }
         ensures lends { result.buffer ≡ None }
