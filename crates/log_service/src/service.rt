@@ -50,7 +50,7 @@ impl Service for LogService {
 
     ghost Value = { Labelled };
 
-    ghost value = { λ session share. as_kept session };
+    ghost value = { λ service session share. as_kept session };
 
     ghost buffer = { λ session. None };
 
@@ -58,9 +58,9 @@ impl Service for LogService {
 
     ghost IsKept = { IsSession };
 
-    ghost first = { λ label. record { label = label; state = Logging [] } };
+    ghost first = { λ service label. record { label = label; state = Logging [] } };
 
-    ghost step = { service_step };
+    ghost step = { λ service. service_step };
 
     fn open(&self, heap: SlicedHeap, label: &[u8]) -> LogSession {
         LogSession::open(heap, label)
@@ -88,5 +88,5 @@ impl Service for LogService {
 
     ghost pays = { λ session account share kept. kept.payer };
 
-    ghost lends_aside = { lends_nothing };
+    ghost lends_aside = { λ service. lends_nothing };
 }
