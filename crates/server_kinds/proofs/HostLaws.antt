@@ -5,6 +5,7 @@ use Rattle.std.specs.FinMap.{get, empty}
 use Rattle.slab.specs.Slab.{Slab, ContainsKey}
 use Rattle.slab.specs.Slab as slab
 use Rattle.own_model.specs.Account.{Fits}
+use Rattle.own_model.specs.Services as services
 use Rattle.own_model.specs.Session.{Labelled}
 use Rattle.own_model.proofs.NatMapLemmas.{same}
 use Rattle.quota_core.specs.SlabMap.{map_of}
@@ -20,8 +21,9 @@ use Rattle.server_frame.specs.Theorems.{WritesLent}
 use Rattle.server_frame.proofs.LentLaws.{lent_are_paid, writes_leave_sessions}
 use Rattle.server_frame.proofs.PlaceLaws.{table_has_place}
 use Rattle.server_frame.proofs.RowLaws.{IsNoRows, read_from, no_session_by_rows}
-use Rattle.server_kinds.specs.Host.{Table, table_of, rows_by, rows_of, capacity_of, HasSession, HasPlace, Works, HasNoSessions, IsNew}
+use Rattle.server_kinds.specs.Host.{Table, offer_of, table_of, rows_by, rows_of, capacity_of, HasSession, HasPlace, Works, HasNoSessions, IsNew}
 use Rattle.server_kinds.specs.declared.any_server.AnyServer.{AnyServer}
+use Rattle.server_kinds.specs.declared.any_server.AnyServer.TheVariants.{Log, Files}
 
 -- ---- rows
 
@@ -44,6 +46,11 @@ module _ (table : Table) (store : Store) (id : ℕ) where
   -- the row of an open session
   pub row_there : (session : Session table.State) → slab.get table.sessions id ≡ Some session → get (rows_by store table) id ≡ Some (seen session)
   row_there session is = get-map_of_at seen table.sessions id session is
+
+-- a session is of what its server offers
+pub row_offer : (store : Store) (host : AnyServer) (id : ℕ) (row : Row Labelled) → get (rows_of store host) id ≡ Some row → services.offer_of row.value.state ≡ offer_of host
+row_offer store (Log server) id row there = sym (ap (λ (r : Row Labelled). services.offer_of r.value.state) (row_is (table_of (Log server)) store id row there).is)
+row_offer store (Files server) id row there = sym (ap (λ (r : Row Labelled). services.offer_of r.value.state) (row_is (table_of (Files server)) store id row there).is)
 
 -- a session with a row is open
 pub has_session : (store : Store) (host : AnyServer) (id : ℕ) → IsSome (get (rows_of store host) id) → HasSession host id

@@ -3,8 +3,8 @@ use Rattle.std.specs.Prelude.{◌≡◌, ℕ, ◌+◌, ◌*◌, ◌<◌, ◌≤�
 use Rattle.std.specs.FinMap.{empty}
 use Rattle.slab.specs.Slab.{Slab, ContainsKey, slab_len}
 use Rattle.own_model.specs.NatMap.{NatMap}
-use Rattle.trade_base.specs.declared.service.Service.{Service}
-use Rattle.trade_base.specs.declared.service.Service.TheVariants as service
+use Rattle.own_model.specs.Offer.{Offer}
+use Rattle.own_model.specs.Offer.Offer.{OffersLog, OffersFiles}
 use Rattle.own_model.specs.Session.{Labelled, donation_refusal}
 use Rattle.region_map.specs.Regions.{Regions}
 use Rattle.dataspace_core.specs.Share.{Share}
@@ -21,10 +21,10 @@ use Rattle.file_service.specs.declared.session.FileSession.{FileSession}
 use Rattle.server_kinds.specs.declared.any_server.AnyServer.{AnyServer}
 use Rattle.server_kinds.specs.declared.any_server.AnyServer.TheVariants.{Log, Files}
 
--- the service of the server
-abbrev pub service_of : AnyServer → Service
-service_of (Log server) = service.Log
-service_of (Files server) = service.Files
+-- what the server offers to each of its sessions
+abbrev pub offer_of : AnyServer → Offer
+offer_of (Log server) = OffersLog
+offer_of (Files server) = OffersFiles
 
 -- what a server stores: its sessions and its map. It also has what the service stores for a session: its value to its
 -- client, its buffer, what is true of it, and that neither depends on the buffer's bytes
@@ -121,7 +121,7 @@ Admits store host client ram caps = let table = table_of host in CanOpen table.k
 -- after a call of one of its sessions the server works on the memory, and is unchanged except for its sessions; so are all
 -- limits of RAM together
 pub record StaysServer (old : Store) (before : AnyServer) (new : Store) (after : AnyServer) : Type 0 where
-  pub service : service_of after ≡ service_of before
+  pub service : offer_of after ≡ offer_of before
   pub capacity : capacity_of after ≡ capacity_of before
   pub works : Works new after
   pub machine : ram_limits_in new ≡ ram_limits_in old

@@ -4,6 +4,7 @@ ghost use Rattle.std.specs.FinMap.{get, insert};
 ghost use Rattle.std.specs.Result.{result_err};
 ghost use Rattle.own_model.specs.Account.{shortage};
 ghost use Rattle.own_model.specs.Donation.{raised};
+ghost use Rattle.own_model.specs.Offer.{offer_of_service};
 ghost use Rattle.own_model.specs.Session.{donation_refusal, state_at_first};
 ghost use Rattle.dataspace_core.specs.Store.{Store, account_in, ram_limits_in, caps_limits_in, RaisesPart};
 ghost use Rattle.server_frame.specs.Frame.{AtRow, row_served, sessions_of, IsServer, OpensSession, ServesSession, ClosesSession};
@@ -29,7 +30,7 @@ pub enum AnyServer {
 }
 
 impl AnyServer {
-    ghost use Rattle.server_kinds.specs.Host.{service_of, rows_of, Admits, HasSession, IsNew, Serves, StaysServer};
+    ghost use Rattle.server_kinds.specs.Host.{offer_of, rows_of, Admits, HasSession, IsNew, Serves, StaysServer};
 
     /// Returns a server of a service without sessions, with places for `sessions`, on a machine of `pages` pages. Returns
     /// `NoMemory` if the host is out of memory.
@@ -41,7 +42,7 @@ impl AnyServer {
         pages: usize,
     ) -> Result<AnyServer, NoMemory>
         requires { pages ≤ 4096 }
-        ensures service { IfOk result (λ host. service_of host ≡ service) }
+        ensures service { IfOk result (λ host. offer_of host ≡ offer_of_service service) }
         ensures new { IfOk result (λ host. (store : Store) →
             ram_limits_in store ≡ pages * 4096 → caps_limits_in store ≤ sessions * 2 + 1 →
             IsNew store host) }
@@ -109,7 +110,7 @@ impl AnyServer {
         ensures opens { IfOk result (λ id.
             OpensSession client.0 ram.0 caps.0 id.0 (record {
               label = label.now;
-              state = state_at_first (service_of self.old);
+              state = state_at_first (offer_of self.old);
             }) memory.old memory.new
             (rows_of memory.old self.old) (rows_of memory.new self.new)) }
         ensures stays { StaysServer memory.old self.old memory.new self.new }
@@ -205,9 +206,9 @@ fn open<S: server_frame::Service + Drop>(
         ≡ donation_refusal (account_in memory.old client.0) ram.0 caps.0 }
     ensures server { IsServer S.IsKept server.new.sessions memory.new server.new.map }
     ensures opens { IfOk result (λ id.
-        OpensSession client.0 ram.0 caps.0 id.0 (S.first label.now) memory.old memory.new
-        (sessions_of S.value S.buffer server.old.sessions memory.old server.old.map)
-        (sessions_of S.value S.buffer server.new.sessions memory.new server.new.map)) }
+        OpensSession client.0 ram.0 caps.0 id.0 (S.first server.old.service label.now) memory.old memory.new
+        (sessions_of (S.value server.old.service) S.buffer server.old.sessions memory.old server.old.map)
+        (sessions_of (S.value server.new.service) S.buffer server.new.sessions memory.new server.new.map)) }
     ensures places { server.new.sessions.capacity ≡ server.old.sessions.capacity }
     ensures machine { ram_limits_in memory.new ≡ ram_limits_in memory.old }
     ensures err { OnErr result (server.new ≡ server.old) }
