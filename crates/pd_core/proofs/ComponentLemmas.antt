@@ -18,7 +18,7 @@ use Rattle.pd_core.specs.declared.script.Script.{Script}
 use Rattle.trade_base.specs.declared.id.AccountId.{AccountId}
 use Rattle.pd_core.specs.Own.{Sessions, own_of, own_at}
 use Rattle.pd_core.specs.Sound.{OthersStay, SparesOthers, Keeps as ScriptKeeps}
-use Rattle.pd_core.specs.Component.{Place, Pays, amounts_in, entry_of, payer_in, payer_of, served_by, own_in, own, IsSoundRole, IsSound, Keeps}
+use Rattle.pd_core.specs.Component.{Place, Pays, amounts_in, entry_of, payer_in, payer_of, offer_in, own_in, own, IsSoundRole, IsSound, Keeps}
 use Rattle.pd_core.specs.Core.{Heads}
 use Rattle.pd_core.specs.Exit.{IsScriptRole}
 use Rattle.trade_base.specs.declared.refusal.Refusal.TheVariants.{Gone as IsGone, NotAScript}
@@ -96,7 +96,7 @@ a_script AGone is = absurd (none-some IsGone (sym is))
 pub pays_script : (role : Role) → IsScriptRole role → Pays role (payer_in role)
 pays_script role is = subst (λ r. Pays r (payer_in r)) (sym (a_script role is).1) refl
 
-pub pays_server : (role : Role) → IsSome (served_by role) → Pays role (payer_in role)
+pub pays_server : (role : Role) → IsSome (offer_in role) → Pays role (payer_in role)
 pays_server role serves = subst (λ r. Pays r (payer_in r)) (sym (is_server role serves).1.1) refl
 
 -- and it is open

@@ -14,7 +14,7 @@ use Rattle.dataspace_core.proofs.PartLaws.{open_in_part, part_open}
 use Rattle.server_frame.specs.Frame.{Row}
 use Rattle.core_calls.specs.ReplyText.{Told as Written}
 use Rattle.pd_core.specs.Answer.{Told, told, told_of}
-use Rattle.pd_core.specs.Component.{Place, Pays, IsReserve, reserve_in, entry_of, payer_in, payer_of, service_of, caps_in, places_in, rows_in, own_in, own, lent_by, NamesItsSessions, IsSoundRole, IsSound, Keeps}
+use Rattle.pd_core.specs.Component.{Place, Pays, IsReserve, reserve_in, entry_of, payer_in, payer_of, offer_of, caps_in, places_in, rows_in, own_in, own, lent_by, NamesItsSessions, IsSoundRole, IsSound, Keeps}
 use Rattle.pd_core.specs.Core.{Places, Roles, roles_of, rows_at, sessions_in, NamesAccount, IsCore}
 use Rattle.pd_core.specs.Exit.{refusal_of, IsScriptRole}
 use Rattle.pd_core.specs.Own.{Sessions}
@@ -41,9 +41,9 @@ by_refusal AGone X calls refused = refused refl
 pub unlisted : Place
 unlisted = record { name = []; home = 0; routes = [] }
 
--- what an entry and a service say is a face
-pub face_is : (before after : Component) → ((place : Place) → entry_of place after ≡ entry_of place before) → service_of after ≡ service_of before → face_of after ≡ face_of before
-face_is before after entry service j = record { label = (entry unlisted j).label; kind = (entry unlisted j).kind; service = service j }
+-- what an entry and an offer say is a face
+pub face_is : (before after : Component) → ((place : Place) → entry_of place after ≡ entry_of place before) → offer_of after ≡ offer_of before → face_of after ≡ face_of before
+face_is before after entry offer j = record { label = (entry unlisted j).label; kind = (entry unlisted j).kind; offer = offer j }
 
 module _ (store : Store) (components : List Component) (i : ℕ) (d : Component) (here : i < length components) (core : IsCore store components) where
   abbrev caller : Component

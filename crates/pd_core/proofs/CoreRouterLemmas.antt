@@ -6,20 +6,20 @@ use Rattle.std.proofs.lemmas.List.{get_or-map, get_or_past, length-map}
 use Rattle.std.specs.Option.{option_map}
 use Rattle.own_model.proofs.NatMapLemmas.{nothing_from}
 use Rattle.trade_base.specs.declared.refusal.Refusal.TheVariants.{ServiceDenied}
-use Rattle.trade_base.specs.declared.service.Service.{Service}
+use Rattle.own_model.specs.Offer.{Offer}
 use Rattle.own_model.specs.Routes.{ServerAt, provider}
 use Rattle.own_model.specs.Session.{wish, resolved_request, routed_request}
 use Rattle.own_model.specs.SessionArgs.{Arguments, arguments_of}
 use Rattle.dataspace_core.specs.Store.{Store}
-use Rattle.pd_core.specs.Component.{service_of}
+use Rattle.pd_core.specs.Component.{offer_of}
 use Rattle.pd_core.specs.Core.{Places}
-use Rattle.pd_core.specs.SessionCalls.{Agrees, Leads, server_at as server_there, service_at}
+use Rattle.pd_core.specs.SessionCalls.{Agrees, Leads, server_at as server_there, offer_at}
 use Rattle.pd_core.specs.declared.component.Component.{Component}
 
 -- ---- where a component is led
 
 -- a server that is found is of the service of its place
-of_kind : (place : ℕ) (found : Option Service) (server : ServerAt) → option_map (λ kind. record { kind = kind; place = place }) found ≡ Some server →
+of_kind : (place : ℕ) (found : Option Offer) (server : ServerAt) → option_map (λ kind. record { kind = kind; place = place }) found ≡ Some server →
     (found ≡ Some server.kind) × (server ≡ record { kind = server.kind; place = place })
 of_kind place None server is = absurd (none-some server is)
 of_kind place (Some kind) server is =
@@ -28,25 +28,25 @@ of_kind place (Some kind) server is =
 
 -- a route that leads to a component leads to a server there, of its service
 to_service : (components : List Component) (place : ℕ) (to : Option ServerAt) → Some (server_there components place) ≡ option_map Some to →
-    (kind : Service) × (service_at components place ≡ Some kind) × (to ≡ Some (record { kind = kind; place = place }))
+    (kind : Offer) × (offer_at components place ≡ Some kind) × (to ≡ Some (record { kind = kind; place = place }))
 to_service components place None is = absurd (none-some (server_there components place) (sym is))
 to_service components place (Some server) is =
-    let its = of_kind place (service_at components place) server (same_Some (server_there components place) (Some server) is) in
+    let its = of_kind place (offer_at components place) server (same_Some (server_there components place) (Some server) is) in
     (server.kind, its.0, ap Some its.1)
 
 -- what serves stands among the components, and is what it serves
-server_at : (components : List Component) (place : ℕ) (kind : Service) → service_at components place ≡ Some kind →
-    (place < length components) × ((d : Component) → service_of (get_or components place d) ≡ Some kind)
+server_at : (components : List Component) (place : ℕ) (kind : Offer) → offer_at components place ≡ Some kind →
+    (place < length components) × ((d : Component) → offer_of (get_or components place d) ≡ Some kind)
 server_at components place kind is = elim (cases_lt place (length components)) [
-  | inl within ↦ (within, λ d. sym (get_or-map service_of components place d None within) ∙ is)
-  | inr past ↦ absurd (none-some kind (sym (get_or_past (map service_of components) place None (omega (arith, past, length-map components service_of))) ∙ is))
+  | inl within ↦ (within, λ d. sym (get_or-map offer_of components place d None within) ∙ is)
+  | inr past ↦ absurd (none-some kind (sym (get_or_past (map offer_of components) place None (omega (arith, past, length-map components offer_of))) ∙ is))
 ]
 
 module _ (places : Places) (leads : Leads) (store : Store) (components : List Component) (i : ℕ) (service label : List ℕ) (agrees : Agrees places leads store components) (here : i < length components) where
   -- where a component is led to a place, a server stands there of the service that its places lead to
   pub led_to_service : (place : ℕ) → leads i service label ≡ Some place →
-      (kind : Service) × (provider (places i).routes service label ≡ Some (record { kind = kind; place = place }))
-      × ((place < length components) × ((d : Component) → service_of (get_or components place d) ≡ Some kind))
+      (kind : Offer) × (provider (places i).routes service label ≡ Some (record { kind = kind; place = place }))
+      × ((place < length components) × ((d : Component) → offer_of (get_or components place d) ≡ Some kind))
   led_to_service place led =
       let both = to_service components place (provider (places i).routes service label)
       (sym (ap (option_map (server_there components)) led) ∙ agrees.each i service label here) in

@@ -14,7 +14,7 @@ use Rattle.own_model.specs.Limits.{caps_limits}
 use Rattle.own_model.specs.OwnStep.{Outcome, own_step, refused}
 use Rattle.own_model.specs.Reply.{reply_text, log_text}
 use Rattle.own_model.specs.Reply.Reply.{Refused}
-use Rattle.trade_base.specs.declared.service.Service.{Service}
+use Rattle.own_model.specs.Offer.{Offer}
 use Rattle.own_model.specs.Routes.{ServerAt}
 use Rattle.own_model.specs.StartList.{Entry, Kind, no_account}
 use Rattle.own_model.specs.StartList.Kind.{Script as AScriptKind, Server as AServerKind, Init as AnInitKind}
@@ -27,10 +27,10 @@ use Rattle.dataspace_core.proofs.PartLaws.{account_of-part}
 use Rattle.core_calls.specs.ReplyText.{Told}
 use Rattle.trade_base.specs.declared.refusal.Refusal.{Refusal}
 use Rattle.pd_core.specs.Answer.{told_alone}
-use Rattle.pd_core.specs.Component.{entry_of, kind_of, served_by, service_of, places_in, own_in, own, HasPlaces}
+use Rattle.pd_core.specs.Component.{entry_of, kind_of, offer_in, offer_of, places_in, own_in, own, HasPlaces}
 use Rattle.pd_core.specs.Core.{roles_of, Places, IsInitOf, IsInits, init_in, inits_of, entries_of, sessions_in, world_of, IsCore, IsCoreAt}
 use Rattle.pd_core.specs.Own.{Sessions}
-use Rattle.pd_core.specs.SessionCalls.{Agrees, AreBelowParents, Answers, Goes, Leads, server_at, service_at}
+use Rattle.pd_core.specs.SessionCalls.{Agrees, AreBelowParents, Answers, Goes, Leads, server_at, offer_at}
 use Rattle.pd_core.specs.declared.component.Component.{Component}
 use Rattle.pd_core.specs.declared.component.Role.{Role}
 use Rattle.pd_core.specs.declared.component.Role.TheVariants.{Script as AScript, Server as AServer, Init as AnInit, Gone}
@@ -81,10 +81,10 @@ role_kept components i after k other =
 pub record Face : Type 0 where
   pub label : List ℕ
   pub kind : Kind
-  pub service : Option Service
+  pub offer : Option Offer
 
 abbrev pub face_of : Component → Face
-face_of component = record { label = component.name.items; kind = kind_of component.role; service = served_by component.role }
+face_of component = record { label = component.name.items; kind = kind_of component.role; offer = offer_in component.role }
 
 -- the components show what they showed
 abbrev pub SameFaces : List Component → List Component → Type 0
@@ -123,20 +123,20 @@ module _ (before after : List Component) (faces : SameFaces before after) where
       ∙ ap {B = Entry} (λ (f : Face). record { name = (places k).name; label = f.label; kind = f.kind; home = (places k).home; routes = (places k).routes }) (face_at k d)
       ∙ sym (entries_at places before k d within))
 
-  same_service : (p : ℕ) → service_at after p ≡ service_at before p
+  same_service : (p : ℕ) → offer_at after p ≡ offer_at before p
   same_service p = elim (cases_lt p (length before)) [
-    | inl within ↦ elim before as (λ l. l ≡ before → service_at after p ≡ service_at before p) [
+    | inl within ↦ elim before as (λ l. l ≡ before → offer_at after p ≡ offer_at before p) [
       | [] ↦ λ none. absurd (omega (arith, within, ap length none))
       | (d ∷ rest) ↦ λ _.
-          get_or-map service_of after p d None (omega (arith, within, as_many)) ∙ ap (λ (f : Face). f.service) (face_at p d) ∙ sym (get_or-map service_of before p d None within)
+          get_or-map offer_of after p d None (omega (arith, within, as_many)) ∙ ap (λ (f : Face). f.offer) (face_at p d) ∙ sym (get_or-map offer_of before p d None within)
     ] refl
     | inr past ↦
-        get_or_past (map service_of after) p None (omega (arith, past, as_many, length-map after service_of))
-        ∙ sym (get_or_past (map service_of before) p None (omega (arith, past, length-map before service_of)))
+        get_or_past (map offer_of after) p None (omega (arith, past, as_many, length-map after offer_of))
+        ∙ sym (get_or_past (map offer_of before) p None (omega (arith, past, length-map before offer_of)))
   ]
 
   -- a server of a kind at a place
-  abbrev stands : ℕ → Service → ServerAt
+  abbrev stands : ℕ → Offer → ServerAt
   stands p kind = record { kind = kind; place = p }
 
   same_server : (p : ℕ) → server_at after p ≡ server_at before p

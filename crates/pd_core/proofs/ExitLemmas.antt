@@ -21,7 +21,7 @@ use Rattle.dataspace_core.specs.Store.{Store, Part, part, account_of, account_in
 use Rattle.dataspace_core.proofs.PartLaws.{account_of-part, open_in_part, part_open}
 use Rattle.server_frame.specs.Frame.{Row}
 use Rattle.server_frame.specs.Session.{holding}
-use Rattle.pd_core.specs.Component.{Pays, amounts_in, reserve_in, reserve_of, IsReserve, IsOwnReserve, HasOwnReserve, kind_of, served_by, payer_in, payer_of, caps_in, caps_of, rows_in, own_in, own, lent_by, NamesItsSessions, HasPlaces, IsSoundRole}
+use Rattle.pd_core.specs.Component.{Pays, amounts_in, reserve_in, reserve_of, IsReserve, IsOwnReserve, HasOwnReserve, kind_of, offer_in, payer_in, payer_of, caps_in, caps_of, rows_in, own_in, own, lent_by, NamesItsSessions, HasPlaces, IsSoundRole}
 use Rattle.pd_core.specs.Core.{Places, Roles, roles_of, rows_at, sessions_in, entries_of, world_of, Owner, Owns, IsInitOf, IsInits, IsBelowHead, IsCore}
 use Rattle.pd_core.specs.Core.Owner.{Init, Place, ReserveAt, SessionAt}
 use Rattle.pd_core.specs.Exit.{IsScriptRole, ClosesBoth}
@@ -70,8 +70,8 @@ raised_twice a ram caps more extra =
     λ j. record a { ram_limit = both j; caps_limit = all j }
 
 -- it serves nothing
-service_of_script : (role : Role) → IsScriptRole role → served_by role ≡ None
-service_of_script role is = ap served_by (a_script role is).1
+offer_of_script : (role : Role) → IsScriptRole role → offer_in role ≡ None
+offer_of_script role is = ap offer_in (a_script role is).1
 
 -- an init follows where its account is open
 init_role_follows : {store store' : Store} (role : Role) (account : ℕ) → IsInitOf role account → IsOpenIn store' account → Follows store role store' role
@@ -330,7 +330,7 @@ module _ {store : Store} {components : List Component} {i : ℕ} {d : Component}
     same_faces = face_set components i after d (λ j. record {
       label = (get_or components i d).name.items;
       kind = sym (kind_of_script (get_or components i d).role is_script) j;
-      service = sym (service_of_script (get_or components i d).role is_script) j;
+      offer = sym (offer_of_script (get_or components i d).role is_script) j;
     })
 
     pub core_alone : IsCore store' components'

@@ -17,7 +17,7 @@ use Rattle.server_kinds.specs.declared.any_server.AnyServer.{AnyServer}
 use Rattle.server_kinds.proofs.HostLaws as laws
 use Rattle.server_kinds.proofs.HostLaws.{IsPaidRow}
 use Rattle.pd_core.specs.Core.{Heads, IsInitOf}
-use Rattle.pd_core.specs.Component.{payer_in, reserve_in, caps_in, places_in, rows_in, capacity_in, served_by, own_in, HasPlace, Works, IsSoundRole, Serves, StaysServer}
+use Rattle.pd_core.specs.Component.{payer_in, reserve_in, caps_in, places_in, rows_in, capacity_in, offer_in, own_in, HasPlace, Works, IsSoundRole, Serves, StaysServer}
 use Rattle.pd_core.specs.Own.{Sessions, no_sessions, own_of, no_lent}
 use Rattle.pd_core.specs.declared.component.Component.{Component}
 use Rattle.pd_core.specs.declared.component.Role.{Role}
@@ -53,7 +53,7 @@ sound_works store (AnInit key) sound = tt
 sound_works store AGone sound = tt
 
 -- who serves is a server
-pub is_server : (role : Role) → IsSome (served_by role) → (key : AccountId) × ((host : AnyServer) × (role ≡ AServer key host))
+pub is_server : (role : Role) → IsSome (offer_in role) → (key : AccountId) × ((host : AnyServer) × (role ≡ AServer key host))
 is_server (AScript script) serves = absurd (true≢false (sym serves))
 is_server (AServer key host) serves = (key, (host, refl))
 is_server (AnInit key) serves = absurd (true≢false (sym serves))
@@ -67,18 +67,18 @@ pub record IsServing (role : Role) : Type 0 where
   pub places : places_in role ≡ None
   pub own : (sessions : Sessions) (store : Store) → own_in sessions store role ≡ own_of no_lent no_sessions (part (payer_in role) store) empty empty no_heap empty
 
-pub is_serving : (role : Role) → IsSome (served_by role) → IsServing role
+pub is_serving : (role : Role) → IsSome (offer_in role) → IsServing role
 is_serving role serves =
     subst IsServing (sym (is_server role serves).1.1) (record { caps = refl; no_init = λ account is. is; reserve = refl; places = refl; own = λ sessions store. refl })
 
 -- it has a place for each two capabilities of the machine
-pub enough_places : (store : Store) (role : Role) → IsSome (served_by role) → IsSoundRole store role → caps_limits_in store ≤ capacity_in role * 2 + 1
+pub enough_places : (store : Store) (role : Role) → IsSome (offer_in role) → IsSoundRole store role → caps_limits_in store ≤ capacity_in role * 2 + 1
 enough_places store role serves sound =
     let its = is_server role serves in
     subst (λ r. caps_limits_in store ≤ capacity_in r * 2 + 1) (sym its.1.1) (subst (IsSoundRole store) its.1.1 sound).places
 
 -- it is sound where it works, its account is open and it has these places
-pub sound_server : (store : Store) (role : Role) → IsSome (served_by role) → Works store role → IsSome (part (payer_in role) store).account → caps_limits_in store ≤ capacity_in role * 2 + 1 → IsSoundRole store role
+pub sound_server : (store : Store) (role : Role) → IsSome (offer_in role) → Works store role → IsSome (part (payer_in role) store).account → caps_limits_in store ≤ capacity_in role * 2 + 1 → IsSoundRole store role
 sound_server store role serves works is_open places =
     let is = (is_server role serves).1.1 in
     subst (IsSoundRole store) (sym is) (record {
@@ -94,7 +94,7 @@ abbrev pub AreClients : Heads → Store → Role → Type 0
 AreClients heads store role = (id : ℕ) (row : Row Labelled) → get (rows_in store role) id ≡ Some row → heads row.client ≡ false
 
 -- a sound server has a place for one more session of a client that can pay for it
-pub place_in : (heads : Heads) (store : Store) (role : Role) → IsSome (served_by role) → IsSoundRole store role → AreClients heads store role → HasRoom heads store → (client ram caps : ℕ) → IsNoRows (rows_in store role) client →
+pub place_in : (heads : Heads) (store : Store) (role : Role) → IsSome (offer_in role) → IsSoundRole store role → AreClients heads store role → HasRoom heads store → (client ram caps : ℕ) → IsNoRows (rows_in store role) client →
     Fits (account_in store client) ram caps → 2 ≤ caps → HasPlace role
 place_in heads store role serves sound clients room client ram caps none fits least =
     let its = is_server role serves in

@@ -23,7 +23,7 @@ use Rattle.dataspace_core.proofs.PartLaws.{open_in_part, part_open}
 use Rattle.server_frame.specs.Frame.{Row}
 use Rattle.server_frame.specs.Session.{holding}
 use Rattle.core_calls.specs.ReplyText.{Told}
-use Rattle.pd_core.specs.Component.{Pays, amounts_in, with_reserve, reserve_in, caps_in, entry_of, kind_of, payer_in, payer_of, served_by, places_in, rows_in, own_in, lent_of, lent_by, NamesItsSessions, HasPlaces, IsSoundRole, StaysServer}
+use Rattle.pd_core.specs.Component.{Pays, amounts_in, with_reserve, reserve_in, caps_in, entry_of, kind_of, payer_in, payer_of, offer_in, places_in, rows_in, own_in, lent_of, lent_by, NamesItsSessions, HasPlaces, IsSoundRole, StaysServer}
 use Rattle.pd_core.specs.Core.{Heads, Places, Roles, roles_of, rows_at, sessions_in, Owner, Owns, NamesAccount, IsInits, IsSoundCore}
 use Rattle.pd_core.specs.Exit.{IsScriptRole}
 use Rattle.pd_core.specs.Core.Owner.{Init, Place, ReserveAt, SessionAt}
@@ -53,7 +53,7 @@ use Rattle.pd_core.proofs.CoreWorldLemmas.{SameFaces, goes, places_kept, place_o
 pub record AreTwo (store : Store) (roles : Roles) (i s : ℕ) (script : Script) : Type 0 where
   pub core : IsSoundCore store roles
   pub is_script : roles i ≡ AScript script
-  pub serving : IsSome (served_by (roles s))
+  pub serving : IsSome (offer_in (roles s))
 
 -- two roles are replaced, and all others stay
 pub record ReplacesTwo (before after : Roles) (i s : ℕ) (client host : Role) : Type 0 where
@@ -146,7 +146,7 @@ module _ {store : Store} {roles : Roles} {i s : ℕ} {script : Script} (two : Ar
 
   -- the places are two
   pub two_places : s ≢ i
-  two_places e = (let none : false ≡ true = ap (λ r. is_some (served_by r)) (sym is_script) ∙ ap (λ k. is_some (served_by (roles k))) (sym e) ∙ serving in cc)
+  two_places e = (let none : false ≡ true = ap (λ r. is_some (offer_in r)) (sym is_script) ∙ ap (λ k. is_some (offer_in (roles k))) (sym e) ∙ serving in cc)
 
   pub pays_client : Pays (roles i) payer
   pays_client = subst (λ r. Pays r payer) (sym is_script) refl
@@ -245,10 +245,10 @@ module _ {store : Store} {roles : Roles} {i s : ℕ} {script : Script} (two : Ar
         let owns : Pays (roles s) (payer_of host) = subst (λ r. Pays (roles s) (payer_in r)) host_is (pays_server (roles s) serving) in
         others (payer_of host) (not_payer (Place s) (payer_of host) (other_place s two_places) owns) (not_account (Place s) (payer_of host) (other_place s two_places) owns)
 
-    host_serving : IsSome (served_by host.role)
-    host_serving = subst (λ r. IsSome (served_by r)) host_is serving
+    host_serving : IsSome (offer_in host.role)
+    host_serving = subst (λ r. IsSome (offer_in r)) host_is serving
 
-    still_serving : IsSome (served_by host'.role)
+    still_serving : IsSome (offer_in host'.role)
     still_serving = subst IsSome (sym stays.service) host_serving
 
     host_follows : Follows store host.role store' host'.role

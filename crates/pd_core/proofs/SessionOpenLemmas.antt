@@ -9,7 +9,7 @@ use Rattle.own_model.specs.Call.Call.{Open}
 use Rattle.own_model.specs.NatMap.{NatMap}
 use Rattle.own_model.specs.OwnState.{OwnState, new_selector}
 use Rattle.own_model.specs.OwnState.Object.{OpenSession}
-use Rattle.trade_base.specs.declared.service.Service.TheVariants.{Log}
+use Rattle.own_model.specs.Offer.Offer.{OffersLog}
 use Rattle.own_model.proofs.StepSoundLemmas.{sessions_sound}
 use Rattle.own_model.proofs.StepUseLemmas.{sessions_use}
 use Rattle.own_model.proofs.StepLimitLemmas.{sessions_within}
@@ -154,7 +154,7 @@ module _ (store store' : Store) (script : Script) (rows : NatMap (Row Labelled))
 
       -- any wish for so much
       abbrev any_wish : Wish
-      any_wish = record { server = record { kind = Log; place = server }; label = []; ram = ram; caps = caps }
+      any_wish = record { server = record { kind = OffersLog; place = server }; label = []; ram = ram; caps = caps }
 
       opened_lawful : (any : Sessions) → IsLawful (own_of (lent_in store') any (part script.account.0 store') opened_space.caps script.regions.user (own_heap_at store script) (sliced_at store script))
       unfolding own_of

@@ -13,7 +13,7 @@ use Rattle.own_model.specs.OwnState.{new_selector}
 use Rattle.own_model.specs.OwnStep.{own_step, refused, unless, opened_by, session_opened}
 use Rattle.own_model.specs.Reply.{reply_text}
 use Rattle.own_model.specs.Reply.Reply.{Selected, Refused}
-use Rattle.trade_base.specs.declared.service.Service.{Service}
+use Rattle.own_model.specs.Offer.{Offer}
 use Rattle.own_model.specs.Routes.{provider, label_with}
 use Rattle.own_model.specs.Session.{Wish, donation_refusal, state_at_first, wish, resolved_request, routed_request, Labelled}
 use Rattle.own_model.specs.SessionArgs.{Arguments, arguments_of}
@@ -23,10 +23,10 @@ use Rattle.dataspace_core.proofs.PartLaws.{account_of-part}
 use Rattle.server_frame.specs.Frame.{OpensSession}
 use Rattle.server_frame.proofs.RowLaws.{IsNoRows}
 use Rattle.server_kinds.proofs.HostLaws.{is_none}
-use Rattle.server_kinds.specs.Host.{service_of, rows_of as rows_of_host, Admits, StaysServer}
+use Rattle.server_kinds.specs.Host.{offer_of, rows_of as rows_of_host, Admits, StaysServer}
 use Rattle.server_kinds.specs.declared.any_server.AnyServer.{AnyServer}
 use Rattle.pd_core.specs.Answer.{told_alone}
-use Rattle.pd_core.specs.Component.{entry_of, kind_of, served_by, caps_of, caps_in, rows_in, service_of as service_of_component, own_in, HasPlace, IsSoundRole, StaysServer as StaysServerAs}
+use Rattle.pd_core.specs.Component.{entry_of, kind_of, offer_in, caps_of, caps_in, rows_in, offer_of as offer_of_component, own_in, HasPlace, IsSoundRole, StaysServer as StaysServerAs}
 use Rattle.pd_core.specs.Core.{Places, Roles, roles_of, sessions_in, IsCore}
 use Rattle.pd_core.specs.Own.{Sessions, HasSessions, own_of}
 use Rattle.pd_core.specs.Sessions.{row_session}
@@ -68,17 +68,17 @@ module _ {places : Places} {leads : Leads} {store : Store} {components : List Co
   S = sessions_in store (roles_of components)
 
   -- a server of this service stands there
-  to_service : (kind : Service) × (provider (places i).routes service args.label ≡ Some (record { kind = kind; place = s })) × ((s < length components) × ((e : Component) → service_of_component (get_or components s e) ≡ Some kind))
+  to_service : (kind : Offer) × (provider (places i).routes service args.label ≡ Some (record { kind = kind; place = s })) × ((s < length components) × ((e : Component) → offer_of_component (get_or components s e) ≡ Some kind))
   to_service = led_to_service places leads store components i service args.label agrees here s led
 
-  abbrev kind : Service
+  abbrev kind : Offer
   kind = to_service.0
 
   pub led_two : AreTwo store (roles_of components) i s script
   led_two = record {
     core = core;
     is_script = role_at components i d here ∙ is_script;
-    serving = ap (λ r. is_some (served_by r)) (role_at components s d to_service.2.0) ∙ ap is_some (to_service.2.1 d);
+    serving = ap (λ r. is_some (offer_in r)) (role_at components s d to_service.2.0) ∙ ap is_some (to_service.2.1 d);
   }
 
   -- what is asked for
@@ -116,13 +116,13 @@ module _ {places : Places} {leads : Leads} {store : Store} {components : List Co
     }
 
     -- of the service that is asked for
-    its_service : service_of host ≡ to_service.0
-    its_service = same_Some _ _ (ap served_by (sym is) ∙ to_service.2.1 e)
+    its_service : offer_of host ≡ to_service.0
+    its_service = same_Some _ _ (ap offer_in (sym is) ∙ to_service.2.1 e)
 
     -- a session is opened, and the script is read again
     module _ (store' : Store) (opened : AnyServer) (stays : StaysServer store host store' opened)
         (accepted : None ≡ donation_refusal (account_in store script.account.0) args.ram args.caps) (session : SessionId) (whole : List ℕ) (labelled : whole ≡ label_with (get_or components i d).name.items args.label)
-        (opening : OpensSession script.account.0 args.ram args.caps session.0 (record { label = whole; state = state_at_first (service_of host) }) store store' (rows_of_host store host) (rows_of_host store' opened)) (d' : Component) where
+        (opening : OpensSession script.account.0 args.ram args.caps session.0 (record { label = whole; state = state_at_first (offer_of host) }) store store' (rows_of_host store host) (rows_of_host store' opened)) (d' : Component) where
       abbrev first : Labelled
       first = record { label = label_with (get_or components i d).name.items args.label; state = state_at_first (to_service.0) }
 
@@ -176,8 +176,8 @@ module _ {places : Places} {leads : Leads} {store : Store} {components : List Co
           let name = (get_or (set components s host') i d').name.items in
           let faces : SameFaces components after
           = face_set (set components s host') i kept d' (ap face_of kept_is
-          ∙ (λ j. record { label = name; kind = kind_of (with_session (same_role j) selector.0 s session); service = served_by (with_session (same_role j) selector.0 s session) })
-          ∙ (λ j. record { label = name; kind = kind_of (sym same_role j); service = served_by (sym same_role j) }))
+          ∙ (λ j. record { label = name; kind = kind_of (with_session (same_role j) selector.0 s session); offer = offer_in (with_session (same_role j) selector.0 s session) })
+          ∙ (λ j. record { label = name; kind = kind_of (sym same_role j); offer = offer_in (sym same_role j) }))
           ∙ face_set components s host' e (face_is host_then host' component.entry component.service ∙ ap face_of (as_it_is (get_or components s e) key host is)) in
           let ready : HasSessions S script.caps.caps = subst (λ r. HasSessions S (caps_in r)) led_two.is_script (all_open core i) in
           step_goes components after led_two d at_place replaced faces alone changes component places (Open service text) refl refl (Selected selector.0) [] (told_alone (reply_text (Selected selector.0))) refl refl

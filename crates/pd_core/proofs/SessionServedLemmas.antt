@@ -33,7 +33,7 @@ use Rattle.server_frame.specs.declared.effect.Effect.{Effect}
 use Rattle.server_frame.specs.declared.effect.Effect.TheVariants.{Nothing, Buffer as MakesBuffer, Gone as GivesBuffer}
 use Rattle.server_frame.specs.Session.{Served, service_step}
 use Rattle.core_calls.specs.ReplyText.{Told}
-use Rattle.pd_core.specs.Component.{kind_of, served_by, caps_of, caps_in, rows_in, rows_of, StaysServer}
+use Rattle.pd_core.specs.Component.{kind_of, offer_in, caps_of, caps_in, rows_in, rows_of, StaysServer}
 use Rattle.pd_core.specs.Core.{Places, roles_of}
 use Rattle.pd_core.specs.Own.{Lent, lent_in, own_of}
 use Rattle.pd_core.specs.Sessions.{row_session, IsLentAt}
@@ -117,8 +117,8 @@ module _ (x : AnOpenSession) (request bytes : List ℕ) (makes : (served None x 
 -- shows what it showed
 pub face_as : (before after : Component) {script script' : Script} {role : Role} → before.role ≡ AScript script → after ≡ record before { role = role } → role ≡ AScript script' → face_of after ≡ face_of before
 face_as before after was is now =
-    ap face_of is ∙ (λ j. record { label = before.name.items; kind = kind_of (now j); service = served_by (now j) })
-    ∙ (λ j. record { label = before.name.items; kind = kind_of (sym was j); service = served_by (sym was j) })
+    ap face_of is ∙ (λ j. record { label = before.name.items; kind = kind_of (now j); offer = offer_in (now j) })
+    ∙ (λ j. record { label = before.name.items; kind = kind_of (sym was j); offer = offer_in (sym was j) })
 
 -- ---- a request
 

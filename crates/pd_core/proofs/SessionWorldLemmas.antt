@@ -27,7 +27,7 @@ use Rattle.dataspace_core.proofs.PartLaws.{paid_in_part}
 use Rattle.server_frame.specs.Frame.{Row}
 use Rattle.server_frame.specs.SessionBuffer.{key_of}
 use Rattle.pd_core.specs.Answer.{told_alone}
-use Rattle.pd_core.specs.Component.{amounts_in, entry_of, kind_of, served_by, caps_in, rows_in, rows_of, own_in, IsSoundRole, Serves, StaysServer}
+use Rattle.pd_core.specs.Component.{amounts_in, entry_of, kind_of, offer_in, caps_in, rows_in, rows_of, own_in, IsSoundRole, Serves, StaysServer}
 use Rattle.pd_core.specs.Core.{Places, roles_of, sessions_in, IsCore}
 use Rattle.pd_core.specs.Own.{Sessions, own_of, own_at, lent_in}
 use Rattle.pd_core.specs.Sessions.{row_session, NamesSession}
@@ -49,8 +49,8 @@ use Rattle.pd_core.proofs.SessionRefusedLemmas.{named_script}
 use Rattle.pd_core.proofs.CoreWorldLemmas.{face_of, face_set, place_of, refused_goes, role_at, role_set, role_kept}
 
 -- a role with a session serves
-serving_role : (store : Store) (role : Role) (id : ℕ) (row : Row Labelled) → get (rows_in store role) id ≡ Some row → IsSome (served_by role)
-serving_role store role id row there = ap (λ r. is_some (served_by r)) (server_of_row store role id row there).1.1
+serving_role : (store : Store) (role : Role) (id : ℕ) (row : Row Labelled) → get (rows_in store role) id ≡ Some row → IsSome (offer_in role)
+serving_role store role id row there = ap (λ r. is_some (offer_in r)) (server_of_row store role id row there).1.1
 
 -- a capability that names a session
 cap_of : (o : Option Cap) (named : ℕ × SessionId) → session_at o ≡ Some named → o ≡ Some (Session named.0 named.1)
@@ -71,8 +71,8 @@ lent_raised {key = key} {store = store} {store' = store'} (Some ds) paid raises 
 -- ---- the components that a call is between
 
 -- a server's place is one of a component
-pub host_within : (components : List Component) (s : ℕ) → IsSome (served_by (roles_of components s)) → s < length components
-host_within components s serving = place_of components s (λ none. (let no : false ≡ true = ap (λ r. is_some (served_by r)) (sym none) ∙ serving in cc))
+pub host_within : (components : List Component) (s : ℕ) → IsSome (offer_in (roles_of components s)) → s < length components
+host_within components s serving = place_of components s (λ none. (let no : false ≡ true = ap (λ r. is_some (offer_in r)) (sym none) ∙ serving in cc))
 
 module _ {store : Store} (components : List Component) {i s : ℕ} {script : Script} (two : AreTwo store (roles_of components) i s script) where
   pub caller_within : i < length components

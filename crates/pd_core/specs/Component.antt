@@ -10,7 +10,7 @@ use Rattle.own_model.specs.OwnHeap.{no_heap}
 use Rattle.own_model.specs.OwnState.{OwnState}
 use Rattle.own_model.specs.OwnStep.{exited_state}
 use Rattle.own_model.specs.Reserve.{no_reserve}
-use Rattle.trade_base.specs.declared.service.Service.{Service}
+use Rattle.own_model.specs.Offer.{Offer}
 use Rattle.own_model.specs.Routes.{Level}
 use Rattle.own_model.specs.StartList.{Entry, Kind}
 use Rattle.own_model.specs.StartList.Kind.{Script as AScript, Server as AServer, Init as AnInit}
@@ -22,7 +22,7 @@ use Rattle.dataspace_core.specs.Store.{Store, Part, part, account_of, opened_par
 use Rattle.heap_core.specs.Heap.{payer_of as heap_payer}
 use Rattle.sliced_heap.specs.Heap.{payer_of as sliced_payer}
 use Rattle.server_frame.specs.Frame.{Row}
-use Rattle.server_kinds.specs.Host.{service_of as served_by_host, rows_of as rows_of_host, capacity_of, HasPlace as HostHasPlace, Works as HostWorks}
+use Rattle.server_kinds.specs.Host.{offer_of as offer_of_host, rows_of as rows_of_host, capacity_of, HasPlace as HostHasPlace, Works as HostWorks}
 use Rattle.server_kinds.specs.declared.any_server.AnyServer.{AnyServer}
 use Rattle.pd_core.specs.Own.{Sessions, no_sessions, no_lent, own_of, own_at}
 use Rattle.pd_core.specs.Sound.{session_at, buffer_at, IsNewHeap, IsNewSliced, IsSoundScript, SparesOthers}
@@ -124,12 +124,13 @@ entry_of place component = record {
   routes = place.routes;
 }
 
--- the service that a role serves to others
-abbrev pub served_by : Role → Option Service
-served_by role = option_map served_by_host (host_in role)
+-- what a role offers to each session, if it is a server
+abbrev pub offer_in : Role → Option Offer
+offer_in role = option_map offer_of_host (host_in role)
 
-abbrev pub service_of : Component → Option Service
-service_of component = served_by component.role
+-- what a component offers
+abbrev pub offer_of : Component → Option Offer
+offer_of component = offer_in component.role
 
 -- a script's heaps are new, and take their blocks for the script's account
 pub record HasNewHeaps (script : AnyScript) : Type 0 where
@@ -261,7 +262,7 @@ IsSound store component = IsSoundRole store component.role
 -- limits of RAM together
 pub record StaysServer (old : Store) (before : Component) (new : Store) (after : Component) : Type 0 where
   pub entry : (place : Place) → entry_of place after ≡ entry_of place before
-  pub service : service_of after ≡ service_of before
+  pub service : offer_of after ≡ offer_of before
   pub account : payer_of after ≡ payer_of before
   pub capacity : capacity_in after.role ≡ capacity_in before.role
   pub works : Works new after.role
@@ -279,7 +280,7 @@ pub record Serves (store : Store) (component : Component) (id : ℕ) : Type 0 wh
 pub record Keeps (old : Store) (before : Component) (new : Store) (after : Component) : Type 0 where
   pub sound : IsSound new after
   pub entry : (place : Place) → entry_of place after ≡ entry_of place before
-  pub service : service_of after ≡ service_of before
+  pub service : offer_of after ≡ offer_of before
   pub pays : (account : ℕ) → Pays after.role account → Pays before.role account
   pub paid : (account : ℕ) → Pays before.role account → Pays after.role account
   pub reserve : reserve_of after ≡ reserve_of before

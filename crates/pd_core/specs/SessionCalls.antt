@@ -10,7 +10,7 @@ use Rattle.trade_base.specs.declared.refusal.Refusal.{Refusal}
 use Rattle.trade_base.specs.declared.refusal.Refusal.TheVariants.{Gone, InvalidSession, NotAScript}
 use Rattle.own_model.specs.Call.{Call}
 use Rattle.own_model.specs.Reply.{reply_text, log_text}
-use Rattle.trade_base.specs.declared.service.Service.{Service}
+use Rattle.own_model.specs.Offer.{Offer}
 use Rattle.own_model.specs.Routes.{ServerAt, provider}
 use Rattle.own_model.specs.World.{outcome_at, with_state}
 use Rattle.cap_space.specs.Space.{with_cap, without_cap, is_buffer}
@@ -22,7 +22,7 @@ use Rattle.dataspace_core.specs.Store.{Store, root_in, IsChildIn}
 use Rattle.core_calls.specs.ReplyText.{Told}
 use Rattle.pd_core.specs.Answer.{told_alone, reply_of}
 use Rattle.pd_core.specs.declared.call_value.CallValue.{CallValue}
-use Rattle.pd_core.specs.Component.{Pays, script_in, service_of, caps_in}
+use Rattle.pd_core.specs.Component.{Pays, script_in, offer_of, caps_in}
 use Rattle.pd_core.specs.Core.{Places, Roles, roles_of, world_of, IsCore}
 use Rattle.pd_core.specs.Sound.{session_at}
 use Rattle.pd_core.specs.declared.component.Role.{Role}
@@ -35,13 +35,13 @@ use Rattle.pd_core.specs.declared.component.Component.{Component}
 abbrev pub Leads : Type 0
 Leads = ℕ → List ℕ → List ℕ → Option ℕ
 
--- the service that the component at a place serves
-abbrev pub service_at : List Component → ℕ → Option Service
-service_at components place = get_or (map service_of components) place None
+-- what the component at a place offers
+abbrev pub offer_at : List Component → ℕ → Option Offer
+offer_at components place = get_or (map offer_of components) place None
 
 -- the server there
 abbrev pub server_at : List Component → ℕ → Option ServerAt
-server_at components place = option_map (λ kind. record { kind = kind; place = place }) (service_at components place)
+server_at components place = option_map (λ kind. record { kind = kind; place = place }) (offer_at components place)
 
 -- an account is below that of the role of an init
 abbrev pub IsBelowInit : Store → Role → ℕ → Type 0

@@ -1,9 +1,9 @@
 //! The accounts of a core: their limits and their use.
-ghost use Rattle.std.specs.Prelude.{◌≡◌, ◌+◌};
+ghost use Rattle.std.specs.Prelude.{◌≡◌, ◌+◌, IfSome};
 ghost use Rattle.std.specs.FinMap.{get};
 ghost use Rattle.std.specs.Option.{option_map};
 ghost use Rattle.own_model.specs.OwnState.{server_named, session_named};
-ghost use Rattle.own_model.specs.Session.{Session as AnOpenSession};
+ghost use Rattle.own_model.specs.Session.{Session as AnOpenSession, offer_of};
 ghost use Rattle.own_model.specs.Transcript.{state_at};
 ghost use Rattle.own_model.specs.World.{account_at};
 ghost use Rattle.dataspace_core.specs.Store.{account_in, IsOpenIn};
@@ -11,6 +11,7 @@ ghost use Rattle.own_model.specs.StartList.{init_at};
 ghost use Rattle.pd_core.specs.Answer.{quotas_account, CountsLimits};
 ghost use Rattle.core_calls.specs.Quotas.{reserve_amounts};
 ghost use Rattle.pd_core.specs.Core.{Places, world_of, IsCoreAt};
+ghost use Rattle.pd_core.specs.Sessions.{IsBuiltIn};
 
 use crate::component::{Component, Role};
 use crate::machine::Core;
@@ -35,16 +36,17 @@ pub(crate) fn quotas_of(memory: &Memory, account: AccountId) -> Quotas
 }
 
 impl<R: Router + Drop> Core<R> {
-    ghost use Rattle.std.specs.Prelude.{◌≡◌, ◌+◌, ◌<◌, ◌≤◌, ℕ, length, None};
+    ghost use Rattle.std.specs.Prelude.{◌≡◌, ◌+◌, ◌<◌, ◌≤◌, ℕ, length, None, IfSome};
     ghost use Rattle.std.specs.FinMap.{get};
     ghost use Rattle.std.specs.Option.{option_map};
     ghost use Rattle.own_model.specs.OwnState.{server_named, session_named};
-    ghost use Rattle.own_model.specs.Session.{Session as AnOpenSession};
+    ghost use Rattle.own_model.specs.Session.{Session as AnOpenSession, offer_of};
     ghost use Rattle.own_model.specs.Transcript.{state_at};
     ghost use Rattle.own_model.specs.World.{account_at, machine_init};
     ghost use Rattle.own_model.specs.StartList.{init_at};
     ghost use Rattle.pd_core.specs.Answer.{quotas_account, CountsLimits};
     ghost use Rattle.core_calls.specs.Quotas.{reserve_amounts};
+    ghost use Rattle.pd_core.specs.Sessions.{IsBuiltIn};
 
     /// Returns the number of components. Each has an entry, an own state, and a place among inits, where the machine's init
     /// is first.
@@ -84,12 +86,15 @@ impl<R: Router + Drop> Core<R> {
     }
 
     /// Returns limits and use of a session's account. A selector of the component at a place names the session. Returns
-    /// `None` if it names no session.
+    /// `None` if it names no session. The session is one of a service that the machine has built in.
     pub fn session_account(&self, component: usize, selector: u64) -> Option<Quotas>
         requires { component < length self.now.entries }
-        ensures { option_map quotas_account result
+        ensures account { option_map quotas_account result
             ≡ option_map (λ (s : AnOpenSession). s.account)
             (session_named (get (state_at self.now.states component).selectors selector)) }
+        ensures service { IfSome (session_named
+            (get (state_at self.now.states component).selectors selector))
+            (λ s. IsBuiltIn (offer_of s.state)) }
     {
         session_quotas(
             &self.memory,
@@ -229,9 +234,12 @@ fn session_quotas(
     selector: u64,
 ) -> Option<Quotas>
     requires { IsCoreAt place memory.now components.now }
-    ensures { (places : Places) → option_map quotas_account result
+    ensures account { (places : Places) → option_map quotas_account result
         ≡ option_map (λ (s : AnOpenSession). s.account) (session_named (get
         (state_at (world_of places memory.now components.now).states place).selectors selector)) }
+    ensures service { (places : Places) → IfSome (session_named (get
+        (state_at (world_of places memory.now components.now).states place).selectors selector))
+        (λ s. IsBuiltIn (offer_of s.state)) }
 {
     match components[place].session(selector) {
         Ok((server, session)) => Some(components[server].session_quotas(memory, session)),

@@ -41,7 +41,7 @@ impl Component {
     ghost use Rattle.trade_base.specs.declared.refusal.Refusal.TheVariants.{NotAScript};
     ghost use Rattle.own_model.specs.OwnState.{new_selector};
     ghost use Rattle.own_model.specs.OwnStep.{own_step};
-    ghost use Rattle.trade_base.specs.declared.service.Service.TheVariants.{Log as LogKind, Files as FilesKind};
+    ghost use Rattle.own_model.specs.Offer.Offer.{OffersLog, OffersFiles};
     ghost use Rattle.own_model.specs.StartList.Kind.{Script as AScript, Server as AServer, Init as AnInit};
     ghost use Rattle.pd_core.specs.Answer.{told, told_of};
     ghost use Rattle.core_calls.specs.Call.{model_call, IsPlain, IsWellFormed};
@@ -49,9 +49,9 @@ impl Component {
     ghost use Rattle.pd_core.specs.Exit.{places_or_refusal, refusal_of, IsScriptRole, HasSelectorsTo, ClosesBoth};
     ghost use Rattle.pd_core.specs.Sound.{session_at, buffer_at};
     ghost use Rattle.pd_core.specs.declared.component.Role.TheVariants.{Gone as GoneRole};
-    ghost use Rattle.pd_core.specs.Component.{Place, entry_of, payer_of, reserve_of, service_of, HasReserveApart, HasOwnReserve, tables_of, caps_of, HasNewHeap, own, IsSound, Keeps};
+    ghost use Rattle.pd_core.specs.Component.{Place, entry_of, payer_of, reserve_of, offer_of, HasReserveApart, HasOwnReserve, tables_of, caps_of, HasNewHeap, own, IsSound, Keeps};
     ghost use Rattle.pd_core.specs.Core.{IsInitOf};
-    ghost use Rattle.server_kinds.specs.Host.{service_of as service_in, HasNoSessions, IsNew};
+    ghost use Rattle.server_kinds.specs.Host.{offer_of as offer_of_host, HasNoSessions, IsNew};
     ghost use Rattle.pd_core.specs.Fresh.{IsNewServer};
     ghost use Rattle.pd_core.specs.Own.{Sessions, HasSessions};
     ghost use Rattle.pd_core.specs.SessionCalls.{named_in, with_session, with_buffer, without_selector, HasSelectorLeft, NamesBuffer, DropsBuffer};
@@ -78,7 +78,7 @@ impl Component {
         ensures tables { tables_of result ≡ Some (caps, regions) }
         ensures heap { HasNewHeap result.role }
         ensures server { (store : Store) → IsNewServer store result.role }
-        ensures service { service_of result ≡ None }
+        ensures service { offer_of result ≡ None }
     {
         Component {
             name: name_of(name),
@@ -109,7 +109,7 @@ impl Component {
         ensures heap { HasNewHeap result.role }
         ensures server { (store : Store) → HasNoSessions store server.sessions server.map →
             IsNewServer store result.role }
-        ensures service { service_of result ≡ Some LogKind }
+        ensures service { offer_of result ≡ Some OffersLog }
     {
         Component::server(name, account, AnyServer::Log(server))
     }
@@ -130,7 +130,7 @@ impl Component {
         ensures heap { HasNewHeap result.role }
         ensures server { (store : Store) → HasNoSessions store server.sessions server.map →
             IsNewServer store result.role }
-        ensures service { service_of result ≡ Some FilesKind }
+        ensures service { offer_of result ≡ Some OffersFiles }
     {
         Component::server(name, account, AnyServer::Files(server))
     }
@@ -150,7 +150,7 @@ impl Component {
         ensures tables { tables_of result ≡ None }
         ensures heap { HasNewHeap result.role }
         ensures server { (store : Store) → IsNew store host → IsNewServer store result.role }
-        ensures service { service_of result ≡ Some (service_in host) }
+        ensures service { offer_of result ≡ Some (offer_of_host host) }
     {
         Component {
             name: name_of(name),
@@ -174,7 +174,7 @@ impl Component {
         ensures tables { tables_of result ≡ None }
         ensures heap { HasNewHeap result.role }
         ensures server { (store : Store) → IsNewServer store result.role }
-        ensures service { service_of result ≡ None }
+        ensures service { offer_of result ≡ None }
     {
         Component {
             name: name_of(name),

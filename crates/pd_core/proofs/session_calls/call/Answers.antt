@@ -2,7 +2,7 @@
 use Rattle.std.proofs.Common.{rules, get_or, refl, sym, subst, ◌∙◌}
 use Rattle.std.specs.Prelude.{IsSome}
 use Rattle.own_model.specs.Call.Call.{CallSession}
-use Rattle.pd_core.specs.Component.{served_by}
+use Rattle.pd_core.specs.Component.{offer_in}
 use Rattle.pd_core.specs.SessionCalls.{Goes}
 use Rattle.pd_core.proofs.CorePlainLemmas.{unlisted}
 use Rattle.pd_core.proofs.ServerLemmas.{is_server, serving_as, as_it_is, host_serves_in, component_stays}
@@ -37,7 +37,7 @@ unreachable-requires c =
     = record { core = c.requires.core; here = c.requires.caller; is = sym c.session.ensures.named ∙ c.in-Ok.is } in
     let two = named_two names in
     let e = c.index-components-entry.result in
-    let its = is_server _ (subst (λ r. IsSome (served_by r)) (role_at components c.in-Ok.named.0 e (host_within components c.in-Ok.named.0 two.serving)) two.serving) in
+    let its = is_server _ (subst (λ r. IsSome (offer_in r)) (role_at components c.in-Ok.named.0 e (host_within components c.in-Ok.named.0 two.serving)) two.serving) in
     c.in_default.not-Server its.0 its.1.0 its.1.1
 
 pub serve-requires-clause-serves : goal.serve-requires-clause-serves

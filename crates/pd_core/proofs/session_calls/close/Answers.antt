@@ -2,7 +2,7 @@
 use Rattle.std.proofs.Common.{rules, get_or, set, length-set, refl, sym, subst, ◌∙◌, arith}
 use Rattle.std.specs.Prelude.{IsSome}
 use Rattle.own_model.specs.Call.Call.{Close}
-use Rattle.pd_core.specs.Component.{served_by}
+use Rattle.pd_core.specs.Component.{offer_in}
 use Rattle.pd_core.proofs.CorePlainLemmas.{unlisted}
 use Rattle.pd_core.proofs.SessionRefusedLemmas.{close_asks, unnamed_goes, passed_on, unchanged}
 use Rattle.pd_core.proofs.SessionWorldLemmas.{Names, named_two, named_cap, host_within, host_read, host_serves}
@@ -36,7 +36,7 @@ unreachable-requires c =
     = record { core = c.requires.core; here = c.requires.caller; is = sym c.take_session.ensures.named ∙ c.in_ok-entry.was } in
     let two = named_two names in
     let e = c.index-components-entry.result in
-    let its = is_server _ (subst (λ r. IsSome (served_by r)) (host_read components two c.take_session.new.self e) two.serving) in
+    let its = is_server _ (subst (λ r. IsSome (offer_in r)) (host_read components two c.take_session.new.self e) two.serving) in
     c.in_default.not-Server its.0 its.1.0 its.1.1
 
 pub close-requires : goal.close-requires

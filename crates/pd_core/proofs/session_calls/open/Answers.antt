@@ -6,7 +6,7 @@ use Rattle.own_model.specs.Call.Call.{Open}
 use Rattle.own_model.specs.Routes.{label_with}
 use Rattle.pd_core.proofs.CoreRouterLemmas.{denied_wish}
 use Rattle.pd_core.proofs.SessionRefusedLemmas.{no_script_goes, unasked_goes, unread_wish, passed_on, unchanged, arguments_are}
-use Rattle.pd_core.specs.Component.{served_by}
+use Rattle.pd_core.specs.Component.{offer_in}
 use Rattle.pd_core.proofs.ServerLemmas.{is_server, serving_as, as_it_is}
 use Rattle.pd_core.proofs.SessionWorldLemmas.{host_within}
 use Rattle.pd_core.proofs.CoreWorldLemmas.{role_at}
@@ -64,7 +64,7 @@ unreachable-requires g c =
     } in
     let e = c.index-components-entry.result in
     let two = led_two is_led in
-    let its = is_server _ (subst (λ r. IsSome (served_by r)) (role_at c.args.components.now c.in-Some.entry e (host_within c.args.components.now c.in-Some.entry two.serving)) two.serving) in
+    let its = is_server _ (subst (λ r. IsSome (offer_in r)) (role_at c.args.components.now c.in-Some.entry e (host_within c.args.components.now c.in-Some.entry two.serving)) two.serving) in
     c.in_default-role.not-Server its.0 its.1.0 its.1.1
 
 pub open-requires : goal.open-requires

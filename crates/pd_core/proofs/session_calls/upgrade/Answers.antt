@@ -3,7 +3,7 @@ use Rattle.std.proofs.Common.{◌≡◌, rules, get_or, refl, sym, ap, subst, �
 use Rattle.std.specs.Prelude.{IsErrAnd, IsSome}
 use Rattle.trade_base.specs.declared.refusal.Refusal.TheVariants.{BadArgs}
 use Rattle.own_model.specs.Call.Call.{Upgrade}
-use Rattle.pd_core.specs.Component.{served_by}
+use Rattle.pd_core.specs.Component.{offer_in}
 use Rattle.pd_core.proofs.ServerLemmas.{is_server, serving_as, as_it_is, host_serves_in, component_stays}
 use Rattle.pd_core.proofs.SessionRefusedLemmas.{upgrade_asks, unnamed_goes, passed_on, unchanged, arguments_are}
 use Rattle.pd_core.proofs.SessionWorldLemmas.{Names, named_two, named_cap, host_within, host_serves, unread_goes, short_goes, upgrade_goes}
@@ -48,7 +48,7 @@ unreachable-requires c =
     = record { core = c.requires.core; here = c.requires.caller; is = sym c.session.ensures.named ∙ c.in_ok-entry.was } in
     let two = named_two names in
     let e = c.index-components-entry.result in
-    let its = is_server _ (subst (λ r. IsSome (served_by r)) (role_at components c.in_ok-entry.entry e (host_within components c.in_ok-entry.entry two.serving)) two.serving) in
+    let its = is_server _ (subst (λ r. IsSome (offer_in r)) (role_at components c.in_ok-entry.entry e (host_within components c.in_ok-entry.entry two.serving)) two.serving) in
     c.in_default.not-Server its.0 its.1.0 its.1.1
 
 pub raise-requires : goal.raise-requires
