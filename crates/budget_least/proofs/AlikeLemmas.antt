@@ -9,7 +9,7 @@ use Rattle.std.specs.Option.{option_map, option_and_then, unwrap_or}
 use Rattle.std.specs.Str.{bytes_eq}
 use Rattle.list_parser.proofs.ListLemmas.{position-map}
 use Rattle.trade_base.specs.Service.{service_name, services}
-use Rattle.own_model.specs.Listed.{Listed, ListedEntry, ListedRule, Target, Way, init_entry, default_of, most_lists, offers, named_provider, only_provider, way_to, rules_for, service_of, service_at, server_at, lead_of, lead_to, lead_without, own_rule, own_rule_for, own_rules_asking, own_rules, level_of, levels_within, kind_of, reserve_of, start_of, start_list_of}
+use Rattle.own_model.specs.Listed.{Listed, ListedEntry, ListedRule, Target, Way, init_entry, default_of, most_lists, offers, named_provider, only_provider, way_to, rules_for, offer_at, offer_in, server_at, service_in, with_name, with_names, lead_of, lead_to, lead_without, own_rule, own_rule_for, own_rules_asking, own_rules, level_of, levels_within, kind_of, reserve_of, start_of, start_list_of}
 use Rattle.own_model.specs.Listed.Target.{Child, AnyChild, Parent}
 use Rattle.own_model.specs.Listed.Way.{Inside, Outside}
 use Rattle.own_model.specs.Account.{opened}
@@ -32,6 +32,10 @@ count-map p f (x ∷ xs) =
 
 -- ---- entries without budgets
 
+services_bare : (names : List (List ℕ)) (entries : List ListedEntry) → with_names names entries ≡ with_names names (map bare entries)
+services_bare names [] = refl
+services_bare names (entry ∷ entries) = services_bare (with_name names (service_in entry.binary)) entries
+
 module _ (entries : List ListedEntry) where
   abbrev bared : List ListedEntry
   bared = map bare entries
@@ -47,15 +51,15 @@ module _ (entries : List ListedEntry) where
   way_bare init AnyChild service = ap Inside (only_bare init service)
   way_bare init Parent service = refl
 
-  service_in : (entry : Option ListedEntry) → option_and_then (λ e. service_of e.binary) entry ≡ option_and_then (λ e. service_of e.binary) (option_map bare entry)
-  service_in (Some entry) = refl
-  service_in None = refl
+  offer_of : (entry : Option ListedEntry) → option_and_then (λ e. offer_in e.binary) entry ≡ option_and_then (λ e. offer_in e.binary) (option_map bare entry)
+  offer_of (Some entry) = refl
+  offer_of None = refl
 
-  service_bare : (child : ℕ) → service_at entries child ≡ service_at bared child
-  service_bare child = service_in (slice_get entries child) ∙ ap (option_and_then (λ e. service_of e.binary)) (sym (slice_get-map bare entries child))
+  offer_bare : (child : ℕ) → offer_at entries child ≡ offer_at bared child
+  offer_bare child = offer_of (slice_get entries child) ∙ ap (option_and_then (λ e. offer_in e.binary)) (sym (slice_get-map bare entries child))
 
   server_bare : (child : ℕ) → server_at entries child ≡ server_at bared child
-  server_bare child = ap (option_map (λ kind. record { kind = kind; place = child })) (service_bare child)
+  server_bare child = ap (option_map (λ kind. record { kind = kind; place = child })) (offer_bare child)
 
   lead_bare : (way : Way) → lead_of entries way ≡ lead_of bared way
   lead_bare (Inside (Some child)) = ap lead_to (server_bare child)
@@ -68,7 +72,7 @@ module _ (entries : List ListedEntry) where
 
   asking_bare : (init : ℕ) (rule : ListedRule) (service : Option (List ℕ)) → own_rules_asking entries init rule service ≡ own_rules_asking bared init rule service
   asking_bare init rule (Some service) = ap (λ r. r ∷ []) (rule_bare init rule service)
-  asking_bare init rule None = λ i. map (λ service. rule_bare init rule (service_name service) i) services ++ own_rule rule None (lead_without rule.target) ∷ []
+  asking_bare init rule None = λ i. map (λ service. rule_bare init rule service i) (services_bare (map service_name services) entries i) ++ own_rule rule None (lead_without rule.target) ∷ []
 
   rules_bare : (init : ℕ) (rules : List ListedRule) → own_rules entries init rules ≡ own_rules bared init rules
   rules_bare init [] = refl

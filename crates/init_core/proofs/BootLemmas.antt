@@ -15,13 +15,13 @@ use Rattle.own_model.specs.Amounts.{Amounts}
 use Rattle.own_model.specs.Reserve.{no_reserve}
 use Rattle.own_model.proofs.StepReserveLemmas.{covered_in_turn}
 use Rattle.own_model.proofs.StepLemmas.{covers}
-use Rattle.own_model.specs.Listed.{Listed, ListedEntry, Binary, service_of, kind_of, reserve_by, reserve_of, start_of, start_list_of}
+use Rattle.own_model.specs.Listed.{Listed, ListedEntry, Binary, kind_of, offer_in, reserve_by, reserve_of, start_of, start_list_of}
 use Rattle.own_model.specs.Listed.Binary.{Script, Server, Init}
 use Rattle.own_model.specs.StartList.{StartEntry, AllCovered, IsCovered, budget, init_at, inits_at_first, inits_keep, start_state, with_started}
 use Rattle.own_model.specs.StartList.Kind.{Script as AScript, Init as AnInit}
 use Rattle.dataspace_core.specs.Store.{Store, IsOpenIn, IsChildIn, account_in, root_in, room_in}
 use Rattle.pd_core.specs.Component.{Place, entry_of, payer_in, payer_of}
-use Rattle.pd_core.specs.Component.{kind_of as kind_in, service_of as service_in}
+use Rattle.pd_core.specs.Component.{kind_of as kind_in, offer_of}
 use Rattle.pd_core.specs.Core.{IsInitOf, IsInits, inits_of, roles_of}
 use Rattle.pd_core.specs.Fresh.{start_of as start_in, starts_of, IsFresh}
 use Rattle.pd_core.specs.declared.component.Role.TheVariants.{Gone}
@@ -67,7 +67,7 @@ first_short (Some refusal) start behind some = refl
 -- who isn't an init has no reserve but a script
 init_alone : (binary : Binary) (given : Option Amounts) → kind_of binary ≡ AnInit → reserve_by binary given ≡ no_reserve
 init_alone Script given is = absurd cc
-init_alone (Server service) given is = refl
+init_alone (Server service offer) given is = refl
 init_alone Init given is = refl
 
 more_by_none : (a b : ℕ) → b ≡ 0 → a ≡ a + b
@@ -83,7 +83,7 @@ inits_of_home store components (suc place) init is = inr (place, is)
 -- an entry that is an init has the kind of one
 kind_by_binary : (binary : Binary) → runs_init binary ≡ true → kind_of binary ≡ AnInit
 kind_by_binary Script is = absurd (false≢true is)
-kind_by_binary (Server service) is = absurd (false≢true is)
+kind_by_binary (Server service offer) is = absurd (false≢true is)
 kind_by_binary Init is = refl
 
 kind_by_test : (entry : Option ListedEntry) → unwrap_or (option_map is_init entry) false ≡ true → unwrap_or (option_map (λ e. kind_of e.binary) entry) AScript ≡ AnInit
@@ -93,7 +93,7 @@ kind_by_test (Some entry) is = kind_by_binary entry.binary is
 module _ {list : Listed} {store : Store} {components : List Component} {keys : List AccountId} {count : ℕ} (so_far : HasStarted list store components keys count) (within : count ≤ length list.entries) where
   -- as many components as entries have started
   pub counted : length components ≡ count
-  counted = sym (length-map components service_in) ∙ ap length so_far.services ∙ length-map (take count list.entries) (λ e. service_of e.binary) ∙ length-take-le count list.entries within
+  counted = sym (length-map components offer_of) ∙ ap length so_far.offers ∙ length-map (take count list.entries) (λ e. offer_in e.binary) ∙ length-take-le count list.entries within
 
   place_in : (place : ℕ) → place < count → place < length (map (λ (c : Component). c.role) components)
   place_in place before = omega (arith, before, counted, length-map components (λ (c : Component). c.role))
@@ -245,11 +245,11 @@ module _ {list : Listed} {store : Store} {components : List Component} {keys : L
             ∙ map_push start_state (starts_of (places_at list) store' components) (start_in (places_at list count) store' component)
             ∙ (λ j. (states_stay old_parts beside entry.home init_is (places_at list) ∙ so_far.states) j ++ start_state ((begins ∙ ap (start_of list) is) j) ∷ [])
             ∙ sym (map_more (λ e. start_state (start_of list e)) list.entries count entry within);
-        services =
-            map_push service_in components component
-            ∙ ap (λ services. services ++ service_in component ∷ []) so_far.services
-            ∙ ap (λ s. map (λ e. service_of e.binary) (take count list.entries) ++ s ∷ []) (made.service ∙ ap (λ e. service_of e.binary) is)
-            ∙ sym (map_more (λ e. service_of e.binary) list.entries count entry within);
+        offers =
+            map_push offer_of components component
+            ∙ ap (λ offers. offers ++ offer_of component ∷ []) so_far.offers
+            ∙ ap (λ s. map (λ e. offer_in e.binary) (take count list.entries) ++ s ∷ []) (made.offer ∙ ap (λ e. offer_in e.binary) is)
+            ∙ sym (map_more (λ e. offer_in e.binary) list.entries count entry within);
         names = All-push (λ c. length c.name.items ≤ 140) components component so_far.names made.short;
         homes = homes_after old_parts beside entry.home init_is (places_at list) component
             (ap (λ n. (places_at list n).home) (counted so_far at_most) ∙ ap (λ (p : Place). p.home) place)

@@ -8,9 +8,9 @@ use Rattle.std.proofs.lemmas.List.{take_all, drop_all, length-map}
 use Rattle.std.proofs.lemmas.Option.{none-some, slice_get-get_or, unwrap_or-slice_get, slice_get-map}
 use Rattle.trade_base.specs.declared.id.AccountId.{AccountId}
 use Rattle.own_model.specs.Account.{Account, opened}
-use Rattle.own_model.specs.Listed.{Listed, ListedEntry, most_lists, route_within, server_at, service_at, service_of, start_of, start_list_of}
+use Rattle.own_model.specs.Listed.{Listed, ListedEntry, most_lists, offer_at, offer_in, route_within, server_at, start_of, start_list_of}
 use Rattle.own_model.specs.Listed.Binary.{Script}
-use Rattle.trade_base.specs.declared.service.Service.{Service}
+use Rattle.own_model.specs.Offer.{Offer}
 use Rattle.own_model.specs.Routes.{ServerAt, provider}
 use Rattle.own_model.specs.StartList.{AllCovered, Boots, inits_keep, start_state}
 use Rattle.own_model.specs.World.{start_world}
@@ -19,12 +19,11 @@ use Rattle.own_model.proofs.NatMapLemmas.{get-empty, get-insert_same}
 use Rattle.own_model.proofs.Totals.{total-insert_new, total-empty}
 use Rattle.dataspace_core.specs.Store.{Store, fresh_store, root_in, account_in, accounts_in, IsOpenIn, parents_in, room_in, ram_limits_in, caps_limits_in}
 use Rattle.dataspace_core.proofs.RoomLaws.{room_at_first}
-use Rattle.pd_core.specs.Component.{Pays}
-use Rattle.pd_core.specs.Component.{service_of as service_in}
+use Rattle.pd_core.specs.Component.{Pays, offer_of}
 use Rattle.pd_core.specs.Core.{Places, IsInitOf, IsInits, inits_of, roles_of}
 use Rattle.pd_core.specs.Fresh.{start_of as start_in, started_world, AreFresh}
 use Rattle.pd_core.specs.SessionCalls.{Agrees}
-use Rattle.pd_core.specs.SessionCalls.{server_at as server_at_place, service_at as service_at_place}
+use Rattle.pd_core.specs.SessionCalls.{server_at as server_at_place, offer_at as offer_at_place}
 use Rattle.pd_core.specs.declared.component.Component.{Component}
 use Rattle.init_core.specs.Boot.{HasStarted, places_at, place_of, to_come}
 use Rattle.init_core.specs.Rows.{server_by_rows, places_in, rows_of}
@@ -67,7 +66,7 @@ nothing_yet {list} {store} {components} {keys} root pages caps places pages_is c
       keys_are = ap (λ k. k ∷ []) root_is;
       entries = refl;
       states = refl;
-      services = refl;
+      offers = refl;
       names = λ k d h. absurd (omega (arith, h));
       homes = λ i account pays. absurd (omega (arith, within [] (λ role. Pays role account) (λ h. h) i pays));
       inits = ap (λ a. inits_keep (a ∷ []) (start_list_of list).starts) (sym init);
@@ -85,31 +84,31 @@ nothing_yet {list} {store} {components} {keys} root pages caps places pages_is c
 
 -- ---- where routes lead
 
--- a server of a kind at a place
-abbrev stands : ℕ → Service → ServerAt
+-- a server that offers this at a place
+abbrev stands : ℕ → Offer → ServerAt
 stands place kind = record { kind = kind; place = place }
 
 nobody : ListedEntry
 nobody = record { name = []; path = []; label = []; home = 0; binary = Script; ram = 0; caps = 0; provides = false; route = None; reserve = None; inner_route = [] }
 
-of_entry : (entry : Option ListedEntry) → unwrap_or (option_map (λ (e : ListedEntry). service_of e.binary) entry) None ≡ option_and_then (λ (e : ListedEntry). service_of e.binary) entry
+of_entry : (entry : Option ListedEntry) → unwrap_or (option_map (λ (e : ListedEntry). offer_in e.binary) entry) None ≡ option_and_then (λ (e : ListedEntry). offer_in e.binary) entry
 of_entry None = refl
 of_entry (Some entry) = refl
 
-module _ (entries : List ListedEntry) (components : List Component) (same : map service_in components ≡ map (λ e. service_of e.binary) entries) where
-  -- a component serves what its entry says
-  served : (child : ℕ) → service_at_place components child ≡ service_at entries child
+module _ (entries : List ListedEntry) (components : List Component) (same : map offer_of components ≡ map (λ e. offer_in e.binary) entries) where
+  -- a component offers what its entry says
+  served : (child : ℕ) → offer_at_place components child ≡ offer_at entries child
   served child =
-      ap (λ services. get_or services child None) same
-      ∙ sym (unwrap_or-slice_get (map (λ e. service_of e.binary) entries) child None) ∙ ap (λ found. unwrap_or found None) (slice_get-map (λ e. service_of e.binary) entries child)
+      ap (λ offers. get_or offers child None) same
+      ∙ sym (unwrap_or-slice_get (map (λ e. offer_in e.binary) entries) child None) ∙ ap (λ found. unwrap_or found None) (slice_get-map (λ e. offer_in e.binary) entries child)
       ∙ of_entry (slice_get entries child)
 
   -- so a server of the list stands at its place
   served_there : (child : Option ℕ) →
       option_map (server_at_place components) (option_map (λ (server : ServerAt). server.place) (option_and_then (server_at entries) child)) ≡ option_map Some (option_and_then (server_at entries) child)
   served_there None = refl
-  served_there (Some child) = served_at child (service_at entries child) (served child) where
-    served_at : (place : ℕ) (kind : Option Service) → service_at_place components place ≡ kind →
+  served_there (Some child) = served_at child (offer_at entries child) (served child) where
+    served_at : (place : ℕ) (kind : Option Offer) → offer_at_place components place ≡ kind →
         option_map (server_at_place components) (option_map (λ (server : ServerAt). server.place) (option_map (stands place) kind)) ≡ option_map Some (option_map (stands place) kind)
     served_at place None is = refl
     served_at place (Some kind) is = ap (λ found. Some (option_map (stands place) found)) is
@@ -151,7 +150,7 @@ module _ {list : Listed} {store : Store} {components : List Component} {keys : L
         ap (λ found. provider (place_of list found).routes service label) here ∙ routes_lead most_lists list entry service label in
         ap (λ (server : Option ServerAt). option_map (server_at_place components) (option_map (λ (s : ServerAt). s.place) server))
         (ap (λ (places : Places). provider (places i).routes service label) (places_listed list) ∙ led)
-        ∙ served_there list.entries components (so_far.services ∙ ap (map (λ e. service_of e.binary)) all_taken) (route_within most_lists list entry service label)
+        ∙ served_there list.entries components (so_far.offers ∙ ap (map (λ e. offer_in e.binary)) all_taken) (route_within most_lists list entry service label)
         ∙ ap (option_map Some) (sym led);
     homes = so_far.homes;
   })

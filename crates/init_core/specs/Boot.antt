@@ -3,11 +3,10 @@ use Rattle.std.specs.Prelude.{◌≡◌, ℕ, zero, suc, ◌+◌, ◌*◌, ◌�
 use Rattle.std.specs.List.{All, slice_get}
 use Rattle.std.specs.FinMap.{get}
 use Rattle.trade_base.specs.declared.id.AccountId.{AccountId}
-use Rattle.own_model.specs.Listed.{Listed, ListedEntry, service_of, kind_of, levels_within, most_lists, start_of, start_list_of}
+use Rattle.own_model.specs.Listed.{Listed, ListedEntry, kind_of, levels_within, most_lists, offer_in, start_of, start_list_of}
 use Rattle.own_model.specs.StartList.{StartEntry, AllCovered, Boots, inits_at_first, inits_keep, inits_kept, start_state}
 use Rattle.dataspace_core.specs.Store.{Store, OpensPart, accounts_in, root_in, room_in, ram_limits_in, caps_limits_in, IsOpenIn, IsChildIn}
-use Rattle.pd_core.specs.Component.{Place, entry_of, payer_of, reserve_of, tables_of, HasNewHeap}
-use Rattle.pd_core.specs.Component.{service_of as service_in}
+use Rattle.pd_core.specs.Component.{Place, entry_of, offer_of, payer_of, reserve_of, tables_of, HasNewHeap}
 use Rattle.pd_core.specs.Core.{Heads, Places, Roles, IsInitOf, IsInits, entries_of, inits_of, roles_of}
 use Rattle.pd_core.specs.Fresh.{starts_of, AreEmpty, AreFreshBelow, IsNewServer}
 use Rattle.pd_core.specs.SessionCalls.{AreBelowParents}
@@ -60,7 +59,7 @@ pub record HasStarted (list : Listed) (store : Store) (components : List Compone
   pub keys_are : map (λ key. key.0) keys ≡ root_in store ∷ map payer_of components
   pub entries : entries_of (places_at list) components ≡ map (λ entry. (start_of list entry).entry) (take count list.entries)
   pub states : map start_state (starts_of (places_at list) store components) ≡ map (λ entry. start_state (start_of list entry)) (take count list.entries)
-  pub services : map service_in components ≡ map (λ entry. service_of entry.binary) (take count list.entries)
+  pub offers : map offer_of components ≡ map (λ entry. offer_in entry.binary) (take count list.entries)
   pub names : All (λ c. length c.name.items ≤ 140) components
   pub homes : AreBelowParents (places_at list) store components
   pub inits : inits_kept (start_list_of list) ≡ inits_keep (inits_of store components) (to_come list count)
@@ -78,7 +77,7 @@ pub record IsMade (list : Listed) (entry : ListedEntry) (account : ℕ) (reserve
   pub short : length component.name.items ≤ 140
   pub account_is : payer_of component ≡ account
   pub reserve_is : reserve_of component ≡ reserve
-  pub service : service_in component ≡ service_of entry.binary
+  pub offer : offer_of component ≡ offer_in entry.binary
   pub tables : (store : Store) (most : ℕ) → ram_limits_in store ≡ list.pages * 4096 → most ≤ list.caps →
       IfSome (tables_of component) (λ tables. AreEmpty store most tables.0 tables.1)
   pub places : IfSome (tables_of component) (λ tables. tables.0.places ≡ list.caps)

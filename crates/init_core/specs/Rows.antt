@@ -7,6 +7,7 @@ use Rattle.std.specs.Str.{bytes_eq}
 use Rattle.trade_base.specs.Service.{service_name, services}
 use Rattle.trade_base.specs.declared.service.Service.{Service}
 use Rattle.own_model.specs.Listed.{Listed, ListedEntry, level_of, most_lists}
+use Rattle.own_model.specs.Offer.{offer_of_service}
 use Rattle.own_model.specs.Routes as model
 use Rattle.own_model.specs.Routes.{Level, provider}
 use Rattle.pd_core.specs.Component.{Place}
@@ -19,7 +20,7 @@ use Rattle.init_core.specs.declared.rule.ServiceTest.TheVariants.{Known, Named, 
 -- ---- what the code's types denote
 
 abbrev pub model_lead : ResolvedTarget → model.Lead
-model_lead (To server) = model.Lead.To (record { kind = server.kind; place = server.place })
+model_lead (To server) = model.Lead.To (record { kind = offer_of_service server.kind; place = server.place })
 model_lead Nowhere = model.Lead.Nowhere
 model_lead Outward = model.Lead.Outward
 

@@ -8,7 +8,6 @@ use crate::rule::{ResolvedRule, ResolvedTarget, ServerPlace, ServiceTest};
 use list_parser::{ListEntry, Rule, StartList, Target};
 use list_routes::target_child;
 use std::alloc::{AllocError, Global};
-use trade_base::SERVICES;
 
 /// Resolves the rules of the list of an init, given by its number. Returns an error if the host is out of memory.
 pub(crate) fn rules_of(
@@ -47,7 +46,7 @@ fn add_rule(
             resolved.push(ResolvedRule::new(alloc, rule, ServiceTest::of_name(service), to)?)?;
         }
         None => {
-            for service in SERVICES {
+            for service in list.services() {
                 let to = lead_for(list, init, rule.target(), service.name().as_bytes());
                 resolved.push(ResolvedRule::new(alloc, rule, ServiceTest::Known(service), to)?)?;
             }

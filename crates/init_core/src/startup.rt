@@ -3,11 +3,12 @@
 ghost use Rattle.std.specs.Prelude.{◌≡◌, ◌≢◌, ◌+◌, ◌*◌, ◌<◌, ◌≤◌, is_none, is_ok, length, IfOk, IfErr, OnOk, None, Some};
 ghost use Rattle.own_model.specs.Account.{shortage};
 ghost use Rattle.own_model.specs.Listed.{Listed, start_list_of};
-ghost use Rattle.own_model.specs.Listed.Binary.{Script as AScript, Server as AServer, Init as AnInit};
+ghost use Rattle.own_model.specs.Listed.Binary.{Script as AScript, Init as AnInit};
 ghost use Rattle.own_model.specs.World.{start_world, IsBalancedFor};
 ghost use Rattle.own_model.specs.StartList.{Boots};
 ghost use Rattle.dataspace_core.specs.Store.{IsOpenIn, account_in, room_in};
 ghost use Rattle.init_core.specs.Boot.{HasStarted, IsMade, Opens};
+ghost use Rattle.list_parser.specs.BuiltIn.{built_in};
 ghost use Rattle.list_parser.specs.Quota.{quota_fault};
 ghost use Rattle.list_parser.specs.declared.fault.BootFault.TheVariants.{NoMemory, QuotaExceeded};
 
@@ -157,7 +158,7 @@ fn server_of(
     list: &StartList,
     alloc: Global,
 ) -> Result<Component, BootFault>
-    requires { entry.now.binary ≡ AServer service }
+    requires { entry.now.binary ≡ built_in service }
     ensures made { IfOk result (IsMade list.now entry.now account.0 None) }
     ensures fault { IfErr result (λ fault. fault ≡ NoMemory) }
 {

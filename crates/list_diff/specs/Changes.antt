@@ -2,7 +2,6 @@
 use Rattle.std.specs.Prelude.{ℕ, ◌==◌, ◌&&◌, Bool, true, false, List, [], ◌∷◌, ◌++◌, codes, position, if◌then◌else◌, Option, Some, None}
 use Rattle.std.specs.List.{enumerate_from, flat_map, slice_index_or}
 use Rattle.std.specs.Str.{bytes_eq}
-use Rattle.trade_base.specs.Service.{service_name}
 use Rattle.own_model.specs.Amounts.{Amounts}
 use Rattle.own_model.specs.Listed.{Binary, Listed, ListedEntry}
 use Rattle.own_model.specs.Listed.Binary.{Script, Server, Init}
@@ -12,7 +11,7 @@ use Rattle.list_diff.specs.declared.entry_changes.EntryChange.TheVariants.{Gone,
 -- the name of a binary
 abbrev pub binary_name : Binary → List ℕ
 binary_name Script = codes "script"
-binary_name (Server service) = service_name service
+binary_name (Server service offer) = service
 binary_name Init = codes "init"
 
 abbrev pub same_flag : Bool → Bool → Bool

@@ -9,6 +9,7 @@ use Rattle.own_model.specs.Listed.{Binary, ListedEntry}
 use Rattle.own_model.specs.Listed.Binary.{Script, Server, Init}
 use Rattle.trade_base.specs.Service.{served_by_binary}
 use Rattle.trade_base.specs.declared.service.Service.{Service}
+use Rattle.list_parser.specs.BuiltIn.{built_in}
 use Rattle.list_parser.specs.declared.fault.BootFault.{BootFault}
 use Rattle.list_parser.specs.declared.fault.BootFault.TheVariants.{BadConfig, BadJson, DuplicateName, NoMemory, QuotaExceeded, UnknownBinary}
 use Rattle.list_parser.specs.declared.fault.ConfigField.{ConfigField}
@@ -71,7 +72,7 @@ unless false binary r is = is
 
 binary_of_fault : (text : List ℕ) → Fails OfEntry (binary_of text)
 binary_of_fault text = unless (bytes_eq text (codes "script")) Script _ (unless (bytes_eq text (codes "init")) Init _ (by_service (served_by_binary text))) where
-  by_service : (found : Option Service) → Fails OfEntry (value_or (no_binary (name_in text)) (option_map Server found))
+  by_service : (found : Option Service) → Fails OfEntry (value_or (no_binary (name_in text)) (option_map built_in found))
   by_service (Some service) = done
   by_service None = record { fault = no_binary_fault (name_in text) }
 
@@ -99,7 +100,7 @@ config_fault false met d = record { fault = refl }
 
 own_told_fault : (binary : Binary) (deeper : Bool) (met : ℕ) (d : Option Data) → Fails OfEntry (list_of_entry binary deeper met d)
 own_told_fault Script deeper met d = done
-own_told_fault (Server service) deeper met d = done
+own_told_fault (Server service offer) deeper met d = done
 own_told_fault Init deeper met d = config_fault deeper met d
 
 -- what is read of an entry has one of these faults

@@ -12,6 +12,7 @@ use Rattle.own_model.specs.Listed.{Binary, ListedRule}
 use Rattle.own_model.specs.Listed.Binary.{Script, Server, Init}
 use Rattle.trade_base.specs.Service.{served_by_binary}
 use Rattle.trade_base.specs.declared.service.Service.{Service}
+use Rattle.list_parser.specs.BuiltIn.{built_in}
 use Rattle.list_parser.specs.declared.fault.BootFault.{BootFault}
 use Rattle.list_parser.specs.declared.fault.BootFault.TheVariants.{BadConfig}
 use Rattle.list_parser.specs.declared.fault.ConfigField.TheVariants as field
@@ -48,11 +49,11 @@ binary_is text binary is =
         true≢false (sym ((bytes_eq-Decides text (codes "init")).1 (sym ((bytes_eq-Decides (codes "init") text).0 same))) ∙ other))
 
     go : (a b : Bool) (found : Option Service) → bytes_eq text (codes "script") ≡ a → bytes_eq text (codes "init") ≡ b
-        → let r : Result Binary BootFault = if a then Ok Script else (if b then Ok Init else value_or (no_binary (name_in text)) (option_map Server found)) in
+        → let r : Result Binary BootFault = if a then Ok Script else (if b then Ok Init else value_or (no_binary (name_in text)) (option_map built_in found)) in
         r ≡ Ok binary → bytes_eq (codes "init") text ≡ runs_init binary
     go true b found is_a is_b given = let same : Script ≡ binary = cc in same_text (codes "script") is_a ∙ ap runs_init same
     go false true found is_a is_b given = let same : Init ≡ binary = cc in same_text (codes "init") is_b ∙ ap runs_init same
-    go false false (Some service) is_a is_b given = let same : Server service ≡ binary = cc in not_init is_b ∙ ap runs_init same
+    go false false (Some service) is_a is_b given = let same : built_in service ≡ binary = cc in not_init is_b ∙ ap runs_init same
     go false false None is_a is_b given = cc
 
 name_text : (given : Option Data) (name : List ℕ) → option_and_then name_of given ≡ Some name → option_and_then as_str given ≡ Some name
@@ -111,7 +112,7 @@ own_values init config = if init then starts_in config else []
 
 told_starts : (binary : Binary) (deeper : Bool) (met : ℕ) (config : Option Data) (own : ListConfig) → list_of_entry binary deeper met config ≡ Ok own → own.starts ≡ own_values (runs_init binary) config
 told_starts Script deeper met config own is = let same : nothing_own ≡ own = cc in sym (ap (λ o. o.starts) same)
-told_starts (Server service) deeper met config own is = let same : nothing_own ≡ own = cc in sym (ap (λ o. o.starts) same)
+told_starts (Server service offer) deeper met config own is = let same : nothing_own ≡ own = cc in sym (ap (λ o. o.starts) same)
 told_starts Init true met (Some d) own is = by_object (is_object d) is where
   by_object : (b : Bool) → let r : Result ListConfig BootFault = if b then own_of met d else Err (BadConfig field.Config) in r ≡ Ok own → own.starts ≡ elements_in (get (codes "start") d)
   by_object true given = own_starts met d own given

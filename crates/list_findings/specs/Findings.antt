@@ -154,14 +154,14 @@ abbrev pub unreached : Listed → ℕ → Option Remark
 unreached list number = if is_routed_to list number then None else Some Unreached
 
 -- a server doesn't provide its service, or isn't reached
-abbrev pub missed : Listed → Service → ℕ × ListedEntry → Option Remark
+abbrev pub missed : Listed → List ℕ → ℕ × ListedEntry → Option Remark
 missed list service entry =
-    if entry.1.provides then unreached list entry.0 else Some (NotProviding (service_name service))
+    if entry.1.provides then unreached list entry.0 else Some (NotProviding service)
 
 -- the findings on a script's budget, or on whether a server is reached
 abbrev pub use_findings : Listed → ListPart → ℕ × ListedEntry → Binary → List Finding
 use_findings list part entry Script = finding_on part (low_ram list entry) ++ finding_on part (low_caps list entry)
-use_findings list part entry (Server service) = finding_on part (missed list service entry)
+use_findings list part entry (Server service offer) = finding_on part (missed list service entry)
 use_findings list part entry Init = []
 
 -- the findings on the rules of an entry's own route, if it has one

@@ -58,7 +58,7 @@ idle_remark outer rule = idle_by (no_label_in outer rule) (has_arrow outer rule)
 
 abbrev pub is_server : Binary → Bool
 is_server Script = false
-is_server (Server service) = true
+is_server (Server service offer) = true
 is_server Init = false
 
 -- an entry that makes requests, or whose own entries do, is below an init

@@ -19,5 +19,5 @@ of_init holds (Some init) = holds init
 
 abbrev pub is_script : Binary → Bool
 is_script Script = true
-is_script (Server service) = false
+is_script (Server service offer) = false
 is_script Init = false

@@ -2,6 +2,7 @@
 //! entry follows with its own route and the default route of what it starts.
 ghost use Rattle.std.specs.Prelude.{◌≡◌, ◌<◌, ◌++◌, is_some, OnOk};
 ghost use Rattle.std.specs.Option.{option_copied};
+ghost use Rattle.trade_base.specs.Service.{service_name};
 ghost use Rattle.list_findings.specs.Findings.{entry_findings, finding_on, findings_of, hidden, label_findings, low_caps, low_ram, missed, pages_findings, part_pages, part_reserve, route_findings, rule_findings, rules_findings, unreached, use_findings, useless};
 ghost use Rattle.list_findings.specs.Outer.{chosen_end, outer_init, wide_front};
 ghost use Rattle.list_parts.specs.Steps.{part_of};
@@ -204,7 +205,8 @@ fn missed(
     entry: &ListEntry,
 ) -> Option<Remark>
     requires views { ShowAll decided.list.now decided.views.now }
-    ensures { result ≡ missed decided.entry.list.now service (number, entry.now) }
+    ensures { result
+        ≡ missed decided.entry.list.now (service_name service) (number, entry.now) }
 {
     if entry.provides() {
         unreached(decided, number)

@@ -6,6 +6,7 @@ use Rattle.std.proofs.lemmas.Option.{none-some, same_Some, slice_get-map}
 use Rattle.own_model.specs.Amounts.{Amounts}
 use Rattle.own_model.specs.Listed.{Listed, ListedEntry}
 use Rattle.list_parser.specs.Budgets.{bare, but_budgets, changed_at, entry_with_budget, entry_with_reserve, with_budget, with_reserve}
+use Rattle.list_parser.specs.BuiltIn.{AreBuiltIn}
 use Rattle.list_parser.specs.Depth.{HaveParentInits, IsParentInit, is_init, is_list}
 use Rattle.list_parser.specs.PathIndex.{AreFirst, kind_of}
 
@@ -81,6 +82,15 @@ module _ (old new : List ListedEntry) (same : map bare new ≡ map bare old) whe
     there = λ kind small. same_there (λ (e : ListedEntry). kind_of e.path) (λ _. refl) (get_or firsts kind 32) ∙ first.there kind small;
   }
 
+-- servers are built in whatever they are given
+bare_built_in : (entries : List ListedEntry) → AreBuiltIn entries → AreBuiltIn (map bare entries)
+bare_built_in [] are = tt
+bare_built_in (entry ∷ entries) are = (are.0, bare_built_in entries are.1)
+
+from_bare : (entries : List ListedEntry) → AreBuiltIn (map bare entries) → AreBuiltIn entries
+from_bare [] are = tt
+from_bare (entry ∷ entries) are = (are.0, from_bare entries are.1)
+
 -- ---- an entry that is written
 
 module _ (entries : List ListedEntry) (place : ℕ) (entry d : ListedEntry) (is : entry ≡ get_or entries place d) (change : ListedEntry → ListedEntry) (aside : (e : ListedEntry) → bare (change e) ≡ bare e) where
@@ -92,6 +102,9 @@ module _ (entries : List ListedEntry) (place : ℕ) (entry d : ListedEntry) (is 
 
   pub written_homes : HaveParentInits entries → HaveParentInits (set entries place (change entry))
   written_homes = homes_kept entries (set entries place (change entry)) written_bare
+
+  pub written_built_in : AreBuiltIn entries → AreBuiltIn (set entries place (change entry))
+  written_built_in are = from_bare (set entries place (change entry)) (subst AreBuiltIn (sym written_bare) (bare_built_in entries are))
 
   pub written_firsts : (firsts : List ℕ) → AreFirst firsts entries → AreFirst firsts (set entries place (change entry))
   written_firsts = firsts_kept entries (set entries place (change entry)) written_bare

@@ -6,7 +6,7 @@ use Rattle.trade_base.specs.Service.{binary_name}
 use Rattle.trade_base.specs.declared.service.Service.{Service}
 use Rattle.own_model.proofs.ServiceLemmas.{found_again, is_no_init, is_no_script}
 use Rattle.own_model.specs.Listed.{Binary}
-use Rattle.own_model.specs.Listed.Binary.{Server}
+use Rattle.list_parser.specs.BuiltIn.{built_in}
 use Rattle.list_parser.specs.Entries.{binary_of, provided_in}
 
 -- no two services are provided
@@ -16,5 +16,5 @@ provides_too_many binary (service ∷ []) many = absurd (omega arith)
 provides_too_many binary (service ∷ another ∷ more) many = refl
 
 -- a service's binary is read by its name
-pub binary_read_back : (service : Service) → binary_of (binary_name service) ≡ Ok (Server service)
+pub binary_read_back : (service : Service) → binary_of (binary_name service) ≡ Ok (built_in service)
 binary_read_back service = rw (is_no_script service, is_no_init service, found_again service) refl

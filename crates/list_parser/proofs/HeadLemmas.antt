@@ -9,6 +9,8 @@ use Rattle.serde_json.specs.Find.{get, as_array, as_str}
 use Rattle.own_model.specs.Listed.{Binary, ListedEntry, ListedRule}
 use Rattle.own_model.specs.Listed.Binary.{Script, Server, Init}
 use Rattle.own_model.specs.Text.{is_name, is_name_byte}
+use Rattle.list_parser.proofs.BuiltInLemmas.{entry_built_in}
+use Rattle.list_parser.specs.BuiltIn.{IsBuiltIn}
 use Rattle.list_parser.specs.Depth.{runs_init}
 use Rattle.list_parser.specs.Entries.{◌>>=◌, EntryHead, ListConfig, ListPlace, SoFar, behind, binary_of_entry, default_route, head_of, is_taken, new_name, nothing_own, object_of, own_of, own_route, list_of_entry, provided, reserve_of_entry, starts_in, value_or}
 use Rattle.list_parser.specs.HeadParts.{head_in_parts}
@@ -97,7 +99,7 @@ pub record StartsOthers (binary : Binary) (deeper : Bool) (met : ℕ) (starts : 
 told_starts : (binary : Binary) (deeper : Bool) (met : ℕ) (config : Option Data) (own : ListConfig) → list_of_entry binary deeper met config ≡ Ok own →
     (own.starts ≡ []) ⊎ StartsOthers binary deeper met own.starts
 told_starts Script deeper met config own is = let same : nothing_own ≡ own = cc in inl (sym (ap (λ (o : ListConfig). o.starts) same))
-told_starts (Server service) deeper met config own is = let same : nothing_own ≡ own = cc in inl (sym (ap (λ (o : ListConfig). o.starts) same))
+told_starts (Server service offer) deeper met config own is = let same : nothing_own ≡ own = cc in inl (sym (ap (λ (o : ListConfig). o.starts) same))
 told_starts Init true met (Some d) own is = by_object (is_object d) is where
   by_object : (b : Bool) → let r : Result ListConfig BootFault = if b then own_of met d else Err (BadConfig field.Config) in r ≡ Ok own → (own.starts ≡ []) ⊎ StartsOthers Init true met own.starts
   by_object true given = inr (record { deep = refl; init = refl; few = own_few met d own given })
@@ -114,6 +116,7 @@ pub record IsHead (place : ListPlace) (deeper : Bool) (so_far : SoFar) (head : E
   pub label : head.entry.label ≡ behind (codes " -> ") place.label head.entry.name
   pub some : 0 < length head.entry.name
   pub new : is_taken so_far.entries place.init head.entry.name ≡ false
+  pub built_in : IsBuiltIn head.entry.binary
   pub starts : (head.starts ≡ []) ⊎ StartsOthers head.entry.binary deeper so_far.met head.starts
 
 head_gives : (place : ListPlace) (deeper : Bool) (so_far : SoFar) (d : Data) → Gives (IsHead place deeper so_far) (head_of place deeper so_far d)
@@ -121,7 +124,7 @@ head_gives place deeper so_far d =
     gave (object_of d) (λ entry _.
     gave (value_or (BadConfig field.Name) (name_at (codes "name") entry)) (λ told_name told.
     gave (new_name so_far.entries place.init told_name) (λ name new.
-    gave (binary_of_entry name (get (codes "binary") entry)) (λ binary _.
+    gave (binary_of_entry name (get (codes "binary") entry)) (λ binary binary_is.
     gave (value_or (BadConfig field.Quantum) (amount_at (codes "quantum") entry)) (λ ram _.
     gave (value_or (BadConfig field.Caps) (whole_at (codes "caps") 0 4294967295 entry)) (λ caps _.
     gave (value_or (BadConfig field.Provides) (provided binary (get (codes "provides") entry))) (λ provides _.
@@ -136,6 +139,7 @@ head_gives place deeper so_far d =
         label = refl;
         some = subst (λ n. 0 < length n) its.0 (some_name (get (codes "name") entry) told_name (value_ok (BadConfig field.Name) (name_at (codes "name") entry) told_name told));
         new = its.1;
+        built_in = entry_built_in name (get (codes "binary") entry) binary binary_is;
         starts = told_starts binary deeper so_far.met (get (codes "config") entry) own own_is;
       };
     }))))))))))

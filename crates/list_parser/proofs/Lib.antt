@@ -5,6 +5,7 @@ pub mod ListLemmas
 pub mod FinderLemmas
 pub mod DepthLemmas
 pub mod ReadLemmas
+pub mod BuiltInLemmas
 pub mod HeadLemmas
 pub mod NestLemmas
 pub mod ListedLemmas

@@ -17,7 +17,7 @@ pub record IsWithin (deeper : ℕ) (place : ListPlace) : Type 0 where
 
 abbrev pub runs_init : Binary → Bool
 runs_init Script = false
-runs_init (Server service) = false
+runs_init (Server service offer) = false
 runs_init Init = true
 
 abbrev pub is_init : ListedEntry → Bool

@@ -9,6 +9,7 @@ use Rattle.own_model.specs.Amounts.{Amounts}
 use Rattle.trade_base.specs.Service.{served_by_binary}
 use Rattle.own_model.specs.Listed.{Binary, ListedEntry, ListedRule, serves}
 use Rattle.own_model.specs.Listed.Binary.{Script, Server, Init}
+use Rattle.list_parser.specs.BuiltIn.{built_in}
 use Rattle.list_parser.specs.declared.fault.BootFault.{BootFault}
 use Rattle.list_parser.specs.declared.fault.BootFault.TheVariants.{BadConfig, DuplicateName, UnknownBinary}
 use Rattle.list_parser.specs.declared.fault.ConfigField.TheVariants as field
@@ -75,7 +76,7 @@ abbrev pub binary_of : List ℕ → Result Binary BootFault
 binary_of text =
     if bytes_eq text (codes "script") then Ok Script
     else (if bytes_eq text (codes "init") then Ok Init
-    else value_or (no_binary (name_in text)) (option_map Server (served_by_binary text)))
+    else value_or (no_binary (name_in text)) (option_map built_in (served_by_binary text)))
 
 -- what an entry runs
 abbrev pub binary_of_entry : List ℕ → Option Data → Result Binary BootFault
@@ -104,7 +105,7 @@ own_route (Some d) = option_map Some (rules_of d)
 abbrev pub if_script : {A : Type 0} → (Data → Option A) → Binary → Option Data → Option (Option A)
 if_script f binary None = Some None
 if_script f Script (Some d) = option_map Some (f d)
-if_script f (Server service) (Some d) = None
+if_script f (Server service offer) (Some d) = None
 if_script f Init (Some d) = None
 
 -- a reserve is stated by one of its two members, or by both: the other one is 0 if it is missing
@@ -156,7 +157,7 @@ config_of false met d = Err (BadConfig field.Config)
 -- an entry of another binary starts nothing, with any member
 abbrev pub list_of_entry : Binary → Bool → ℕ → Option Data → Result ListConfig BootFault
 list_of_entry Script deeper met d = Ok nothing_own
-list_of_entry (Server service) deeper met d = Ok nothing_own
+list_of_entry (Server service offer) deeper met d = Ok nothing_own
 list_of_entry Init deeper met d = config_of deeper met d
 
 -- an entry, and the values of the entries that it starts

@@ -2,6 +2,7 @@ pub mod PathIndex
 pub mod Members
 pub mod Rules
 pub mod Labels
+pub mod BuiltIn
 pub mod Entries
 pub mod Depth
 pub mod StartText

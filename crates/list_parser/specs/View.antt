@@ -4,6 +4,7 @@ use Rattle.std.specs.Option.{option_copied}
 use Rattle.serde_json.specs.View.{view}
 use Rattle.own_model.specs.Listed as listed
 use Rattle.own_model.specs.Listed.{ListedRule}
+use Rattle.list_parser.specs.BuiltIn.{built_in}
 use Rattle.list_parser.specs.Entries as told
 use Rattle.list_parser.specs.HeadParts as parts
 use Rattle.list_parser.specs.declared.list_config.ListConfig.{ListConfig}
@@ -33,7 +34,7 @@ told_rule told = record {
 
 abbrev pub model_binary : Binary → listed.Binary
 model_binary Script = listed.Binary.Script
-model_binary (Server service) = listed.Binary.Server service
+model_binary (Server service) = built_in service
 model_binary Init = listed.Binary.Init
 
 -- what states a list, by borrowed values

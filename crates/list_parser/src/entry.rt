@@ -2,7 +2,9 @@
 ghost use Rattle.std.specs.Prelude.{◌≡◌, ◌≤◌, length, IfOk, Ok};
 ghost use Rattle.std.specs.Option.{option_map};
 ghost use Rattle.std.specs.Result.{result_map_both};
-ghost use Rattle.own_model.specs.Listed.{offers, reserve_of, serves, service_of};
+ghost use Rattle.trade_base.specs.Service.{service_name};
+ghost use Rattle.own_model.specs.Listed.{offer_in, offers, reserve_of, serves, service_in};
+ghost use Rattle.own_model.specs.Offer.{offer_of_service};
 ghost use Rattle.list_parser.specs.Depth.{is_init};
 ghost use Rattle.list_parser.specs.Entries.{binary_of, no_binary};
 ghost use Rattle.list_parser.specs.Labels.{route_name};
@@ -50,7 +52,8 @@ impl Binary {
 
     /// Returns the service that the binary can provide, if it can provide one.
     pub fn service(self) -> Option<Service>
-        ensures { result ≡ service_of (model_binary self) }
+        ensures name { option_map service_name result ≡ service_in (model_binary self) }
+        ensures offer { option_map offer_of_service result ≡ offer_in (model_binary self) }
     {
         match self {
             Binary::Script | Binary::Init => None,

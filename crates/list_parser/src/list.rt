@@ -5,7 +5,8 @@ ghost use Rattle.std.specs.List.{position, slice_get};
 ghost use Rattle.std.specs.Result.{result_map_both};
 ghost use Rattle.std.specs.Str.{bytes_eq};
 ghost use Rattle.serde_json.specs.View.{view};
-ghost use Rattle.own_model.specs.Listed.{default_of, init_entry, rules_for, start_list_of};
+ghost use Rattle.trade_base.specs.Service.{service_name};
+ghost use Rattle.own_model.specs.Listed.{default_of, init_entry, rules_for, services_of, start_list_of};
 ghost use Rattle.own_model.specs.StartList.{entries_of};
 ghost use Rattle.own_model.specs.Transcript.{entry_at};
 ghost use Rattle.list_parser.specs.Depth.{IsParentInit, is_init};
@@ -26,6 +27,7 @@ use crate::rule::Rule;
 use serde_json::Value;
 use std::alloc::Global;
 use std::marker::Model;
+use trade_base::{SERVICES, Service};
 
 /// The most bytes of a start list's text.
 pub const LONGEST_TEXT: usize = 65_536;
@@ -63,12 +65,14 @@ impl Model for StartList {
     } };
 
     ghost use Rattle.std.specs.Prelude.{vec_len};
+    ghost use Rattle.list_parser.specs.BuiltIn.{AreBuiltIn};
     ghost use Rattle.list_parser.specs.Depth.{HaveParentInits};
     ghost use Rattle.list_parser.specs.PathIndex.{AreFirst};
     ghost use Rattle.list_parser.specs.Range.{IsInRange};
 
     ghost invariant = { λ list. IsInRange list.pages list.caps (vec_len list.entries)
-        × HaveParentInits list.entries.items × AreFirst list.finder.firsts list.entries.items };
+        × HaveParentInits list.entries.items × AreFirst list.finder.firsts list.entries.items
+        × AreBuiltIn list.entries.items };
 }
 
 impl StartList {
@@ -146,6 +150,16 @@ impl StartList {
         ensures { result.now ≡ self.now.entries }
     {
         self.entries.as_slice()
+    }
+
+    /// Returns the services of the list in the order in which output lists them. They are the two that the machine has built
+    /// in, since a list can declare no other server.
+    #[tactic(auto, using(crate::proofs::BuiltInLemmas::services_are_built_in))]
+    pub fn services(&self) -> [Service; 2]
+        ensures { map service_name result ≡ services_of self.now.entries }
+    {
+        let _entries = &self.entries;
+        SERVICES
     }
 
     /// Returns the name of a component, given by its number, as lines have it: the path of its entry.

@@ -3,7 +3,6 @@ use Rattle.std.specs.Prelude.{◌≡◌, ◌≢◌, ℕ, ◌+◌, ◌&&◌, ◌|
 use Rattle.std.specs.List.{list_all, list_any, slice_get, starts_with}
 use Rattle.std.specs.Option.{option_map, option_to_list, unwrap_or}
 use Rattle.std.specs.Str.{bytes_eq}
-use Rattle.trade_base.specs.Service.{service_name}
 use Rattle.own_model.specs.Listed.{Binary, Listed, ListedEntry, reserve_of}
 use Rattle.own_model.specs.Listed.Binary.{Script, Server, Init}
 use Rattle.list_labels.specs.GivenLabels.{IsGiven, leads_to}
@@ -127,7 +126,7 @@ concerns list line client server = concerns_by list line.demand line.from line.t
 
 abbrev pub served_name : Binary → List ℕ
 served_name Script = []
-served_name (Server service) = service_name service
+served_name (Server service offer) = service
 served_name Init = []
 
 -- the name of the service of the server of a number; of another component nothing

@@ -8,11 +8,11 @@ use Rattle.std.proofs.lemmas.Bool.Decides.{nat_tests}
 use Rattle.std.proofs.lemmas.List.Quantifiers.{position-Some}
 use Rattle.std.proofs.lemmas.Bool.{and_parts}
 use Rattle.std.proofs.lemmas.Option.{slice_get-get_or}
-use Rattle.trade_base.specs.declared.service.Service.{Service}
 use Rattle.own_model.specs.Account.{Account, shortage}
-use Rattle.own_model.specs.Listed.{Binary, Listed, ListedEntry, ListedRule, Target, Way, asks_for, end_of, init_entry, levels_within, most_lists, named_provider, offers, route_within, rules_for, server_at, serves, service_at, service_of, start_of, way_by, way_to}
+use Rattle.own_model.specs.Listed.{Binary, Listed, ListedEntry, ListedRule, Target, Way, asks_for, end_of, init_entry, levels_within, most_lists, named_provider, offer_at, offer_in, offers, route_within, rules_for, server_at, serves, start_of, way_by, way_to}
 use Rattle.own_model.specs.Listed.Binary.{Script, Server, Init}
 use Rattle.own_model.specs.Listed.Target.{Child, AnyChild, Parent}
+use Rattle.own_model.specs.Offer.{Offer}
 use Rattle.own_model.specs.OwnState.{OwnState}
 use Rattle.own_model.specs.OwnStep.{opened_by, session_opened, turned_away, unless}
 use Rattle.own_model.specs.Routes.{ServerAt, label_with, provider}
@@ -24,20 +24,20 @@ use Rattle.list_reach.specs.RequestTheorems.{Asks, RequestsAreDenied, RequestsAr
 
 -- ---- who is led to serves
 
-serves_one : (binary : Binary) (service : List ℕ) → serves binary service ≡ true → (kind : Service) × (service_of binary ≡ Some kind)
+serves_one : (binary : Binary) (service : List ℕ) → serves binary service ≡ true → (kind : Offer) × (offer_in binary ≡ Some kind)
 serves_one Script service is = cc
-serves_one (Server kind) service is = (kind, refl)
+serves_one (Server name kind) service is = (kind, refl)
 serves_one Init service is = cc
 
 offers_one : (entry : ListedEntry) (init : ℕ) (service : List ℕ) → offers init service entry ≡ true
-    → (kind : Service) × (service_of entry.binary ≡ Some kind)
+    → (kind : Offer) × (offer_in entry.binary ≡ Some kind)
 offers_one entry init service is =
     serves_one entry.binary service (and_parts entry.provides _ (and_parts (entry.home == init) _ is).1).1
 
-kind_there : (entries : List ListedEntry) (k : ℕ) (d : ListedEntry) (kind : Service) → k < length entries
-    → service_of (get_or entries k d).binary ≡ Some kind → service_at entries k ≡ Some kind
+kind_there : (entries : List ListedEntry) (k : ℕ) (d : ListedEntry) (kind : Offer) → k < length entries
+    → offer_in (get_or entries k d).binary ≡ Some kind → offer_at entries k ≡ Some kind
 kind_there entries k d kind within is =
-    ap (λ o. option_and_then (λ (e : ListedEntry). service_of e.binary) o) (slice_get-get_or entries k d within) ∙ is
+    ap (λ o. option_and_then (λ (e : ListedEntry). offer_in e.binary) o) (slice_get-get_or entries k d within) ∙ is
 
 -- an entry, of a list that has a place
 some_entry : (entries : List ListedEntry) (p : ListedEntry → Bool) (k : ℕ) → position p entries ≡ Some k → ListedEntry
@@ -45,7 +45,7 @@ some_entry [] p k found = absurd (cc)
 some_entry (e ∷ entries) p k found = e
 
 named_serves : (entries : List ListedEntry) (init : ℕ) (name service : List ℕ) (k : ℕ) → named_provider entries init name service ≡ Some k
-    → (kind : Service) × (service_at entries k ≡ Some kind)
+    → (kind : Offer) × (offer_at entries k ≡ Some kind)
 named_serves entries init name service k found =
     let d = some_entry entries (λ e. bytes_eq e.name name && offers init service e) k found in
     let is = position-Some (λ e. bytes_eq e.name name && offers init service e) entries k d found in
@@ -53,7 +53,7 @@ named_serves entries init name service k found =
     (kind.0, kind_there entries k d kind.0 is.0 kind.1)
 
 only_case : (entries : List ListedEntry) (init : ℕ) (service : List ℕ) (k : ℕ) (b : Bool)
-    → (if b then position (offers init service) entries else None) ≡ Some k → (kind : Service) × (service_at entries k ≡ Some kind)
+    → (if b then position (offers init service) entries else None) ≡ Some k → (kind : Offer) × (offer_at entries k ≡ Some kind)
 only_case entries init service k true found =
     let d = some_entry entries (offers init service) k found in
     let is = position-Some (offers init service) entries k d found in
@@ -62,36 +62,36 @@ only_case entries init service k true found =
 only_case entries init service k false found = cc
 
 target_serves : (entries : List ListedEntry) (init : ℕ) (target : Target) (service : List ℕ) (outward : Option ℕ) (k : ℕ)
-    → (outward ≡ Some k → (kind : Service) × (service_at entries k ≡ Some kind))
-    → end_of (way_to entries init target service) outward ≡ Some k → (kind : Service) × (service_at entries k ≡ Some kind)
+    → (outward ≡ Some k → (kind : Offer) × (offer_at entries k ≡ Some kind))
+    → end_of (way_to entries init target service) outward ≡ Some k → (kind : Offer) × (offer_at entries k ≡ Some kind)
 target_serves entries init (Child name) service outward k out found = named_serves entries init name service k found
 target_serves entries init AnyChild service outward k out found =
     only_case entries init service k (count_by (offers init service) entries == 1) found
 target_serves entries init Parent service outward k out found = out found
 
 rule_serves : (entries : List ListedEntry) (init : ℕ) (rule : ListedRule) (rest : Way) (service : List ℕ) (outward : Option ℕ) (k : ℕ) (b : Bool)
-    → (outward ≡ Some k → (kind : Service) × (service_at entries k ≡ Some kind))
-    → (end_of rest outward ≡ Some k → (kind : Service) × (service_at entries k ≡ Some kind))
-    → end_of (if b then way_to entries init rule.target service else rest) outward ≡ Some k → (kind : Service) × (service_at entries k ≡ Some kind)
+    → (outward ≡ Some k → (kind : Offer) × (offer_at entries k ≡ Some kind))
+    → (end_of rest outward ≡ Some k → (kind : Offer) × (offer_at entries k ≡ Some kind))
+    → end_of (if b then way_to entries init rule.target service else rest) outward ≡ Some k → (kind : Offer) × (offer_at entries k ≡ Some kind)
 rule_serves entries init rule rest service outward k true out others found = target_serves entries init rule.target service outward k out found
 rule_serves entries init rule rest service outward k false out others found = others found
 
 way_serves : (entries : List ListedEntry) (init : ℕ) (rules : List ListedRule) (service label : List ℕ) (outward : Option ℕ) (k : ℕ)
-    → (outward ≡ Some k → (kind : Service) × (service_at entries k ≡ Some kind))
-    → end_of (way_by entries init rules service label) outward ≡ Some k → (kind : Service) × (service_at entries k ≡ Some kind)
+    → (outward ≡ Some k → (kind : Offer) × (offer_at entries k ≡ Some kind))
+    → end_of (way_by entries init rules service label) outward ≡ Some k → (kind : Offer) × (offer_at entries k ≡ Some kind)
 way_serves entries init [] service label outward k out found = cc
 way_serves entries init (rule ∷ rules) service label outward k out found =
     rule_serves entries init rule (way_by entries init rules service label) service outward k (asks_for rule service label) out
     (λ rest. way_serves entries init rules service label outward k out rest) found
 
 init_serves : (entries : List ListedEntry) (outer : Option ListedEntry) (goes : ListedEntry → Option ℕ) (k : ℕ)
-    → ((init : ListedEntry) → goes init ≡ Some k → (kind : Service) × (service_at entries k ≡ Some kind))
-    → option_and_then goes outer ≡ Some k → (kind : Service) × (service_at entries k ≡ Some kind)
+    → ((init : ListedEntry) → goes init ≡ Some k → (kind : Offer) × (offer_at entries k ≡ Some kind))
+    → option_and_then goes outer ≡ Some k → (kind : Offer) × (offer_at entries k ≡ Some kind)
 init_serves entries None goes k each found = cc
 init_serves entries (Some init) goes k each found = each init found
 
 route_serves : (lists : ℕ) (list : Listed) (entry : ListedEntry) (service label : List ℕ) (k : ℕ)
-    → route_within lists list entry service label ≡ Some k → (kind : Service) × (service_at list.entries k ≡ Some kind)
+    → route_within lists list entry service label ≡ Some k → (kind : Offer) × (offer_at list.entries k ≡ Some kind)
 route_serves zero list entry service label k found = cc
 route_serves (suc lists) list entry service label k found =
     way_serves list.entries entry.home (rules_for list entry) service label
@@ -151,7 +151,7 @@ large_enough ram caps more most =
 covered : (account : Account) (ram caps : ℕ) → 4096 ≤ ram → 2 ≤ caps → shortage account ram caps ≡ None → donation_refusal account ram caps ≡ None
 covered account ram caps more most short = ap (λ o. option_or o (too_small ram caps)) short ∙ large_enough ram caps more most
 
-server_is : (entries : List ListedEntry) (k : ℕ) (kind : Service) → service_at entries k ≡ Some kind
+server_is : (entries : List ListedEntry) (k : ℕ) (kind : Offer) → offer_at entries k ≡ Some kind
     → server_at entries k ≡ Some (record { kind = kind; place = k })
 server_is entries k kind is = ap (λ o. option_map (λ kind. record { kind = kind; place = k }) o) is
 

@@ -38,12 +38,12 @@ selects asked path =
 
 abbrev pub runs_script : Binary → Bool
 runs_script Script = true
-runs_script (Server service) = false
+runs_script (Server service offer) = false
 runs_script Init = false
 
 abbrev pub runs_server : Binary → Bool
 runs_server Script = false
-runs_server (Server service) = true
+runs_server (Server service offer) = true
 runs_server Init = false
 
 -- an entry is a script, or a server that provides its service

@@ -2,11 +2,11 @@
 use Rattle.std.specs.Prelude.{◌≡◌, ℕ, ◌≤◌, false, List, Some, None}
 use Rattle.std.specs.List.{slice_get}
 use Rattle.trade_base.specs.declared.refusal.Refusal.TheVariants.{ServiceDenied}
-use Rattle.trade_base.specs.declared.service.Service.{Service}
 use Rattle.own_model.specs.Account.{shortage}
 use Rattle.own_model.specs.Call.Call.{Open}
-use Rattle.own_model.specs.Listed.{Listed, ListedEntry, service_at, start_of}
+use Rattle.own_model.specs.Listed.{Listed, ListedEntry, offer_at, start_of}
 use Rattle.own_model.specs.Listed.Binary.{Script}
+use Rattle.own_model.specs.Offer.{Offer}
 use Rattle.own_model.specs.OwnState.{OwnState}
 use Rattle.own_model.specs.OwnStep.{own_step, refused, session_opened}
 use Rattle.own_model.specs.Routes.{label_with}
@@ -33,7 +33,7 @@ RequestsAreOpened =
     (list : Listed) (client : ℕ) (entry : ListedEntry) (service text : List ℕ) (arguments : Arguments) (s : OwnState) (server : ℕ)
     → Asks list client entry text arguments s → leads_to list client service arguments.label ≡ Some server
     → 4096 ≤ arguments.ram → 2 ≤ arguments.caps → shortage s.account arguments.ram arguments.caps ≡ None
-    → (kind : Service) × (service_at list.entries server ≡ Some kind)
+    → (kind : Offer) × (offer_at list.entries server ≡ Some kind)
     × (own_step (start_of list entry).entry (Open service text) s
     ≡ session_opened
     (record {

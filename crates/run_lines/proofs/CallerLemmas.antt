@@ -16,12 +16,12 @@ module _ (says : Spoken) (component : ℕ) where
   -- by what an entry runs
   init_heard : (binary : Binary) → runs_init binary ≡ true → classify_call (kind_of binary) says component ≡ Stranger says.name
   init_heard Script is = absurd (true≢false (sym is))
-  init_heard (Server service) is = absurd (true≢false (sym is))
+  init_heard (Server service offer) is = absurd (true≢false (sym is))
   init_heard Init is = refl
 
   other_heard : (binary : Binary) → runs_init binary ≡ false → classify_call (kind_of binary) says component ≡ Caller (record { component = component; call = says.call })
   other_heard Script is = refl
-  other_heard (Server service) is = refl
+  other_heard (Server service offer) is = refl
   other_heard Init is = absurd (true≢false is)
 
   module _ (list : Listed) where

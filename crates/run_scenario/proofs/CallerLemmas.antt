@@ -18,8 +18,8 @@ heard_binary : (binary : Binary) (is : Bool) → runs_init binary ≡ is → (sa
     classify_call (kind_of binary) says component ≡ caller_by says.name says.call (cond is None (Some component))
 heard_binary Script true is says component = absurd (true≢false (sym is))
 heard_binary Script false is says component = refl
-heard_binary (Server service) true is says component = absurd (true≢false (sym is))
-heard_binary (Server service) false is says component = refl
+heard_binary (Server service offer) true is says component = absurd (true≢false (sym is))
+heard_binary (Server service offer) false is says component = refl
 heard_binary Init true is says component = refl
 heard_binary Init false is says component = absurd (true≢false is)
 

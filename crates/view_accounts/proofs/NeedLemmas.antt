@@ -167,7 +167,7 @@ sees_begun {meters} {core} listed starts count fresh = record {
 
 script_kind : (binary : Binary) → is_script binary ≡ true → kind_of binary ≡ Kind.Script
 script_kind Script is = refl
-script_kind (Server service) is = absurd (true≢false (sym is))
+script_kind (Server service offer) is = absurd (true≢false (sym is))
 script_kind Init is = absurd (true≢false (sym is))
 
 -- sums are alike where what scripts need is
@@ -218,5 +218,5 @@ module _ {meters : List AccountMeter} (listed : Listed) {start : World} {calls :
     where
       by : (binary : Binary) → (listed_at listed place).binary ≡ binary → needed_running binary (needed_of meters) listed place ≡ needed_running binary (needed_by_calls start calls) listed place
       by Script is = needed_is place within (ap is_script is)
-      by (Server service) is = refl
+      by (Server service offer) is = refl
       by Init is = below_is (Some (listed_at listed place).path)

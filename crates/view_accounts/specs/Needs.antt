@@ -61,7 +61,7 @@ added one other = record { ram = min (one.ram + other.ram) (2 ^ 64 - 1); caps = 
 
 abbrev pub is_script : Binary → Bool
 is_script Script = true
-is_script (Server service) = false
+is_script (Server service offer) = false
 is_script Init = false
 
 -- a path is below the path of an init: it begins with it, and a `/` follows. The machine's init has no path, and all are below it
@@ -87,7 +87,7 @@ needed_below init own listed = record { need = summed init own no_amounts 0 list
 -- the need of a component's account, by what it runs
 abbrev pub needed_running : Binary → (ℕ → Needed) → Listed → ℕ → Needed
 needed_running Script own listed place = own place
-needed_running (Server service) own listed place = nothing_needed
+needed_running (Server service offer) own listed place = nothing_needed
 needed_running Init own listed place = needed_below (Some (listed_at listed place).path) own listed
 
 -- the need of each account, by the needs of scripts and sessions

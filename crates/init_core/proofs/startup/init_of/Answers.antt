@@ -1,7 +1,7 @@
 -- An init is what its entry says.
 use Rattle.std.proofs.Common.{◌≡◌, length, subst, sym, ◌∙◌, ap, arith}
 use Rattle.std.specs.Prelude.{IfSome}
-use Rattle.own_model.specs.Listed.{kind_of, service_of}
+use Rattle.own_model.specs.Listed.{kind_of, offer_in}
 use Rattle.own_model.specs.StartList.{Entry}
 use Rattle.pd_core.specs.Fresh.{AreEmpty}
 use Rattle.init_core.specs.Boot.{nowhere}
@@ -13,7 +13,7 @@ returns c = λ list. record {
   short = omega (arith, ap (λ (e : Entry). length e.label) (c.init.ensures.entry nowhere), c.label.ensures.short);
   account_is = c.init.ensures.account;
   reserve_is = c.init.ensures.reserve;
-  service = c.init.ensures.service ∙ ap service_of (sym c.requires);
+  offer = c.init.ensures.service ∙ ap offer_in (sym c.requires);
   tables = λ store most machine covered. subst (λ tables. IfSome tables (λ t. AreEmpty store most t.0 t.1)) (sym c.init.ensures.tables) tt;
   places = subst (λ tables. IfSome tables (λ t. t.0.places ≡ list.caps)) (sym c.init.ensures.tables) tt;
   heap = c.init.ensures.heap;

@@ -1,7 +1,7 @@
 -- A script is what its entry says, with tables that have just booted.
 use Rattle.std.proofs.Common.{◌≡◌, length, subst, sym, ◌∙◌, ap, arith}
 use Rattle.std.specs.Prelude.{IfSome}
-use Rattle.own_model.specs.Listed.{kind_of, service_of}
+use Rattle.own_model.specs.Listed.{kind_of, offer_in}
 use Rattle.own_model.specs.StartList.{Entry}
 use Rattle.cap_space.specs.Space.{Space}
 use Rattle.pd_core.specs.Fresh.{AreEmpty}
@@ -15,7 +15,7 @@ returns-clause-made c = record {
   short = omega (arith, ap (λ (e : Entry). length e.label) (c.script.ensures.entry nowhere), c.label.ensures.short);
   account_is = c.script.ensures.account;
   reserve_is = c.script.ensures.reserve;
-  service = c.script.ensures.service ∙ ap service_of (sym c.requires);
+  offer = c.script.ensures.service ∙ ap offer_in (sym c.requires);
   tables = λ store most machine covered.
       let empty = script_empty store c.pages-pages.result c.caps.result most c.in_ok-caps.caps c.in_ok-regions.regions (omega (arith, machine, c.pages-pages.ensures.value))
       c.pages-pages.ensures.most (omega (arith, covered, c.caps.ensures.value)) c.in_ok-caps.ensures c.in_ok-regions.ensures in

@@ -1,7 +1,7 @@
 -- A server is what its entry says, without sessions.
 use Rattle.std.proofs.Common.{◌≡◌, Some, length, subst, sym, ◌∙◌, ap, arith}
 use Rattle.std.specs.Prelude.{IfSome}
-use Rattle.own_model.specs.Listed.{kind_of, service_of}
+use Rattle.own_model.specs.Listed.{kind_of, offer_in}
 use Rattle.own_model.specs.StartList.{Entry}
 use Rattle.pd_core.specs.Fresh.{AreEmpty}
 use Rattle.init_core.specs.Boot.{nowhere}
@@ -15,7 +15,7 @@ returns-clause-made c =
       short = omega (arith, ap (λ (e : Entry). length e.label) (c.server.ensures.entry nowhere), c.label.ensures.short);
       account_is = c.server.ensures.account;
       reserve_is = c.server.ensures.reserve;
-      service = c.server.ensures.service ∙ ap Some booted.service ∙ ap service_of (sym c.requires);
+      offer = c.server.ensures.service ∙ ap Some booted.service ∙ ap offer_in (sym c.requires);
       tables = λ store most machine covered. subst (λ tables. IfSome tables (λ t. AreEmpty store most t.0 t.1)) (sym c.server.ensures.tables) tt;
       places = subst (λ tables. IfSome tables (λ t. t.0.places ≡ c.args.list.now.caps)) (sym c.server.ensures.tables) tt;
       heap = c.server.ensures.heap;

@@ -1,6 +1,7 @@
 -- The same entries are as they were.
 use Rattle.std.proofs.Common.{◌≡◌, List, length, sym, ap, subst, ◌∙◌, arith}
 use Rattle.own_model.specs.Listed.{ListedEntry}
+use Rattle.list_parser.specs.BuiltIn.{AreBuiltIn}
 use Rattle.list_parser.specs.Depth.{HaveParentInits}
 use Rattle.list_parser.specs.PathIndex.{AreFirst}
 use Rattle.list_parser.proofs.list.StartList.copy.Goals as goal
@@ -20,4 +21,5 @@ invariant_of-result c =
       },
       subst HaveParentInits same c.self.invariant.1,
       subst (λ firsts. AreFirst firsts new) (sym c.copy.ensures) (subst (AreFirst c.self.inside.finder.firsts) same c.self.invariant.2),
+      subst AreBuiltIn same c.self.invariant.3,
     )
