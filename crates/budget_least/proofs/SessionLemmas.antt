@@ -2,7 +2,7 @@
 use Rattle.std.proofs.lemmas.List.{drop_all}
 use Rattle.std.proofs.lemmas.Option.{none-some, same_Some}
 use Rattle.std.proofs.Common.{arith, cond, ◌||◌, ◌≡◌, ℕ, ◌+◌, ◌<◌, ◌≤◌, Bool, true, false, List, [], ◌∷◌, length, drop, get_or, drop-cons, add-one, refl, sym, ap, ◌∙◌, subst, get_or-set_same, length-set}
-use Rattle.std.specs.Prelude.{Option, Some, None, is_some, slice_get, codes, IfOk, OnOk, Result, Ok, Err}
+use Rattle.std.specs.Prelude.{Option, Some, None, is_some, slice_get, codes, IfOk, IfSome, OnOk, Result, Ok, Err}
 use Rattle.std.specs.FinMap as map
 use Rattle.std.specs.FinMap.{get}
 use Rattle.std.specs.Option.{option_map}
@@ -15,13 +15,14 @@ use Rattle.own_model.specs.NatMap.{NatMap}
 use Rattle.own_model.specs.OwnState.{OwnState, Object, NamedBuffer, bytes_of_buffer, new_selector, session_named}
 use Rattle.own_model.specs.OwnStep.{Outcome, upgraded_by, opened_by, own_step, entry_step, session_served, session_closed, session_upgraded, session_opened}
 use Rattle.own_model.specs.Reply.{reply_text}
-use Rattle.own_model.specs.Session.{Session, Wish, Served, served, upgraded, new_session, too_small, wish, resolved_request, routed_request}
+use Rattle.own_model.specs.Session.{Session, Wish, Served, served, upgraded, new_session, offer_of, too_small, wish, resolved_request, routed_request}
 use Rattle.own_model.specs.SessionArgs.{Arguments, arguments_of}
 use Rattle.own_model.specs.Routes.{Level, ServerAt, provider}
 use Rattle.own_model.specs.StartList.{Entry}
 use Rattle.own_model.specs.Transcript.{entry_at, state_at, nothing}
 use Rattle.own_model.specs.World.{World, outcome_at, with_state}
 use Rattle.pd_core.specs.Answer.{quotas_account}
+use Rattle.pd_core.specs.Sessions.{IsBuiltIn}
 use Rattle.core_calls.specs.declared.quotas.Quotas.{Quotas}
 use Rattle.budget_meter.proofs.HeardLemmas.{there}
 use Rattle.budget_meter.proofs.SessionLemmas.{all_left, none_left}
@@ -359,6 +360,16 @@ none_told core place client entries result same kept entry is tells =
     ap (option_map quotas_account) (sym is)
     ∙ tells (subst (λ es. place < length es) (sym kept) (subst (λ p. p < length entries) (sym same) entry))
     ∙ ap (λ p. option_map (λ (x : Session). x.account) (session_named (get (state_at core.states p).selectors 1))) same
+
+-- the session is of a service that the machine has built in
+pub built_in_told : (core : World) (place client : ℕ) (entries : List Entry) (session : Session) → place ≡ client → core.entries ≡ entries → client < length entries →
+    HasSelectors core client (held session None) →
+    (place < length core.entries → IfSome (session_named (get (state_at core.states place).selectors 1)) (λ (s : Session). IsBuiltIn (offer_of s.state))) → IsBuiltIn (offer_of session.state)
+built_in_told core place client entries session same kept entry has tells =
+    let told =
+    subst (λ p. IfSome (session_named (get (state_at core.states p).selectors 1)) (λ (s : Session). IsBuiltIn (offer_of s.state))) same
+    (tells (subst (λ es. place < length es) (sym kept) (subst (λ p. p < length entries) (sym same) entry))) in
+    subst (λ o. IfSome o (λ (s : Session). IsBuiltIn (offer_of s.state))) (ap (λ m. session_named (get m 1)) has.selectors ∙ named_there session None) told
 
 pub no_arguments : (o : Option Arguments) → amount_tests None ≡ arguments_tests o → o ≡ None
 no_arguments None is = refl

@@ -7,10 +7,11 @@ ghost use Rattle.own_model.specs.Amounts.{Amounts};
 ghost use Rattle.own_model.specs.Call.Call.{CallSession, Upgrade};
 ghost use Rattle.own_model.specs.OwnState.{session_named};
 ghost use Rattle.own_model.specs.Reply.{reply_text};
-ghost use Rattle.own_model.specs.Session.{Session, Wish, new_session, too_small as session_too_small};
+ghost use Rattle.own_model.specs.Session.{Session, Wish, new_session, offer_of, too_small as session_too_small};
 ghost use Rattle.own_model.specs.Transcript.{entry_at, state_at};
 ghost use Rattle.own_model.specs.World.{outcome_at, with_state};
 ghost use Rattle.pd_core.specs.Answer.{quotas_account};
+ghost use Rattle.pd_core.specs.Sessions.{IsBuiltIn};
 ghost use Rattle.core_calls.specs.Call.{model_call, IsWellFormed};
 ghost use Rattle.budget_meter.specs.Needs.{amounts_of, shown_by, shown_in};
 ghost use Rattle.budget_meter.specs.SessionRuns.{Sent, opening_need, opened_needs, opened_in_want};
@@ -96,8 +97,8 @@ impl SessionLines<'_> {
         }
     }
 
-    // Runs the session once it is opened, with this account. Then the session is closed, so that the client has the donation
-    // again.
+    // Runs the session once it is opened, with this account. Its service is one that the machine has built in. Then the session
+    // is closed, so that the client has the donation again.
     fn run<R: Router + Drop>(
         self,
         alloc: Global,
@@ -108,12 +109,14 @@ impl SessionLines<'_> {
         ensures entries { client.new.core.entries ≡ client.old.core.entries }
         ensures same { client.new.client ≡ client.old.client }
         ensures run { IfOk result (λ trial. (wish : Wish) →
+            IsBuiltIn (offer_of (new_session wish).state) →
             session_too_small wish.ram wish.caps ≡ None →
             quotas_account account ≡ (new_session wish).account →
             HasSelectors client.old.core client.old.client (held (new_session wish) None) →
             Shows (sent_at self.entry.steps.now self.entry.opened.now.steps.items) (new_session wish)
             (record { ram = wish.ram; caps = wish.caps }) (is_some trial.refused) trial.meter) }
         ensures ready { OnOk result ((wish : Wish) →
+            IsBuiltIn (offer_of (new_session wish).state) →
             session_too_small wish.ram wish.caps ≡ None →
             quotas_account account ≡ (new_session wish).account →
             HasSelectors client.old.core client.old.client (held (new_session wish) None) →
@@ -179,17 +182,18 @@ pub(crate) struct SessionClient<R: Router + Drop> {
 }
 
 impl<R: Router + Drop> SessionClient<R> {
-    ghost use Rattle.std.specs.Prelude.{◌≡◌, ◌<◌, ℕ, List, None, Some, true, false, is_some, length, slice_get, IfOk, OnOk};
+    ghost use Rattle.std.specs.Prelude.{◌≡◌, ◌<◌, ℕ, List, None, Some, true, false, is_some, length, slice_get, IfOk, IfSome, OnOk};
     ghost use Rattle.std.specs.FinMap.{get};
     ghost use Rattle.std.specs.Option.{option_map};
     ghost use Rattle.own_model.specs.Amounts.{Amounts};
     ghost use Rattle.own_model.specs.Call.Call.{CallSession, Upgrade};
     ghost use Rattle.own_model.specs.OwnState.{session_named};
     ghost use Rattle.own_model.specs.Reply.{reply_text};
-    ghost use Rattle.own_model.specs.Session.{Session};
+    ghost use Rattle.own_model.specs.Session.{Session, offer_of};
     ghost use Rattle.own_model.specs.Transcript.{state_at};
     ghost use Rattle.own_model.specs.World.{outcome_at, with_state};
     ghost use Rattle.pd_core.specs.Answer.{quotas_account};
+    ghost use Rattle.pd_core.specs.Sessions.{IsBuiltIn};
     ghost use Rattle.core_calls.specs.Call.{model_call, IsWellFormed};
     ghost use Rattle.budget_meter.specs.SessionRuns.{Sent};
     ghost use Rattle.budget_least.specs.OpenedSessions.{HasEnded, HasLeft, sends, sent_at, sent_by};
@@ -216,9 +220,12 @@ impl<R: Router + Drop> SessionClient<R> {
 
     // The session's account, while it is open.
     fn account(&self) -> Option<Quotas>
-        ensures { self.now.client < length self.now.core.entries →
+        ensures account { self.now.client < length self.now.core.entries →
             option_map quotas_account result ≡ option_map (λ (s : Session). s.account)
             (session_named (get (state_at self.now.core.states self.now.client).selectors 1)) }
+        ensures service { self.now.client < length self.now.core.entries → IfSome
+            (session_named (get (state_at self.now.core.states self.now.client).selectors 1))
+            (λ s. IsBuiltIn (offer_of s.state)) }
     {
         if self.client >= self.core.count() {
             return None;
