@@ -6,8 +6,10 @@ use Rattle.own_model.specs.Account.{Account}
 use Rattle.own_model.specs.Amounts.{Amounts}
 use Rattle.own_model.specs.BufferService.{SessionRequest, session_request}
 use Rattle.own_model.specs.OwnState.{NamedBuffer, bytes_of_buffer}
-use Rattle.own_model.specs.Session.{Session, Served, served, upgraded}
+use Rattle.own_model.specs.Session.{ServiceState, Session, Served, offer_of, served, served_by, upgraded}
+use Rattle.own_model.specs.Services.ServiceState.{Filing, Holding, Logging}
 use Rattle.pd_core.specs.Answer.{quotas_account}
+use Rattle.pd_core.specs.Sessions.{IsBuiltIn}
 use Rattle.core_calls.specs.declared.quotas.Quotas.{Quotas}
 use Rattle.budget_theorems.specs.Request.{donating, shows_session_short}
 use Rattle.budget_theorems.specs.RequestTheorems.{Reaches, session_after, needs_of_one, session_needs, session_run, one_is_short, session_is_short}
@@ -44,6 +46,12 @@ shown_more donation all x s =
 
 -- ---- what was heard
 
+-- a request leaves what a session's server offers
+offer_stays : (state : ServiceState) (buffer : Option (List ℕ)) (x : Session) (request : List ℕ) → offer_of (served_by state buffer x request).session.state ≡ offer_of state
+offer_stays (Logging partial) buffer x request = refl
+offer_stays (Filing files) buffer x request = refl
+offer_stays (Holding kinds objects) buffer x request = refl
+
 module _ (all : List Reaches) (donation : Amounts) (session : Session) where
   abbrev here : Session
   here = session_run all (donating donation session)
@@ -58,7 +66,7 @@ module _ (all : List Reaches) (donation : Amounts) (session : Session) where
         ap shown_in meter ∙ before.shown ∙ sym (together_nothing (shown_by donation (opening_need donation ∷ session_needs donation all (donating donation session))))
         ∙ sym (shown_more donation all (Raised more) (donating donation session));
     at = subst (IsAt new) (sym (run_more all (Raised more) (donating donation session)))
-        (record { account = account; few = few; growth = pages ∙ before.at.growth; sizes = subst (λ z. Keeps z (files_in here.state).files) (sym sizes) before.at.sizes });
+        (record { built_in = before.at.built_in; account = account; few = few; growth = pages ∙ before.at.growth; sizes = subst (λ z. Keeps z (files_in here.state).files) (sym sizes) before.at.sizes });
   }
 
   -- or wasn't
@@ -68,7 +76,7 @@ module _ (all : List Reaches) (donation : Amounts) (session : Session) where
     start = ap (λ (m : Meter). amounts_of m.start) meter ∙ before.start;
     opens = before.opens;
     shown = ap shown_in meter ∙ before.shown;
-    at = record { account = account; few = few; growth = pages ∙ before.at.growth; sizes = subst (λ z. Keeps z (files_in here.state).files) (sym sizes) before.at.sizes };
+    at = record { built_in = before.at.built_in; account = account; few = few; growth = pages ∙ before.at.growth; sizes = subst (λ z. Keeps z (files_in here.state).files) (sym sizes) before.at.sizes };
   }
 
   -- a request
@@ -81,7 +89,7 @@ module _ (all : List Reaches) (donation : Amounts) (session : Session) where
       few_now = subst (λ (a : Account). a.ram_limit < 2 ^ 64) before.at.account before.at.few
 
       tells : TellsSession request buffer here here.state reply o
-      tells = subst (λ text. TellsSession request buffer here here.state text o) (sym served_so.told) (session_told request buffer here few_now served_so.selector)
+      tells = subst (λ text. TellsSession request buffer here here.state text o) (sym served_so.told) (session_told request buffer here few_now served_so.selector before.at.built_in)
 
       pub short_told : shows_session_short reply ≡ shows_session_short o.reply
       short_told = tells.short
@@ -108,6 +116,7 @@ module _ (all : List Reaches) (donation : Amounts) (session : Session) where
                 ∙ sym (shown_more donation all x s);
             at = subst (IsAt new) (sym (run_more all x s))
                 (record {
+                  built_in = subst IsBuiltIn (sym (offer_stays here.state (bytes_of_buffer buffer) here request)) before.at.built_in;
                   account = ap quotas_account account ∙ leaves;
                   few = subst (λ (q : Quotas). q.ram_limit.0 < 2 ^ 64) (sym account) few;
                   growth = pages ∙ (λ i. growth_by_reply (is i) reply (same i) (leaves i) (files_in here.state)) ∙ tells.growth;

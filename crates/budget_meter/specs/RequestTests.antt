@@ -11,15 +11,16 @@ use Rattle.own_model.specs.FileService.{Files, File, file_named, is_named, no_fi
 use Rattle.own_model.specs.FileText.FileRequest.{Create, Write, Clear, Drop}
 use Rattle.own_model.specs.Growth.{larger_growth}
 use Rattle.own_model.specs.Services.{ServiceState}
-use Rattle.own_model.specs.Services.ServiceState.{Filing, Logging}
+use Rattle.own_model.specs.Services.ServiceState.{Filing, Holding, Logging}
 use Rattle.budget_theorems.specs.Request.{shows_session_short, write_tests}
 use Rattle.budget_theorems.specs.Test.{Test, test_of, tested_where, growth_tests}
 use Rattle.budget_meter.specs.Sizes.{new_file}
 
--- the files that a server stores for a session: a log server none
+-- the files that a server stores for a session: only a file server stores some
 abbrev pub files_in : ServiceState → Files
 files_in (Filing files) = files
 files_in (Logging partial) = no_files
+files_in (Holding kinds objects) = no_files
 
 -- a request was done
 abbrev pub is_granted : List ℕ → Bool

@@ -3,8 +3,9 @@ use Rattle.std.specs.Prelude.{◌≡◌, ◌<◌, ◌^◌, ℕ, false, Bool, Lis
 use Rattle.own_model.specs.Amounts.{Amounts}
 use Rattle.own_model.specs.OwnState.{NamedBuffer}
 use Rattle.own_model.specs.OwnStep.{completed}
-use Rattle.own_model.specs.Session.{Session, Served}
+use Rattle.own_model.specs.Session.{Session, Served, offer_of}
 use Rattle.pd_core.specs.Answer.{quotas_account}
+use Rattle.pd_core.specs.Sessions.{IsBuiltIn}
 use Rattle.core_calls.specs.declared.quotas.Quotas.{Quotas}
 use Rattle.budget_theorems.specs.Request.{donating}
 use Rattle.budget_theorems.specs.RequestTheorems.{Reaches, session_needs, session_run, session_is_short}
@@ -15,8 +16,10 @@ use Rattle.budget_meter.specs.RequestTests.{files_in}
 use Rattle.budget_meter.specs.declared.meter.Meter.{Meter}
 use Rattle.budget_meter.specs.declared.session.SessionMeter.{SessionMeter}
 
--- of a session: its account, how far the heap of its files grows, and the files, by name and size
+-- of a session of a service that the machine has built in: its account, how far the heap of its files grows, and the files, by
+-- name and size
 pub record IsAt (meter : SessionMeter) (session : Session) : Type 0 where
+  pub built_in : IsBuiltIn (offer_of session.state)
   pub account : quotas_account meter.account ≡ session.account
   pub few : meter.account.ram_limit.0 < 2 ^ 64
   pub growth : meter.pages ≡ (files_in session.state).shape.growth

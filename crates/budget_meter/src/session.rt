@@ -3,8 +3,9 @@ ghost use Rattle.std.specs.Prelude.{◌≡◌, ◌<◌, ◌^◌, ◌∷◌, ◌+
 ghost use Rattle.own_model.specs.Amounts.{Amounts};
 ghost use Rattle.own_model.specs.FileService.{Files};
 ghost use Rattle.own_model.specs.OwnState.{NamedBuffer, bytes_of_buffer};
-ghost use Rattle.own_model.specs.Session.{Session, Wish, new_session, served, too_small, upgraded};
+ghost use Rattle.own_model.specs.Session.{Session, Wish, new_session, offer_of, served, too_small, upgraded};
 ghost use Rattle.pd_core.specs.Answer.{quotas_account};
+ghost use Rattle.pd_core.specs.Sessions.{IsBuiltIn};
 ghost use Rattle.session_proto.specs.File.{HasHex, model_request};
 ghost use Rattle.budget_theorems.specs.Request.{donating};
 ghost use Rattle.budget_theorems.specs.RequestTheorems.{Reaches, session_run};
@@ -43,9 +44,10 @@ pub struct SessionMeter {
 }
 
 impl SessionMeter {
-    /// Creates the meter of a session that was just opened.
+    /// Creates the meter of a session that was just opened, of a service that the machine has built in.
     pub fn new(alloc: Global, account: Quotas) -> SessionMeter
-        ensures { (wish : Wish) → too_small wish.ram wish.caps ≡ None →
+        ensures { (wish : Wish) → IsBuiltIn (offer_of (new_session wish).state) →
+            too_small wish.ram wish.caps ≡ None →
             quotas_account account ≡ (new_session wish).account →
             HasReached [] (record { ram = wish.ram; caps = wish.caps }) (new_session wish) result }
     {
