@@ -515,9 +515,9 @@ module _ (files : Files) (a : Account) (few : a.ram_limit < 2 ^ 64) (selector : 
 -- ---- of any session
 
 -- no service that the machine has built in offers objects
-no_objects : (kinds : List ObjectKind) (of : Service) → OffersObjects kinds ≡ offer_of_service of → ⊥
-no_objects kinds service.Log is = none-some (Some kinds) (sym (ap offer_parts is))
-no_objects kinds service.Files is = none-some kinds (sym (same_Some (Some kinds) None (ap offer_parts is)))
+objects_not_built_in : (kinds : List ObjectKind) (of : Service) → OffersObjects kinds ≡ offer_of_service of → ⊥
+objects_not_built_in kinds service.Log is = none-some (Some kinds) (sym (ap offer_parts is))
+objects_not_built_in kinds service.Files is = none-some kinds (sym (same_Some (Some kinds) None (ap offer_parts is)))
 
 -- what its client is told of a request tells what that tests, how far the heap of files grows, and what becomes of them
 pub record TellsSession (request : List ℕ) (buffer : Option NamedBuffer) (session : Session) (state : ServiceState) (reply : List ℕ) (o : Served) : Type 0 where
@@ -604,7 +604,7 @@ module _ (request : List ℕ) (buffer : Option NamedBuffer) (session : Session) 
   told_in : (state : ServiceState) → IsBuiltIn (offer_of state) → let o = served_by state (bytes_of_buffer buffer) session request in TellsSession request buffer session state (told_by o) o
   told_in (Logging partial) built_in = log_told partial (same_log buffer (log_served_bytes partial (log_request request)).reply)
   told_in (Filing files) built_in = file_session_told files
-  told_in (Holding kinds objects) built_in = absurd (no_objects kinds built_in.service built_in.is)
+  told_in (Holding kinds objects) built_in = absurd (objects_not_built_in kinds built_in.service built_in.is)
 
   pub session_told : IsBuiltIn (offer_of session.state) → let o = served (bytes_of_buffer buffer) session request in TellsSession request buffer session session.state (completed buffer o.buffer selector o.reply) o
   session_told built_in = told_in session.state built_in
