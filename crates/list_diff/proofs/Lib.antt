@@ -1,1 +1,4 @@
+mod AccessLemmas
+mod PairLemmas
+mod ReachLemmas
 mod ReplyLemmas

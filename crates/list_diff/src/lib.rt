@@ -11,6 +11,7 @@ mod need_changes;
 mod reach_changes;
 mod reply_changes;
 mod reply_texts;
+mod theorems;
 
 pub use differences::ListDifferences;
 pub use entry_changes::{EntryChange, changes};
@@ -19,3 +20,4 @@ pub use line_outcomes::{LineFault, LineOutcome, LineResult, line_results};
 pub use need_changes::{ComponentNeed, NeedChange, QuotaAmounts, lacks};
 pub use reach_changes::{ReachChange, ReachSide, leads};
 pub use reply_changes::{ReplyChange, changed_replies};
+pub use theorems::changed_access_is_reported;

@@ -1,10 +1,16 @@
 //! Which labels of a script's requests are routed to a server after a change and weren't before, or were before and aren't after.
-ghost use Rattle.std.specs.Prelude.{◌<◌, length, IfSome};
+ghost use Rattle.std.specs.Prelude.{◌≡◌, ◌<◌, ◌++◌, List, ℕ, find, length, IfOk, IfSome, OnOk};
+ghost use Rattle.std.specs.List.{flat_map};
+ghost use Rattle.std.specs.Option.{option_copied, option_map, option_to_list};
+ghost use Rattle.list_reach.specs.Comparisons.{IsComparison, routed_on};
+ghost use Rattle.list_diff.specs.Changes.{place_of};
+ghost use Rattle.list_diff.specs.Reaches.{AreReachChanges, HasRows, IsCompared, IsRowIf, ShowsMoves, cell_at, compared_pairs, is_cell, moves_some, new_pairs, old_pairs, pair_at, reach_of, routes};
 
 use list_labels::SessionRequests;
 use list_parser::{Binary, ListEntry, StartList};
 use list_reach::{Reach, ReachCell, RouteComparison, WitnessedSet};
 use std::alloc::{AllocError, Global};
+use std::marker::Model;
 
 /// A start list with the cells of its table.
 #[derive(Clone, Copy)]
@@ -34,101 +40,259 @@ pub struct ReachChange<'a> {
     pub lost: WitnessedSet,
 }
 
-/// Compares where requests are routed on two start lists, by the paths of scripts and servers. The cells before are first, in
-/// order, and then the cells that only the list after has. Those without a difference are left out. Fails if the host is out of
-/// memory.
+/// Compares where requests are routed on two start lists, by the paths of scripts and servers. The pairs of a script and a server
+/// of the table before are first, in order, and then the pairs that only the table after has. Those without a difference are left
+/// out. Fails if the host is out of memory.
 pub fn leads<'a>(
     alloc: Global,
     before: ReachSide<'a>,
     after: ReachSide<'a>,
-) -> Result<Vec<ReachChange<'a>>, AllocError> {
-    let olds = CellPlaces::of(alloc, before)?;
-    let news = CellPlaces::of(alloc, after)?;
-    let mut found = Vec::new(alloc);
-    for place in 0..before.cells.len() {
-        if is_first(before.cells, place) {
-            let cells = &before.cells[place..];
-            add_old(alloc, &mut found, before, after, &news, cells)?;
-        }
-    }
-    for place in 0..after.cells.len() {
-        if is_first(after.cells, place) {
-            let cells = &after.cells[place..];
-            add_new(alloc, &mut found, before, after, &olds, cells)?;
-        }
-    }
-    Ok(found)
-}
-
-// The places of the cells of a client and a server, by their numbers: a server provides one service.
-#[derive(Drop)]
-struct CellPlaces {
-    places: Vec<Vec<Option<usize>>>,
-}
-
-impl CellPlaces {
-    // The places of the cells of a table.
-    fn of(alloc: Global, side: ReachSide<'_>) -> Result<CellPlaces, AllocError> {
-        let entries = side.list.entries().len();
-        let mut places = Vec::new(alloc);
-        for _ in 0..entries {
-            let mut row = Vec::new(alloc);
-            for _ in 0..entries {
-                row.push(None)?;
-            }
-            places.push(row)?;
-        }
-        for (place, cell) in side.cells.iter().enumerate() {
-            if let Some(row) = places.get_mut(cell.client) {
-                set_at(row, cell.server, place);
-            }
-        }
-        Ok(CellPlaces { places })
-    }
-
-    // The cell of two paths of a table, if there is one.
-    fn cell<'a>(
-        &self,
-        side: ReachSide<'a>,
-        client: &ListEntry,
-        server: &ListEntry,
-    ) -> Option<&'a ReachCell> {
-        let client = side.list.find(client.path())?;
-        let server = side.list.find(server.path())?;
-        let row = self.places.as_slice().get(client)?;
-        match row.as_slice().get(server) {
-            Some(Some(place)) => side.cells.get(*place),
-            _ => None,
-        }
-    }
-}
-
-// Notes a cell of a server.
-fn set_at(row: &mut Vec<Option<usize>>, server: usize, cell: usize) {
-    if let Some(place) = row.get_mut(server) {
-        *place = Some(cell);
-    }
-}
-
-// Whether a cell is the first one of its client and service.
-fn is_first(cells: &[ReachCell], place: usize) -> bool
-    requires { place < length cells.now }
+) -> Result<Vec<ReachChange<'a>>, AllocError>
+    ensures { IfOk result (λ found. AreReachChanges before.entry after.entry found.items) }
 {
-    place == 0 || !is_same(&cells[place - 1], &cells[place])
+    let pairs = compared_pairs(alloc, before, after)?;
+    rows_of(alloc, before, after, pairs.as_slice())
 }
 
-// Whether two cells have one client and one service.
-fn is_same(one: &ReachCell, other: &ReachCell) -> bool {
-    one.client == other.client && one.service == other.service
+/// A script, and a server of a service.
+#[derive(Drop)]
+pub(crate) struct CellPair<'a> {
+    pub(crate) client: &'a ListEntry,
+    pub(crate) service: &'static str,
+    pub(crate) server: &'a ListEntry,
+}
+
+impl<'a> Model for CellPair<'a> {
+    ghost use Rattle.list_diff.specs.Reaches.{Pair};
+
+    ghost Value = { Pair };
+
+    ghost view = { λ pair. record {
+      client = pair.client.now;
+      service = pair.service.now;
+      server = pair.server.now;
+    } };
+}
+
+// The pairs of the table before, and then those that only the table after has.
+fn compared_pairs<'a>(
+    alloc: Global,
+    before: ReachSide<'a>,
+    after: ReachSide<'a>,
+) -> Result<Vec<CellPair<'a>>, AllocError>
+    ensures { IfOk result (λ pairs. pairs.items ≡ compared_pairs before.entry after.entry) }
+{
+    let mut pairs = Vec::new(alloc);
+    add_old(&mut pairs, before)?;
+    add_new(&mut pairs, before, after)?;
+    Ok(pairs)
+}
+
+// Adds the pairs of the table before.
+fn add_old<'a>(pairs: &mut Vec<CellPair<'a>>, before: ReachSide<'a>) -> Result<(), AllocError>
+    ensures { OnOk result (pairs.new.items ≡ pairs.old.items
+        ++ flat_map (old_pairs before.entry) before.entry.cells.now) }
+{
+    for cell in before.cells {
+        add_old_pair(pairs, before, cell)?;
+    }
+    Ok(())
+}
+
+// Adds the pairs that only the table after has.
+fn add_new<'a>(
+    pairs: &mut Vec<CellPair<'a>>,
+    before: ReachSide<'a>,
+    after: ReachSide<'a>,
+) -> Result<(), AllocError>
+    ensures { OnOk result (pairs.new.items ≡ pairs.old.items
+        ++ flat_map (new_pairs before.entry after.entry) after.entry.cells.now) }
+{
+    for cell in after.cells {
+        add_new_pair(pairs, before, after, cell)?;
+    }
+    Ok(())
+}
+
+// Adds the pair of a cell before.
+fn add_old_pair<'a>(
+    pairs: &mut Vec<CellPair<'a>>,
+    before: ReachSide<'a>,
+    cell: &ReachCell,
+) -> Result<(), AllocError>
+    ensures { OnOk result
+        (pairs.new.items ≡ pairs.old.items ++ old_pairs before.entry cell.now) }
+{
+    if let Some(pair) = pair_at(before, cell) {
+        pairs.push(pair)?;
+    }
+    Ok(())
+}
+
+// Adds the pair of a cell after, unless the table before has it.
+fn add_new_pair<'a>(
+    pairs: &mut Vec<CellPair<'a>>,
+    before: ReachSide<'a>,
+    after: ReachSide<'a>,
+    cell: &ReachCell,
+) -> Result<(), AllocError>
+    ensures { OnOk result
+        (pairs.new.items ≡ pairs.old.items ++ new_pairs before.entry after.entry cell.now) }
+{
+    if let Some(pair) = pair_at(after, cell) {
+        if reach_of(before, &pair).is_none() {
+            pairs.push(pair)?;
+        }
+    }
+    Ok(())
+}
+
+// The script and the server of a cell.
+fn pair_at<'a>(side: ReachSide<'a>, cell: &ReachCell) -> Option<CellPair<'a>>
+    ensures { result ≡ pair_at side.entry cell.now }
+{
+    let client = side.list.entries().get(cell.client)?;
+    let server = side.list.entries().get(cell.server)?;
+    Some(CellPair {
+        client,
+        service: cell.service,
+        server,
+    })
+}
+
+// With which labels a pair's script reaches its server by a table, if the table has them.
+fn reach_of<'a>(side: ReachSide<'a>, pair: &CellPair<'_>) -> Option<&'a Reach>
+    ensures { option_copied result ≡ reach_of side.entry pair.now }
+{
+    reach_in(cell_at(
+        side.cells,
+        pair,
+        client_in(side.list, pair),
+        server_in(side.list, pair),
+    ))
+}
+
+// The number of a pair's script on a list, if the list has it.
+fn client_in(list: &StartList, pair: &CellPair<'_>) -> Option<usize>
+    ensures { result ≡ place_of list.now pair.now.client.path }
+{
+    list.find(pair.client.path())
+}
+
+// The number of a pair's server on a list, if the list has it.
+fn server_in(list: &StartList, pair: &CellPair<'_>) -> Option<usize>
+    ensures { result ≡ place_of list.now pair.now.server.path }
+{
+    list.find(pair.server.path())
+}
+
+// With which labels the script of a cell reaches the server.
+fn reach_in(cell: Option<&ReachCell>) -> Option<&Reach>
+    ensures { option_copied result ≡ option_map (λ cell. cell.reach) (option_copied cell.entry) }
+{
+    match cell {
+        Some(cell) => Some(&cell.reach),
+        None => None,
+    }
+}
+
+// The cell of a script and a server, by their numbers, if both are there.
+fn cell_at<'a>(
+    cells: &'a [ReachCell],
+    pair: &CellPair<'_>,
+    client: Option<usize>,
+    server: Option<usize>,
+) -> Option<&'a ReachCell>
+    ensures { option_copied result ≡ cell_at cells.now pair.now.service client server }
+{
+    match (client, server) {
+        (Some(client), Some(server)) => cell_with(cells, client, pair.service, server),
+        _ => None,
+    }
+}
+
+// The cell of this script, service and server.
+fn cell_with<'a>(
+    cells: &'a [ReachCell],
+    client: usize,
+    service: &str,
+    server: usize,
+) -> Option<&'a ReachCell>
+    ensures { option_copied result ≡ find (is_cell client service.now server) cells.now }
+{
+    for cell in cells {
+        if is_cell(cell, client, service, server) {
+            return Some(cell);
+        }
+    }
+    None
+}
+
+// Whether a cell is of this script, service and server.
+fn is_cell(cell: &ReachCell, client: usize, service: &str, server: usize) -> bool
+    ensures { result ≡ is_cell client service.now server cell.now }
+{
+    cell.client == client && cell.server == server && cell.service == service
+}
+
+/// The requests of a script for a service, compared.
+#[derive(Drop)]
+pub(crate) struct ServiceComparison<'a> {
+    pub(crate) client: &'a ListEntry,
+    pub(crate) service: &'static str,
+    pub(crate) compared: RouteComparison,
+}
+
+// Compares the requests of a script for a service, unless they were compared last.
+fn comparison<'a>(
+    alloc: Global,
+    before: ReachSide<'_>,
+    after: ReachSide<'_>,
+    pair: &CellPair<'a>,
+    last: Option<ServiceComparison<'a>>,
+) -> Result<ServiceComparison<'a>, AllocError>
+    requires { IfSome last (IsCompared before.list.now after.list.now) }
+    ensures compared { IfOk result (IsCompared before.entry.list.now after.entry.list.now) }
+    ensures client { IfOk result (λ one. one.client.now.path ≡ pair.now.client.path) }
+    ensures service { IfOk result (λ one. one.service.now ≡ pair.now.service) }
+{
+    if let Some(last) = last {
+        if last.client.path() == pair.client.path() && last.service == pair.service {
+            return Ok(last);
+        }
+    }
+    Ok(ServiceComparison {
+        client: pair.client,
+        service: pair.service,
+        compared: compared(alloc, before.list, after.list, pair.client, pair.service)?,
+    })
+}
+
+// Compares the requests of a script, by its path, for a service on both lists.
+fn compared(
+    alloc: Global,
+    before: &StartList,
+    after: &StartList,
+    client: &ListEntry,
+    service: &'static str,
+) -> Result<RouteComparison, AllocError>
+    ensures { IfOk result (IsComparison (routes before.now client.now.path service.now)
+        (routes after.now client.now.path service.now)) }
+{
+    let was = requests_of(before, client, service);
+    let now = requests_of(after, client, service);
+    RouteComparison::of(alloc, was, now)
 }
 
 // The requests of a script of a list, by its path, for a service.
-fn wishes_of<'a>(
+fn requests_of<'a>(
     list: &'a StartList,
     client: &ListEntry,
     service: &'static str,
 ) -> Option<SessionRequests<'a>>
-    ensures { IfSome result (λ wishes. wishes.client < length wishes.list.now.entries) }
+    ensures there { IfSome result (λ wishes. wishes.client < length wishes.list.now.entries) }
+    ensures routes { (label : List ℕ)
+        → routed_on result label ≡ routes list.now client.now.path service.now label }
 {
     let client = list.find(client.path())?;
     if list.entries()[client].binary() != Binary::Script {
@@ -141,123 +305,104 @@ fn wishes_of<'a>(
     })
 }
 
-// Compares the requests of a script, by its path, for a service on both lists.
-fn comparison(
+// The rows of pairs. Requests are compared once for pairs that are next to each other.
+fn rows_of<'a>(
     alloc: Global,
-    before: ReachSide<'_>,
-    after: ReachSide<'_>,
-    client: &ListEntry,
-    service: &'static str,
-) -> Result<RouteComparison, AllocError> {
-    let was = wishes_of(before.list, client, service);
-    let now = wishes_of(after.list, client, service);
-    RouteComparison::of(alloc, was, now)
-}
-
-// Adds the differences of the first cells before, which have one client and one service.
-fn add_old<'a>(
-    alloc: Global,
-    found: &mut Vec<ReachChange<'a>>,
     before: ReachSide<'a>,
     after: ReachSide<'a>,
-    news: &CellPlaces,
-    cells: &'a [ReachCell],
-) -> Result<(), AllocError> {
-    let Some((client, first)) = client_of(before, cells) else {
-        return Ok(());
-    };
-    let compared = comparison(alloc, before, after, client, first.service)?;
-    for cell in cells {
-        if !is_same(first, cell) {
-            return Ok(());
-        }
-        if let Some(server) = before.list.entries().get(cell.server) {
-            let now = match news.cell(after, client, server) {
-                Some(cell) => Some(&cell.reach),
-                None => None,
-            };
-            let numbers = (Some(cell.server), after.list.find(server.path()));
-            let reaches = (Some(&cell.reach), now);
-            add(
-                alloc,
-                found,
-                &compared,
-                (client, cell.service, server),
-                reaches,
-                numbers,
-            )?;
-        }
+    pairs: &[CellPair<'a>],
+) -> Result<Vec<ReachChange<'a>>, AllocError>
+    ensures { IfOk result (λ found. HasRows before.entry after.entry pairs.now found.items) }
+{
+    let mut found = Vec::new(alloc);
+    let mut last = None;
+    for place in 0..pairs.len() {
+        let pair = &pairs[place];
+        let one = comparison(alloc, before, after, pair, last)?;
+        let row = row_of(alloc, before, after, pair, &one.compared)?;
+        add_row(&mut found, row)?;
+        last = Some(one);
     }
-    Ok(())
+    Ok(found)
 }
 
-// Adds the differences of the first cells after, which have one client and one service, except those that have a cell before.
-fn add_new<'a>(
+// The row of a pair, if its server gains or loses some of the compared labels.
+fn row_of<'a>(
     alloc: Global,
-    found: &mut Vec<ReachChange<'a>>,
     before: ReachSide<'a>,
     after: ReachSide<'a>,
-    olds: &CellPlaces,
-    cells: &'a [ReachCell],
-) -> Result<(), AllocError> {
-    let Some((client, first)) = client_of(after, cells) else {
-        return Ok(());
-    };
-    let compared = comparison(alloc, before, after, client, first.service)?;
-    for cell in cells {
-        if !is_same(first, cell) {
-            return Ok(());
-        }
-        if let Some(server) = after.list.entries().get(cell.server) {
-            if olds.cell(before, client, server).is_none() {
-                let numbers = (before.list.find(server.path()), Some(cell.server));
-                let reaches = (None, Some(&cell.reach));
-                add(
-                    alloc,
-                    found,
-                    &compared,
-                    (client, cell.service, server),
-                    reaches,
-                    numbers,
-                )?;
-            }
-        }
-    }
-    Ok(())
-}
-
-// The first cell, with its client.
-fn client_of<'a>(
-    side: ReachSide<'a>,
-    cells: &'a [ReachCell],
-) -> Option<(&'a ListEntry, &'a ReachCell)> {
-    let first = cells.first()?;
-    let client = side.list.entries().get(first.client)?;
-    Some((client, first))
-}
-
-// Adds what a server, by its numbers before and after, gains and loses, if there is something.
-fn add<'a>(
-    alloc: Global,
-    found: &mut Vec<ReachChange<'a>>,
+    pair: &CellPair<'a>,
     compared: &RouteComparison,
-    (client, service, server): (&'a ListEntry, &'static str, &'a ListEntry),
-    (was, now): (Option<&'a Reach>, Option<&'a Reach>),
-    (old, new): (Option<usize>, Option<usize>),
-) -> Result<(), AllocError> {
-    let gained = compared.gained(alloc, old, new)?;
-    let lost = compared.lost(alloc, old, new)?;
-    if gained.witness.is_none() && lost.witness.is_none() {
-        return Ok(());
+) -> Result<Option<ReachChange<'a>>, AllocError>
+    ensures { IfOk result (ShowsMoves before.entry after.entry compared.now pair.now) }
+{
+    let was = server_in(before.list, pair);
+    let now = server_in(after.list, pair);
+    let gained = compared.gained(alloc, was, now)?;
+    let lost = compared.lost(alloc, was, now)?;
+    Ok(row_with(before, after, pair, gained, lost))
+}
+
+// The row of a pair with the labels that are gained and lost, if there are some.
+fn row_with<'a>(
+    before: ReachSide<'a>,
+    after: ReachSide<'a>,
+    pair: &CellPair<'a>,
+    gained: WitnessedSet,
+    lost: WitnessedSet,
+) -> Option<ReachChange<'a>>
+    ensures { IsRowIf (moves_some gained lost) before.entry after.entry pair.now gained lost
+        result }
+{
+    if has_some(&gained, &lost) {
+        return Some(change_of(before, after, pair, gained, lost));
     }
-    found.push(ReachChange {
-        client,
-        service,
-        server,
-        was,
-        now,
+    None
+}
+
+// Whether a label is gained or lost.
+fn has_some(gained: &WitnessedSet, lost: &WitnessedSet) -> bool
+    ensures { result ≡ moves_some gained.now lost.now }
+{
+    gained.witness.is_some() || lost.witness.is_some()
+}
+
+// The row of a pair with the labels that are gained and lost.
+fn change_of<'a>(
+    before: ReachSide<'a>,
+    after: ReachSide<'a>,
+    pair: &CellPair<'a>,
+    gained: WitnessedSet,
+    lost: WitnessedSet,
+) -> ReachChange<'a>
+    ensures client { result.client.now ≡ pair.now.client }
+    ensures service { result.service.now ≡ pair.now.service }
+    ensures server { result.server.now ≡ pair.now.server }
+    ensures was { option_copied result.was ≡ reach_of before.entry pair.now }
+    ensures now { option_copied result.now ≡ reach_of after.entry pair.now }
+    ensures gained { result.gained ≡ gained }
+    ensures lost { result.lost ≡ lost }
+{
+    ReachChange {
+        client: pair.client,
+        service: pair.service,
+        server: pair.server,
+        was: reach_of(before, pair),
+        now: reach_of(after, pair),
         gained,
         lost,
-    })?;
+    }
+}
+
+// Adds a row, if there is one.
+fn add_row<'a>(
+    found: &mut Vec<ReachChange<'a>>,
+    row: Option<ReachChange<'a>>,
+) -> Result<(), AllocError>
+    ensures { OnOk result (found.new.items ≡ found.old.items ++ option_to_list row.entry) }
+{
+    if let Some(row) = row {
+        found.push(row)?;
+    }
     Ok(())
 }
